@@ -1,0 +1,152 @@
+-- Lines out of the bytes that are pending.
+use Rattle.std.proofs.Common.{None, Some, Ok, Err, Bool, true, false, inl, inr, ◌≡◌, ◌<◌, ◌≤◌, ◌+◌, ℕ, List, [], ◌∷◌, ◌++◌, refl, sym, ap, subst, ◌∙◌, take, drop, length, get_or, arith, length-append, take-append-drop, append_assoc}
+use Rattle.std.proofs.lemmas.List.{drop_more, get_or_append_left, get_or-take, length-take-le}
+use Rattle.std.proofs.lemmas.Bool.{cases_lt}
+use Rattle.std.proofs.KnownBytes.{Consumes-trans, Consumes-kept}
+use Rattle.std.specs.declared.option.Option.{Option}
+use Rattle.std.specs.Io.KnownBytes.{Consumes, Keeps, prepend_known}
+use Rattle.dm_base.specs.declared.outside.TakeError.{TakeError}
+use Rattle.dm_base.specs.declared.outside.TakeError.TheVariants.{Read, TooLong, Memory}
+use Rattle.dm_base.specs.declared.lines.LineOut.TheVariants as line_out
+use Rattle.dm_base.specs.declared.lines.LineReason.TheVariants as reason
+use Rattle.dm_base.specs.Outside.{OfKnown}
+use Rattle.dm_base.specs.Lines.{LinesState, FillsPending, ReadsLine, ahead, behind, IsFeedless, IsLongLine, CountsTaken, room}
+
+-- no line feed among the first n bytes
+abbrev pub IsClear : List ℕ → ℕ → Type 0
+IsClear bytes n = (k : ℕ) → k < n → get_or bytes k 0 ≡ 10 → ⊥
+
+pub feedless_front : (bytes : List ℕ) (n : ℕ) → n ≤ length bytes → IsClear bytes n → IsFeedless (take n bytes)
+feedless_front bytes n within clear k below is =
+    let lt : k < n = let e = length-take-le n bytes within in omega (arith, e, below) in
+    clear k lt (sym (get_or-take n bytes k 0 lt) ∙ is)
+
+pub clear_more : (bytes more : List ℕ) (n : ℕ) → n ≤ length bytes → IsClear bytes n → IsClear (bytes ++ more) n
+clear_more bytes more n within clear k lt is =
+    let low : k < length bytes = omega arith in
+    clear k lt (sym (get_or_append_left bytes more 0 k low) ∙ is)
+
+-- a line feed stands behind the line
+pub split_at_feed : (bytes : List ℕ) (at : ℕ) → at < length bytes → get_or bytes at 0 ≡ 10 → bytes ≡ take at bytes ++ 10 ∷ drop (at + 1) bytes
+split_at_feed bytes at within is =
+    sym (take-append-drop at bytes) ∙ ap (λ l. take at bytes ++ l) (drop_more bytes at 0 within ∙ ap (λ b. b ∷ drop (at + 1) bytes) is)
+
+-- what was to come is the line, its line feed and what is to come
+pub gave_line : (a left : Option (List ℕ)) (bytes new : List ℕ) (at : ℕ) → at < length bytes → get_or bytes at 0 ≡ 10 → new ≡ drop (at + 1) bytes
+    → Keeps a (prepend_known bytes left) → Consumes a (prepend_known new left) (take at bytes ++ 10 ∷ [])
+gave_line None left bytes new at within is rest kept = tt
+gave_line (Some x) None bytes new at within is rest kept = absurd kept
+gave_line (Some x) (Some y) bytes new at within is rest kept =
+    sym kept ∙ ap (λ l. l ++ y) (split_at_feed bytes at within is ∙ ap (λ l. take at bytes ++ 10 ∷ l) (sym rest))
+    ∙ append_assoc (take at bytes) (10 ∷ new) y ∙ sym (append_assoc (take at bytes) (10 ∷ []) (new ++ y))
+
+-- what was to come is the line, its line feed and what is to come
+pub line_given : (a left : Option (List ℕ)) (old new : LinesState) (line : List ℕ) (at r : ℕ)
+    → (at < length old.pending) × (get_or old.pending at 0 ≡ 10) × IsClear old.pending at → at ≤ 8400000 → room old ≡ r
+    → line ≡ take at old.pending → new ≡ record old { pending = drop (at + 1) old.pending } → Keeps a (ahead old left)
+    → ReadsLine r a (ahead new left) (Ok (line_out.Line line))
+line_given a left old new line at r found short same is rest kept =
+    let all : length (take at old.pending) ≡ at = length-take-le at old.pending (omega (arith, found.0)) in
+    let long : length line ≡ at = ap length is ∙ all in (
+      subst IsFeedless (sym is) (feedless_front old.pending at (omega (arith, found.0)) found.2),
+      omega (arith, long, short),
+      omega (arith, long, found.0, same),
+      subst (λ s. Consumes a (ahead s left) (line ++ 10 ∷ [])) (sym rest)
+          (subst (λ l. Consumes a (prepend_known (drop (at + 1) old.pending) (behind old left)) (l ++ 10 ∷ [])) (sym is)
+          (gave_line a (behind old left) old.pending _ at found.0 found.1 refl kept)),
+    )
+
+pub too_long : (a b : Option (List ℕ)) (bytes : List ℕ) (n r : ℕ) → n ≤ length bytes → 8400000 < n → length bytes ≤ r
+    → IsClear bytes n → Keeps a (prepend_known bytes b) → OfKnown a (IsLongLine r)
+too_long None b bytes n r within long low clear kept = tt
+too_long (Some x) None bytes n r within long low clear kept = absurd kept
+too_long (Some x) (Some y) bytes n r within long low clear kept =
+    let e = length-take-le n bytes within in (
+      take n bytes,
+      drop n bytes ++ y,
+      sym kept ∙ ap (λ l. l ++ y) (sym (take-append-drop n bytes)) ∙ append_assoc (take n bytes) (drop n bytes) y,
+      feedless_front bytes n within clear,
+      omega (arith, e, long),
+      omega (arith, e, within, low),
+    )
+
+-- the pending bytes are fewer than a run looks at
+pub long_line : (a left : Option (List ℕ)) (s : LinesState) (n r : ℕ) → n ≤ length s.pending → 8400000 < n → IsClear s.pending n
+    → room s ≡ r → Keeps a (ahead s left) → ReadsLine r a (ahead s left) (Ok (line_out.Bad reason.Long))
+long_line a left s n r within long clear same kept =
+    (kept, too_long a (behind s left) s.pending n r within long (omega (arith, same)) clear kept)
+
+-- bytes that were taken became pending
+pub pending_more : (a left rest : Option (List ℕ)) (bytes more : List ℕ) → Keeps a (prepend_known bytes left) → Consumes left rest more → Keeps a (prepend_known (bytes ++ more) rest)
+pending_more None left rest bytes more kept taken = tt
+pending_more (Some x) None rest bytes more kept taken = absurd kept
+pending_more (Some x) (Some y) None bytes more kept taken = absurd taken
+pending_more (Some x) (Some y) (Some z) bytes more kept taken = append_assoc bytes more z ∙ ap (λ l. bytes ++ l) (sym taken) ∙ kept
+
+-- with no byte past the limit, what the source gave stood behind
+pub behind_taken : (left rest : Option (List ℕ)) (past new bytes : List ℕ) → past ≡ [] → new ≡ [] → Consumes left rest bytes → Consumes (prepend_known past left) (prepend_known new rest) bytes
+behind_taken None rest past new bytes e f h = tt
+behind_taken (Some x) None past new bytes e f h = absurd h
+behind_taken (Some x) (Some y) past new bytes e f h = ap (λ l. l ++ x) e ∙ h ∙ ap (λ l. bytes ++ (l ++ y)) (sym f)
+
+pub taken_more : (a b c : Option (List ℕ)) (first now then' : ℕ) → CountsTaken a b first now → CountsTaken b c now then' → CountsTaken a c first then'
+taken_more a b c first now then' p q = (
+  p.0 ++ q.0,
+  Consumes-trans a b c _ _ p.1 q.1,
+  let e = length-append p.0 q.0 in omega (arith, e, p.2, q.2),
+)
+
+pub taken_kept : (a b c : Option (List ℕ)) (first now then' : ℕ) → CountsTaken a b first now → then' ≡ now → Keeps b c → CountsTaken a c first then'
+taken_kept a b c first now then' p e same = (p.0, Consumes-kept a b c _ p.1 same, e ∙ p.2)
+
+pub taken_at_error : (a left rest : Option (List ℕ)) (old new : LinesState) (error : TakeError) (first : ℕ) → FillsPending old new left rest (Err error) → CountsTaken a left first old.taken → CountsTaken a rest first new.taken
+taken_at_error a left rest old new Read first h taken = taken_kept a left rest first _ _ taken (ap (λ s. s.taken) h.0) h.1
+taken_at_error a left rest old new TooLong first h taken = taken_more a left rest first _ _ taken h.0
+taken_at_error a left rest old new Memory first h taken = taken_more a left rest first _ _ taken h
+
+-- after a piece more, by what `fill` says of it
+pub filled_within : (old new : LinesState) (left rest : Option (List ℕ)) (b : Bool) (n : ℕ) → b ≡ true → FillsPending old new left rest (Ok b) → n ≡ length old.pending → n ≤ length new.pending
+filled_within old new left rest false n e h is = cc
+filled_within old new left rest true n e h is =
+    let a = length-append old.pending h.0 in let m = ap (λ s. length s.pending) h.2 in omega (arith, a, m, is)
+
+pub filled_clear : (old new : LinesState) (left rest : Option (List ℕ)) (b : Bool) (n : ℕ) → b ≡ true → FillsPending old new left rest (Ok b) → n ≡ length old.pending
+    → IsClear old.pending n → IsClear new.pending n
+filled_clear old new left rest false n e h is clear = cc
+filled_clear old new left rest true n e h is clear =
+    subst (λ s. IsClear s.pending n) (sym h.2) (clear_more old.pending h.0 n (omega (arith, is)) clear)
+
+pub filled_ahead : (a : Option (List ℕ)) (old new : LinesState) (left rest : Option (List ℕ)) (b : Bool) → b ≡ true → FillsPending old new left rest (Ok b) → Keeps a (ahead old left) → Keeps a (ahead new rest)
+filled_ahead a old new left rest false e h kept = cc
+filled_ahead a old new left rest true e h kept =
+    subst (λ s. Keeps a (ahead s rest)) (sym h.2)
+    (pending_more a (behind old left) (prepend_known [] rest) old.pending h.0 kept (behind_taken left rest old.past [] h.0 h.3 refl h.4))
+
+pub filled_taken : (a : Option (List ℕ)) (old new : LinesState) (left rest : Option (List ℕ)) (b : Bool) (first : ℕ) → b ≡ true → FillsPending old new left rest (Ok b) → CountsTaken a left first old.taken → CountsTaken a rest first new.taken
+filled_taken a old new left rest false first e h taken = cc
+filled_taken a old new left rest true first e h taken = taken_more a left rest _ _ _ taken (h.0, h.4, ap (λ s. s.taken) h.2)
+
+pub filled_room : (old new : LinesState) (left rest : Option (List ℕ)) (b : Bool) → b ≡ true → FillsPending old new left rest (Ok b) → room new ≡ room old
+filled_room old new left rest false e h = cc
+filled_room old new left rest true e h =
+    let n = ap (λ s. length s.pending) h.2 in let m = length-append old.pending h.0 in let t = ap (λ s. s.taken) h.2 in let u = h.5 in omega (arith, n, m, t, u)
+
+-- none before a place, and none from there to another
+pub clear_to : (bytes looked : List ℕ) (n at : ℕ) → looked ≡ bytes → IsClear bytes n → ((k : ℕ) → n ≤ k → k < at → get_or looked k 0 ≡ 10 → ⊥) → IsClear bytes at
+clear_to bytes looked n at was front later k below feed =
+    elim (cases_lt k n) [ inl lt ↦ front k lt feed | inr le ↦ later k le below (ap (λ l. get_or l k 0) was ∙ feed) ]
+
+-- the place that `feed_from` found
+pub found_at : (bytes looked : List ℕ) (n at : ℕ) → looked ≡ bytes → IsClear bytes n
+    → (n ≤ at) × (at < length looked) × (get_or looked at 0 ≡ 10) × ((k : ℕ) → n ≤ k → k < at → get_or looked k 0 ≡ 10 → ⊥)
+    → (at < length bytes) × (get_or bytes at 0 ≡ 10) × IsClear bytes at
+found_at bytes looked n at was clear found = (
+  (let m = ap length was in let b = found.1 in omega (arith, m, b)),
+  sym (ap (λ l. get_or l at 0) was) ∙ found.2,
+  clear_to bytes looked n at was clear found.3,
+)
+
+-- it found none, so none is pending
+pub none_found : (bytes looked : List ℕ) (n m : ℕ) → looked ≡ bytes → m ≡ length bytes → IsClear bytes n → ((k : ℕ) → n ≤ k → k < length looked → get_or looked k 0 ≡ 10 → ⊥) → IsClear bytes m
+none_found bytes looked n m was all clear none =
+    clear_to bytes looked n m was clear (λ k low below feed. none k low (let e = ap length was in omega (arith, e, all, below)) feed)

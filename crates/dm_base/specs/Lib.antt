@@ -1,0 +1,5 @@
+pub mod Outside
+pub mod Memory
+pub mod Lines
+pub mod Fields
+pub mod Lends

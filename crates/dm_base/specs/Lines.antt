@@ -1,0 +1,79 @@
+-- Lines of a source, each ended by a line feed (byte 10).
+use Rattle.std.specs.Prelude.{◌≡◌, ◌≢◌, ◌<◌, ◌≤◌, ◌+◌, ◌-◌, ℕ, List, [], ◌∷◌, ◌++◌, length, take, ⊤, Option, Result, Ok, Err, slice_index, Bool, true, false}
+use Rattle.std.specs.Io.KnownBytes.{Consumes, IsAtEnd, Keeps, prepend_known}
+use Rattle.dm_base.specs.Outside.{OfKnown}
+use Rattle.dm_base.specs.declared.outside.TakeError.{TakeError}
+use Rattle.dm_base.specs.declared.outside.TakeError.TheVariants as take_error
+use Rattle.dm_base.specs.declared.lines.LineReason.TheVariants as reason
+use Rattle.dm_base.specs.declared.lines.LineOut.{LineOut}
+use Rattle.dm_base.specs.declared.lines.LineOut.TheVariants as line_out
+
+-- the bytes that were taken and not yet given: those within the limit, and the one past it; and how many were taken
+pub record LinesState : Type 0 where
+  pub pending : List ℕ
+  pub past : List ℕ
+  pub taken : ℕ
+
+-- what stands behind the pending bytes: the byte past the limit, and the bytes that the source has left
+abbrev pub behind : LinesState → Option (List ℕ) → Option (List ℕ)
+behind state left = prepend_known state.past left
+
+-- what is still to come
+abbrev pub ahead : LinesState → Option (List ℕ) → Option (List ℕ)
+ahead state left = prepend_known state.pending (behind state left)
+
+-- how many of these bytes a run looks at: those that are pending, and those that may yet be taken
+abbrev pub room : LinesState → ℕ
+room state = length state.pending + (67108864 - state.taken)
+
+-- no line feed among the bytes
+abbrev pub IsFeedless : List ℕ → Type 0
+IsFeedless bytes = (k : ℕ) → k < length bytes → slice_index bytes k ≢ 10
+
+-- all that is to come is the front of a line
+pub record IsCutLine (room : ℕ) (bytes : List ℕ) : Type 0 where
+  pub some : 0 < length bytes
+  pub short : length bytes ≤ 8400000
+  pub seen : length bytes ≤ room
+  pub feedless : IsFeedless bytes
+
+-- more bytes than a line may have stand in front, without a line feed, and a run looks at them
+abbrev pub IsLongLine : ℕ → List ℕ → Type 0
+IsLongLine room bytes = (line : List ℕ) × (rest : List ℕ) × (bytes ≡ line ++ rest) × IsFeedless line × (8400000 < length line) × (length line ≤ room)
+
+-- the bytes that a run looks at hold no whole line, and another byte comes
+pub record IsPastRoom (room : ℕ) (bytes : List ℕ) : Type 0 where
+  pub more : room < length bytes
+  pub short : room ≤ 8400000
+  pub feedless : IsFeedless (take room bytes)
+
+-- what an answer says of the bytes that were to come before it and after it
+abbrev pub ReadsLine : ℕ → Option (List ℕ) → Option (List ℕ) → Result LineOut TakeError → Type 0
+ReadsLine room old new (Ok (line_out.Line line)) =
+    IsFeedless line × (length line ≤ 8400000) × (length line < room) × Consumes old new (line ++ 10 ∷ [])
+ReadsLine room old new (Ok (line_out.Bad reason.Cut)) = Keeps old new × OfKnown old (IsCutLine room)
+ReadsLine room old new (Ok (line_out.Bad reason.Long)) = Keeps old new × OfKnown old (IsLongLine room)
+ReadsLine room old new (Ok (line_out.Bad other)) = ⊥
+ReadsLine room old new (Ok line_out.End) = Keeps old new × IsAtEnd old
+ReadsLine room old new (Err take_error.TooLong) = OfKnown old (IsPastRoom room)
+ReadsLine room old new (Err take_error.Read) = Keeps old new
+ReadsLine room old new (Err take_error.Memory) = ⊤
+
+-- bytes that were taken are counted
+abbrev pub CountsTaken : Option (List ℕ) → Option (List ℕ) → ℕ → ℕ → Type 0
+CountsTaken old new before now = (bytes : List ℕ) × Consumes old new bytes × (now ≡ before + length bytes)
+
+-- how many bytes an answer gave
+abbrev pub bytes_given : LineOut → ℕ
+bytes_given (line_out.Line line) = length line + 1
+bytes_given other = 0
+
+-- one more piece was taken and is pending; or the end was met; or why not
+abbrev pub FillsPending : LinesState → LinesState → Option (List ℕ) → Option (List ℕ) → Result Bool TakeError → Type 0
+FillsPending old new left rest (Ok true) =
+    (bytes : List ℕ) × (0 < length bytes) × (new ≡ record { pending = old.pending ++ bytes; past = []; taken = old.taken + length bytes }) × (old.past ≡ []) × Consumes left rest bytes × (new.taken ≤ 67108864)
+FillsPending old new left rest (Ok false) = (new ≡ old) × Keeps left rest × (old.past ≡ []) × IsAtEnd left
+FillsPending old new left rest (Err take_error.TooLong) =
+    CountsTaken left rest old.taken new.taken × (67108864 ≤ old.taken) × OfKnown (behind old left) (λ bytes. 0 < length bytes)
+FillsPending old new left rest (Err take_error.Read) = (new ≡ old) × Keeps left rest
+FillsPending old new left rest (Err take_error.Memory) = CountsTaken left rest old.taken new.taken

@@ -1,0 +1,125 @@
+// A list of bytes, which contracts see as a list of numbers.
+ghost use Rattle.std.specs.Prelude.{◌≡◌, ◌==◌, ◌∷◌, ◌++◌, [], List, ℕ, length, take, drop, OnOk, OnErr, IfOk};
+
+use std::alloc::{AllocError, AllocFailed, Global};
+use std::marker::Model;
+use thiserror::Error;
+
+/// Want of memory. It is merged with no other error.
+#[derive(Clone, Copy, Debug, PartialEq, Eq, Error)]
+#[error("out of memory")]
+pub struct Memory;
+
+impl From<AllocError> for Memory {
+    fn from(_error: AllocError) -> Memory {
+        Memory
+    }
+}
+
+impl<T: Drop> From<AllocFailed<T>> for Memory {
+    fn from(_failed: AllocFailed<T>) -> Memory {
+        Memory
+    }
+}
+
+/// A list of bytes. Its calls are those of a list; after `Memory` it is as before.
+#[derive(Drop)]
+pub struct Bytes {
+    items: Vec<u8>,
+}
+
+impl Model for Bytes {
+    ghost use Rattle.std.specs.Prelude.{List, ℕ};
+
+    ghost Value = { List ℕ };
+
+    ghost view = { λ b. b.items.items };
+}
+
+impl Bytes {
+    pub fn new(alloc: Global) -> Bytes
+        ensures { result ≡ [] }
+    {
+        Bytes {
+            items: Vec::new(alloc),
+        }
+    }
+
+    /// The bytes of a vector, which isn't copied.
+    pub fn of_vec(items: Vec<u8>) -> Bytes
+        ensures { result ≡ items.items }
+    {
+        Bytes { items }
+    }
+
+    /// The vector of these bytes, which aren't copied.
+    pub fn into_vec(self) -> Vec<u8>
+        ensures { result.items ≡ self }
+    {
+        self.items
+    }
+
+    /// A list of the bytes of a slice.
+    pub fn of_slice(alloc: Global, bytes: &[u8]) -> Result<Bytes, Memory>
+        ensures { IfOk result (λ b. b ≡ bytes.now) }
+    {
+        Ok(Bytes {
+            items: Vec::from_slice(alloc, bytes)?,
+        })
+    }
+
+    pub fn len(&self) -> usize
+        ensures { result ≡ length self.now }
+    {
+        self.items.len()
+    }
+
+    pub fn is_empty(&self) -> bool
+        ensures { result ≡ (length self.now == 0) }
+    {
+        self.items.is_empty()
+    }
+
+    pub fn as_slice(&self) -> &[u8]
+        ensures { result.now ≡ self.now }
+    {
+        self.items.as_slice()
+    }
+
+    pub fn push(&mut self, byte: u8) -> Result<(), Memory>
+        ensures ok { OnOk result (self.new ≡ self.old ++ byte ∷ []) }
+        ensures err { OnErr result (self.new ≡ self.old) }
+    {
+        self.items.push(byte)?;
+        Ok(())
+    }
+
+    pub fn extend(&mut self, bytes: &[u8]) -> Result<(), Memory>
+        ensures ok { OnOk result (self.new ≡ self.old ++ bytes.now) }
+        ensures err { OnErr result (self.new ≡ self.old) }
+    {
+        self.items.extend_from_slice(bytes)?;
+        Ok(())
+    }
+
+    /// Gives up the first `count` bytes, or all where there are fewer. It takes no memory.
+    pub fn drop_front(&mut self, count: usize)
+        ensures { self.new ≡ drop count self.old }
+    {
+        let count = count.min(self.items.len());
+        self.items.drain(..count);
+    }
+
+    /// Keeps the first `count` bytes, or all where there are fewer. It takes no memory.
+    pub fn cut_to(&mut self, count: usize)
+        ensures { self.new ≡ take count self.old }
+    {
+        self.items.truncate(count);
+    }
+
+    pub fn copy(&self, alloc: Global) -> Result<Bytes, Memory>
+        ensures { IfOk result (λ b. b ≡ self.now) }
+    {
+        Bytes::of_slice(alloc, self.items.as_slice())
+    }
+}

@@ -1,0 +1,25 @@
+//! What every crate stands on: lists of bytes and of values, the traits of what is outside with their forms in
+//! memory, and the readers of lines and fields.
+#![tactic(auto)]
+
+pub mod bytes;
+pub mod fields;
+pub mod first;
+pub mod lines;
+pub mod list;
+pub mod memory;
+pub mod outside;
+#[cfg(test)]
+mod tests;
+pub mod values;
+pub mod wholes;
+
+pub use bytes::{Bytes, Memory};
+pub use fields::{Form, field, hex_bytes, hex_into, is_field, nonce, num};
+pub use first::{FirstInfo, FirstLeaf};
+pub use lines::{LineOut, LineReason, Lines};
+pub use list::List;
+pub use memory::{MemSink, MemSource};
+pub use outside::{Failed, Fault, Sink, Source, Stream, TakeError};
+pub use values::{Limits, Nonce};
+pub use wholes::{put_all, take_all};

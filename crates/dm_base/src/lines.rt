@@ -1,0 +1,174 @@
+// A source line by line. What was taken and not yet given as a line is pending.
+ghost use Rattle.std.specs.Prelude.{◌≡◌, ◌≢◌, ◌<◌, ◌≤◌, ◌+◌, ◌∷◌, ◌++◌, List, [], ℕ, length, take, drop, slice_index, MatchOption, IfOk, OnOk, OnErr, IsErrOf, true, false};
+ghost use Rattle.dm_base.specs.Outside.{ReadCounts};
+ghost use Rattle.dm_base.specs.Lines.{LinesState, ReadsLine, CountsTaken, FillsPending, ahead, IsFeedless, room, bytes_given};
+
+use crate::bytes::{Bytes, Memory};
+use crate::outside::{Failed, Source, TakeError};
+use std::alloc::Global;
+use std::marker::Model;
+
+const PIECE: usize = 4096;
+/// How many bytes one run takes at most.
+pub const RUN_LIMIT: usize = 67_108_864;
+/// How many bytes a line has at most, without its line feed.
+pub const LINE_LIMIT: usize = 8_400_000;
+
+/// Why a line is refused.
+#[derive(Clone, Copy, Debug, PartialEq, Eq)]
+pub enum LineReason {
+    /// The input ends inside the line, or before the line that should come.
+    Cut,
+    /// It has more than 8,400,000 bytes.
+    Long,
+    /// Its first word isn't allowed there.
+    Word,
+    /// The number or form of its fields.
+    Fields,
+    /// An account that repeats, that is unknown, or that is one too many.
+    Account,
+    /// The tree forbids it.
+    Tree,
+    /// It stands behind the last line.
+    Extra,
+    /// A message that wasn't sent.
+    Message,
+}
+
+/// The next line without its line feed, or why there is none: `Bad` with `Cut` or `Long`, or the end of the input.
+#[derive(Drop)]
+pub enum LineOut {
+    Line(Bytes),
+    Bad(LineReason),
+    End,
+}
+
+/// The lines of one source, of which at most 67,108,864 bytes are looked at.
+#[derive(Drop)]
+pub struct Lines {
+    alloc: Global,
+    pending: Bytes,
+    // How many bytes within the limit were taken.
+    taken: usize,
+    // The byte past the limit, once it came.
+    past: Option<u8>,
+}
+
+impl Model for Lines {
+    ghost use Rattle.std.specs.Prelude.{◌≡◌, ◌≤◌, ◌+◌, length, IsSome, option_to_list};
+    ghost use Rattle.dm_base.specs.Lines.{LinesState};
+
+    ghost Value = { LinesState };
+
+    ghost view = { λ s. record {
+      pending = s.pending;
+      past = option_to_list s.past;
+      taken = s.taken + length (option_to_list s.past);
+    } };
+
+    ghost invariant = { λ s. (s.taken ≤ 67108864) × (IsSome s.past → s.taken ≡ 67108864) };
+}
+
+// Where the first line feed stands at or after a place.
+fn feed_from(bytes: &[u8], from: usize) -> Option<usize>
+    requires { from ≤ length bytes.now }
+    ensures { MatchOption result
+        ((k : ℕ) → from ≤ k → k < length bytes.now → slice_index bytes.now k ≢ 10)
+        (λ at. (from ≤ at) × (at < length bytes.now) × (slice_index bytes.now at ≡ 10)
+        × ((k : ℕ) → from ≤ k → k < at → slice_index bytes.now k ≢ 10)) }
+{
+    for i in from..bytes.len() {
+        if bytes[i] == b'\n' {
+            return Some(i);
+        }
+    }
+    None
+}
+
+impl Lines {
+    pub fn new(alloc: Global) -> Lines
+        ensures { result ≡ record { pending = []; past = []; taken = 0 } }
+    {
+        Lines {
+            alloc,
+            pending: Bytes::new(alloc),
+            taken: 0,
+            past: None,
+        }
+    }
+
+    // Takes the next piece. The byte past the limit is asked for alone, and only here.
+    fn fill<S: Source>(&mut self, src: &mut S) -> Result<bool, TakeError>
+        ensures bytes { FillsPending self.old self.new (S.left src.old) (S.left src.new) result }
+        ensures count { ReadCounts (S.faults src.old) (S.faults src.new) result }
+        ensures sink { S.as_sink src.new ≡ S.as_sink src.old }
+    {
+        if self.past.is_some() {
+            return Err(TakeError::TooLong);
+        }
+        let mut buf = [0u8; PIECE];
+        let wanted = (RUN_LIMIT - self.taken).min(PIECE).max(1);
+        match src.take(&mut buf[..wanted]) {
+            Ok(0) => Ok(false),
+            Ok(count) => {
+                if self.taken == RUN_LIMIT {
+                    self.past = Some(buf[0]);
+                    return Err(TakeError::TooLong);
+                }
+                self.taken += count;
+                match self.pending.extend(&buf[..count]) {
+                    Ok(()) => Ok(true),
+                    Err(_) => Err(TakeError::Memory),
+                }
+            }
+            Err(Failed) => Err(TakeError::Read),
+        }
+    }
+
+    // Gives the bytes before a line feed as a line.
+    fn give(&mut self, at: usize) -> Result<Bytes, Memory>
+        requires { at < length self.old.pending }
+        ensures given { IfOk result (λ line. line ≡ take at self.old.pending) }
+        ensures rest { OnOk result
+            (self.new ≡ record self.old { pending = drop (at + 1) self.old.pending }) }
+        ensures err { OnErr result (self.new ≡ self.old) }
+    {
+        let line = Bytes::of_slice(self.alloc, &self.pending.as_slice()[..at])?;
+        self.pending.drop_front(at + 1);
+        Ok(line)
+    }
+
+    /// The next line. A line that is whole within the first 67,108,864 bytes is given before another byte is asked
+    /// for; `TooLong` comes exactly where no whole line is left in them and another byte comes. After an answer other
+    /// than a line the same comes again; after `Read` nothing is lost, and after `Memory` what was taken may be.
+    pub fn next<S: Source>(&mut self, src: &mut S) -> Result<LineOut, TakeError>
+        ensures line { ReadsLine (room self.old) (ahead self.old (S.left src.old))
+            (ahead self.new (S.left src.new)) result }
+        ensures taken { CountsTaken (S.left src.old) (S.left src.new) self.old.taken self.new.taken }
+        ensures room { IfOk result (λ out. room self.new + bytes_given out ≡ room self.old) }
+        ensures count { ReadCounts (S.faults src.old) (S.faults src.new) result }
+        ensures sink { S.as_sink src.new ≡ S.as_sink src.old }
+    {
+        let mut scanned = 0;
+        'pieces: loop {
+            match feed_from(self.pending.as_slice(), scanned) {
+                Some(at) if at > LINE_LIMIT => return Ok(LineOut::Bad(LineReason::Long)),
+                Some(at) => match self.give(at) {
+                    Ok(line) => return Ok(LineOut::Line(line)),
+                    Err(_) => return Err(TakeError::Memory),
+                },
+                None => {}
+            }
+            scanned = self.pending.len();
+            if scanned > LINE_LIMIT {
+                return Ok(LineOut::Bad(LineReason::Long));
+            }
+            match self.fill(src) {
+                Ok(true) => {}
+                Ok(false) if scanned == 0 => return Ok(LineOut::End),
+                Ok(false) => return Ok(LineOut::Bad(LineReason::Cut)),
+                Err(error) => return Err(error),
+            }
+        }
+    }
+}
