@@ -1,0 +1,102 @@
+-- The code pages: page 0 is the representation protocol, page 1 the meta information.
+use Rattle.std.specs.Prelude.{ℕ}
+use Rattle.wbxml_tables.specs.declared.Element.{Element}
+use Rattle.wbxml_tables.specs.declared.Element.TheVariants.{EAdd, EAlert, EArchive, EAtomic, EChal, ECmd, ECmdID, ECmdRef, ECopy, ECred, EData, EDelete, EExec, EFinal, EGet, EItem, ELang, ELocName, ELocURI, EMap, EMapItem, EMeta, EMsgID, EMsgRef, ENoResp, ENoResults, EPut, EReplace, ERespURI, EResults, ESearch, ESequence, ESessionID, ESftDel, ESource, ESourceRef, EStatus, ESync, ESyncBody, ESyncHdr, ESyncML, ETarget, ETargetRef, EVerDTD, EVerProto, ENumberOfChanges, EMoreData, EField, EFilter, ERecord, EFilterType, ESourceParent, ETargetParent, EMove, ECorrelator, EAnchor, EEMI, EFormat, EFreeID, EFreeMem, ELast, EMark, EMaxMsgSize, EMem, EMetInf, ENext, ENextNonce, ESharedMem, ESize, EType, EVersion, EMaxObjSize, EFieldLevel}
+
+-- the page of an element
+abbrev pub page_of : Element → ℕ
+page_of EAnchor = 1
+page_of EEMI = 1
+page_of EFormat = 1
+page_of EFreeID = 1
+page_of EFreeMem = 1
+page_of ELast = 1
+page_of EMark = 1
+page_of EMaxMsgSize = 1
+page_of EMem = 1
+page_of EMetInf = 1
+page_of ENext = 1
+page_of ENextNonce = 1
+page_of ESharedMem = 1
+page_of ESize = 1
+page_of EType = 1
+page_of EVersion = 1
+page_of EMaxObjSize = 1
+page_of EFieldLevel = 1
+page_of other = 0
+
+-- the code of an element on its page
+abbrev pub code_on_page : Element → ℕ
+code_on_page EAdd = 0x05
+code_on_page EAlert = 0x06
+code_on_page EArchive = 0x07
+code_on_page EAtomic = 0x08
+code_on_page EChal = 0x09
+code_on_page ECmd = 0x0a
+code_on_page ECmdID = 0x0b
+code_on_page ECmdRef = 0x0c
+code_on_page ECopy = 0x0d
+code_on_page ECred = 0x0e
+code_on_page EData = 0x0f
+code_on_page EDelete = 0x10
+code_on_page EExec = 0x11
+code_on_page EFinal = 0x12
+code_on_page EGet = 0x13
+code_on_page EItem = 0x14
+code_on_page ELang = 0x15
+code_on_page ELocName = 0x16
+code_on_page ELocURI = 0x17
+code_on_page EMap = 0x18
+code_on_page EMapItem = 0x19
+code_on_page EMeta = 0x1a
+code_on_page EMsgID = 0x1b
+code_on_page EMsgRef = 0x1c
+code_on_page ENoResp = 0x1d
+code_on_page ENoResults = 0x1e
+code_on_page EPut = 0x1f
+code_on_page EReplace = 0x20
+code_on_page ERespURI = 0x21
+code_on_page EResults = 0x22
+code_on_page ESearch = 0x23
+code_on_page ESequence = 0x24
+code_on_page ESessionID = 0x25
+code_on_page ESftDel = 0x26
+code_on_page ESource = 0x27
+code_on_page ESourceRef = 0x28
+code_on_page EStatus = 0x29
+code_on_page ESync = 0x2a
+code_on_page ESyncBody = 0x2b
+code_on_page ESyncHdr = 0x2c
+code_on_page ESyncML = 0x2d
+code_on_page ETarget = 0x2e
+code_on_page ETargetRef = 0x2f
+code_on_page EVerDTD = 0x31
+code_on_page EVerProto = 0x32
+code_on_page ENumberOfChanges = 0x33
+code_on_page EMoreData = 0x34
+code_on_page EField = 0x35
+code_on_page EFilter = 0x36
+code_on_page ERecord = 0x37
+code_on_page EFilterType = 0x38
+code_on_page ESourceParent = 0x39
+code_on_page ETargetParent = 0x3a
+code_on_page EMove = 0x3b
+code_on_page ECorrelator = 0x3c
+code_on_page EAnchor = 0x05
+code_on_page EEMI = 0x06
+code_on_page EFormat = 0x07
+code_on_page EFreeID = 0x08
+code_on_page EFreeMem = 0x09
+code_on_page ELast = 0x0a
+code_on_page EMark = 0x0b
+code_on_page EMaxMsgSize = 0x0c
+code_on_page EMem = 0x0d
+code_on_page EMetInf = 0x0e
+code_on_page ENext = 0x0f
+code_on_page ENextNonce = 0x10
+code_on_page ESharedMem = 0x11
+code_on_page ESize = 0x12
+code_on_page EType = 0x13
+code_on_page EVersion = 0x14
+code_on_page EMaxObjSize = 0x15
+code_on_page EFieldLevel = 0x16
