@@ -1,0 +1,155 @@
+// The canonical spelling of tokens.
+ghost use Rattle.std.specs.Prelude.{◌≡◌, ◌<◌, ◌^◌, ◌++◌, length, take, IfOk, OnOk, OnErr};
+ghost use Rattle.wbxml_tokens.specs.declared.token.Token.TheVariants.{Tag, End, Text, Opaque};
+ghost use Rattle.wbxml_tokens.specs.Spelling.{Written, written_after, prologue};
+
+use crate::token::Writer;
+use dm_base::{Bytes, Memory};
+use std::alloc::Global;
+use std::marker::Model;
+use wbxml_ints::write_mb;
+use wbxml_tables::{Element, code_of};
+
+/// Writes the canonical prologue and then each token in its shortest form, with a page switch before a tag of another
+/// page and nowhere else. After `Memory` it is as before.
+#[derive(Drop)]
+pub struct TokenWriter {
+    bytes: Bytes,
+    page: u8,
+}
+
+impl Model for TokenWriter {
+    ghost use Rattle.wbxml_tokens.specs.Spelling.{Written};
+
+    ghost Value = { Written };
+
+    ghost view = { λ w. record { bytes = w.bytes; page = w.page } };
+}
+
+impl TokenWriter {
+    /// A writer that has written the prologue and stands on page 0.
+    pub fn new(alloc: Global) -> Result<TokenWriter, Memory>
+        ensures { IfOk result (λ w. w ≡ record { bytes = prologue; page = 0 }) }
+    {
+        Ok(TokenWriter {
+            bytes: Bytes::of_slice(alloc, &[0x03, 0xa4, 0x01, 0x6a, 0x00])?,
+            page: 0,
+        })
+    }
+
+    /// All that was written.
+    pub fn finish(self) -> Bytes
+        ensures { result ≡ self.bytes }
+    {
+        self.bytes
+    }
+}
+
+// Appends three pieces. After `Memory` the first of them may stand there.
+fn append_each(out: &mut Bytes, first: &[u8], second: &[u8], third: &[u8]) -> Result<(), Memory>
+    ensures ok { OnOk result (out.new ≡ out.old ++ first.now ++ second.now ++ third.now) }
+    ensures err { OnErr result (take (length out.old) out.new ≡ out.old) }
+{
+    out.extend(first)?;
+    out.extend(second)?;
+    out.extend(third)
+}
+
+// Appends three pieces, or none of them.
+fn append(out: &mut Bytes, first: &[u8], second: &[u8], third: &[u8]) -> Result<(), Memory>
+    ensures ok { OnOk result (out.new ≡ out.old ++ first.now ++ second.now ++ third.now) }
+    ensures err { OnErr result (out.new ≡ out.old) }
+{
+    let length = out.len();
+    match append_each(out, first, second, third) {
+        Ok(()) => Ok(()),
+        Err(memory) => {
+            out.cut_to(length);
+            Err(memory)
+        }
+    }
+}
+
+impl Writer for TokenWriter {
+    type Error = Memory;
+
+    ghost use Rattle.wbxml_tokens.specs.Spelling.{written_after};
+
+    ghost after = { written_after };
+
+    fn tag(&mut self, element: Element, content: bool) -> Result<(), Memory>
+        ensures ok { OnOk result (self.new ≡ written_after self.old (Tag element content)) }
+        ensures err { OnErr result (self.new ≡ self.old) }
+    {
+        let (page, code) = code_of(element);
+        let tag = if content { code + 0x40 } else { code };
+        if page == self.page {
+            return self.bytes.push(tag);
+        }
+        self.bytes.extend(&[0, page, tag])?;
+        self.page = page;
+        Ok(())
+    }
+
+    fn end(&mut self) -> Result<(), Memory>
+        ensures ok { OnOk result (self.new ≡ written_after self.old End) }
+        ensures err { OnErr result (self.new ≡ self.old) }
+    {
+        self.bytes.push(0x01)
+    }
+
+    fn text(&mut self, text: &[u8]) -> Result<(), Memory>
+        ensures ok { OnOk result (self.new ≡ written_after self.old (Text text.now)) }
+        ensures err { OnErr result (self.new ≡ self.old) }
+    {
+        append(&mut self.bytes, &[0x03], text, &[0x00])
+    }
+
+    fn opaque(&mut self, bytes: &[u8]) -> Result<(), Memory>
+        requires { length bytes.now < 2 ^ 32 }
+        ensures ok { OnOk result (self.new ≡ written_after self.old (Opaque bytes.now)) }
+        ensures err { OnErr result (self.new ≡ self.old) }
+    {
+        let length = write_mb(bytes.len() as u32);
+        append(&mut self.bytes, &[0xc3], length.as_slice(), bytes)
+    }
+}
+
+#[cfg(test)]
+mod tests {
+    use super::*;
+    use std::test::Fail;
+
+    #[test]
+    fn writes_a_bare_root(rt: HostRuntime) -> Result<(), Fail> {
+        let mut w = TokenWriter::new(rt.alloc())?;
+        w.tag(Element::ESyncML, false)?;
+        assert_eq!(rt;
+            w.finish().as_slice(),
+            [0x03, 0xa4, 0x01, 0x6a, 0x00, 0x2d].as_slice()
+        );
+        Ok(())
+    }
+
+    // The page is switched before Format and back before Data, and at no END.
+    #[test]
+    fn switches_pages(rt: HostRuntime) -> Result<(), Fail> {
+        let mut w = TokenWriter::new(rt.alloc())?;
+        w.tag(Element::EItem, true)?;
+        w.tag(Element::EMeta, true)?;
+        w.tag(Element::EFormat, true)?;
+        w.text(b"bin")?;
+        w.end()?;
+        w.tag(Element::EType, false)?;
+        w.end()?;
+        w.tag(Element::EData, true)?;
+        w.opaque(&[0x00, 0xff])?;
+        w.end()?;
+        w.end()?;
+        assert_eq!(rt;
+            w.finish().as_slice(),
+            b"\x03\xa4\x01\x6a\x00\x54\x5a\x00\x01\x47\x03bin\x00\x01\x13\x01\x00\x00\x4f\xc3\x02\x00\xff\x01\x01".as_slice()
+        );
+        Ok(())
+    }
+}
