@@ -1,0 +1,70 @@
+// The commands of a message's body. `id` is a CmdID, which is 1 or more.
+use crate::values::{Item, Meta};
+use dm_base::{Bytes, List};
+
+/// The verbs of the commands on the management tree.
+#[derive(Clone, Copy, Debug, PartialEq, Eq)]
+pub enum Verb {
+    Add,
+    Copy,
+    Delete,
+    Exec,
+    Get,
+    Replace,
+}
+
+/// A command on the management tree. Only an Exec has a correlator.
+#[derive(Drop)]
+pub struct Plain {
+    pub verb: Verb,
+    pub id: u32,
+    pub no_resp: bool,
+    pub meta: Option<Meta>,
+    pub correlator: Option<Bytes>,
+    pub items: List<Item>,
+}
+
+/// An Alert and its code, as 1201.
+#[derive(Drop)]
+pub struct AlertCmd {
+    pub id: u32,
+    pub no_resp: bool,
+    pub code: u32,
+    pub correlator: Option<Bytes>,
+    pub items: List<Item>,
+}
+
+/// The answer to the command `cmd_ref` of the message `msg_ref`; 0 stands for that message's header.
+#[derive(Drop)]
+pub struct StatusCmd {
+    pub id: u32,
+    pub msg_ref: u32,
+    pub cmd_ref: u32,
+    pub cmd: Bytes,
+    pub target_refs: List<Bytes>,
+    pub source_refs: List<Bytes>,
+    pub chal: Option<Meta>,
+    pub code: u32,
+    pub items: List<Item>,
+}
+
+/// What a Get found.
+#[derive(Drop)]
+pub struct ResultsCmd {
+    pub id: u32,
+    pub msg_ref: Option<u32>,
+    pub cmd_ref: u32,
+    pub meta: Option<Meta>,
+    pub target_ref: Option<Bytes>,
+    pub source_ref: Option<Bytes>,
+    pub items: List<Item>,
+}
+
+/// A command of a body.
+#[derive(Drop)]
+pub enum Command {
+    Plain(Plain),
+    Alert(AlertCmd),
+    Status(StatusCmd),
+    Results(ResultsCmd),
+}

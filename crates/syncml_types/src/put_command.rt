@@ -1,0 +1,131 @@
+// The canonical tokens of commands, given to a writer of any kind.
+ghost use Rattle.std.specs.Prelude.{◌≡◌, OnOk};
+ghost use Rattle.std.specs.List.{AllByRecursion};
+ghost use Rattle.wbxml_tokens.specs.Spelling.{given};
+ghost use Rattle.syncml_types.specs.Message.{HasShortData, HasShortItems};
+ghost use Rattle.syncml_types.specs.Canonical.{verb_element, plain_tokens, alert_tokens, status_tokens, results_tokens, command_tokens, commands_tokens, number_tokens, optional};
+ghost use Rattle.wbxml_tables.specs.declared.Element.TheVariants.{EMsgRef};
+
+use crate::command::{AlertCmd, Command, Plain, ResultsCmd, StatusCmd, Verb};
+use crate::put_value::{
+    put_flag, put_items, put_number, put_option_chal, put_option_meta, put_option_text, put_text,
+    put_texts,
+};
+use dm_base::List;
+use wbxml_tables::Element;
+use wbxml_tokens::Writer;
+
+fn element_of(verb: Verb) -> Element
+    ensures { result ≡ verb_element verb }
+{
+    match verb {
+        Verb::Add => Element::EAdd,
+        Verb::Copy => Element::ECopy,
+        Verb::Delete => Element::EDelete,
+        Verb::Exec => Element::EExec,
+        Verb::Get => Element::EGet,
+        Verb::Replace => Element::EReplace,
+    }
+}
+
+/// Gives a command on the management tree.
+#[tactic(auto, using(crate::proofs::Given::given_append), unfolding(crate::specs::Canonical::plain_tokens))]
+pub fn put_plain<W: Writer>(w: &mut W, c: &Plain) -> Result<(), W::Error>
+    requires { AllByRecursion HasShortData c.now.items }
+    ensures { OnOk result (w.new ≡ given W.after w.old (plain_tokens c.now)) }
+{
+    w.tag(element_of(c.verb), true)?;
+    put_number(w, Element::ECmdID, c.id as u64)?;
+    put_flag(w, Element::ENoResp, c.no_resp)?;
+    put_option_meta(w, &c.meta)?;
+    put_option_text(w, Element::ECorrelator, &c.correlator)?;
+    put_items(w, &c.items)?;
+    w.end()
+}
+
+/// Gives an Alert.
+#[tactic(auto, using(crate::proofs::Given::given_append), unfolding(crate::specs::Canonical::alert_tokens))]
+pub fn put_alert<W: Writer>(w: &mut W, c: &AlertCmd) -> Result<(), W::Error>
+    requires { AllByRecursion HasShortData c.now.items }
+    ensures { OnOk result (w.new ≡ given W.after w.old (alert_tokens c.now)) }
+{
+    w.tag(Element::EAlert, true)?;
+    put_number(w, Element::ECmdID, c.id as u64)?;
+    put_flag(w, Element::ENoResp, c.no_resp)?;
+    put_number(w, Element::EData, c.code as u64)?;
+    put_option_text(w, Element::ECorrelator, &c.correlator)?;
+    put_items(w, &c.items)?;
+    w.end()
+}
+
+/// Gives a Status.
+#[tactic(auto, using(crate::proofs::Given::given_append), unfolding(crate::specs::Canonical::status_tokens))]
+pub fn put_status<W: Writer>(w: &mut W, c: &StatusCmd) -> Result<(), W::Error>
+    requires { AllByRecursion HasShortData c.now.items }
+    ensures { OnOk result (w.new ≡ given W.after w.old (status_tokens c.now)) }
+{
+    w.tag(Element::EStatus, true)?;
+    put_number(w, Element::ECmdID, c.id as u64)?;
+    put_number(w, Element::EMsgRef, c.msg_ref as u64)?;
+    put_number(w, Element::ECmdRef, c.cmd_ref as u64)?;
+    put_text(w, Element::ECmd, c.cmd.as_slice())?;
+    put_texts(w, Element::ETargetRef, &c.target_refs)?;
+    put_texts(w, Element::ESourceRef, &c.source_refs)?;
+    put_option_chal(w, &c.chal)?;
+    put_number(w, Element::EData, c.code as u64)?;
+    put_items(w, &c.items)?;
+    w.end()
+}
+
+// The number of a message that may be absent.
+fn put_option_msg_ref<W: Writer>(w: &mut W, number: Option<u32>) -> Result<(), W::Error>
+    ensures { OnOk result (w.new ≡ given W.after w.old (optional (number_tokens EMsgRef) number)) }
+{
+    match number {
+        None => Ok(()),
+        Some(number) => put_number(w, Element::EMsgRef, number as u64),
+    }
+}
+
+/// Gives Results.
+#[tactic(auto, using(crate::proofs::Given::given_append), unfolding(crate::specs::Canonical::results_tokens))]
+pub fn put_results<W: Writer>(w: &mut W, c: &ResultsCmd) -> Result<(), W::Error>
+    requires { AllByRecursion HasShortData c.now.items }
+    ensures { OnOk result (w.new ≡ given W.after w.old (results_tokens c.now)) }
+{
+    w.tag(Element::EResults, true)?;
+    put_number(w, Element::ECmdID, c.id as u64)?;
+    put_option_msg_ref(w, c.msg_ref)?;
+    put_number(w, Element::ECmdRef, c.cmd_ref as u64)?;
+    put_option_meta(w, &c.meta)?;
+    put_option_text(w, Element::ETargetRef, &c.target_ref)?;
+    put_option_text(w, Element::ESourceRef, &c.source_ref)?;
+    put_items(w, &c.items)?;
+    w.end()
+}
+
+/// Gives a command.
+#[tactic(auto, unfolding(crate::specs::Canonical::command_tokens))]
+pub fn put_command<W: Writer>(w: &mut W, c: &Command) -> Result<(), W::Error>
+    requires { HasShortItems c.now }
+    ensures { OnOk result (w.new ≡ given W.after w.old (command_tokens c.now)) }
+{
+    match c {
+        Command::Plain(c) => put_plain(w, c),
+        Command::Alert(c) => put_alert(w, c),
+        Command::Status(c) => put_status(w, c),
+        Command::Results(c) => put_results(w, c),
+    }
+}
+
+/// Gives commands, one after the other.
+#[tactic(auto, using(crate::proofs::Given::given_append), unfolding(crate::specs::Canonical::commands_tokens))]
+pub fn put_commands<W: Writer>(w: &mut W, commands: &List<Command>) -> Result<(), W::Error>
+    requires { AllByRecursion HasShortItems commands.now }
+    ensures { OnOk result (w.new ≡ given W.after w.old (commands_tokens commands.now)) }
+{
+    for command in commands.as_slice() {
+        put_command(w, command)?;
+    }
+    Ok(())
+}
