@@ -1,0 +1,2 @@
+pub mod FirstMessages
+pub mod FirstGet

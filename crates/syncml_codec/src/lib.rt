@@ -1,0 +1,19 @@
+//! Messages to bytes and back. So far: every message is written, and those of the first path are read.
+#![tactic(auto)]
+
+pub mod encoder;
+pub mod first;
+pub mod first_get;
+pub mod first_messages;
+pub mod got;
+pub mod laws;
+pub mod names;
+mod parts;
+
+pub use encoder::encode;
+pub use first::{FirstEnds, FirstGet};
+pub use first_get::read_first;
+pub use first_messages::{write_open, write_reply};
+pub use got::{Got, got_of};
+pub use laws::first_messages_are_spelled;
+pub use names::{is_leaf_name, name_in_uri};
