@@ -1,0 +1,5 @@
+pub mod State
+pub mod Machine
+pub mod History
+pub mod View
+pub mod Inside
