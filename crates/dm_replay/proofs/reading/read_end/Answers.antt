@@ -1,0 +1,14 @@
+use Rattle.dm_replay.proofs.Fronts.{line_behind, bad_behind, error_behind}
+use Rattle.dm_replay.proofs.reading.read_end.Goals as goal
+
+pub returns-in-Ok-Line-clause-ending : goal.returns-in-Ok-Line-clause-ending
+returns-in-Ok-Line-clause-ending g c =
+    line_behind _ _ _ c.args.number c.in-Ok-Line.field-0-0 (rw c.in-Ok-Line.field-0-is at c.in-Ok-Line.ensures.line)
+
+pub returns-in-Ok-Bad-clause-ending : goal.returns-in-Ok-Bad-clause-ending
+returns-in-Ok-Bad-clause-ending g c =
+    bad_behind _ _ _ c.args.number c.in-Ok-Bad.field-0-0 (rw c.in-Ok-Bad.field-0-is at c.in-Ok-Bad.ensures.line)
+
+pub returns-clause-ending : goal.returns-clause-ending
+returns-clause-ending g c =
+    rw c.halt_of.ensures (error_behind _ _ _ c.args.number c.in-Err.error c.in-Err.ensures.line)

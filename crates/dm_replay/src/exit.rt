@@ -1,0 +1,19 @@
+// How a run ends.
+
+/// The answer of a run, which is the status that the program ends with.
+#[derive(Clone, Copy, Debug, PartialEq, Eq)]
+pub enum Exit {
+    /// The input was read to its end, and the whole text was written.
+    Done,
+    /// The words of the command line are of no form.
+    Usage,
+    /// The input is outside its grammar; the line and the reason were written.
+    BadInput,
+    /// The input holds what isn't built yet; the line was written.
+    NotBuilt,
+    ReadFault,
+    WriteFault,
+    NoMemory,
+    /// 67,108,864 bytes were taken, no whole line was left in them, and another byte came.
+    TooLong,
+}
