@@ -1,0 +1,37 @@
+//! The tool: it does what the words of its command line ask for, over standard input and output.
+#![tactic(auto)]
+
+mod adapters;
+mod run;
+#[cfg(test)]
+mod tests;
+
+use adapters::{StdSink, StdSource};
+use dm_replay::Exit;
+use run::{run, status};
+use std::io::ErrorKind;
+use std::process::ExitCode;
+use std::{env, io};
+
+// The words behind the program's name.
+fn words_of(rt: &HostRuntime) -> io::Result<Vec<String>> {
+    let mut words = Vec::new(rt.alloc());
+    for word in env::args(rt)?.skip(1) {
+        words.push(word)?;
+    }
+    Ok(words)
+}
+
+fn main(rt: HostRuntime) -> ExitCode {
+    let mut source = StdSource::new(rt.reader());
+    let mut sink = StdSink::new(io::writer(&rt));
+    let exit = match words_of(&rt) {
+        Ok(words) => run(rt.alloc(), words.as_slice(), &mut source, &mut sink),
+        // Words that aren't all UTF-8 are of no form, as no word is.
+        Err(error) if error.kind() == ErrorKind::InvalidData => {
+            run(rt.alloc(), &[], &mut source, &mut sink)
+        }
+        Err(_) => Exit::NoMemory,
+    };
+    ExitCode::from(status(exit))
+}

@@ -1,0 +1,62 @@
+// The top call.
+ghost use Rattle.std.specs.Prelude.{◌≡◌, map, string_bytes, Some, None, if◌then◌else◌};
+ghost use Rattle.dm_replay.specs.Causes.{SourceCause, SinkCause};
+ghost use Rattle.dm_cli.specs.Forms.{form_of, Runs, PutsUsage, Replay, UsageMeansNoForm};
+
+use dm_base::{Fault, Sink, Source, put_all};
+use dm_replay::{Exit, replay};
+use std::alloc::Global;
+
+const USAGE: &str = "usage: dmtool replay\n";
+
+// Whether the words are the one word `replay`.
+fn is_replay(words: &[String]) -> bool
+    ensures { form_of (map string_bytes words.now) ≡ (if result then Some Replay else None) }
+{
+    match words {
+        [word] => word.as_str() == "replay",
+        _ => false,
+    }
+}
+
+// Puts the usage line.
+fn put_usage<K: Sink>(out: &mut K) -> Exit
+    ensures output { PutsUsage (K.got out.old) (K.got out.new) result }
+    ensures sink { SinkCause (K.faults out.old) (K.faults out.new) result }
+{
+    match put_all(out, USAGE.as_bytes()) {
+        Ok(()) => Exit::Usage,
+        Err(Fault::Failed) => Exit::WriteFault,
+        Err(Fault::Memory) => Exit::NoMemory,
+    }
+}
+
+/// Does all that the tool does: reads the source, writes to the sink, and answers how the run ended. Want of memory
+/// ends it by `NoMemory` at any place; what was written is a prefix of the defined text then.
+pub fn run<S: Source, K: Sink>(alloc: Global, words: &[String], src: &mut S, out: &mut K) -> Exit
+    ensures output { Runs (form_of (map string_bytes words.now)) (S.left src.old) (K.got out.old)
+        (K.got out.new) result }
+    ensures usage { UsageMeansNoForm (form_of (map string_bytes words.now)) result }
+    ensures source { SourceCause (S.faults src.old) (S.faults src.new) result }
+    ensures sink { SinkCause (K.faults out.old) (K.faults out.new) result }
+{
+    if is_replay(words) {
+        replay(alloc, src, out)
+    } else {
+        put_usage(out)
+    }
+}
+
+/// The status that the program ends with.
+pub fn status(exit: Exit) -> u8 {
+    match exit {
+        Exit::Done => 0,
+        Exit::Usage => 2,
+        Exit::BadInput => 3,
+        Exit::ReadFault => 4,
+        Exit::WriteFault => 5,
+        Exit::NoMemory => 6,
+        Exit::TooLong => 9,
+        Exit::NotBuilt => 12,
+    }
+}

@@ -1,0 +1,188 @@
+ghost use Rattle.std.specs.Prelude.{◌<◌};
+
+// One table of runs over sources and sinks in memory.
+mod texts;
+
+use crate::run::run;
+use crate::tests::texts::{Text, bytes_of};
+use anyhow::Result;
+use dm_base::{Bytes, List, MemSink, MemSource};
+use dm_replay::Exit;
+use std::alloc::Global;
+
+/// A run, and what it must answer and write.
+struct Row {
+    name: &'static str,
+    words: &'static [&'static str],
+    input: Text,
+    piece: usize,
+    source_fails: &'static [u64],
+    sink_fails: &'static [u64],
+    exit: Exit,
+    output: Text,
+}
+
+const PLAIN: Row = Row {
+    name: "one Get, in pieces of 4,096 bytes",
+    words: &["replay"],
+    input: Text::OneGet,
+    piece: 4096,
+    source_fails: &[],
+    sink_fails: &[],
+    exit: Exit::Done,
+    output: Text::OneGetAnswered,
+};
+
+const ROWS: [Row; 19] = [
+    PLAIN,
+    Row {
+        name: "one Get, in pieces of 1",
+        piece: 1,
+        ..PLAIN
+    },
+    Row {
+        name: "one Get, in pieces of 7",
+        piece: 7,
+        ..PLAIN
+    },
+    Row {
+        name: "one Get, in pieces of 64",
+        piece: 64,
+        ..PLAIN
+    },
+    Row {
+        name: "an empty trace",
+        input: Text::Nothing,
+        exit: Exit::BadInput,
+        output: Text::BadCut,
+        ..PLAIN
+    },
+    Row {
+        name: "an unknown word",
+        words: &["play"],
+        exit: Exit::Usage,
+        output: Text::Usage,
+        ..PLAIN
+    },
+    Row {
+        name: "a word with a hyphen",
+        words: &["-replay"],
+        exit: Exit::Usage,
+        output: Text::Usage,
+        ..PLAIN
+    },
+    Row {
+        name: "a second word",
+        words: &["replay", "-v"],
+        exit: Exit::Usage,
+        output: Text::Usage,
+        ..PLAIN
+    },
+    Row {
+        name: "no word",
+        words: &[],
+        exit: Exit::Usage,
+        output: Text::Usage,
+        ..PLAIN
+    },
+    Row {
+        name: "a source that fails at its second call",
+        piece: 64,
+        source_fails: &[2],
+        exit: Exit::ReadFault,
+        output: Text::Nothing,
+        ..PLAIN
+    },
+    Row {
+        name: "a source that fails right after the open line",
+        piece: 129,
+        source_fails: &[2],
+        exit: Exit::ReadFault,
+        output: Text::FirstAnswer,
+        ..PLAIN
+    },
+    Row {
+        name: "a source that fails right after the message line",
+        piece: 313,
+        source_fails: &[2],
+        exit: Exit::ReadFault,
+        output: Text::BothAnswers,
+        ..PLAIN
+    },
+    Row {
+        name: "a sink that fails at its first call",
+        sink_fails: &[1],
+        exit: Exit::WriteFault,
+        output: Text::Nothing,
+        ..PLAIN
+    },
+    Row {
+        name: "a sink that fails at its third call",
+        sink_fails: &[3],
+        exit: Exit::WriteFault,
+        output: Text::BothAnswers,
+        ..PLAIN
+    },
+    Row {
+        name: "a usage line that is not written",
+        words: &["play"],
+        sink_fails: &[1],
+        exit: Exit::WriteFault,
+        output: Text::Nothing,
+        ..PLAIN
+    },
+    Row {
+        name: "a repeated Get",
+        input: Text::Repeated,
+        output: Text::RepeatedAnswered,
+        ..PLAIN
+    },
+    Row {
+        name: "a Get of a leaf that is not there",
+        input: Text::Missing,
+        output: Text::MissingAnswered,
+        ..PLAIN
+    },
+    Row {
+        name: "sixteen leaves",
+        input: Text::Sixteen,
+        output: Text::SixteenAnswered,
+        ..PLAIN
+    },
+    Row {
+        name: "a trace without its open line",
+        input: Text::NoOpen,
+        exit: Exit::NotBuilt,
+        output: Text::NotBuiltSeven,
+        ..PLAIN
+    },
+];
+
+// Runs a row, and says whether it answers and writes what the row says.
+fn passes(alloc: Global, row: &Row) -> Result<bool>
+    requires { 0 < row.now.piece }
+{
+    let mut words = Vec::new(alloc);
+    for word in row.words {
+        words.push(String::from_str(alloc, word)?)?;
+    }
+    let mut source = MemSource::new(
+        Bytes::of_vec(Vec::from_slice(alloc, bytes_of(row.input))?),
+        row.piece,
+        List::of_vec(Vec::from_slice(alloc, row.source_fails)?),
+    );
+    let mut sink = MemSink::new(alloc, List::of_vec(Vec::from_slice(alloc, row.sink_fails)?));
+    let exit = run(alloc, words.as_slice(), &mut source, &mut sink);
+    Ok(exit == row.exit && sink.bytes() == bytes_of(row.output))
+}
+
+#[test]
+fn worked_rows(rt: HostRuntime) -> Result<()> {
+    for row in &ROWS {
+        if row.piece > 0 {
+            let passed = passes(rt.alloc(), row)?;
+            assert!(rt; passed, "{}", row.name);
+        }
+    }
+    Ok(())
+}
