@@ -2,9 +2,20 @@
 #![tactic(auto)]
 
 ghost use Rattle.std.specs.Prelude.{◌≡◌, ◌<◌, ◌≤◌, ◌+◌, ◌/◌, ◌%◌, List, ℕ, length};
-ghost use Rattle.wbxml_ints.specs.Multibyte.{IsMultibyte, shortest};
+ghost use Rattle.wbxml_ints.specs.Multibyte.{IsMultibyte, Finds, OneIsFound, number_in, whole_of, shortest};
 
 use std::marker::Model;
+
+/// What stands at the front of some bytes.
+#[derive(Clone, Copy, Debug, PartialEq, Eq)]
+pub enum Mb {
+    /// A number, and how many bytes spell it.
+    Value { number: u32, used: usize },
+    /// Fewer than five bytes are there, and all say that more follow.
+    More,
+    /// Five bytes say that more follow, or the number passes 4,294,967,295.
+    TooBig,
+}
 
 /// The spelling of one integer, of one to five bytes.
 #[derive(Drop)]
@@ -86,7 +97,7 @@ fn spelling(number: u32) -> MbText
     longer(number, last)
 }
 
-/// The shortest spelling of a number.
+/// The shortest spelling of a number. It takes no memory.
 #[tactic(auto, using(crate::proofs::Shortest::shortest_is_least))]
 pub fn write_mb(number: u32) -> MbText
     ensures value { result ≡ shortest number }
@@ -95,6 +106,56 @@ pub fn write_mb(number: u32) -> MbText
 {
     spelling(number)
 }
+
+// The number of five digits, each without the bit that says that more follow.
+fn number_of(digits: [u8; 5]) -> u64
+    ensures { result ≡ number_in digits }
+{
+    let [a, b, c, d, e] = digits;
+    let mut number = (a % 128) as u64;
+    number = number * 128 + (b % 128) as u64;
+    number = number * 128 + (c % 128) as u64;
+    number = number * 128 + (d % 128) as u64;
+    number * 128 + (e % 128) as u64
+}
+
+// A number whose last digit was found.
+fn whole(digits: [u8; 5], used: usize) -> Mb
+    ensures { result ≡ whole_of (number_in digits) used }
+{
+    let number = number_of(digits);
+    if number < 1 << 32 {
+        Mb::Value {
+            number: number as u32,
+            used,
+        }
+    } else {
+        Mb::TooBig
+    }
+}
+
+/// The integer at the front of some bytes (WBXML 1.3, section 5.1), of five bytes at most; more bytes may follow it, and
+/// leading zeros are accepted. It takes no memory.
+pub fn read_mb(bytes: &[u8]) -> Mb
+    ensures { Finds bytes.now result }
+{
+    match bytes {
+        [e, ..] if *e < 128 => whole([0, 0, 0, 0, *e], 1),
+        [d, e, ..] if *e < 128 => whole([0, 0, 0, *d, *e], 2),
+        [c, d, e, ..] if *e < 128 => whole([0, 0, *c, *d, *e], 3),
+        [b, c, d, e, ..] if *e < 128 => whole([0, *b, *c, *d, *e], 4),
+        [a, b, c, d, e, ..] if *e < 128 => whole([*a, *b, *c, *d, *e], 5),
+        [_, _, _, _, _, ..] => Mb::TooBig,
+        _ => Mb::More,
+    }
+}
+
+/// One thing at most stands at the front of bytes, so `read_mb` answers `Value`, `More` and `TooBig` exactly where each
+/// stands there.
+#[tactic(auto, using(crate::proofs::Fronts::one_is_found))]
+pub fn one_is_found()
+    ensures { OneIsFound }
+{}
 
 #[cfg(test)]
 mod tests {
@@ -113,6 +174,25 @@ mod tests {
             (u32::MAX, &[0x8f, 0xff, 0xff, 0xff, 0x7f]),
         ] {
             assert_eq!(rt; write_mb(number).as_slice(), want, "at {number}");
+        }
+    }
+
+    fn found(number: u32, used: usize) -> Mb {
+        Mb::Value { number, used }
+    }
+
+    #[test]
+    fn reads_numbers(rt: HostRuntime) {
+        for (bytes, want) in [
+            ([0x80u8, 0x80, 0x80, 0x80, 0x05].as_slice(), found(5, 5)),
+            (&[0x8f, 0xff, 0xff, 0xff, 0x7f, 0x00], found(u32::MAX, 5)),
+            (&[0x00, 0x80], found(0, 1)),
+            (&[0x90, 0x80, 0x80, 0x80, 0x00], Mb::TooBig),
+            (&[0x80, 0x80, 0x80, 0x80, 0x80, 0x00], Mb::TooBig),
+            (&[0x82], Mb::More),
+            (&[], Mb::More),
+        ] {
+            assert_eq!(rt; read_mb(bytes), want, "of {} bytes", bytes.len());
         }
     }
 }
