@@ -1,5 +1,5 @@
 -- The code pages: page 0 is the representation protocol, page 1 the meta information.
-use Rattle.std.specs.Prelude.{ℕ}
+use Rattle.std.specs.Prelude.{◌≡◌, ℕ, List, codes}
 use Rattle.wbxml_tables.specs.declared.Element.{Element}
 use Rattle.wbxml_tables.specs.declared.Element.TheVariants.{EAdd, EAlert, EArchive, EAtomic, EChal, ECmd, ECmdID, ECmdRef, ECopy, ECred, EData, EDelete, EExec, EFinal, EGet, EItem, ELang, ELocName, ELocURI, EMap, EMapItem, EMeta, EMsgID, EMsgRef, ENoResp, ENoResults, EPut, EReplace, ERespURI, EResults, ESearch, ESequence, ESessionID, ESftDel, ESource, ESourceRef, EStatus, ESync, ESyncBody, ESyncHdr, ESyncML, ETarget, ETargetRef, EVerDTD, EVerProto, ENumberOfChanges, EMoreData, EField, EFilter, ERecord, EFilterType, ESourceParent, ETargetParent, EMove, ECorrelator, EAnchor, EEMI, EFormat, EFreeID, EFreeMem, ELast, EMark, EMaxMsgSize, EMem, EMetInf, ENext, ENextNonce, ESharedMem, ESize, EType, EVersion, EMaxObjSize, EFieldLevel}
 
@@ -100,3 +100,87 @@ code_on_page EType = 0x13
 code_on_page EVersion = 0x14
 code_on_page EMaxObjSize = 0x15
 code_on_page EFieldLevel = 0x16
+
+-- an element has this code on this page
+abbrev pub IsAt : ℕ → ℕ → Element → Type 0
+IsAt page code element = (page_of element ≡ page) × (code_on_page element ≡ code)
+
+-- elements with the same code on the same page are the same
+abbrev pub CodesAreDistinct : Type 0
+CodesAreDistinct = (a b : Element) → page_of a ≡ page_of b → code_on_page a ≡ code_on_page b → a ≡ b
+
+-- the name of an element, as it stands between the brackets of a tag
+abbrev pub name_in_text : Element → List ℕ
+name_in_text EAdd = codes "Add"
+name_in_text EAlert = codes "Alert"
+name_in_text EArchive = codes "Archive"
+name_in_text EAtomic = codes "Atomic"
+name_in_text EChal = codes "Chal"
+name_in_text ECmd = codes "Cmd"
+name_in_text ECmdID = codes "CmdID"
+name_in_text ECmdRef = codes "CmdRef"
+name_in_text ECopy = codes "Copy"
+name_in_text ECred = codes "Cred"
+name_in_text EData = codes "Data"
+name_in_text EDelete = codes "Delete"
+name_in_text EExec = codes "Exec"
+name_in_text EFinal = codes "Final"
+name_in_text EGet = codes "Get"
+name_in_text EItem = codes "Item"
+name_in_text ELang = codes "Lang"
+name_in_text ELocName = codes "LocName"
+name_in_text ELocURI = codes "LocURI"
+name_in_text EMap = codes "Map"
+name_in_text EMapItem = codes "MapItem"
+name_in_text EMeta = codes "Meta"
+name_in_text EMsgID = codes "MsgID"
+name_in_text EMsgRef = codes "MsgRef"
+name_in_text ENoResp = codes "NoResp"
+name_in_text ENoResults = codes "NoResults"
+name_in_text EPut = codes "Put"
+name_in_text EReplace = codes "Replace"
+name_in_text ERespURI = codes "RespURI"
+name_in_text EResults = codes "Results"
+name_in_text ESearch = codes "Search"
+name_in_text ESequence = codes "Sequence"
+name_in_text ESessionID = codes "SessionID"
+name_in_text ESftDel = codes "SftDel"
+name_in_text ESource = codes "Source"
+name_in_text ESourceRef = codes "SourceRef"
+name_in_text EStatus = codes "Status"
+name_in_text ESync = codes "Sync"
+name_in_text ESyncBody = codes "SyncBody"
+name_in_text ESyncHdr = codes "SyncHdr"
+name_in_text ESyncML = codes "SyncML"
+name_in_text ETarget = codes "Target"
+name_in_text ETargetRef = codes "TargetRef"
+name_in_text EVerDTD = codes "VerDTD"
+name_in_text EVerProto = codes "VerProto"
+name_in_text ENumberOfChanges = codes "NumberOfChanges"
+name_in_text EMoreData = codes "MoreData"
+name_in_text EField = codes "Field"
+name_in_text EFilter = codes "Filter"
+name_in_text ERecord = codes "Record"
+name_in_text EFilterType = codes "FilterType"
+name_in_text ESourceParent = codes "SourceParent"
+name_in_text ETargetParent = codes "TargetParent"
+name_in_text EMove = codes "Move"
+name_in_text ECorrelator = codes "Correlator"
+name_in_text EAnchor = codes "Anchor"
+name_in_text EEMI = codes "EMI"
+name_in_text EFormat = codes "Format"
+name_in_text EFreeID = codes "FreeID"
+name_in_text EFreeMem = codes "FreeMem"
+name_in_text ELast = codes "Last"
+name_in_text EMark = codes "Mark"
+name_in_text EMaxMsgSize = codes "MaxMsgSize"
+name_in_text EMem = codes "Mem"
+name_in_text EMetInf = codes "MetInf"
+name_in_text ENext = codes "Next"
+name_in_text ENextNonce = codes "NextNonce"
+name_in_text ESharedMem = codes "SharedMem"
+name_in_text ESize = codes "Size"
+name_in_text EType = codes "Type"
+name_in_text EVersion = codes "Version"
+name_in_text EMaxObjSize = codes "MaxObjSize"
+name_in_text EFieldLevel = codes "FieldLevel"
