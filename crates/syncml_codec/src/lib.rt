@@ -9,6 +9,8 @@ pub mod got;
 pub mod laws;
 pub mod names;
 mod parts;
+#[cfg(test)]
+mod tests;
 
 pub use encoder::encode;
 pub use first::{FirstEnds, FirstGet};
