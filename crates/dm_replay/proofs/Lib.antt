@@ -6,3 +6,6 @@ pub mod Answering
 pub mod Running
 pub mod Whole
 pub mod Usage
+pub mod FirstPath
+pub mod Back
+pub mod Done

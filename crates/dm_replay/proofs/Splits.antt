@@ -47,7 +47,7 @@ split_lead (b ∷ bs) rest h =
     ∙ ap (λ (t : Split). with_byte b t.lines t.tail) (split_lead bs rest (feedless_rest b bs h))
     ∙ with_byte-line b bs (split rest).lines (split rest).tail
 
-split_line : (line rest : List ℕ) → IsFeedless line
+pub split_line : (line rest : List ℕ) → IsFeedless line
     → split (line ++ 10 ∷ rest) ≡ record { lines = line ∷ (split rest).lines; tail = (split rest).tail }
 split_line line rest h =
     split_lead line (10 ∷ rest) h ∙ ap (λ l. record { lines = l ∷ (split rest).lines; tail = (split rest).tail }) (append-nil line)

@@ -36,7 +36,7 @@ byte_there b s more false = with_byte_there b s.lines s.tail more
 something : (r b : ℕ) (bs : List ℕ) → is_nothing (input_of (suc r) (b ∷ bs)).lines (input_of (suc r) (b ∷ bs)).tail (input_of (suc r) (b ∷ bs)).more ≡ false
 something r b bs = byte_there b (split (take r bs)) (nat_lt (suc r) (suc (length bs))) (b == 10)
 
-section_start : (bytes : List ℕ) → section_of bytes ≡ section_at 1 place.Head (input_of 67108864 bytes)
+pub section_start : (bytes : List ℕ) → section_of bytes ≡ section_at 1 place.Head (input_of 67108864 bytes)
 section_start [] = refl
 section_start (b ∷ bs) =
     let i = input_of 67108864 (b ∷ bs) in

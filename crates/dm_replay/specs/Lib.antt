@@ -5,3 +5,4 @@ pub mod Trace
 pub mod Output
 pub mod Causes
 pub mod From
+pub mod FirstPath
