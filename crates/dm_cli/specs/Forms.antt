@@ -37,3 +37,14 @@ Runs (Some Replay) left old new e = OfKnown left (λ bytes. Replays bytes old ne
 -- whatever the source tells, Usage is answered only to words of no form
 abbrev pub UsageMeansNoForm : Option Form → Exit → Type 0
 UsageMeansNoForm form e = e ≡ exit.Usage → form ≡ None
+
+-- the status that the program ends with
+abbrev pub status_of : Exit → ℕ
+status_of exit.Done = 0
+status_of exit.Usage = 2
+status_of exit.BadInput = 3
+status_of exit.ReadFault = 4
+status_of exit.WriteFault = 5
+status_of exit.NoMemory = 6
+status_of exit.TooLong = 9
+status_of exit.NotBuilt = 12

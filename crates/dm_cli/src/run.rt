@@ -1,7 +1,7 @@
 // The top call.
 ghost use Rattle.std.specs.Prelude.{◌≡◌, map, string_bytes, Some, None, if◌then◌else◌};
 ghost use Rattle.dm_replay.specs.Causes.{SourceCause, SinkCause};
-ghost use Rattle.dm_cli.specs.Forms.{form_of, Runs, PutsUsage, Replay, UsageMeansNoForm};
+ghost use Rattle.dm_cli.specs.Forms.{form_of, Runs, PutsUsage, Replay, UsageMeansNoForm, status_of};
 
 use dm_base::{Fault, Sink, Source, put_all};
 use dm_replay::{Exit, replay};
@@ -48,7 +48,9 @@ pub fn run<S: Source, K: Sink>(alloc: Global, words: &[String], src: &mut S, out
 }
 
 /// The status that the program ends with.
-pub fn status(exit: Exit) -> u8 {
+pub fn status(exit: Exit) -> u8
+    ensures { result ≡ status_of exit }
+{
     match exit {
         Exit::Done => 0,
         Exit::Usage => 2,
