@@ -2,6 +2,8 @@
 #![tactic(auto)]
 
 pub mod command;
+pub mod copies;
+pub mod lengths;
 pub mod message;
 pub mod put_command;
 pub mod put_value;
@@ -9,6 +11,7 @@ pub mod put_whole;
 pub mod values;
 
 pub use command::{AlertCmd, Command, Plain, ResultsCmd, StatusCmd, Verb};
+pub use lengths::{command_length, head_length, length};
 pub use message::Message;
 pub use put_whole::put_message;
 pub use values::{Cred, Header, Item, Loc, Meta};
