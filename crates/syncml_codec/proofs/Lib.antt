@@ -4,3 +4,4 @@ pub mod Numbers
 pub mod Elements
 pub mod Spelling
 pub mod Reading
+pub mod Listings

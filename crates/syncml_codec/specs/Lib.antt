@@ -1,2 +1,3 @@
 pub mod FirstMessages
 pub mod FirstGet
+pub mod Listing

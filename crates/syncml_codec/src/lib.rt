@@ -7,6 +7,7 @@ pub mod first_get;
 pub mod first_messages;
 pub mod got;
 pub mod laws;
+pub mod lister;
 pub mod names;
 mod parts;
 #[cfg(test)]
@@ -18,4 +19,5 @@ pub use first_get::read_first;
 pub use first_messages::{write_open, write_reply};
 pub use got::{Got, got_of};
 pub use laws::first_messages_are_spelled;
+pub use lister::listing;
 pub use names::{is_leaf_name, name_in_uri};

@@ -1,11 +1,11 @@
 ghost use Rattle.std.specs.Prelude.{◌≡◌, codes, IfOk};
 ghost use Rattle.syncml_codec.specs.FirstMessages.{HasShortTexts};
 
-use crate::{FirstEnds, encode, read_first, write_open, write_reply};
+use crate::{FirstEnds, encode, listing, read_first, write_open, write_reply};
 use dm_base::{Bytes, FirstInfo, FirstLeaf, Limits, Memory, hex_bytes};
 use std::alloc::Global;
 use std::test::Fail;
-use syncml_types::Message;
+use syncml_types::{Message, command_length, head_length, length};
 
 // A Get of ./A.
 fn get_text() -> &'static [u8] {
@@ -143,5 +143,63 @@ fn writes_the_messages(rt: HostRuntime) -> Result<(), Fail> {
     assert!(rt; is_replied(rt.alloc())?);
     let message = open(rt.alloc())?;
     assert!(rt; is_spelled(rt.alloc(), &message, open_text())?);
+    Ok(())
+}
+
+// The Get's listing.
+fn get_lines() -> &'static [u8] {
+    b"SyncML\n  SyncHdr\n    VerDTD 1.2\n    VerProto DM/1.2\n    SessionID 1\n    MsgID 1\n    Target\n      LocURI d1\n\
+        \x20   Source\n      LocURI s1\n  SyncBody\n    Get\n      CmdID 1\n      Item\n        Target\n          LocURI ./A\n\
+        \x20   Final\n"
+}
+
+fn is_listed(alloc: Global) -> Result<bool, Memory> {
+    let bytes = bytes_of(alloc, get_text())?;
+    match read_first(alloc, bytes.as_slice())? {
+        Some(get) => Ok(listing(alloc, &get)?.as_slice() == get_lines()),
+        None => Ok(false),
+    }
+}
+
+// Whether the Get's length is that of its bytes, and the sum of its head's, its command's and of SyncBody, Final and two ENDs.
+fn is_measured(get: &Message, bytes: u64) -> bool {
+    let (head, page) = head_length(get.header());
+    match get.body().as_slice() {
+        [command] => {
+            length(get) == bytes
+                && command_length(page, command).0 == bytes.saturating_sub(head).saturating_sub(4)
+        }
+        _ => false,
+    }
+}
+
+fn is_measured_again(alloc: Global) -> Result<bool, Memory> {
+    let bytes = bytes_of(alloc, get_text())?;
+    match read_first(alloc, bytes.as_slice())? {
+        Some(get) => Ok(is_measured(&get, bytes.len() as u64)),
+        None => Ok(false),
+    }
+}
+
+// Whether the copy of the Get's command is as long as the command.
+fn is_copied(alloc: Global) -> Result<bool, Memory> {
+    let bytes = bytes_of(alloc, get_text())?;
+    match read_first(alloc, bytes.as_slice())? {
+        Some(get) => match get.body().as_slice() {
+            [command] => {
+                let copied = command.copy(alloc)?;
+                Ok(command_length(0, &copied) == command_length(0, command))
+            }
+            _ => Ok(false),
+        },
+        None => Ok(false),
+    }
+}
+
+#[test]
+fn lists_and_measures_the_get(rt: HostRuntime) -> Result<(), Fail> {
+    assert!(rt; is_listed(rt.alloc())?, "its listing");
+    assert!(rt; is_measured_again(rt.alloc())?, "its lengths");
+    assert!(rt; is_copied(rt.alloc())?, "its copy");
     Ok(())
 }
