@@ -17,7 +17,7 @@ use Rattle.dm_replay.specs.declared.start.FirstStart.{FirstStart}
 use Rattle.dm_replay.specs.declared.start.Place.{Place}
 use Rattle.dm_replay.specs.Input.{Input, input_of}
 use Rattle.dm_replay.specs.Trace.{Stop, empty, not_built, too_long, Ending, whole, stopped, Trace, Section, began, unbegun, is_long, tail_stop, start_from, end_from, messages_from, no_events, with_event, trace_of}
-use Rattle.dm_replay.specs.Output.{answer_text, stop_text, ending_exit, trace_text, PutsPrefix}
+use Rattle.dm_replay.specs.Output.{answer_text, stop_text, ending_exit, trace_text, client_of, PutsPrefix}
 
 -- ---- the input to come
 
@@ -155,6 +155,10 @@ Ends text good old new exit.Usage = ⊥
 -- the rest of a run from a state and a trace
 abbrev pub EndsTrace : State → Trace → Option (List ℕ) → Option (List ℕ) → Exit → Type 0
 EndsTrace s t old new e = Ends (trace_text s t) (ending_exit t.ending) old new e
+
+-- the rest of a run behind a start section
+abbrev pub EndsEvents : Started → Option Input → Option (List ℕ) → Option (List ℕ) → Exit → Type 0
+EndsEvents s a old new e = OfInput a (λ i. EndsTrace (client_of s.start) (trace_of s.number s.start i) old new e)
 
 -- a text and then its answer: no answer but this one, a write fault and want of memory
 abbrev pub PutsEnd : List ℕ → Exit → Option (List ℕ) → Option (List ℕ) → Exit → Type 0

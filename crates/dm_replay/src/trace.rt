@@ -4,10 +4,9 @@ ghost use Rattle.dm_base.specs.Outside.{OfKnown};
 ghost use Rattle.dm_base.specs.Lines.{room};
 ghost use Rattle.dm_session.specs.State.{opened as opens, message as came};
 ghost use Rattle.dm_session.specs.History.{answer_now, next};
-ghost use Rattle.dm_replay.specs.Trace.{trace_of};
-ghost use Rattle.dm_replay.specs.Output.{Replays, client_of};
+ghost use Rattle.dm_replay.specs.Output.{Replays};
 ghost use Rattle.dm_replay.specs.Causes.{SourceCause, SinkCause};
-ghost use Rattle.dm_replay.specs.From.{seen, OfInput, PutsAnswer, EndsTrace, messages_at};
+ghost use Rattle.dm_replay.specs.From.{seen, OfInput, PutsAnswer, EndsTrace, EndsEvents, messages_at};
 
 use crate::answers::{answer_line, begin_line};
 use crate::endings::{put_halt, put_text, put_whole};
@@ -105,8 +104,7 @@ fn answer_events<S: Source, K: Sink>(
     started: Started,
 ) -> Exit
     requires { (1 < started.number) × (started.number + room lines.old < 2 ^ 59) }
-    ensures output { OfInput (seen lines.old (S.left src.old)) (λ i. EndsTrace (client_of started.start)
-        (trace_of started.number started.start i) (K.got out.old) (K.got out.new) result) }
+    ensures output { EndsEvents started (seen lines.old (S.left src.old)) (K.got out.old) (K.got out.new) result }
     ensures usage { result ≢ Exit.Usage }
     ensures source { SourceCause (S.faults src.old) (S.faults src.new) result }
     ensures sink { SinkCause (K.faults out.old) (K.faults out.new) result }

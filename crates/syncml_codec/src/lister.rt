@@ -19,7 +19,7 @@ struct Lister {
     alloc: Global,
     text: Bytes,
     indent: Bytes,
-    // Whether the line of the element that was is_open last has no line feed yet.
+    // Whether the line of the element that came last has no line feed yet.
     is_open: bool,
 }
 
