@@ -1,3 +1,4 @@
 pub mod Shortest
 pub mod Reading
 pub mod Fronts
+pub mod Functions

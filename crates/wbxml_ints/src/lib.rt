@@ -2,7 +2,7 @@
 #![tactic(auto)]
 
 ghost use Rattle.std.specs.Prelude.{◌≡◌, ◌<◌, ◌≤◌, ◌+◌, ◌/◌, ◌%◌, List, ℕ, length};
-ghost use Rattle.wbxml_ints.specs.Multibyte.{IsMultibyte, Finds, OneIsFound, number_in, whole_of, shortest};
+ghost use Rattle.wbxml_ints.specs.Multibyte.{IsMultibyte, Finds, OneIsFound, integer_at, number_in, whole_of, shortest};
 
 use std::marker::Model;
 
@@ -134,9 +134,8 @@ fn whole(digits: [u8; 5], used: usize) -> Mb
     }
 }
 
-/// The integer at the front of some bytes (WBXML 1.3, section 5.1), of five bytes at most; more bytes may follow it, and
-/// leading zeros are accepted. It takes no memory.
-pub fn read_mb(bytes: &[u8]) -> Mb
+// What stands at the front of some bytes.
+fn found(bytes: &[u8]) -> Mb
     ensures { Finds bytes.now result }
 {
     match bytes {
@@ -148,6 +147,16 @@ pub fn read_mb(bytes: &[u8]) -> Mb
         [_, _, _, _, _, ..] => Mb::TooBig,
         _ => Mb::More,
     }
+}
+
+/// The integer at the front of some bytes (WBXML 1.3, section 5.1), of five bytes at most; more bytes may follow it, and
+/// leading zeros are accepted. It takes no memory.
+#[tactic(auto, using(crate::proofs::Functions::found_is_at))]
+pub fn read_mb(bytes: &[u8]) -> Mb
+    ensures found { Finds bytes.now result }
+    ensures function { result ≡ integer_at bytes.now }
+{
+    found(bytes)
 }
 
 /// One thing at most stands at the front of bytes, so `read_mb` answers `Value`, `More` and `TooBig` exactly where each
@@ -177,16 +186,16 @@ mod tests {
         }
     }
 
-    fn found(number: u32, used: usize) -> Mb {
+    fn value(number: u32, used: usize) -> Mb {
         Mb::Value { number, used }
     }
 
     #[test]
     fn reads_numbers(rt: HostRuntime) {
         for (bytes, want) in [
-            ([0x80u8, 0x80, 0x80, 0x80, 0x05].as_slice(), found(5, 5)),
-            (&[0x8f, 0xff, 0xff, 0xff, 0x7f, 0x00], found(u32::MAX, 5)),
-            (&[0x00, 0x80], found(0, 1)),
+            ([0x80u8, 0x80, 0x80, 0x80, 0x05].as_slice(), value(5, 5)),
+            (&[0x8f, 0xff, 0xff, 0xff, 0x7f, 0x00], value(u32::MAX, 5)),
+            (&[0x00, 0x80], value(0, 1)),
             (&[0x90, 0x80, 0x80, 0x80, 0x00], Mb::TooBig),
             (&[0x80, 0x80, 0x80, 0x80, 0x80, 0x00], Mb::TooBig),
             (&[0x82], Mb::More),

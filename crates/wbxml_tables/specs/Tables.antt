@@ -1,5 +1,7 @@
 -- The code pages: page 0 is the representation protocol, page 1 the meta information.
-use Rattle.std.specs.Prelude.{◌≡◌, ℕ, List, codes}
+use Rattle.std.specs.Prelude.{◌≡◌, ◌==◌, ◌&&◌, ◌++◌, ◌∷◌, [], ℕ, Bool, true, not, if◌then◌else◌, List, Option, Some, None, codes}
+use Rattle.wbxml_tables.specs.declared.Row.{Row}
+use Rattle.wbxml_tables.specs.declared.TheConstants as table
 use Rattle.wbxml_tables.specs.declared.Element.{Element}
 use Rattle.wbxml_tables.specs.declared.Element.TheVariants.{EAdd, EAlert, EArchive, EAtomic, EChal, ECmd, ECmdID, ECmdRef, ECopy, ECred, EData, EDelete, EExec, EFinal, EGet, EItem, ELang, ELocName, ELocURI, EMap, EMapItem, EMeta, EMsgID, EMsgRef, ENoResp, ENoResults, EPut, EReplace, ERespURI, EResults, ESearch, ESequence, ESessionID, ESftDel, ESource, ESourceRef, EStatus, ESync, ESyncBody, ESyncHdr, ESyncML, ETarget, ETargetRef, EVerDTD, EVerProto, ENumberOfChanges, EMoreData, EField, EFilter, ERecord, EFilterType, ESourceParent, ETargetParent, EMove, ECorrelator, EAnchor, EEMI, EFormat, EFreeID, EFreeMem, ELast, EMark, EMaxMsgSize, EMem, EMetInf, ENext, ENextNonce, ESharedMem, ESize, EType, EVersion, EMaxObjSize, EFieldLevel}
 
@@ -184,3 +186,24 @@ name_in_text EType = codes "Type"
 name_in_text EVersion = codes "Version"
 name_in_text EMaxObjSize = codes "MaxObjSize"
 name_in_text EFieldLevel = codes "FieldLevel"
+
+-- ---- the tables
+
+-- the element of the first row with this page and code
+abbrev pub element_in : List Row → ℕ → ℕ → Option Element
+element_in [] page code = None
+element_in (r ∷ rows) page code = if r.page == page && r.code == code then Some r.element else element_in rows page code
+
+-- the element of a code on a page, by the rows of both tables
+unfoldable pub element_at : ℕ → ℕ → Option Element
+element_at page code = element_in (table.PROTOCOL.rows ++ table.META.rows) page code
+
+-- no row has this page and code
+abbrev pub is_absent : ℕ → ℕ → List Row → Bool
+is_absent page code [] = true
+is_absent page code (r ∷ rows) = not (r.page == page && r.code == code) && is_absent page code rows
+
+-- no two rows have the same page and code
+abbrev pub are_distinct : List Row → Bool
+are_distinct [] = true
+are_distinct (r ∷ rows) = is_absent r.page r.code rows && are_distinct rows

@@ -1,1 +1,6 @@
 pub mod Spelling
+pub mod Reasons
+pub mod Fronts
+pub mod Reading
+pub mod Taking
+pub mod Parts

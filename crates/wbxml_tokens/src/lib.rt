@@ -1,8 +1,14 @@
-//! Tokens of a WBXML body, and the writer of their canonical spelling.
+//! Tokens of a WBXML body: the writer of their canonical spelling, and the reader of documents in pieces.
 #![tactic(auto)]
 
+pub mod extent;
+pub mod part;
+pub mod prologue;
+pub mod reason;
+pub mod spot;
 pub mod token;
 pub mod writer;
 
-pub use token::{Token, Writer};
+pub use reason::{FeedError, Reason, Refusal};
+pub use token::{Placed, Taker, Token, Writer};
 pub use writer::TokenWriter;

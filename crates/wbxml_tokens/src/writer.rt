@@ -73,9 +73,16 @@ fn append(out: &mut Bytes, first: &[u8], second: &[u8], third: &[u8]) -> Result<
 impl Writer for TokenWriter {
     type Error = Memory;
 
+    ghost use Rattle.std.specs.Prelude.{◌≡◌, None};
     ghost use Rattle.wbxml_tokens.specs.Spelling.{written_after};
 
     ghost after = { written_after };
+
+    ghost refusal = { λ _ _. None };
+
+    ghost told = { λ _. None };
+
+    ghost left = { λ old new. new ≡ old };
 
     fn tag(&mut self, element: Element, content: bool) -> Result<(), Memory>
         ensures ok { OnOk result (self.new ≡ written_after self.old (Tag element content)) }

@@ -1,6 +1,6 @@
 use Rattle.std.proofs.Common.{arith}
 use Rattle.wbxml_ints.proofs.Reading.{five_found}
-use Rattle.wbxml_ints.proofs.read_mb.Goals as goal
+use Rattle.wbxml_ints.proofs.found.Goals as goal
 
 pub returns-in-len5-up : goal.returns-in-len5-up
 returns-in-len5-up c =

@@ -1,0 +1,63 @@
+-- What stands at the front of bytes is the function of them.
+use Rattle.std.proofs.Common.{ℕ, zero, suc, ◌≡◌, ◌<◌, ◌≤◌, ◌^◌, ◌+◌, ◌*◌, ◌-◌, List, [], ◌∷◌, length, take, inl, inr, refl, sym, ap, ◌∙◌, arith}
+use Rattle.std.specs.Prelude.{Bool, true, false, nat_lt, if◌then◌else◌}
+use Rattle.wbxml_ints.specs.declared.Mb.{Mb}
+use Rattle.wbxml_ints.specs.declared.Mb.TheVariants as mb
+use Rattle.wbxml_ints.specs.Multibyte.{IsDigitsFrom, AllGoOn, whole_of, integer_from, integer_at, Finds}
+
+ends : (value used left b : ℕ) (bs : List ℕ) → b < 128 → integer_from value used (suc left) (b ∷ bs) ≡ whole_of (value * 128 + b) (suc used)
+ends value used left b bs small =
+    let low : nat_lt b 128 ≡ true = grind arith in
+    ap (λ (c : Bool). if c then whole_of (value * 128 + b) (suc used) else integer_from (value * 128 + (b - 128)) (suc used) left bs) low
+
+goes_on : (value used left b : ℕ) (bs : List ℕ) → 128 ≤ b
+    → integer_from value used (suc left) (b ∷ bs) ≡ integer_from (value * 128 + (b - 128)) (suc used) left bs
+goes_on value used left b bs large =
+    let high : nat_lt b 128 ≡ false = grind arith in
+    ap (λ (c : Bool). if c then whole_of (value * 128 + b) (suc used) else integer_from (value * 128 + (b - 128)) (suc used) left bs) high
+
+-- digits lead to their number
+digits_lead : (bytes : List ℕ) (n value used left k : ℕ) → k ≤ length bytes → IsDigitsFrom n value left (take k bytes)
+    → integer_from value used left bytes ≡ whole_of n (used + k)
+digits_lead bytes n value used left zero few h = absurd h
+digits_lead [] n value used left (suc k) few h = absurd h
+digits_lead (b ∷ bs) n value used zero (suc k) few h = absurd h
+digits_lead (b ∷ bs) n value used (suc left) (suc zero) few h =
+    let one : suc used ≡ used + 1 = omega arith in
+    ends value used left b bs h.0 ∙ ap (λ m. whole_of m (suc used)) (sym h.1) ∙ ap (whole_of n) one
+digits_lead (b ∷ []) n value used (suc left) (suc (suc k)) few h = absurd (omega (arith, few))
+digits_lead (b ∷ c ∷ bs) n value used (suc left) (suc (suc k)) few h =
+    let more : suc used + suc k ≡ used + suc (suc k) = omega arith in
+    goes_on value used left b (c ∷ bs) h.0
+    ∙ digits_lead (c ∷ bs) n (value * 128 + (b - 128)) (suc used) left (suc k) (omega (arith, few)) h.2 ∙ ap (whole_of n) more
+
+all_go_on : (bytes : List ℕ) (value used left : ℕ) → length bytes < left → AllGoOn bytes → integer_from value used left bytes ≡ mb.More
+all_go_on [] value used zero short h = absurd (omega (arith, short))
+all_go_on [] value used (suc left) short h = refl
+all_go_on (b ∷ bs) value used zero short h = absurd (omega (arith, short))
+all_go_on (b ∷ bs) value used (suc left) short h =
+    goes_on value used left b bs h.0 ∙ all_go_on bs (value * 128 + (b - 128)) (suc used) left (omega (arith, short)) h.1
+
+no_end : (bytes : List ℕ) (value used left : ℕ) → left ≤ length bytes → AllGoOn (take left bytes) → integer_from value used left bytes ≡ mb.TooBig
+no_end bytes value used zero enough h = refl
+no_end [] value used (suc left) enough h = absurd (omega (arith, enough))
+no_end (b ∷ bs) value used (suc left) enough h =
+    goes_on value used left b bs h.0 ∙ no_end bs (value * 128 + (b - 128)) (suc used) left (omega (arith, enough)) h.1
+
+fits : (n used : ℕ) → n < 2 ^ 32 → whole_of n used ≡ mb.Value n used
+fits n used small =
+    let low : nat_lt n (2 ^ 32) ≡ true = grind arith in ap (λ (c : Bool). if c then mb.Value n used else mb.TooBig) low
+
+passes : (n used : ℕ) → 2 ^ 32 ≤ n → whole_of n used ≡ mb.TooBig
+passes n used large =
+    let high : nat_lt n (2 ^ 32) ≡ false = grind arith in ap (λ (c : Bool). if c then mb.Value n used else mb.TooBig) high
+
+from_none : (n k : ℕ) → whole_of n (0 + k) ≡ whole_of n k
+from_none n k =
+    let same : 0 + k ≡ k = omega arith in ap (whole_of n) same
+
+pub found_is_at : (bytes : List ℕ) (found : Mb) → Finds bytes found → found ≡ integer_at bytes
+found_is_at bytes (mb.Value n k) h = sym (digits_lead bytes n 0 0 5 k h.0 h.1.0 ∙ from_none n k ∙ fits n k h.1.1)
+found_is_at bytes mb.More h = sym (all_go_on bytes 0 0 5 h.0 h.1)
+found_is_at bytes mb.TooBig (inl h) = sym (no_end bytes 0 0 5 h.0 h.1)
+found_is_at bytes mb.TooBig (inr h) = sym (digits_lead bytes h.1 0 0 5 h.0 h.2 h.3 ∙ passes h.1 (0 + h.0) h.4)

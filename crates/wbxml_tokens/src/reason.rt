@@ -1,0 +1,77 @@
+// Why bytes are refused, and where.
+ghost use Rattle.std.specs.Prelude.{◌≡◌};
+ghost use Rattle.wbxml_tokens.specs.Reasons.{word_of};
+
+/// Why the bytes of a message are refused, in the words of the tool.
+#[derive(Clone, Copy, Debug, PartialEq, Eq)]
+pub enum Reason {
+    /// The document ends before it is whole.
+    Truncated,
+    /// Byte 65,537 comes and the document isn't whole.
+    Toolong,
+    /// The version isn't 1.1, 1.2 or 1.3.
+    Version,
+    /// The public identifier isn't SyncML 1.2's.
+    Publicid,
+    /// The charset isn't UTF-8.
+    Charset,
+    /// An integer has more than five bytes or more than 32 bits.
+    Integer,
+    /// A string of the table begins at no byte of it.
+    Index,
+    /// A byte begins no token of the profile.
+    Token,
+    /// A tag has no element, or a page isn't 0 or 1.
+    Tag,
+    /// An element that the profile leaves out.
+    Leftout,
+    /// An Atomic or a Sequence stands where none may be nested.
+    Nested,
+    /// A tag, a text or an END stands where the grammar has none.
+    Misplaced,
+    /// A text isn't UTF-8, or holds the byte 0.
+    Text,
+    /// A number isn't decimal, has leading zeros, or is out of its range.
+    Number,
+    /// A byte follows the whole document.
+    Trailing,
+}
+
+impl Reason {
+    /// The word of the reason, as the tool writes it.
+    pub fn word(self) -> &'static str
+        ensures { result.now ≡ word_of self }
+    {
+        match self {
+            Reason::Truncated => "truncated",
+            Reason::Toolong => "toolong",
+            Reason::Version => "version",
+            Reason::Publicid => "publicid",
+            Reason::Charset => "charset",
+            Reason::Integer => "integer",
+            Reason::Index => "index",
+            Reason::Token => "token",
+            Reason::Tag => "tag",
+            Reason::Leftout => "leftout",
+            Reason::Nested => "nested",
+            Reason::Misplaced => "misplaced",
+            Reason::Text => "text",
+            Reason::Number => "number",
+            Reason::Trailing => "trailing",
+        }
+    }
+}
+
+/// A refusal: the place of the byte that it names, counted from 0, and the reason.
+#[derive(Clone, Copy, Debug, PartialEq, Eq)]
+pub struct Refusal {
+    pub at: u64,
+    pub reason: Reason,
+}
+
+/// Why a reader answers no `Ok`.
+#[derive(Clone, Copy, Debug, PartialEq, Eq)]
+pub enum FeedError {
+    Refused(Refusal),
+    Memory,
+}
