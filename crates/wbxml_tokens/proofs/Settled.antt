@@ -9,7 +9,7 @@ use Rattle.wbxml_ints.specs.Multibyte.{integer_from, integer_at, whole_of}
 use Rattle.wbxml_tables.specs.declared.Element.{Element}
 use Rattle.wbxml_tables.specs.Tables.{element_at}
 use Rattle.wbxml_tokens.specs.declared.reason.Reason.TheVariants as reasons
-use Rattle.wbxml_tokens.specs.declared.token.Token.TheVariants.{Tag, End, Text, Opaque}
+use Rattle.wbxml_tokens.specs.declared.token.Token.TheVariants.{End, Text, Opaque}
 use Rattle.wbxml_tokens.specs.Fronts.{Front, more, wrong, head, switch, token, until_zero, integer_then, switch_in, text_in, table_text_in, opaque_in, tag_in, tag_of, front, is_identified, head_of, table_in, charset_in, behind_identifier, index_in, identifier_in, prologue_at}
 use Rattle.wbxml_tokens.specs.Reading.{size_of}
 

@@ -1,6 +1,6 @@
 -- What stands at the front of bytes, in the prologue and in the body of a document: WBXML 1.3, sections 5.1 to 5.8, with the
 -- choices of this profile.
-use Rattle.std.specs.Prelude.{◌==◌, ◌&&◌, ◌||◌, ◌+◌, ◌-◌, ◌%◌, ℕ, Bool, true, if◌then◌else◌, nat_lt, nat_le, List, [], ◌∷◌, length, take, drop, Option, Some, None, codes}
+use Rattle.std.specs.Prelude.{◌==◌, ◌&&◌, ◌||◌, ◌+◌, ◌%◌, ℕ, Bool, true, if◌then◌else◌, nat_lt, nat_le, List, [], ◌∷◌, length, take, drop, Option, Some, None, codes}
 use Rattle.std.specs.Str.{bytes_eq}
 use Rattle.wbxml_ints.specs.declared.Mb.{Mb}
 use Rattle.wbxml_ints.specs.declared.Mb.TheVariants as mb

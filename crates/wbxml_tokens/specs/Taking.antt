@@ -1,13 +1,13 @@
 -- What takes tokens, each told with its place.
-use Rattle.std.specs.Prelude.{◌≡◌, ◌+◌, ℕ, List, [], ◌∷◌, take, Option, Some, None, Result, Ok, Err, ◌⊎◌, ⊤}
+use Rattle.std.specs.Prelude.{◌≡◌, ◌≤◌, ◌+◌, ℕ, zero, suc, false, true, List, [], ◌∷◌, ◌++◌, length, take, drop, Option, Some, None, Result, Ok, Err, ◌⊎◌, ⊤}
 use Rattle.wbxml_tokens.specs.declared.reason.Reason.{Reason}
 use Rattle.wbxml_tokens.specs.declared.reason.Refusal.{Refusal}
 use Rattle.wbxml_tokens.specs.declared.reason.FeedError.{FeedError}
 use Rattle.wbxml_tokens.specs.declared.reason.FeedError.TheVariants as errors
 use Rattle.wbxml_tokens.specs.declared.token.Token.{Token}
 use Rattle.wbxml_tokens.specs.declared.token.Placed.{Placed}
-use Rattle.wbxml_tokens.specs.Fronts.{Front, wrong}
-use Rattle.wbxml_tokens.specs.Reading.{Reader, Reading, size_of, behind, tokens_of}
+use Rattle.wbxml_tokens.specs.Fronts.{Front, more, wrong}
+use Rattle.wbxml_tokens.specs.Reading.{Reader, Reading, begun_by, found, is_whole, reads, size_of, behind, tokens_of}
 
 -- an error says why a token is refused, or that it is another error, which leaves the writer so
 abbrev pub Tells : {W : Type 0} → (W → W → Type 0) → W → W → Option Reason → Option Reason → Type 0
@@ -28,7 +28,7 @@ pub record Taking (W : Type 0) : Type 0 where
 abbrev pub taking : {W : Type 0} → (W → ℕ → W) → (W → Token → W) → (W → Token → Option Reason) → Taking W
 taking placed after refusal = record { placed = placed; after = after; refusal = refusal }
 
-abbrev taken_one : {W : Type 0} → Taking W → Option Reason → W → Placed → Result W Refusal
+abbrev pub taken_one : {W : Type 0} → Taking W → Option Reason → W → Placed → Result W Refusal
 taken_one k None w p = Ok (k.after (k.placed w p.at) p.token)
 taken_one k (Some reason) w p = Err (record { at = p.at; reason = reason })
 
@@ -54,11 +54,15 @@ IsLeft k left old new = (new ≡ old) ⊎ ((at : ℕ) × left (k.placed old at) 
 abbrev pub StopsAmong : {W : Type 0} → Taking W → (W → W → Type 0) → W → W → List Placed → Type 0
 StopsAmong {W} k left old new tokens = (n : ℕ) × (w : W) × (taken k old (take n tokens) ≡ Ok w) × IsLeft k left w new
 
+-- why feeding stopped: a refusal, or want of memory
+abbrev pub Stops : {W : Type 0} → Taking W → (W → W → Type 0) → FeedError → W → W → Reading → Type 0
+Stops k left (errors.Refused f) old new x = IsFirst (taken k old x.tokens) new x.refused f
+Stops k left errors.Memory old new x = StopsAmong k left old new x.tokens
+
 -- what feeding gives: the tokens of the reading were handed on
 abbrev pub Feeds : {W A : Type 0} → Taking W → (W → W → Type 0) → Result A FeedError → W → W → Reading → Type 0
 Feeds k left (Ok a) old new x = (taken k old x.tokens ≡ Ok new) × (x.refused ≡ None)
-Feeds k left (Err (errors.Refused f)) old new x = IsFirst (taken k old x.tokens) new x.refused f
-Feeds k left (Err errors.Memory) old new x = StopsAmong k left old new x.tokens
+Feeds k left (Err e) old new x = Stops k left e old new x
 
 -- ---- one part
 
@@ -75,10 +79,43 @@ IsTaken other = ⊤
 abbrev pub GivesPart : {W : Type 0} → Taking W → (W → W → Type 0) → Result ℕ FeedError → Reader → Reader → W → W → Front → Type 0
 GivesPart k left (Ok size) old new w v part =
     (size ≡ size_of part) × (new ≡ behind old part) × (taken k w (tokens_of old.place part) ≡ Ok v) × IsTaken part
-GivesPart k left (Err (errors.Refused f)) old new w v part = Refuses old.place part f ⊎ (taken k w (tokens_of old.place part) ≡ Err f)
+GivesPart k left (Err (errors.Refused f)) old new w v part = (Refuses old.place part f × (v ≡ w)) ⊎ (taken k w (tokens_of old.place part) ≡ Err f)
 GivesPart k left (Err errors.Memory) old new w v part = StopsAmong k left w v (tokens_of old.place part)
 
 -- the error of a taker that tells this of the token at a place
 abbrev pub error_of : ℕ → Option Reason → FeedError
 error_of place (Some reason) = errors.Refused (record { at = place; reason = reason })
 error_of place None = errors.Memory
+
+-- what reading a part without tokens gives
+abbrev pub GivesNoToken : Result ℕ FeedError → Reader → Reader → Front → Type 0
+GivesNoToken (Ok size) old new part = (size ≡ size_of part) × (new ≡ behind old part) × (tokens_of old.place part ≡ []) × IsTaken part
+GivesNoToken (Err (errors.Refused f)) old new part = Refuses old.place part f
+GivesNoToken (Err errors.Memory) old new part = ⊤
+
+-- ---- the parts at the front of bytes
+
+-- a reading with these tokens before its own
+abbrev pub told : List Placed → Reading → Reading
+told tokens x = record x { tokens = tokens ++ x.tokens }
+
+-- so many bytes were a part, and reading goes on behind them; none were, and they all are held
+abbrev pub GoesOn : ℕ → List Placed → Reader → Reader → List ℕ → Type 0
+GoesOn zero tokens old new bytes =
+    (tokens ≡ []) × (new ≡ old) × (found old bytes ≡ more) × (is_whole old.extent ≡ false)
+    × (reads (begun_by old) bytes ≡ begun_by (record old { held = bytes }))
+GoesOn (suc n) tokens old new bytes = reads (begun_by old) bytes ≡ told tokens (reads (begun_by new) (drop (suc n) bytes))
+
+-- what reading the first part of bytes gives, where nothing is held
+abbrev pub GivesFirst : {W : Type 0} → Taking W → (W → W → Type 0) → Result ℕ FeedError → Reader → Reader → W → W → List ℕ → Type 0
+GivesFirst k left (Ok size) old new w v bytes =
+    (size ≤ length bytes) × (tokens : List Placed) × (taken k w tokens ≡ Ok v) × GoesOn size tokens old new bytes
+GivesFirst k left (Err e) old new w v bytes = Stops k left e w v (reads (begun_by old) bytes)
+
+-- all whole parts were read, and the bytes behind them are held
+abbrev pub GivesAll : {W : Type 0} → Taking W → (W → W → Type 0) → Result ℕ FeedError → Reader → Reader → W → W → List ℕ → Type 0
+GivesAll k left (Ok used) old new w v bytes =
+    (used ≤ length bytes) × (tokens : List Placed) × (taken k w tokens ≡ Ok v)
+    × (reads (begun_by old) bytes ≡ told tokens (begun_by (record new { held = drop used bytes })))
+    × (found new (drop used bytes) ≡ more) × (is_whole new.extent ≡ true → drop used bytes ≡ [])
+GivesAll k left (Err e) old new w v bytes = Stops k left e w v (reads (begun_by old) bytes)

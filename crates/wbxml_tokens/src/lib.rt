@@ -4,8 +4,10 @@
 pub mod extent;
 pub mod part;
 pub mod prologue;
+pub mod reader;
 pub mod reason;
 pub mod spot;
+pub mod state;
 pub mod token;
 pub mod writer;
 

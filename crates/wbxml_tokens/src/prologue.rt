@@ -2,7 +2,7 @@
 ghost use Rattle.std.specs.Prelude.{◌≡◌, ◌<◌, ◌+◌, ◌^◌, Option as Maybe, Result as Either, ℕ, length};
 ghost use Rattle.wbxml_ints.specs.Multibyte.{integer_at};
 ghost use Rattle.wbxml_tokens.specs.Fronts as Spec;
-ghost use Rattle.wbxml_tokens.specs.Parts.{GivesHead};
+ghost use Rattle.wbxml_tokens.specs.Parts.{GivesHead, Keeps};
 
 use crate::part::string_at;
 use crate::reason::{Reason, Refusal};
@@ -15,6 +15,7 @@ const IDENTIFIER_TEXT: &[u8] = b"-//SYNCML//DTD SyncML 1.2//EN";
 const UTF_8: u32 = 106;
 
 /// A whole prologue.
+#[derive(Clone, Copy)]
 pub(crate) struct Head<'a> {
     /// The string table, which may be empty.
     pub table: &'a [u8],
@@ -25,7 +26,9 @@ pub(crate) struct Head<'a> {
 type Answer<'a> = Result<Option<Head<'a>>, Refusal>;
 
 fn refuse<'a>(at: usize, reason: Reason) -> Answer<'a>
-    ensures { GivesHead result (Spec.wrong at reason) }
+    requires { at < 2 ^ 32 }
+    ensures gives { GivesHead result (Spec.wrong at reason) }
+    ensures bounds { Keeps result at }
 {
     Err(Refusal {
         at: at as u64,
@@ -48,7 +51,8 @@ fn is_identified(index: Option<u32>, table: &[u8]) -> bool
 
 fn table_in<'a>(index: Option<u32>, count: u32, at: usize, bytes: &'a [u8]) -> Answer<'a>
     requires { at + length bytes.now < 2 ^ 32 }
-    ensures { GivesHead result (Spec.table_in index count at bytes.now) }
+    ensures gives { GivesHead result (Spec.table_in index count at bytes.now) }
+    ensures bounds { Keeps result (at + length bytes.now) }
 {
     let count = count as usize;
     if count > bytes.len() {
@@ -71,8 +75,10 @@ fn charset_in<'a>(
     at: usize,
     bytes: &'a [u8],
 ) -> Answer<'a>
-    requires { at + length bytes.now < 2 ^ 32 }
-    ensures { GivesHead result (Spec.charset_in index place charset at bytes.now) }
+    requires room { at + length bytes.now < 2 ^ 32 }
+    requires behind { place < at }
+    ensures gives { GivesHead result (Spec.charset_in index place charset at bytes.now) }
+    ensures bounds { Keeps result (at + length bytes.now) }
 {
     if charset != UTF_8 {
         return refuse(place, Reason::Charset);
@@ -89,7 +95,8 @@ fn charset_in<'a>(
 
 fn behind_identifier<'a>(index: Option<u32>, at: usize, bytes: &'a [u8]) -> Answer<'a>
     requires { at + length bytes.now < 2 ^ 32 }
-    ensures { GivesHead result (Spec.behind_identifier index at bytes.now) }
+    ensures gives { GivesHead result (Spec.behind_identifier index at bytes.now) }
+    ensures bounds { Keeps result (at + length bytes.now) }
 {
     match read_mb(bytes) {
         Mb::More => Ok(None),
@@ -103,7 +110,8 @@ fn behind_identifier<'a>(index: Option<u32>, at: usize, bytes: &'a [u8]) -> Answ
 
 fn index_at<'a>(at: usize, bytes: &'a [u8]) -> Answer<'a>
     requires { at + length bytes.now < 2 ^ 32 }
-    ensures { GivesHead result (Spec.integer_then at at (integer_at bytes.now) bytes.now Spec.index_in) }
+    ensures gives { GivesHead result (Spec.integer_then at at (integer_at bytes.now) bytes.now Spec.index_in) }
+    ensures bounds { Keeps result (at + length bytes.now) }
 {
     match read_mb(bytes) {
         Mb::More => Ok(None),
@@ -117,7 +125,8 @@ fn index_at<'a>(at: usize, bytes: &'a [u8]) -> Answer<'a>
 
 fn identifier_in<'a>(number: u32, at: usize, bytes: &'a [u8]) -> Answer<'a>
     requires { at + length bytes.now < 2 ^ 32 }
-    ensures { GivesHead result (Spec.identifier_in number at bytes.now) }
+    ensures gives { GivesHead result (Spec.identifier_in number at bytes.now) }
+    ensures bounds { Keeps result (at + length bytes.now) }
 {
     match number {
         0 => index_at(at, bytes),
@@ -130,7 +139,8 @@ fn identifier_in<'a>(number: u32, at: usize, bytes: &'a [u8]) -> Answer<'a>
 #[tactic(auto, unfolding(crate::specs::Fronts::prologue_at))]
 pub(crate) fn prologue(bytes: &[u8]) -> Answer<'_>
     requires { length bytes.now < 2 ^ 31 }
-    ensures { GivesHead result (Spec.prologue_at bytes.now) }
+    ensures gives { GivesHead result (Spec.prologue_at bytes.now) }
+    ensures bounds { Keeps result (length bytes.now) }
 {
     match bytes {
         [] => Ok(None),
