@@ -6,3 +6,4 @@ pub mod Turns
 pub mod Loops
 pub mod Holding
 pub mod Beyond
+pub mod Queueing

@@ -4,3 +4,4 @@ pub mod Fronts
 pub mod Reading
 pub mod Taking
 pub mod Parts
+pub mod Waiting

@@ -1,0 +1,5 @@
+use Rattle.std.proofs.Common.{refl, sym}
+use Rattle.wbxml_tokens.proofs.tokens.Tokens.new.Goals as goal
+
+pub returns : goal.returns
+returns c = record { tokens = sym c.new-2.ensures; refused = refl; reader = λ _. c.new.ensures }

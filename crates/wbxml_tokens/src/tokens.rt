@@ -1,0 +1,96 @@
+// The tokens of a document that comes in pieces.
+ghost use Rattle.std.specs.Prelude.{◌≡◌, ◌++◌, ◌∷◌, [], ℕ, List, None as Nothing, MatchOption};
+ghost use Rattle.wbxml_tokens.specs.declared.token.Placed.{Placed as APlaced};
+ghost use Rattle.wbxml_tokens.specs.Reading.{reading, refusal_of};
+ghost use Rattle.wbxml_tokens.specs.Waiting.{HasRead, TellsRefusal, Leaves, IsRefusal};
+
+use crate::queue::Queue;
+use crate::reader::Reader;
+use crate::reason::{FeedError, Refusal};
+use crate::token::Placed;
+use std::alloc::Global;
+use std::marker::Model;
+
+/// The tokens of a document that comes in pieces, with their places.
+#[derive(Drop)]
+pub struct Tokens {
+    reader: Reader,
+    queue: Queue,
+    refused: Option<Refusal>,
+}
+
+impl Model for Tokens {
+    ghost use Rattle.wbxml_tokens.specs.Waiting.{Held};
+
+    ghost Value = { Held };
+
+    ghost view = { λ t. record { waiting = t.queue.tokens; refused = t.refused; reader = t.reader } };
+}
+
+impl Tokens {
+    /// Nothing is read.
+    pub fn new(alloc: Global) -> Tokens
+        ensures { HasRead result [] [] }
+    {
+        Tokens {
+            reader: Reader::new(alloc),
+            queue: Queue::new(alloc),
+            refused: None,
+        }
+    }
+
+    // Reads a piece behind bytes of which none was refused.
+    fn read(&mut self, piece: &[u8]) -> Result<(), FeedError>
+        requires { self.old.refused ≡ Nothing }
+        ensures refused { (bytes : List ℕ) (given : List APlaced) → HasRead self.old bytes given → TellsRefusal result (reading (bytes ++ piece.now)).refused }
+        ensures read { (bytes : List ℕ) (given : List APlaced) → HasRead self.old bytes given → Leaves result self.old self.new (bytes ++ piece.now) given }
+    {
+        let waiting = self.queue.len();
+        match self.reader.feed(piece, &mut self.queue) {
+            Ok(()) => Ok(()),
+            Err(FeedError::Refused(refusal)) => {
+                self.refused = Some(refusal);
+                Err(FeedError::Refused(refusal))
+            }
+            Err(FeedError::Memory) => {
+                self.queue.cut_to(waiting);
+                Err(FeedError::Memory)
+            }
+        }
+    }
+
+    /// Reads the next piece of the document. However it is cut, the tokens are the same. `Refused` comes with the first
+    /// refusal, and again at each later call; the tokens before it are still given by `next`. After `Memory` the object is as
+    /// before, so the piece may be fed again.
+    #[tactic(auto, using(crate::proofs::Queueing::still_refused))]
+    pub fn feed(&mut self, piece: &[u8]) -> Result<(), FeedError>
+        ensures refused { (bytes : List ℕ) (given : List APlaced) → HasRead self.old bytes given → TellsRefusal result (reading (bytes ++ piece.now)).refused }
+        ensures read { (bytes : List ℕ) (given : List APlaced) → HasRead self.old bytes given → Leaves result self.old self.new (bytes ++ piece.now) given }
+    {
+        match self.refused {
+            Some(refusal) => Err(FeedError::Refused(refusal)),
+            None => self.read(piece),
+        }
+    }
+
+    /// The next token. None comes exactly where no whole token waits.
+    pub fn next(&mut self) -> Option<Placed>
+        ensures { (bytes : List ℕ) (given : List APlaced) → HasRead self.old bytes given → MatchOption result
+            (((reading bytes).tokens ≡ given) × HasRead self.new bytes given) (λ p. HasRead self.new bytes (given ++ p ∷ [])) }
+    {
+        self.queue.next()
+    }
+
+    /// Refuses exactly where the document was refused, or isn't whole: then the place is the length, and the reason `Truncated`.
+    pub fn finish(self) -> Result<(), Refusal>
+        ensures { (bytes : List ℕ) (given : List APlaced) → HasRead self bytes given → IsRefusal result (refusal_of bytes) }
+    {
+        if let Some(refusal) = self.refused {
+            return Err(refusal);
+        }
+        match self.reader.refusal_at_end() {
+            Some(refusal) => Err(refusal),
+            None => Ok(()),
+        }
+    }
+}
