@@ -41,16 +41,20 @@ all_but_one {W} k left first w v start r s bytes at n so few none h = from_zero 
   where
     from_zero : (n : ℕ) → n ≡ 0 → GivesFirst k left (Ok n) r s w v (drop at bytes) → GivesAll k left (Ok at) start s first v bytes
     from_zero (suc n) none h = absurd (omega (arith, none))
-    from_zero zero none (small, tokens, handed, (empty, same, begun, open_, all)) =
-        (few, so.tokens ++ tokens, taken_both k first w v so.tokens tokens so.handed handed,
-            so.same ∙ ap (told so.tokens) all
-            ∙ ap (λ t. record { tokens = t; refused = None; reader = record r { held = drop at bytes } }) (tokens_same tokens empty)
-            ∙ ap (λ x. told (so.tokens ++ tokens) (begun_by (record x { held = drop at bytes }))) (sym same),
-            ap (λ x. found x (drop at bytes)) same ∙ begun,
-            λ whole. absurd (never (ap (λ x. is_whole x.extent) (sym same) ∙ whole) open_))
+    from_zero zero none (small, tokens, handed, (empty, same, begun, open_, all)) = (
+      few,
+      so.tokens ++ tokens,
+      taken_both k first w v so.tokens tokens so.handed handed,
+      so.same ∙ ap (told so.tokens) all
+          ∙ ap (λ t. record { tokens = t; refused = None; reader = record r { held = drop at bytes } }) (tokens_same tokens empty)
+          ∙ ap (λ x. told (so.tokens ++ tokens) (begun_by (record x { held = drop at bytes }))) (sym same),
+      ap (λ x. found x (drop at bytes)) same ∙ begun,
+      λ whole. absurd (never (ap (λ x. is_whole x.extent) (sym same) ∙ whole) open_),
+    )
       where
         tokens_same : (tokens : List Placed) → tokens ≡ [] → (so.tokens ++ []) ≡ ((so.tokens ++ tokens) ++ [])
         tokens_same tokens empty = ap (λ t. t ++ []) (sym (append-nil so.tokens) ∙ ap (λ t. so.tokens ++ t) (sym empty))
+
         never : is_whole r.extent ≡ true → is_whole r.extent ≡ false → ⊥
         never a b = cc
 
@@ -59,11 +63,15 @@ pub all_of_them : {W : Type 0} (k : Taking W) (left : W → W → Type 0) (first
     → at ≤ length bytes → length bytes ≤ at → r.held ≡ [] → GivesAll k left (Ok at) start r first w bytes
 unfolding reads
 all_of_them k left first w start r bytes at so few all none =
-    let empty : drop at bytes ≡ [] = drop_of_length-le bytes all in
-    (few, so.tokens, so.handed,
-        so.same ∙ ap (λ y. told so.tokens (reads (begun_by r) y)) empty
-        ∙ ap (λ h. told so.tokens (begun_by (record r { held = h }))) (none ∙ sym empty),
-        ap (found r) empty ∙ nothing r, λ _. empty)
+    let empty : drop at bytes ≡ [] = drop_of_length-le bytes all in (
+      few,
+      so.tokens,
+      so.handed,
+      so.same ∙ ap (λ y. told so.tokens (reads (begun_by r) y)) empty
+          ∙ ap (λ h. told so.tokens (begun_by (record r { held = h }))) (none ∙ sym empty),
+      ap (found r) empty ∙ nothing r,
+      λ _. empty,
+    )
 
 -- the next part stops it
 pub stopped : {W : Type 0} (k : Taking W) (left : W → W → Type 0) (e : FeedError) (first w v : W) (start r : Reader) (bytes : List ℕ) (at : ℕ) → SoFar k first w start r bytes at
@@ -80,12 +88,16 @@ moved n (Err e) = Err e
 pub all_after : {W : Type 0} (k : Taking W) (left : W → W → Type 0) (answer : Result ℕ FeedError) (first w v : W) (start r s : Reader) (bytes : List ℕ) (n : ℕ)
     → SoFar k first w start r bytes n → n ≤ length bytes → GivesAll k left answer r s w v (drop n bytes) → GivesAll k left (moved n answer) start s first v bytes
 all_after k left (Ok used) first w v start r s bytes n so few (small, tokens, handed, same, begun, empty) =
-    let there : drop used (drop n bytes) ≡ drop (n + used) bytes = drop-drop used n bytes in
-    (omega (arith, small, few, length-drop n bytes), so.tokens ++ tokens, taken_both k first w v so.tokens tokens so.handed handed,
-        so.same ∙ ap (told so.tokens) same
-        ∙ told-append so.tokens tokens (begun_by (record s { held = drop used (drop n bytes) }))
-        ∙ ap (λ h. told (so.tokens ++ tokens) (begun_by (record s { held = h }))) there,
-        ap (found s) (sym there) ∙ begun, λ whole. sym there ∙ empty whole)
+    let there : drop used (drop n bytes) ≡ drop (n + used) bytes = drop-drop used n bytes in (
+      omega (arith, small, few, length-drop n bytes),
+      so.tokens ++ tokens,
+      taken_both k first w v so.tokens tokens so.handed handed,
+      so.same ∙ ap (told so.tokens) same
+          ∙ told-append so.tokens tokens (begun_by (record s { held = drop used (drop n bytes) }))
+          ∙ ap (λ h. told (so.tokens ++ tokens) (begun_by (record s { held = h }))) there,
+      ap (found s) (sym there) ∙ begun,
+      λ whole. sym there ∙ empty whole,
+    )
 all_after k left (Err e) first w v start r s bytes n so few h = stopped k left e first w v start r bytes n so h
 
 -- a prologue, which gives no token

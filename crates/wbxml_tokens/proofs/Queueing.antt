@@ -63,7 +63,7 @@ read_on h bytes piece given r none =
     reads-append (begun_by at_start) bytes piece
     ∙ ap (λ y. reads y piece)
     (ap (λ f. record { tokens = x.tokens; refused = f; reader = x.reader }) (r.refused ∙ none)
-        ∙ ap (λ t. record { tokens = t; refused = None; reader = x.reader }) (sym (append-nil x.tokens)))
+    ∙ ap (λ t. record { tokens = t; refused = None; reader = x.reader }) (sym (append-nil x.tokens)))
     ∙ reads-told x.tokens (begun_by x.reader) piece
     ∙ ap (λ y. told x.tokens (reads (begun_by y) piece)) (sym (r.reader none))
 
@@ -78,24 +78,28 @@ pub fed_ok : (h : Held) (bytes piece : List ℕ) (given : List Placed) (s : Read
     → (taken queueing w (reads (begun_by h.reader) piece).tokens ≡ Ok v) × ((reads (begun_by h.reader) piece).refused ≡ None) → s ≡ (reads (begun_by h.reader) piece).reader
     → ((reading (bytes ++ piece)).refused ≡ None) × HasRead (record { waiting = v.tokens; refused = None; reader = s }) (bytes ++ piece) given
 fed_ok h bytes piece given s w v r none same (handed, sound) is_reader =
-    let on : reading (bytes ++ piece) ≡ told (reading bytes).tokens (reads (begun_by h.reader) piece) = read_on h bytes piece given r none in
-    (ap (λ y. y.refused) on ∙ sound, record {
-      tokens = tokens_on h bytes piece given w v r none same handed;
-      refused = ap (λ y. y.refused) on ∙ sound;
-      reader = λ _. is_reader ∙ sym (ap (λ y. y.reader) on);
-    })
+    let on : reading (bytes ++ piece) ≡ told (reading bytes).tokens (reads (begun_by h.reader) piece) = read_on h bytes piece given r none in (
+      ap (λ y. y.refused) on ∙ sound,
+      record {
+        tokens = tokens_on h bytes piece given w v r none same handed;
+        refused = ap (λ y. y.refused) on ∙ sound;
+        reader = λ _. is_reader ∙ sym (ap (λ y. y.reader) on);
+      },
+    )
 
 pub fed_refused : (h : Held) (bytes piece : List ℕ) (given : List Placed) (s : Reader) (w v : Waiting) (f : Refusal) → HasRead h bytes given → h.refused ≡ None
     → w.tokens ≡ h.waiting → Stops queueing is_same (errors.Refused f) w v (reads (begun_by h.reader) piece)
     → ((reading (bytes ++ piece)).refused ≡ Some f) × HasRead (record { waiting = v.tokens; refused = Some f; reader = s }) (bytes ++ piece) given
 fed_refused h bytes piece given s w v f r none same (inl refused) = absurd (never_refuses w (reads (begun_by h.reader) piece).tokens f refused)
 fed_refused h bytes piece given s w v f r none same (inr (handed, refused)) =
-    let on : reading (bytes ++ piece) ≡ told (reading bytes).tokens (reads (begun_by h.reader) piece) = read_on h bytes piece given r none in
-    (ap (λ y. y.refused) on ∙ refused, record {
-      tokens = tokens_on h bytes piece given w v r none same handed;
-      refused = ap (λ y. y.refused) on ∙ refused;
-      reader = λ e. absurd (some_not_none e);
-    })
+    let on : reading (bytes ++ piece) ≡ told (reading bytes).tokens (reads (begun_by h.reader) piece) = read_on h bytes piece given r none in (
+      ap (λ y. y.refused) on ∙ refused,
+      record {
+        tokens = tokens_on h bytes piece given w v r none same handed;
+        refused = ap (λ y. y.refused) on ∙ refused;
+        reader = λ e. absurd (some_not_none e);
+      },
+    )
   where
     some_not_none : Some f ≡ None → ⊥
     some_not_none e = cc
@@ -104,9 +108,11 @@ fed_refused h bytes piece given s w v f r none same (inr (handed, refused)) =
 pub still_refused : (h : Held) (bytes piece : List ℕ) (given : List Placed) (f : Refusal) → HasRead h bytes given → h.refused ≡ Some f
     → ((reading (bytes ++ piece)).refused ≡ Some f) × HasRead h (bytes ++ piece) given
 still_refused h bytes piece given f r is =
-    let same : reading (bytes ++ piece) ≡ reading bytes = reads-append (begun_by at_start) bytes piece ∙ stays (reading bytes) f piece (r.refused ∙ is) in
-    (ap (λ y. y.refused) same ∙ r.refused ∙ is, record {
-      tokens = ap (λ y. y.tokens) same ∙ r.tokens;
-      refused = ap (λ y. y.refused) same ∙ r.refused;
-      reader = λ e. r.reader e ∙ sym (ap (λ y. y.reader) same);
-    })
+    let same : reading (bytes ++ piece) ≡ reading bytes = reads-append (begun_by at_start) bytes piece ∙ stays (reading bytes) f piece (r.refused ∙ is) in (
+      ap (λ y. y.refused) same ∙ r.refused ∙ is,
+      record {
+        tokens = ap (λ y. y.tokens) same ∙ r.tokens;
+        refused = ap (λ y. y.refused) same ∙ r.refused;
+        reader = λ e. r.reader e ∙ sym (ap (λ y. y.reader) same);
+      },
+    )

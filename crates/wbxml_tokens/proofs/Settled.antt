@@ -76,10 +76,14 @@ part_after : (place at : ℕ) (next : ℕ → ℕ → List ℕ → Front) (bytes
     → ((b : List ℕ) → integer_at (take u bytes ++ b) ≡ mb.Value n u)
     → (k : ℕ) × (size_of part ≡ at + u + k) × (k ≤ length (drop u bytes)) × ((b : List ℕ) → next n (at + u) (take k (drop u bytes) ++ b) ≡ part)
     → (k : ℕ) × (size_of part ≡ at + k) × (k ≤ length bytes) × ((b : List ℕ) → integer_then place at (integer_at (take k bytes ++ b)) (take k bytes ++ b) next ≡ part)
-part_after place at next bytes n u part few is t =
-    (u + t.0, omega (arith, t.1), omega (arith, t.2, few, length-drop u bytes), λ b.
-        ap (λ x. integer_then place at (integer_at x) x next) (split_two u t.0 bytes b)
-        ∙ after_integer place at next bytes (take t.0 (drop u bytes) ++ b) n u few is ∙ t.3 b)
+part_after place at next bytes n u part few is t = (
+  u + t.0,
+  omega (arith, t.1),
+  omega (arith, t.2, few, length-drop u bytes),
+  λ b.
+      ap (λ x. integer_then place at (integer_at x) x next) (split_two u t.0 bytes b)
+      ∙ after_integer place at next bytes (take t.0 (drop u bytes) ++ b) n u few is ∙ t.3 b,
+)
 
 behind_integer : (place at : ℕ) (next : ℕ → ℕ → List ℕ → Front) (bytes : List ℕ) (n u : ℕ) → u ≤ length bytes
     → ((b : List ℕ) → integer_at (take u bytes ++ b) ≡ mb.Value n u) → (part : Front) → Settles (at + u) (next n (at + u)) (drop u bytes) part
@@ -87,7 +91,7 @@ behind_integer : (place at : ℕ) (next : ℕ → ℕ → List ℕ → Front) (b
 behind_integer place at next bytes n u few is more t = tt
 behind_integer place at next bytes n u few is (wrong p r) t =
     λ b. ap (λ x. integer_then place at (integer_at x) x next) (split_at u bytes b)
-        ∙ after_integer place at next bytes (drop u bytes ++ b) n u few is ∙ t b
+    ∙ after_integer place at next bytes (drop u bytes ++ b) n u few is ∙ t b
 behind_integer place at next bytes n u few is (head table size) t = part_after place at next bytes n u (head table size) few is t
 behind_integer place at next bytes n u few is (switch page) t = part_after place at next bytes n u (switch page) few is t
 behind_integer place at next bytes n u few is (token t0 size) t = part_after place at next bytes n u (token t0 size) few is t
@@ -119,10 +123,14 @@ opaque_either : (count at : ℕ) (bytes : List ℕ) (c : Bool) → nat_le count 
     → Settles at (opaque_in count at) bytes (if c then token (Opaque (take count bytes)) (at + count) else more)
 opaque_either count at bytes false e = tt
 opaque_either count at bytes true e =
-    let few : count ≤ length bytes = search rules in
-    (count, refl, few, λ b.
-        ap (λ (c : Bool). if c then token (Opaque (take count (take count bytes ++ b))) (at + count) else more) (fits_front count bytes b few)
-        ∙ ap (λ x. token (Opaque x) (at + count)) (same_front count bytes b few))
+    let few : count ≤ length bytes = search rules in (
+      count,
+      refl,
+      few,
+      λ b.
+          ap (λ (c : Bool). if c then token (Opaque (take count (take count bytes ++ b))) (at + count) else more) (fits_front count bytes b few)
+          ∙ ap (λ x. token (Opaque x) (at + count)) (same_front count bytes b few),
+    )
 
 opaque_settled : (count at : ℕ) (bytes : List ℕ) → Settles at (opaque_in count at) bytes (opaque_in count at bytes)
 opaque_settled count at bytes = opaque_either count at bytes (nat_le count (length bytes)) refl
@@ -145,16 +153,20 @@ text_longer : (bytes b : List ℕ) → length (until_zero bytes) < length bytes
     → nat_lt (length (until_zero bytes)) (length (take (suc (length (until_zero bytes))) bytes ++ b)) ≡ true
 text_longer bytes b short =
     let there : length (until_zero bytes) < length (take (suc (length (until_zero bytes))) bytes ++ b) =
-        omega (arith, length-append (take (suc (length (until_zero bytes))) bytes) b, length-take-le (suc (length (until_zero bytes))) bytes short) in grind arith
+    omega (arith, length-append (take (suc (length (until_zero bytes))) bytes) b, length-take-le (suc (length (until_zero bytes))) bytes short) in grind arith
 
 text_either : (bytes : List ℕ) (c : Bool) → nat_lt (length (until_zero bytes)) (length bytes) ≡ c
     → Settles 1 (λ bs. text_in (until_zero bs) bs) bytes (if c then token (Text (until_zero bytes)) (length (until_zero bytes) + 2) else more)
 text_either bytes false e = tt
 text_either bytes true e =
-    let short : length (until_zero bytes) < length bytes = search rules in
-    (suc (length (until_zero bytes)), omega arith, omega (arith, short), λ b.
-        ap (λ x. text_in x (take (suc (length (until_zero bytes))) bytes ++ b)) (up_to_zero bytes b short)
-        ∙ ap (λ (c : Bool). if c then token (Text (until_zero bytes)) (length (until_zero bytes) + 2) else more) (text_longer bytes b short))
+    let short : length (until_zero bytes) < length bytes = search rules in (
+      suc (length (until_zero bytes)),
+      omega arith,
+      omega (arith, short),
+      λ b.
+          ap (λ x. text_in x (take (suc (length (until_zero bytes))) bytes ++ b)) (up_to_zero bytes b short)
+          ∙ ap (λ (c : Bool). if c then token (Text (until_zero bytes)) (length (until_zero bytes) + 2) else more) (text_longer bytes b short),
+    )
 
 text_settled : (bytes : List ℕ) → Settles 1 (λ bs. text_in (until_zero bs) bs) bytes (text_in (until_zero bytes) bytes)
 text_settled bytes = text_either bytes (nat_lt (length (until_zero bytes)) (length bytes)) refl
@@ -242,15 +254,19 @@ front_settled page table (x ∷ bs) = first_byte page table x bs (x == 0x00) (x 
 
 head_either : (index : Option ℕ) (count at : ℕ) (bytes : List ℕ) (c : Bool) → count ≤ length bytes → is_identified index (take count bytes) ≡ c
     → Settles at (table_in index count at) bytes (if c then head (take count bytes) (at + count) else wrong 1 reasons.Publicid)
-head_either index count at bytes true few e =
-    (count, refl, few, λ b.
-        ap (λ (c : Bool). if c then head_of index (take count (take count bytes ++ b)) (at + count) else more) (fits_front count bytes b few)
-        ∙ ap (λ x. head_of index x (at + count)) (same_front count bytes b few)
-        ∙ ap (λ (c : Bool). if c then head (take count bytes) (at + count) else wrong 1 reasons.Publicid) e)
+head_either index count at bytes true few e = (
+  count,
+  refl,
+  few,
+  λ b.
+      ap (λ (c : Bool). if c then head_of index (take count (take count bytes ++ b)) (at + count) else more) (fits_front count bytes b few)
+      ∙ ap (λ x. head_of index x (at + count)) (same_front count bytes b few)
+      ∙ ap (λ (c : Bool). if c then head (take count bytes) (at + count) else wrong 1 reasons.Publicid) e,
+)
 head_either index count at bytes false few e =
     λ b. ap (λ (c : Bool). if c then head_of index (take count (bytes ++ b)) (at + count) else more) (longer_fits count bytes b few)
-        ∙ ap (λ x. head_of index x (at + count)) (take-append-le count bytes b few)
-        ∙ ap (λ (c : Bool). if c then head (take count bytes) (at + count) else wrong 1 reasons.Publicid) e
+    ∙ ap (λ x. head_of index x (at + count)) (take-append-le count bytes b few)
+    ∙ ap (λ (c : Bool). if c then head (take count bytes) (at + count) else wrong 1 reasons.Publicid) e
   where
     longer_fits : (count : ℕ) (bytes b : List ℕ) → count ≤ length bytes → nat_le count (length (bytes ++ b)) ≡ true
     longer_fits count bytes b few =

@@ -93,10 +93,10 @@ more_is_none (token t size) p e = cc
 has_all : (r : Reader) (h : List ℕ) (b : ℕ) (part : Front) (k : ℕ) → IsPart part → found r h ≡ more → k ≤ length (h ++ b ∷ [])
     → ((rest : List ℕ) → found r (take k (h ++ b ∷ []) ++ rest) ≡ part) → k ≡ length (h ++ b ∷ [])
 has_all r h b part k p begun few settled = elim (cases_lt (length h) k) [
-    | inl above ↦ omega (arith, above, few, length-append h (b ∷ []))
-    | inr below ↦ absurd (more_is_none part p (sym begun ∙ ap (found r) (sym (take-append-drop k h))
-        ∙ ap (λ y. found r (y ++ drop k h)) (sym (take-append-le k h (b ∷ []) below)) ∙ settled (drop k h)))
-  ]
+  | inl above ↦ omega (arith, above, few, length-append h (b ∷ []))
+  | inr below ↦ absurd (more_is_none part p (sym begun ∙ ap (found r) (sym (take-append-drop k h))
+      ∙ ap (λ y. found r (y ++ drop k h)) (sym (take-append-le k h (b ∷ []) below)) ∙ settled (drop k h)))
+]
 
 walk_part : (x : Reading) (h bs : List ℕ) (b : ℕ) (part : Front) → IsPart part → step x b ≡ met x (h ++ b ∷ []) part → found x.reader h ≡ more
     → (k : ℕ) → size_of part ≡ 0 + k → k ≤ length (h ++ b ∷ []) → ((rest : List ℕ) → found x.reader (take k (h ++ b ∷ []) ++ rest) ≡ part)
@@ -106,11 +106,11 @@ walk_part x h bs b part p stepped begun k is few settled =
     let all_of : k ≡ length (h ++ b ∷ []) = has_all x.reader h b part k p begun few settled in
     let size : size_of part ≡ length (h ++ b ∷ []) = omega (arith, is, all_of) in
     let same : found x.reader (h ++ b ∷ bs) ≡ part =
-        ap (found x.reader) (sym (append_assoc h (b ∷ []) bs))
-        ∙ ap (λ y. found x.reader (y ++ bs)) (sym (ap (λ n. take n (h ++ b ∷ [])) all_of ∙ take-length (h ++ b ∷ []))) ∙ settled bs in
+    ap (found x.reader) (sym (append_assoc h (b ∷ []) bs))
+    ∙ ap (λ y. found x.reader (y ++ bs)) (sym (ap (λ n. take n (h ++ b ∷ [])) all_of ∙ take-length (h ++ b ∷ []))) ∙ settled bs in
     let empty : drop (size_of part) (h ++ b ∷ []) ≡ [] = ap (λ n. drop n (h ++ b ∷ [])) size ∙ drop-length (h ++ b ∷ []) in
     let rest : bs ≡ drop (size_of part) (h ++ b ∷ bs) =
-        sym (ap (λ n. drop n (h ++ b ∷ bs)) size ∙ ap (drop (length (h ++ b ∷ []))) (sym (append_assoc h (b ∷ []) bs)) ∙ drop-append_seam (h ++ b ∷ []) bs) in
+    sym (ap (λ n. drop n (h ++ b ∷ bs)) size ∙ ap (drop (length (h ++ b ∷ []))) (sym (append_assoc h (b ∷ []) bs)) ∙ drop-append_seam (h ++ b ∷ []) bs) in
     subst (Walks x (h ++ b ∷ bs) (b ∷ bs)) (sym same)
     (part_walks x (h ++ b ∷ bs) (b ∷ bs) part p
     (ap (λ y. reads y bs) (stepped ∙ part_met x (h ++ b ∷ []) part p empty) ∙ ap (reads (past x part)) rest))
@@ -126,7 +126,7 @@ walk_by x h bs b more is stepped begun settled later =
 walk_by x h bs b (wrong at reason) is stepped begun settled later =
     let same : found x.reader (h ++ b ∷ bs) ≡ wrong at reason = ap (found x.reader) (sym (append_assoc h (b ∷ []) bs)) ∙ settled bs in
     let left : reads x (b ∷ bs) ≡ refuse x (x.reader.place + at) reason =
-        ap (λ y. reads y bs) stepped ∙ stays (refuse x (x.reader.place + at) reason) (record { at = x.reader.place + at; reason = reason }) bs refl in
+    ap (λ y. reads y bs) stepped ∙ stays (refuse x (x.reader.place + at) reason) (record { at = x.reader.place + at; reason = reason }) bs refl in
     subst (Walks x (h ++ b ∷ bs) (b ∷ bs)) (sym same) (ap (λ y. y.refused) left, ap (λ y. y.tokens) left)
 walk_by x h bs b (head table size) is stepped begun t later = walk_part x h bs b (head table size) tt stepped begun t.0 t.1 t.2 t.3
 walk_by x h bs b (switch page) is stepped begun t later = walk_part x h bs b (switch page) tt stepped begun t.0 t.1 t.2 t.3
@@ -140,6 +140,6 @@ walk [] h x sound held open_ room begun =
     subst (Walks x (h ++ []) []) (sym none) (ap (holding x) (held ∙ sym (append-nil h)))
 walk (b ∷ bs) h x sound held open_ room begun =
     let stepped : step x b ≡ met x (h ++ b ∷ []) (found x.reader (h ++ b ∷ [])) =
-        one_step x b sound open_ (omega (arith, room, ap length held)) ∙ ap (λ y. met x (y ++ b ∷ []) (found x.reader (y ++ b ∷ []))) held in
+    one_step x b sound open_ (omega (arith, room, ap length held)) ∙ ap (λ y. met x (y ++ b ∷ []) (found x.reader (y ++ b ∷ []))) held in
     walk_by x h bs b (found x.reader (h ++ b ∷ [])) refl stepped begun (found_settled x.reader (h ++ b ∷ []))
     (walk bs (h ++ b ∷ []) (holding x (h ++ b ∷ [])) sound refl open_ (omega (arith, room, length-append h (b ∷ []))))

@@ -136,9 +136,9 @@ after_part r bytes part b p is =
 -- what stops among some tokens stops among more
 pub stops_before : {W : Type 0} (k : Taking W) (left : W → W → Type 0) (w v : W) (ts later : List Placed) → StopsAmong k left w v ts → StopsAmong k left w v (ts ++ later)
 stops_before k left w v ts later (n, z, some, is_left) = elim (cases_lt (length ts) n) [
-    | inl above ↦ (length ts, z, ap (taken k w) (take-append_seam ts later ∙ sym (take_all n ts (omega (arith, above)))) ∙ some, is_left)
-    | inr below ↦ (n, z, ap (taken k w) (take-append-le n ts later below) ∙ some, is_left)
-  ]
+  | inl above ↦ (length ts, z, ap (taken k w) (take-append_seam ts later ∙ sym (take_all n ts (omega (arith, above)))) ∙ some, is_left)
+  | inr below ↦ (n, z, ap (taken k w) (take-append-le n ts later below) ∙ some, is_left)
+]
 
 stops_first : {W : Type 0} (k : Taking W) (left : W → W → Type 0) (e : FeedError) (r s : Reader) (w v : W) (bytes : List ℕ) (part : Front) → Between r bytes → IsPart part
     → found r bytes ≡ part → GivesPart k left (Err e) r s w v part → Stops k left e w v (reads (begun_by r) bytes)
@@ -153,7 +153,7 @@ stops_first k left (errors.Refused f) r s w v bytes part b p is (inl h) = absurd
 stops_first k left (errors.Refused f) r s w v bytes part b p is (inr h) =
     let later : List Placed = (reads (begun_by (behind r part)) (drop (size_of part) bytes)).tokens in
     inl (ap (λ x. taken k w x.tokens) (after_part r bytes part b p is) ∙ taken-append k w (tokens_of r.place part) later
-        ∙ ap (λ y. y >>= (λ u. taken k u later)) h)
+    ∙ ap (λ y. y >>= (λ u. taken k u later)) h)
 stops_first k left errors.Memory r s w v bytes part b p is h =
     let later : List Placed = (reads (begun_by (behind r part)) (drop (size_of part) bytes)).tokens in
     subst (StopsAmong k left w v) (sym (ap (λ x. x.tokens) (after_part r bytes part b p is))) (stops_before k left w v (tokens_of r.place part) later h)
@@ -191,19 +191,32 @@ goes_on (suc n) r s bytes part b p is size behind_it =
 
 takes_turn : {W : Type 0} (k : Taking W) (left : W → W → Type 0) (n : ℕ) (r s : Reader) (w v : W) (bytes : List ℕ) (part : Front) → Between r bytes
     → found r bytes ≡ part → GivesPart k left (Ok n) r s w v part → GivesFirst k left (Ok n) r s w v bytes
-takes_turn k left n r s w v bytes more b is (size, behind_it, handed, t) =
-    (omega (arith, size), [], handed, subst (λ m. GoesOn m [] r s bytes) (sym size)
-        (refl, behind_it, is, b.1, subst (Walks (begun_by r) bytes bytes) is (walks_first r bytes b)))
+takes_turn k left n r s w v bytes more b is (size, behind_it, handed, t) = (
+  omega (arith, size),
+  [],
+  handed,
+  subst (λ m. GoesOn m [] r s bytes) (sym size)
+      (refl, behind_it, is, b.1, subst (Walks (begun_by r) bytes bytes) is (walks_first r bytes b)),
+)
 takes_turn k left n r s w v bytes (wrong at reason) b is (size, behind_it, handed, t) = absurd t
-takes_turn k left n r s w v bytes (head table m) b is (size, behind_it, handed, t) =
-    (omega (arith, size, part_size r bytes (head table m) (subst (Settles 0 (found r) bytes) is (found_settled r bytes))), [], handed,
-        goes_on n r s bytes (head table m) b tt is size behind_it)
-takes_turn k left n r s w v bytes (switch page) b is (size, behind_it, handed, t) =
-    (omega (arith, size, part_size r bytes (switch page) (subst (Settles 0 (found r) bytes) is (found_settled r bytes))), [], handed,
-        goes_on n r s bytes (switch page) b tt is size behind_it)
-takes_turn k left n r s w v bytes (token t0 m) b is (size, behind_it, handed, t) =
-    (omega (arith, size, part_size r bytes (token t0 m) (subst (Settles 0 (found r) bytes) is (found_settled r bytes))), tokens_of r.place (token t0 m), handed,
-        goes_on n r s bytes (token t0 m) b tt is size behind_it)
+takes_turn k left n r s w v bytes (head table m) b is (size, behind_it, handed, t) = (
+  omega (arith, size, part_size r bytes (head table m) (subst (Settles 0 (found r) bytes) is (found_settled r bytes))),
+  [],
+  handed,
+  goes_on n r s bytes (head table m) b tt is size behind_it,
+)
+takes_turn k left n r s w v bytes (switch page) b is (size, behind_it, handed, t) = (
+  omega (arith, size, part_size r bytes (switch page) (subst (Settles 0 (found r) bytes) is (found_settled r bytes))),
+  [],
+  handed,
+  goes_on n r s bytes (switch page) b tt is size behind_it,
+)
+takes_turn k left n r s w v bytes (token t0 m) b is (size, behind_it, handed, t) = (
+  omega (arith, size, part_size r bytes (token t0 m) (subst (Settles 0 (found r) bytes) is (found_settled r bytes))),
+  tokens_of r.place (token t0 m),
+  handed,
+  goes_on n r s bytes (token t0 m) b tt is size behind_it,
+)
 
 -- what reading the part at the front gives is what reading the bytes gives
 pub first_given : {W : Type 0} (k : Taking W) (left : W → W → Type 0) (answer : Result ℕ FeedError) (r s : Reader) (w v : W) (bytes : List ℕ) → r.held ≡ []
@@ -219,8 +232,8 @@ unfolding reads
 limit_stops k left r w reason at [] is place some = absurd (omega (arith, some))
 limit_stops k left r w reason at (b ∷ bytes) is place some =
     let stopped : reads (begun_by r) (b ∷ bytes) ≡ refuse (begun_by r) at reason =
-        ap (λ o. reads (step_within o (begun_by r) b) bytes) is ∙ ap (λ n. reads (refuse (begun_by r) n reason) bytes) place
-        ∙ stays (refuse (begun_by r) at reason) (record { at = at; reason = reason }) bytes refl in
+    ap (λ o. reads (step_within o (begun_by r) b) bytes) is ∙ ap (λ n. reads (refuse (begun_by r) n reason) bytes) place
+    ∙ stays (refuse (begun_by r) at reason) (record { at = at; reason = reason }) bytes refl in
     inr (ap (λ x. taken k w x.tokens) stopped, ap (λ x. x.refused) stopped)
 
 -- a byte behind the whole body
@@ -239,7 +252,7 @@ too_long k left r w bytes e open_ full some is =
     subst (λ x. Stops k left x w w (reads (begun_by r) bytes)) (sym is)
     (limit_stops k left r w reasons.Toolong most_bytes bytes
     (ap (λ (c : Bool). if c then Some reasons.Trailing else if taken_by r == most_bytes then Some reasons.Toolong else None) open_
-        ∙ ap (λ (c : Bool). if c then Some reasons.Toolong else None) at_most)
+    ∙ ap (λ (c : Bool). if c then Some reasons.Toolong else None) at_most)
     full some)
   where
     at_most : (taken_by r == most_bytes) ≡ true

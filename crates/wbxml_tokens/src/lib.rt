@@ -1,20 +1,22 @@
 //! Tokens of a WBXML body: the writer of their canonical spelling, and the reader of documents in pieces.
 #![tactic(auto)]
 
-pub mod extent;
-pub mod part;
-pub mod prologue;
-pub mod queue;
+mod extent;
+mod part;
+mod prologue;
+mod queue;
 pub mod reader;
 pub mod reason;
-pub mod spot;
-pub mod state;
+mod spot;
+mod state;
+#[cfg(test)]
+mod tests;
 pub mod token;
 pub mod tokens;
 pub mod writer;
 
-pub use reason::{FeedError, Reason, Refusal};
 pub use reader::Reader;
+pub use reason::{FeedError, Reason, Refusal};
 pub use token::{Placed, Taker, Token, Writer};
 pub use tokens::Tokens;
 pub use writer::TokenWriter;

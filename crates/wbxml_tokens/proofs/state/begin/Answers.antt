@@ -30,9 +30,9 @@ returns-in-Ok-parts-clause-gives g c =
     (entered (taking g.T.Taker.placed g.T.Writer.after g.T.Writer.refusal) g.T.Writer.left (Ok c.in-Ok.size) (reader_at c.args.spot.now c.args.table.now)
     (reader_at c.enter.new.spot c.enter.new.table) c.args.taker.now c.args.bytes.now refl c.requires.before c.requires.not_whole c.requires.room.1 c.in-Ok.ensures.gives).0
     (subst (λ t. GivesAll (taking g.T.Taker.placed g.T.Writer.after g.T.Writer.refusal) g.T.Writer.left (Ok c.in-Ok-parts.used) (reader_at c.enter.new.spot t) (reader_at c.parts.new.spot t)
-        c.args.taker.now c.parts.new.taker (drop c.in-Ok.size c.args.bytes.now)) c.as_slice.ensures
+    c.args.taker.now c.parts.new.taker (drop c.in-Ok.size c.args.bytes.now)) c.as_slice.ensures
     (subst (GivesAll (taking g.T.Taker.placed g.T.Writer.after g.T.Writer.refusal) g.T.Writer.left (Ok c.in-Ok-parts.used) (reader_at c.enter.new.spot c.as_slice.result.now)
-        (reader_at c.parts.new.spot c.as_slice.result.now) c.args.taker.now c.parts.new.taker) c.split_at.ensures.back c.in-Ok-parts.ensures.gives))
+    (reader_at c.parts.new.spot c.as_slice.result.now) c.args.taker.now c.parts.new.taker) c.split_at.ensures.back c.in-Ok-parts.ensures.gives))
 
 pub returns-in-Err-parts-clause-gives : goal.returns-in-Err-parts-clause-gives
 returns-in-Err-parts-clause-gives g c =
@@ -45,9 +45,9 @@ returns-in-Err-parts-clause-gives g c =
     (entered (taking g.T.Taker.placed g.T.Writer.after g.T.Writer.refusal) g.T.Writer.left (Ok c.in-Ok.size) (reader_at c.args.spot.now c.args.table.now)
     (reader_at c.enter.new.spot c.enter.new.table) c.args.taker.now c.args.bytes.now refl c.requires.before c.requires.not_whole c.requires.room.1 c.in-Ok.ensures.gives).0
     (subst (λ t. GivesAll (taking g.T.Taker.placed g.T.Writer.after g.T.Writer.refusal) g.T.Writer.left (Err c.in-Err-parts.error) (reader_at c.enter.new.spot t) (reader_at c.parts.new.spot t)
-        c.args.taker.now c.parts.new.taker (drop c.in-Ok.size c.args.bytes.now)) c.as_slice.ensures
+    c.args.taker.now c.parts.new.taker (drop c.in-Ok.size c.args.bytes.now)) c.as_slice.ensures
     (subst (GivesAll (taking g.T.Taker.placed g.T.Writer.after g.T.Writer.refusal) g.T.Writer.left (Err c.in-Err-parts.error) (reader_at c.enter.new.spot c.as_slice.result.now)
-        (reader_at c.parts.new.spot c.as_slice.result.now) c.args.taker.now c.parts.new.taker) c.split_at.ensures.back c.in-Err-parts.ensures.gives))
+    (reader_at c.parts.new.spot c.as_slice.result.now) c.args.taker.now c.parts.new.taker) c.split_at.ensures.back c.in-Err-parts.ensures.gives))
 
 pub returns-in-Err-clause-gives : goal.returns-in-Err-clause-gives
 returns-in-Err-clause-gives g c =

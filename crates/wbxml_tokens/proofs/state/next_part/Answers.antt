@@ -16,7 +16,7 @@ returns-clause-gives g c =
     (reader_at c.part.new.spot c.args.table.now) c.args.taker.now c.part.new.taker c.args.bytes.now refl (sym c.is_whole.ensures ∙ c.if-is_whole.false)
     c.requires.room.1
     (subst (GivesPart (taking g.T.Taker.placed g.T.Writer.after g.T.Writer.refusal) g.T.Writer.left c.part.result (reader_at c.args.spot.now c.args.table.now)
-        (reader_at c.part.new.spot c.args.table.now) c.args.taker.now c.part.new.taker)
+    (reader_at c.part.new.spot c.args.table.now) c.args.taker.now c.part.new.taker)
     (found_in_body (reader_at c.args.spot.now c.args.table.now) c.args.bytes.now c.requires.body) c.part.ensures.gives)
 
 pub returns-clause-room : goal.returns-clause-room

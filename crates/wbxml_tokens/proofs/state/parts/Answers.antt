@@ -15,7 +15,7 @@ loop-at-preserved g c = record {
       (reader_at c.args.spot.now c.args.table.now) (reader_at c.loop-at.spot c.args.table.now) (reader_at c.next_part.new.spot c.args.table.now)
       c.args.bytes.now c.loop-at.at c.in-Ok.size c.loop-at.invariant.so_far (search rules)
       (subst (GivesFirst (taking g.T.Taker.placed g.T.Writer.after g.T.Writer.refusal) g.T.Writer.left (Ok c.in-Ok.size) (reader_at c.loop-at.spot c.args.table.now)
-          (reader_at c.next_part.new.spot c.args.table.now) c.loop-at.taker c.next_part.new.taker)
+      (reader_at c.next_part.new.spot c.args.table.now) c.loop-at.taker c.next_part.new.taker)
       c.split_at.ensures.back c.in-Ok.ensures.gives);
 }
 
@@ -24,7 +24,7 @@ returns-in-Err-clause-gives g c =
     stopped (taking g.T.Taker.placed g.T.Writer.after g.T.Writer.refusal) g.T.Writer.left c.in-Err.error c.args.taker.now c.loop-at.taker c.next_part.new.taker
     (reader_at c.args.spot.now c.args.table.now) (reader_at c.loop-at.spot c.args.table.now) c.args.bytes.now c.loop-at.at c.loop-at.invariant.so_far
     (subst (λ y. Stops (taking g.T.Taker.placed g.T.Writer.after g.T.Writer.refusal) g.T.Writer.left c.in-Err.error c.loop-at.taker c.next_part.new.taker
-        (reads (begun_by (reader_at c.loop-at.spot c.args.table.now)) y))
+    (reads (begun_by (reader_at c.loop-at.spot c.args.table.now)) y))
     c.split_at.ensures.back c.in-Err.ensures.gives)
 
 pub returns-clause-gives : goal.returns-clause-gives

@@ -43,8 +43,8 @@ pub returns-in-Err-Memory-clause-read : goal.returns-in-Err-Memory-clause-read
 returns-in-Err-Memory-clause-read c bytes given r =
     ap (λ t. record { waiting = t; refused = c.self.inside.refused; reader = c.feed.new.self })
     (c.cut_to.ensures ∙ ap (λ n. take n c.feed.new.taker.tokens) c.len-waiting.ensures
-        ∙ waiting_kept c.self.inside.queue c.feed.new.taker (reads (begun_by c.self.inside.reader) c.args.piece.now).tokens
-        (subst (λ e. Stops queueing is_same e c.self.inside.queue c.feed.new.taker (reads (begun_by c.self.inside.reader) c.args.piece.now)) c.in-Err-Memory.field-0-is
-        c.in-Err-Memory.ensures.feeds))
+    ∙ waiting_kept c.self.inside.queue c.feed.new.taker (reads (begun_by c.self.inside.reader) c.args.piece.now).tokens
+    (subst (λ e. Stops queueing is_same e c.self.inside.queue c.feed.new.taker (reads (begun_by c.self.inside.reader) c.args.piece.now)) c.in-Err-Memory.field-0-is
+    c.in-Err-Memory.ensures.feeds))
     ∙ ap (λ x. record { waiting = c.self.inside.queue.tokens; refused = c.self.inside.refused; reader = x }) (c.in-Err-Memory.ensures.memory (ap Err c.in-Err-Memory.field-0-is))
     ∙ c.self.view_is
