@@ -1,7 +1,7 @@
 -- The bytes that a reader has taken, and those behind the last that it may take.
-use Rattle.std.proofs.Common.{ℕ, zero, suc, ◌≡◌, ◌<◌, ◌≤◌, ◌+◌, ◌-◌, List, [], ◌∷◌, ◌++◌, length, length-append, take, drop, refl, sym, ap, ◌∙◌, subst, arith, inl, inr, min}
+use Rattle.std.proofs.Common.{ℕ, suc, ◌≡◌, ◌<◌, ◌≤◌, ◌+◌, ◌-◌, List, [], ◌∷◌, ◌++◌, length, length-append, take, drop, refl, sym, ap, ◌∙◌, subst, arith, inl, inr, min}
 use Rattle.std.proofs.lemmas.List.{append-nil, take-append-drop, length-drop, length-take}
-use Rattle.std.specs.Prelude.{◌==◌, Bool, true, false, if◌then◌else◌, Option, Some, None, Result, Ok, Err, ⊤}
+use Rattle.std.specs.Prelude.{◌==◌, Bool, true, false, if◌then◌else◌, Option, Some, None, Result, Ok, Err}
 use Rattle.wbxml_tokens.specs.declared.reason.Reason.{Reason}
 use Rattle.wbxml_tokens.specs.declared.reason.Reason.TheVariants as reasons
 use Rattle.wbxml_tokens.specs.declared.reason.Refusal.{Refusal}
@@ -9,10 +9,9 @@ use Rattle.wbxml_tokens.specs.declared.reason.FeedError.{FeedError}
 use Rattle.wbxml_tokens.specs.declared.reason.FeedError.TheVariants as errors
 use Rattle.wbxml_tokens.specs.declared.token.Placed.{Placed}
 use Rattle.wbxml_tokens.specs.Fronts.{Front, more, wrong, head, switch, token}
-use Rattle.wbxml_tokens.specs.Reading.{Reader, Reading, begun_by, most_bytes, taken_by, is_whole, found, size_of, behind, refuse, met, limit, step_within, step_from, step, reads}
-use Rattle.wbxml_tokens.specs.Taking.{Taking, Stops, StopsAmong, Feeds, told, taken, ◌>>=◌}
+use Rattle.wbxml_tokens.specs.Reading.{Reader, Reading, begun_by, most_bytes, taken_by, is_whole, found, size_of, refuse, met, limit, step_within, step_from, step, reads}
+use Rattle.wbxml_tokens.specs.Taking.{Taking, Stops, StopsAmong, Feeds, taken, ◌>>=◌}
 use Rattle.wbxml_tokens.specs.Parts.{IsReached, IsBeyond, EndsPiece}
-use Rattle.wbxml_tokens.proofs.Settled.{Settles}
 use Rattle.wbxml_tokens.proofs.Steps.{reads-append, stays, found_settled}
 use Rattle.wbxml_tokens.proofs.Turns.{part_size, reads-told, taken-append, stops_before}
 

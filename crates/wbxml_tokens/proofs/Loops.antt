@@ -1,14 +1,14 @@
 -- Parts read one after the other.
-use Rattle.std.proofs.Common.{ℕ, zero, suc, ◌≡◌, ◌<◌, ◌≤◌, ◌+◌, ◌-◌, List, [], ◌∷◌, ◌++◌, length, take, drop, refl, sym, ap, ◌∙◌, subst, arith, rules, append_assoc, inl, inr}
+use Rattle.std.proofs.Common.{ℕ, zero, suc, ◌≡◌, ◌<◌, ◌≤◌, ◌+◌, List, [], ◌++◌, length, drop, refl, sym, ap, ◌∙◌, subst, arith, append_assoc, inl}
 use Rattle.std.proofs.lemmas.List.{length-drop, drop-drop, append-nil}
 use Rattle.std.proofs.Math.ListN.{drop_of_length-le}
-use Rattle.std.specs.Prelude.{Bool, true, false, if◌then◌else◌, Option, Some, None, Result, Ok, Err}
+use Rattle.std.specs.Prelude.{Bool, true, false, if◌then◌else◌, None, Result, Ok, Err}
 use Rattle.wbxml_tokens.specs.declared.reason.FeedError.{FeedError}
 use Rattle.wbxml_tokens.specs.declared.reason.FeedError.TheVariants as errors
 use Rattle.wbxml_tokens.specs.declared.token.Placed.{Placed}
-use Rattle.wbxml_tokens.specs.Fronts.{Front, more, front, prologue_at}
+use Rattle.wbxml_tokens.specs.Fronts.{Front, front, prologue_at}
 use Rattle.wbxml_tokens.specs.Reading.{Reader, Reading, begun_by, most_bytes, is_whole, found, reads}
-use Rattle.wbxml_tokens.specs.Taking.{Taking, Stops, GivesPart, GivesNoToken, GivesFirst, GivesAll, GoesOn, told, taken}
+use Rattle.wbxml_tokens.specs.Taking.{Taking, Stops, GivesPart, GivesNoToken, GivesFirst, GivesAll, told, taken}
 use Rattle.wbxml_tokens.proofs.Turns.{nothing, stops_told, taken_both, first_given}
 
 -- so many bytes were read, and their tokens handed on

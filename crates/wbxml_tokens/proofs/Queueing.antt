@@ -1,15 +1,13 @@
 -- Tokens that a reader hands to a queue.
-use Rattle.std.proofs.Common.{ℕ, zero, suc, ◌≡◌, List, [], ◌∷◌, ◌++◌, length, take, refl, sym, ap, ◌∙◌, subst, arith, append_assoc, inl, inr}
+use Rattle.std.proofs.Common.{ℕ, ◌≡◌, List, [], ◌∷◌, ◌++◌, length, take, refl, sym, ap, ◌∙◌, append_assoc, inl, inr}
 use Rattle.std.proofs.lemmas.List.{append-nil}
 use Rattle.std.proofs.Math.Seq.{take-append_seam}
-use Rattle.std.specs.Prelude.{Option, Some, None, Result, Ok, Err}
-use Rattle.wbxml_tokens.specs.declared.reason.Reason.{Reason}
+use Rattle.std.specs.Prelude.{Some, None, Result, Ok, Err}
 use Rattle.wbxml_tokens.specs.declared.reason.Refusal.{Refusal}
-use Rattle.wbxml_tokens.specs.declared.reason.FeedError.{FeedError}
 use Rattle.wbxml_tokens.specs.declared.reason.FeedError.TheVariants as errors
 use Rattle.wbxml_tokens.specs.declared.token.Placed.{Placed}
 use Rattle.wbxml_tokens.specs.Reading.{Reader, Reading, begun_by, at_start, reads, reading}
-use Rattle.wbxml_tokens.specs.Taking.{Taking, Stops, StopsAmong, Feeds, told, taken}
+use Rattle.wbxml_tokens.specs.Taking.{Taking, Stops, StopsAmong, told, taken}
 use Rattle.wbxml_tokens.specs.Waiting.{Waiting, waiting_after, Held, HasRead}
 use Rattle.wbxml_tokens.proofs.Steps.{reads-append, stays}
 use Rattle.wbxml_tokens.proofs.Turns.{reads-told}

@@ -19,7 +19,7 @@ use wbxml_tables::{Element, element_of};
 
 // The bytes before the first 0, or all where there is none.
 #[tactic(auto, using(crate::proofs::Zeros::before_zero))]
-fn before_zero(bytes: &[u8]) -> &[u8]
+pub(crate) fn before_zero(bytes: &[u8]) -> &[u8]
     ensures { result.now ≡ until_zero bytes.now }
 {
     match memchr(0, bytes) {

@@ -1,11 +1,13 @@
 // A document read in pieces.
-ghost use Rattle.std.specs.Prelude.{◌≡◌, ◌<◌, ◌≤◌, ◌+◌, ◌-◌, ◌++◌, [], true, None as Nothing, Err as Bad, ℕ, List, length, take, drop, IfOk, OnOk, OnErr};
+ghost use Rattle.std.specs.Prelude.{◌≡◌, ◌<◌, ◌≤◌, ◌+◌, ◌-◌, ◌++◌, [], true, None as Nothing, Err as Bad, ℕ, List, length, take, drop, IfOk, IfErr, OnOk, OnErr};
 ghost use Rattle.wbxml_tokens.specs.declared.reason.FeedError.TheVariants as errors;
-ghost use Rattle.wbxml_tokens.specs.Reading.{most_bytes, taken_by, begun_by, at_start, ended, reads};
+ghost use Rattle.wbxml_tokens.specs.Fronts.{more};
+ghost use Rattle.wbxml_tokens.specs.Reading.{most_bytes, found, taken_by, begun_by, at_start, ended, reads};
 ghost use Rattle.wbxml_tokens.specs.Taking.{taking, Feeds};
 ghost use Rattle.wbxml_tokens.specs.Parts.{reader_of, IsReached, IsBeyond, EndsPiece};
 
 use crate::extent::Extent;
+use crate::part::before_zero;
 use crate::reason::{FeedError, Reason, Refusal};
 use crate::spot::{Spot, refused};
 use crate::state::all_parts;
@@ -46,6 +48,36 @@ impl State {
                 }
             }
             Err(error) => Err(error),
+        }
+    }
+
+    // Whether the body's text that is held isn't ended by this piece.
+    fn text_goes_on(&self, piece: &[u8]) -> bool
+        requires { IsReached (reader_of self.now) }
+        ensures { result ≡ true → found (reader_of self.now) (self.now.held ++ piece.now) ≡ more }
+    {
+        if !self.spot.is_in_body {
+            return false;
+        }
+        match self.held.as_slice() {
+            [first, ..] if *first == 0x03 => before_zero(piece).len() == piece.len(),
+            _ => false,
+        }
+    }
+
+    // Reads a piece that doesn't end the text that is held.
+    fn read_text(&mut self, piece: &[u8]) -> Result<(), FeedError>
+        requires reached { IsReached (reader_of self.old) }
+        requires room { taken_by (reader_of self.old) + length piece.now ≤ most_bytes }
+        requires some { 0 < length self.old.held }
+        requires text { found (reader_of self.old) (self.old.held ++ piece.now) ≡ more }
+        ensures ok { OnOk result (begun_by (reader_of self.new) ≡ reads (begun_by (reader_of self.old)) piece.now) }
+        ensures reached { OnOk result (IsReached (reader_of self.new)) }
+        ensures err { IfErr result (λ e. (e ≡ errors.Memory) × (self.new ≡ self.old)) }
+    {
+        match self.held.extend(piece) {
+            Ok(()) => Ok(()),
+            Err(Memory) => Err(FeedError::Memory),
         }
     }
 
@@ -92,6 +124,8 @@ impl State {
     {
         if self.held.is_empty() {
             self.read_fresh(piece, taker)
+        } else if self.text_goes_on(piece) {
+            self.read_text(piece)
         } else {
             self.read_held(piece, taker)
         }

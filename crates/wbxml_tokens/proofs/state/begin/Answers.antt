@@ -1,7 +1,7 @@
-use Rattle.std.proofs.Common.{rules, refl, subst, ◌≡◌, length, drop}
-use Rattle.std.specs.Prelude.{Result, Ok, Err}
+use Rattle.std.proofs.Common.{rules, refl, subst, drop}
+use Rattle.std.specs.Prelude.{Ok, Err}
 use Rattle.wbxml_tokens.specs.Parts.{reader_at}
-use Rattle.wbxml_tokens.specs.Taking.{taking, GivesFirst, GivesAll}
+use Rattle.wbxml_tokens.specs.Taking.{taking, GivesAll}
 use Rattle.wbxml_tokens.proofs.Loops.{so_far_none, so_far_one, all_but_one, all_after, entered}
 use Rattle.wbxml_tokens.proofs.state.begin.Goals as goal
 

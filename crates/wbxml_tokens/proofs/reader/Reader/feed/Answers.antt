@@ -1,6 +1,4 @@
 use Rattle.std.proofs.Common.{rules}
-use Rattle.wbxml_tokens.specs.Reading.{begun_by, reads}
-use Rattle.wbxml_tokens.specs.Parts.{IsReached}
 use Rattle.wbxml_tokens.specs.Taking.{taking}
 use Rattle.wbxml_tokens.proofs.Beyond.{ends, full_before, stops_piece}
 use Rattle.wbxml_tokens.proofs.reader.Reader.feed.Goals as goal

@@ -1,5 +1,5 @@
-use Rattle.std.proofs.Common.{refl, sym, ap, ◌∙◌, arith, length}
-use Rattle.wbxml_tokens.specs.Reading.{at_start, found}
+use Rattle.std.proofs.Common.{refl, ap, ◌∙◌, arith, length}
+use Rattle.wbxml_tokens.specs.Reading.{at_start}
 use Rattle.wbxml_tokens.specs.Fronts.{prologue_at}
 use Rattle.wbxml_tokens.proofs.Turns.{nothing}
 use Rattle.wbxml_tokens.proofs.reader.Reader.new.Goals as goal

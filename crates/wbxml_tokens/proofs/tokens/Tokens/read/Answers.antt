@@ -1,4 +1,4 @@
-use Rattle.std.proofs.Common.{refl, sym, ap, ◌∙◌, ◌≡◌, subst, take, ◌++◌}
+use Rattle.std.proofs.Common.{sym, ap, ◌∙◌, ◌≡◌, subst, take, ◌++◌}
 use Rattle.std.specs.Prelude.{Ok, Err, None}
 use Rattle.wbxml_tokens.specs.declared.reason.FeedError.TheVariants as errors
 use Rattle.wbxml_tokens.specs.Reading.{begun_by, reads}
