@@ -1,8 +1,7 @@
 -- An entry and its text.
-use Rattle.std.proofs.Common.{◌≡◌, ◌⊎◌, inl, inr, ◌<◌, ◌≤◌, ◌+◌, ◌==◌, ◌&&◌, ◌||◌, ℕ, List, [], ◌∷◌, ◌++◌, length, drop, take, map, refl, ap, sym, ◌∙◌, subst, Bool, true, false, not, cond, if◌then◌else◌, arith, rules, Option, Some, None, Decides, bytes_eq, nat_eq, nat_lt, nat_le, leb, ltb, eqb}
+use Rattle.std.proofs.Common.{◌≡◌, ◌==◌, ◌&&◌, ℕ, List, [], ◌∷◌, ◌++◌, length, drop, refl, ap, sym, ◌∙◌, subst, Bool, true, false, not, if◌then◌else◌, rules, Option, Some, None, Decides, bytes_eq, nat_lt, nat_le}
 use Rattle.std.specs.Prelude.{codes}
-use Rattle.std.specs.Bool.{⊤}
-use Rattle.std.specs.List.{slice_split, join_with_byte, list_all, AllByRecursion, starts_with}
+use Rattle.std.specs.List.{join_with_byte, list_all, AllByRecursion}
 use Rattle.std.proofs.lemmas.Slice.Eq.{bytes_eq-Decides, starts_is}
 use Rattle.std.proofs.lemmas.List.Folds.{list_all-append}
 use Rattle.std.proofs.lemmas.Bool.{false≢true}
@@ -16,7 +15,7 @@ use Rattle.dm_acl.specs.declared.values.Entry.{Entry}
 use Rattle.dm_acl.specs.Grammar.{is_name_byte, is_server_name, IsServers, IsEntry, servers_text, head_of, entry_text, meant, meant_entry, unrepeated}
 use Rattle.dm_acl.specs.Reading.{names_in, named, servers_in, begins, right_in, entry_with, entry_behind, entry_in}
 use Rattle.dm_acl.specs.Laws.{has_no}
-use Rattle.dm_acl.proofs.Splits.{and_true, both_true, not_true, split_joined, clear_split, joined_split}
+use Rattle.dm_acl.proofs.Splits.{and_true, both_true, not_true, split_joined, joined_split}
 
 -- ---- a good name has none of the signs
 

@@ -1,17 +1,15 @@
 -- A text is read part by part up to its first fault.
-use Rattle.std.proofs.Common.{◌≡◌, ◌⊎◌, inl, inr, ◌<◌, ◌≤◌, ◌+◌, ◌==◌, ℕ, List, [], ◌∷◌, ◌++◌, length, map, refl, ap, sym, ◌∙◌, subst, Bool, true, false, is_some, arith, Option, Some, None, Result, Ok, Err, append_assoc, length-append}
-use Rattle.std.specs.Bool.{⊤}
-use Rattle.std.specs.List.{AllByRecursion, flat_map, join_with_byte}
-use Rattle.dm_acl.specs.declared.values.Right.{Right}
+use Rattle.std.proofs.Common.{◌≡◌, ◌⊎◌, inl, inr, ◌+◌, ℕ, List, [], ◌∷◌, ◌++◌, length, map, refl, ap, sym, ◌∙◌, subst, Bool, true, false, is_some, arith, Option, Some, None, Result, Ok, Err, length-append}
+use Rattle.std.specs.List.{AllByRecursion}
 use Rattle.dm_acl.specs.declared.values.AclError.{AclError}
 use Rattle.dm_acl.specs.declared.values.AclError.TheVariants as error
 use Rattle.dm_acl.specs.declared.values.Entry.{Entry}
 use Rattle.dm_acl.specs.declared.values.Entries.{Entries}
-use Rattle.dm_acl.specs.Grammar.{IsEntry, Names, AreOnce, entry_text, entry_of, with_entry, with_entries, meant_entry, no_entries}
+use Rattle.dm_acl.specs.Grammar.{IsEntry, entry_text, entry_of, with_entry, with_entries, meant_entry}
 use Rattle.dm_acl.specs.Reading.{entry_in, put_new, put_entry, after_part, go_on, after_parts}
-use Rattle.dm_acl.specs.Laws.{has_no, front_text}
+use Rattle.dm_acl.specs.Laws.{front_text}
 use Rattle.dm_acl.proofs.Commands.{AreNew}
-use Rattle.dm_acl.proofs.EntryTexts.{entry_read, entry_from, clear_entry}
+use Rattle.dm_acl.proofs.EntryTexts.{entry_read, entry_from}
 
 ok≢err : {A : Type 0} (x : A) (e : AclError) → Ok x ≡ Err e → ⊥
 ok≢err x e h = cc

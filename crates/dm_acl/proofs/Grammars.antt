@@ -1,22 +1,20 @@
 -- The grammar of access lists, both ways.
-use Rattle.std.proofs.Common.{◌≡◌, ◌⊎◌, inl, inr, ◌<◌, ◌≤◌, ◌+◌, ◌==◌, ℕ, List, [], ◌∷◌, ◌++◌, length, map, refl, ap, sym, ◌∙◌, subst, Bool, true, false, is_some, arith, rules, if◌then◌else◌, nat_lt, Option, Some, None, Result, Ok, Err, append_assoc, append-nil}
-use Rattle.std.specs.Bool.{⊤}
-use Rattle.std.specs.List.{AllByRecursion, slice_split, join_with_byte}
+use Rattle.std.proofs.Common.{◌≡◌, ◌⊎◌, inl, inr, ◌<◌, ◌≤◌, ◌==◌, ℕ, List, [], ◌∷◌, ◌++◌, length, map, refl, ap, sym, ◌∙◌, subst, Bool, true, false, arith, rules, if◌then◌else◌, nat_lt, Result, Ok, Err, append_assoc, append-nil}
+use Rattle.std.specs.List.{AllByRecursion, join_with_byte}
 use Rattle.std.proofs.lemmas.List.Splits.{slice_split_none, slice_split_at}
 use borrow.Author.Tests.{tests}
-use Rattle.dm_acl.specs.declared.values.Right.{Right}
 use Rattle.dm_acl.specs.declared.values.AclError.{AclError}
 use Rattle.dm_acl.specs.declared.values.AclError.TheVariants as error
 use Rattle.dm_acl.specs.declared.values.Entry.{Entry}
 use Rattle.dm_acl.specs.declared.values.Entries.{Entries}
-use Rattle.dm_acl.specs.Grammar.{IsEntry, Names, AreOnce, entry_text, entries_text, IsTextOf, entry_of, with_entries, no_entries, meaning, entries_in, printed, IsAcl, has_entry}
+use Rattle.dm_acl.specs.Grammar.{IsEntry, entry_text, entries_text, IsTextOf, no_entries, meaning, entries_in, printed, IsAcl}
 use Rattle.dm_acl.specs.Reading.{parts_in, after_parts, parse_of, Answers}
-use Rattle.dm_acl.specs.Laws.{WhatIsReadIsMeant, WhatIsWrittenIsRead, has_no, front_text, IsBehind, IsFault, HasFaultAt, IsRefusedAt, FirstFaultIsTold, OnlyFaultsAreTold, PrintedIsRead, ReadIsAcl, EntriesAllow, EntriesName}
+use Rattle.dm_acl.specs.Laws.{WhatIsReadIsMeant, WhatIsWrittenIsRead, has_no, front_text, IsBehind, HasFaultAt, IsRefusedAt, FirstFaultIsTold, OnlyFaultsAreTold, PrintedIsRead, ReadIsAcl, EntriesAllow, EntriesName}
 use Rattle.dm_acl.proofs.Parts.{some-parts}
 use Rattle.dm_acl.proofs.Splits.{none_passes, split_joined, clear_split, joined_split}
 use Rattle.dm_acl.proofs.Commands.{AreNew, new_of_once, once_from_new, has_from_named, named_of_has}
 use Rattle.dm_acl.proofs.EntryTexts.{clear_entry}
-use Rattle.dm_acl.proofs.Faults.{IsFaultIn, parts_taken, parts_read, Stops, parts_stop, parts_stopped, parts_told}
+use Rattle.dm_acl.proofs.Faults.{parts_taken, parts_read, Stops, parts_stop, parts_stopped, parts_told}
 use Rattle.dm_acl.proofs.Meanings.{acl_of, entries_good, entries_new, entries_mean, entries_some, entries_allow}
 
 -- ---- the length goes first

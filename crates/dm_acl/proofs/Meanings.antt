@@ -1,6 +1,5 @@
 -- What the entries of a text mean, and what an access list is written as.
-use Rattle.std.proofs.Common.{◌≡◌, ◌⊎◌, inl, inr, ◌<◌, ◌≤◌, ◌+◌, ℕ, List, [], ◌∷◌, ◌++◌, length, map, refl, ap, sym, ◌∙◌, subst, Bool, true, false, ◌||◌, is_some, arith, rules, if◌then◌else◌, bytes_eq, Option, Some, None}
-use Rattle.std.specs.Bool.{⊤}
+use Rattle.std.proofs.Common.{◌≡◌, ◌⊎◌, inl, inr, ◌<◌, ℕ, List, [], ◌∷◌, ◌++◌, length, refl, ap, sym, ◌∙◌, subst, Bool, true, false, ◌||◌, is_some, arith, if◌then◌else◌, bytes_eq, Option, Some, None}
 use Rattle.std.specs.List.{AllByRecursion, list_any}
 use Rattle.std.proofs.lemmas.List.Folds.{list_any-append}
 use Rattle.std.proofs.lemmas.Slice.Eq.{bytes_eq-Decides}
@@ -10,7 +9,7 @@ use Rattle.dm_acl.specs.declared.values.Servers.{Servers}
 use Rattle.dm_acl.specs.declared.values.Servers.TheVariants.{Everybody, Named}
 use Rattle.dm_acl.specs.declared.values.Entry.{Entry}
 use Rattle.dm_acl.specs.declared.values.Entries.{Entries}
-use Rattle.dm_acl.specs.Grammar.{is_server_name, IsServers, IsEntry, Names, AreOnce, entry_of, with_name, with_names, unrepeated, meant, meant_entry, with_entry, with_entries, no_entries, entry_for, entries_in, AreMeant, IsAcl, has_entry, allowed_by, allowed_in, allowed}
+use Rattle.dm_acl.specs.Grammar.{is_server_name, IsServers, IsEntry, Names, AreOnce, entry_of, with_name, with_names, meant, meant_entry, with_entry, with_entries, no_entries, entry_for, entries_in, AreMeant, IsAcl, allowed_by, allowed_in, allowed}
 use Rattle.dm_acl.specs.Laws.{Allow}
 use Rattle.dm_acl.proofs.Names.{again, good_from}
 use Rattle.dm_acl.proofs.Commands.{put, put_here, none_at, AreNew, has_from_named, named_of_has}

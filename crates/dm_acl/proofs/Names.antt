@@ -1,8 +1,8 @@
 -- Names without repeats.
-use Rattle.std.proofs.Common.{◌≡◌, ◌<◌, ◌+◌, ◌==◌, ◌++◌, ◌&&◌, ◌||◌, ℕ, List, [], ◌∷◌, length, drop, get_or, arith, refl, ap, sym, ◌∙◌, subst, Bool, true, false, cond, rules, if◌then◌else◌, bytes_eq}
+use Rattle.std.proofs.Common.{◌≡◌, ◌<◌, ◌+◌, ◌++◌, ◌&&◌, ℕ, List, [], ◌∷◌, length, drop, get_or, arith, refl, ap, sym, ◌∙◌, Bool, true, false, if◌then◌else◌, bytes_eq}
 use Rattle.std.specs.List.{list_any, list_all}
 use Rattle.std.proofs.lemmas.List.{at_drop_more, at_drop_all}
-use Rattle.std.proofs.lemmas.List.Folds.{list_all-append, list_any-append}
+use Rattle.std.proofs.lemmas.List.Folds.{list_all-append}
 use Rattle.dm_acl.specs.Grammar.{with_name, with_names, unrepeated}
 
 pub names_more : (all : List (List ℕ)) (n m : ℕ) (name : List ℕ) (names new whole : List (List ℕ))

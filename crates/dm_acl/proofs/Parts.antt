@@ -1,5 +1,5 @@
 -- What stands between the signs of a text, part by part.
-use Rattle.std.proofs.Common.{◌≡◌, ◌<◌, ◌≤◌, ◌+◌, ◌==◌, ℕ, List, [], ◌∷◌, length, drop, get_or, arith, refl, ap, sym, ◌∙◌, subst, Bool, true, false, cond, eqb, Result, Ok, Err}
+use Rattle.std.proofs.Common.{◌≡◌, ◌<◌, ◌≤◌, ◌+◌, ◌==◌, ℕ, List, [], ◌∷◌, length, drop, get_or, arith, refl, ap, sym, ◌∙◌, subst, Bool, true, false, cond, Result, Ok, Err}
 use Rattle.std.specs.List.{slice_split, onto_first, sum_by}
 use Rattle.std.proofs.lemmas.List.{at_drop_more, at_drop_all}
 use Rattle.std.proofs.lemmas.List.Sums.{sum_by-cons, sum_by-drop_more}

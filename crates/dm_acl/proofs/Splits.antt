@@ -1,10 +1,8 @@
 -- Texts that are cut at a sign and joined by it.
-use Rattle.std.proofs.Common.{◌≡◌, ◌<◌, ◌+◌, ◌==◌, ◌&&◌, ℕ, List, [], ◌∷◌, ◌++◌, length, refl, ap, sym, ◌∙◌, Bool, true, false, not, cond, arith, rules, All}
-use Rattle.std.specs.Bool.{⊤}
-use Rattle.std.specs.List.{slice_split, onto_first, join_with_byte, list_all, AllByRecursion, AllPass}
+use Rattle.std.proofs.Common.{◌≡◌, ◌==◌, ◌&&◌, ℕ, List, [], ◌∷◌, refl, ap, ◌∙◌, Bool, true, false, not, cond, rules, All}
+use Rattle.std.specs.List.{slice_split, onto_first, join_with_byte, AllByRecursion}
 use Rattle.std.proofs.lemmas.List.Splits.{slice_split_none, slice_split_at, join_with_byte-slice_split}
 use Rattle.std.proofs.lemmas.List.Sums.{AllPass-from_list_all}
-use Rattle.std.proofs.lemmas.Bool.{false≢true}
 use Rattle.dm_acl.specs.Laws.{has_no}
 
 pub and_true : (a b : Bool) → (a && b) ≡ true → (a ≡ true) × (b ≡ true)

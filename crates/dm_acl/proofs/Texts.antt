@@ -1,5 +1,5 @@
 -- How the parts of a text stand one behind the other.
-use Rattle.std.proofs.Common.{◌≡◌, ◌<◌, ◌+◌, ℕ, List, [], ◌∷◌, ◌++◌, map, length, drop, get_or, refl, ap, sym, ◌∙◌, append_assoc, append-nil, arith, Option, Some, None}
+use Rattle.std.proofs.Common.{◌≡◌, ℕ, List, [], ◌∷◌, ◌++◌, map, refl, ap, sym, ◌∙◌, append_assoc, append-nil, Option, Some, None}
 use Rattle.std.specs.List.{join_with_byte, flat_map}
 use Rattle.dm_acl.specs.declared.values.Right.{Right}
 use Rattle.dm_acl.specs.declared.values.Right.TheVariants as right

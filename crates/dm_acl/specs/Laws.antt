@@ -1,13 +1,11 @@
 -- What reading, printing and the tests of an access list mean, in the words of the grammar.
-use Rattle.std.specs.Prelude.{◌≡◌, ◌⊎◌, ◌↔◌, ◌==◌, ◌<◌, ◌≤◌, ◌+◌, ℕ, Bool, true, not, List, [], ◌∷◌, ◌++◌, length, Result, Ok, Err, ⊤}
+use Rattle.std.specs.Prelude.{◌≡◌, ◌⊎◌, ◌↔◌, ◌==◌, ◌<◌, ◌≤◌, ℕ, Bool, true, not, List, [], ◌∷◌, ◌++◌, length, Ok, Err, ⊤}
 use Rattle.std.specs.List.{AllByRecursion, list_all, flat_map}
 use Rattle.dm_acl.specs.declared.values.Right.{Right}
 use Rattle.dm_acl.specs.declared.values.AclError.TheVariants as error
-use Rattle.dm_acl.specs.declared.values.Servers.{Servers}
-use Rattle.dm_acl.specs.declared.values.Servers.TheVariants.{Everybody, Named}
 use Rattle.dm_acl.specs.declared.values.Entry.{Entry}
 use Rattle.dm_acl.specs.declared.values.Entries.{Entries}
-use Rattle.dm_acl.specs.Grammar.{IsEntry, Names, AreOnce, entry_text, IsTextOf, meaning, printed, IsAcl, allowed, has_entry, allowed_by, entry_of}
+use Rattle.dm_acl.specs.Grammar.{IsEntry, Names, AreOnce, entry_text, IsTextOf, meaning, printed, IsAcl, allowed, has_entry, allowed_by}
 use Rattle.dm_acl.specs.Reading.{parse_of}
 
 -- ---- a text is read exactly where it is one, as what it means

@@ -37,8 +37,8 @@ impl Model for Acl {
 impl Acl {
     /// Reads a text of at most 4,096 bytes: entries joined by `&`, each a command, `=`, and `*`, names joined by `+`,
     /// or nothing; a name has 1 to 64 bytes of 21 to 7E other than `&`, `+`, `=` and `*`. Repeats of a name after the
-    /// first are left out. It takes time in the text's length, and in its square where many names differ, since each is
-    /// looked for among those before it.
+    /// first are left out. The time is linear in the text, but for the search for repeats, which compares a name with
+    /// those before it in its entry.
     ///
     /// `Malformed` tells the first byte of the first entry that is bad or names a command again, 4,096 for a longer text.
     pub fn parse(alloc: Global, text: &[u8]) -> Result<Acl, AclError>

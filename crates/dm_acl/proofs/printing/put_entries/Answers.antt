@@ -1,4 +1,4 @@
-use Rattle.std.proofs.Common.{rules, ap, ◌∙◌}
+use Rattle.std.proofs.Common.{ap, ◌∙◌}
 use Rattle.dm_acl.proofs.Texts.{written}
 use Rattle.dm_acl.specs.declared.values.Right.TheVariants as right
 use Rattle.dm_acl.specs.Printing.{with_entry_text}
