@@ -10,7 +10,8 @@ use Rattle.dm_acl.specs.declared.values.Servers.TheVariants.{Everybody, Named}
 use Rattle.dm_acl.specs.declared.values.Entry.{Entry}
 use Rattle.dm_acl.specs.declared.values.Entries.{Entries}
 use Rattle.dm_acl.specs.Grammar.{is_server_name, IsServers, IsEntry, Names, AreOnce, entry_of, with_name, with_names, meant, meant_entry, with_entry, with_entries, no_entries, entry_for, entries_in, AreMeant, IsAcl, allowed_by, allowed_in, allowed}
-use Rattle.dm_acl.specs.Laws.{Allow}
+use Rattle.dm_acl.specs.Laws.{Allow, is_one_of, AreDistinct, RepeatsAreLeftOut}
+use Rattle.std.proofs.lemmas.Bool.{false≢true}
 use Rattle.dm_acl.proofs.Names.{again, good_from}
 use Rattle.dm_acl.proofs.Commands.{put, put_here, none_at, AreNew, has_from_named, named_of_has}
 
@@ -164,6 +165,44 @@ any_kept names (x ∷ xs) server =
     any_kept (with_name names x) xs server
     ∙ ap (λ b. b || list_any (λ n. bytes_eq n server) xs) (any_by (list_any (λ other. bytes_eq other x) names) names x server refl)
     ∙ or_assoc (list_any (λ n. bytes_eq n server) names) (bytes_eq x server) (list_any (λ n. bytes_eq n server) xs)
+
+-- ---- each name stands once
+
+not_same : (a b : List ℕ) → bytes_eq a b ≡ false → bytes_eq b a ≡ false
+not_same a b h = by_test (bytes_eq b a) refl
+  where
+    by_test : (t : Bool) → bytes_eq b a ≡ t → bytes_eq b a ≡ false
+    by_test true is =
+        let same : bytes_eq a b ≡ true = (bytes_eq-Decides a b).1 (sym ((bytes_eq-Decides b a).0 is)) in
+        absurd (false≢true (sym h ∙ same))
+    by_test false is = is
+
+or_parts : (a b : Bool) → (a || b) ≡ false → (a ≡ false) × (b ≡ false)
+or_parts true b e = cc
+or_parts false b e = (refl, e)
+
+distinct_push : (names : List (List ℕ)) (name : List ℕ) → AreDistinct names → is_one_of name names ≡ false → AreDistinct (names ++ name ∷ [])
+distinct_push [] name h none = (refl, tt)
+distinct_push (n ∷ ns) name h none =
+    let parts = or_parts (bytes_eq n name) (is_one_of name ns) none in (
+      list_any-append (λ other. bytes_eq other n) ns (name ∷ [])
+          ∙ ap (λ b. b || (bytes_eq name n || false)) h.0
+          ∙ ap (λ b. b || false) (not_same n name parts.0),
+      distinct_push ns name h.1 parts.1,
+    )
+
+distinct_by : (found : Bool) (names : List (List ℕ)) (name : List ℕ) → is_one_of name names ≡ found → AreDistinct names → AreDistinct (if found then names else names ++ name ∷ [])
+distinct_by true names name is h = h
+distinct_by false names name is h = distinct_push names name h is
+
+distinct_from : (names more : List (List ℕ)) → AreDistinct names → AreDistinct (with_names names more)
+distinct_from names [] h = h
+distinct_from names (x ∷ xs) h = distinct_from (with_name names x) xs (distinct_by (is_one_of x names) names x refl h)
+
+pub repeats_are_left_out : RepeatsAreLeftOut
+repeats_are_left_out names = (distinct_from [] names tt, λ name. any_kept [] names name)
+
+-- ---- what an entry allows
 
 meant_allows : (s : Servers) (server : List ℕ) → allowed_by (meant s) server ≡ allowed_by s server
 meant_allows Everybody server = refl

@@ -37,7 +37,7 @@ abbrev pub AreOnce : List Entry → Type 0
 AreOnce [] = ⊤
 AreOnce (e ∷ es) = (Names es e.right → ⊥) × AreOnce es
 
--- `*`, or names with `+` (2B) between them, or nothing
+-- `*`, or names with `+` (byte 43) between them, or nothing
 abbrev pub servers_text : Servers → List ℕ
 servers_text Everybody = codes "*"
 servers_text (Named names) = join_with_byte 43 names
@@ -53,7 +53,7 @@ head_of right.Replace = codes "Replace="
 abbrev pub entry_text : Entry → List ℕ
 entry_text e = head_of e.right ++ servers_text e.servers
 
--- entries with `&` (26) between them
+-- entries with `&` (byte 38) between them
 abbrev pub entries_text : List Entry → List ℕ
 entries_text es = join_with_byte 38 (map entry_text es)
 

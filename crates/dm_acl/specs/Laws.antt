@@ -1,11 +1,11 @@
 -- What reading, printing and the tests of an access list mean, in the words of the grammar.
-use Rattle.std.specs.Prelude.{◌≡◌, ◌⊎◌, ◌↔◌, ◌==◌, ◌<◌, ◌≤◌, ℕ, Bool, true, not, List, [], ◌∷◌, ◌++◌, length, Ok, Err, ⊤}
-use Rattle.std.specs.List.{AllByRecursion, list_all, flat_map}
+use Rattle.std.specs.Prelude.{◌≡◌, ◌⊎◌, ◌↔◌, ◌==◌, ◌<◌, ◌≤◌, ℕ, Bool, true, false, not, bytes_eq, List, [], ◌∷◌, ◌++◌, length, Ok, Err, ⊤}
+use Rattle.std.specs.List.{AllByRecursion, list_all, list_any, flat_map}
 use Rattle.dm_acl.specs.declared.values.Right.{Right}
 use Rattle.dm_acl.specs.declared.values.AclError.TheVariants as error
 use Rattle.dm_acl.specs.declared.values.Entry.{Entry}
 use Rattle.dm_acl.specs.declared.values.Entries.{Entries}
-use Rattle.dm_acl.specs.Grammar.{IsEntry, Names, AreOnce, entry_text, IsTextOf, meaning, printed, IsAcl, allowed, has_entry, allowed_by}
+use Rattle.dm_acl.specs.Grammar.{IsEntry, Names, AreOnce, entry_text, IsTextOf, meaning, printed, IsAcl, allowed, has_entry, allowed_by, unrepeated}
 use Rattle.dm_acl.specs.Reading.{parse_of}
 
 -- ---- a text is read exactly where it is one, as what it means
@@ -67,6 +67,21 @@ PrintedIsRead = (acl : Entries) → IsAcl acl → length (printed acl) ≤ 4096 
 abbrev pub ReadIsAcl : Type 0
 ReadIsAcl = (text : List ℕ) (acl : Entries) → parse_of text ≡ Ok acl → IsAcl acl
 
+-- ---- repeats of names
+
+-- the name is one of the names
+abbrev pub is_one_of : List ℕ → List (List ℕ) → Bool
+is_one_of name names = list_any (λ other. bytes_eq other name) names
+
+-- no name stands twice
+abbrev pub AreDistinct : List (List ℕ) → Type 0
+AreDistinct [] = ⊤
+AreDistinct (name ∷ names) = (is_one_of name names ≡ false) × AreDistinct names
+
+-- without repeats no name stands twice, and the same names stand there
+abbrev pub RepeatsAreLeftOut : Type 0
+RepeatsAreLeftOut = (names : List (List ℕ)) → AreDistinct (unrepeated names) × ((name : List ℕ) → is_one_of name (unrepeated names) ≡ is_one_of name names)
+
 -- ---- what entries as written allow
 
 -- an entry of the command that everybody or the server may use
@@ -74,9 +89,11 @@ abbrev pub Allow : List Entry → List ℕ → Right → Type 0
 Allow [] server right = ⊥
 Allow (e ∷ es) server right = ((e.right ≡ right) × (allowed_by e.servers server ≡ true)) ⊎ Allow es server right
 
+-- a server is allowed a command where an entry as written allows it
 abbrev pub EntriesAllow : Type 0
 EntriesAllow = (es : List Entry) (server : List ℕ) (right : Right) → AreOnce es
     → (allowed (meaning es) server right ≡ true) ↔ Allow es server right
 
+-- a command has an entry where one is written
 abbrev pub EntriesName : Type 0
 EntriesName = (es : List Entry) (right : Right) → (has_entry (meaning es) right ≡ true) ↔ Names es right

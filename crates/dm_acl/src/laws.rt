@@ -1,5 +1,5 @@
 // What the contracts of an access list mean, over their definitions alone.
-ghost use Rattle.dm_acl.specs.Laws.{WhatIsReadIsMeant, WhatIsWrittenIsRead, FirstFaultIsTold, OnlyFaultsAreTold, ReadIsAcl, PrintedIsRead, EntriesAllow, EntriesName};
+ghost use Rattle.dm_acl.specs.Laws.{WhatIsReadIsMeant, WhatIsWrittenIsRead, FirstFaultIsTold, OnlyFaultsAreTold, ReadIsAcl, PrintedIsRead, RepeatsAreLeftOut, EntriesAllow, EntriesName};
 
 /// A text is read exactly where it is written as the grammar says, and then as what it means.
 #[tactic(auto, using(crate::proofs::Grammars::what_is_read_is_meant, crate::proofs::Grammars::what_is_written_is_read))]
@@ -26,4 +26,10 @@ pub fn printed_lists_are_read()
 pub fn entries_allow_as_written()
     ensures allow { EntriesAllow }
     ensures name { EntriesName }
+{}
+
+/// Where repeats after the first are left out, each name that was given stands once.
+#[tactic(auto, using(crate::proofs::Meanings::repeats_are_left_out))]
+pub fn names_stand_once()
+    ensures { RepeatsAreLeftOut }
 {}
