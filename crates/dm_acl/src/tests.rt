@@ -74,7 +74,7 @@ fn long_text_is_refused_at(alloc: Global, first: &[u8]) -> Result<Option<usize>,
     Ok(refused_at(alloc, text.as_slice()))
 }
 
-fn is_printed_as_copy(alloc: Global, text: &[u8]) -> Result<bool, AclError> {
+fn is_the_same_as_its_copy(alloc: Global, text: &[u8]) -> Result<bool, AclError> {
     let acl = Acl::parse(alloc, text)?;
     match acl.copy(alloc) {
         Ok(copied) => Ok(copied.is_same(&acl)),
@@ -124,7 +124,7 @@ fn a_text_has_at_most_4096_bytes(rt: HostRuntime) -> Result<(), Fail> {
 #[test]
 fn copies_are_the_same(rt: HostRuntime) -> Result<(), Fail> {
     let alloc = rt.alloc();
-    assert!(rt; is_printed_as_copy(alloc, b"Get=*&Add=a+b&Exec=")?);
+    assert!(rt; is_the_same_as_its_copy(alloc, b"Get=*&Add=a+b&Exec=")?);
     assert!(rt; are_same(alloc, b"Get=*&Add=a+b", b"Add=a+b+a&Get=*")?);
     assert!(rt; !are_same(alloc, b"Add=a+b", b"Add=b+a")?);
     assert!(rt; !are_same(alloc, b"Add=a", b"Add=a&Get=")?);
