@@ -1,0 +1,10 @@
+pub mod Parts
+pub mod Texts
+pub mod Names
+pub mod Commands
+pub mod Splits
+pub mod EntryTexts
+pub mod Faults
+pub mod Meanings
+pub mod Sames
+pub mod Grammars

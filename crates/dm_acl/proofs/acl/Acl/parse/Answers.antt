@@ -1,0 +1,15 @@
+use Rattle.std.proofs.Common.{arith, ◌∙◌, Err}
+use Rattle.dm_acl.proofs.Grammars.{parse_short, parse_long, answers_short, read_acl}
+use Rattle.dm_acl.proofs.acl.Acl.parse.Goals as goal
+
+pub returns-then-text-gt-TEXT_LIMIT : goal.returns-then-text-gt-TEXT_LIMIT
+returns-then-text-gt-TEXT_LIMIT c = parse_long c.args.text.now (omega arith)
+
+pub invariant_of-result : goal.invariant_of-result
+invariant_of-result c = read_acl c.args.text.now c.in-Ok.entries c.if-text-gt-TEXT_LIMIT.false c.in-Ok.ensures
+
+pub returns-in-Ok : goal.returns-in-Ok
+returns-in-Ok c = parse_short c.args.text.now c.if-text-gt-TEXT_LIMIT.false ∙ c.in-Ok.ensures
+
+pub returns-in-Err : goal.returns-in-Err
+returns-in-Err c = answers_short c.args.text.now (Err c.in-Err.error) c.if-text-gt-TEXT_LIMIT.false c.in-Err.ensures

@@ -1,0 +1,5 @@
+pub mod Grammar
+pub mod Reading
+pub mod Printing
+pub mod Same
+pub mod Laws

@@ -1,0 +1,15 @@
+//! Access lists: which servers may use which commands on a node of the management tree.
+#![tactic(auto)]
+
+pub mod acl;
+mod copies;
+pub mod laws;
+mod printing;
+mod reading;
+mod same;
+#[cfg(test)]
+mod tests;
+pub mod values;
+
+pub use acl::Acl;
+pub use values::{AclError, Entries, Right, Servers};
