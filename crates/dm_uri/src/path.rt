@@ -1,0 +1,82 @@
+// A path from the root, which contracts see as a list of names.
+ghost use Rattle.std.specs.Prelude.{◌≡◌, ◌<◌, ◌≤◌, ◌==◌, ◌∷◌, ◌++◌, [], length, OnOk, OnErr, IfErr, MatchOption, bytes_eq};
+ghost use Rattle.std.specs.Ordering.{nat_cmp};
+ghost use Rattle.std.specs.Cmp.Lexicographic.{pointwise, slice_cmp};
+ghost use Rattle.dm_uri.specs.Grammar.{IsPath};
+ghost use Rattle.dm_uri.specs.declared.uri.UriError.TheVariants as error;
+
+use crate::name::Name;
+use crate::uri::UriError;
+use dm_base::List;
+use std::alloc::Global;
+use std::cmp::Ordering;
+use std::marker::Model;
+
+/// A path of at most 16 names. The empty one is the root.
+#[derive(Drop)]
+pub struct Path {
+    names: List<Name>,
+}
+
+impl Model for Path {
+    ghost use Rattle.std.specs.Prelude.{List, ℕ};
+    ghost use Rattle.dm_uri.specs.Grammar.{IsPath};
+
+    ghost Value = { List (List ℕ) };
+
+    ghost view = { λ p. p.names };
+
+    ghost invariant = { λ p. IsPath p.names };
+}
+
+impl Path {
+    pub fn new(alloc: Global) -> Path
+        ensures { result ≡ [] }
+    {
+        Path {
+            names: List::new(alloc),
+        }
+    }
+
+    pub(crate) fn of(names: List<Name>) -> Path
+        requires { IsPath names }
+        ensures { result ≡ names }
+    {
+        Path { names }
+    }
+
+    /// Its names, the one below the root first. Each path keeps to the limits.
+    pub fn as_slice(&self) -> &[Name]
+        ensures names { result.now ≡ self.now }
+        ensures path { IsPath self.now }
+    {
+        self.names.as_slice()
+    }
+
+    /// Adds a name at the end. Memory is the only error; after it the name is given up.
+    pub fn push(&mut self, name: Name) -> Result<(), UriError>
+        requires { length self.old < 16 }
+        ensures ok { OnOk result (self.new ≡ self.old ++ name ∷ []) }
+        ensures err { OnErr result (self.new ≡ self.old) }
+        ensures memory { IfErr result (λ e. e ≡ error.Memory) }
+    {
+        let _ = name.as_slice();
+        self.names.push(name)?;
+        Ok(())
+    }
+
+    /// Takes the last name off. None comes exactly at the root. It takes no memory.
+    pub fn pop(&mut self) -> Option<Name>
+        ensures { MatchOption result ((self.old ≡ []) × (self.new ≡ []))
+            (λ name. self.old ≡ self.new ++ name ∷ []) }
+    {
+        self.names.pop()
+    }
+
+    /// Goes back to the root. It takes no memory.
+    pub fn clear(&mut self)
+        ensures { self.new ≡ [] }
+    {
+        self.names.cut_to(0);
+    }
+}
