@@ -1,7 +1,7 @@
 -- Names of the form that are within the limits make a path.
-use Rattle.std.proofs.Common.{ℕ, ◌≡◌, ◌≤◌, ◌+◌, List, [], ◌∷◌, ◌++◌, length, arith, refl, sym, ap, ◌∙◌}
-use Rattle.std.specs.Prelude.{Bool, true, false, ◌&&◌, nat_le, IsTrue, codes}
-use Rattle.std.specs.List.{list_all, slice_split, join_with_byte, count_by}
+use Rattle.std.proofs.Common.{ℕ, ◌≡◌, ◌≤◌, ◌+◌, List, [], ◌∷◌, ◌++◌, length, arith, refl, ap}
+use Rattle.std.specs.Prelude.{true, ◌&&◌, nat_le, codes}
+use Rattle.std.specs.List.{list_all, slice_split}
 use Rattle.std.proofs.lemmas.Bool.{and_parts, and_from}
 use Rattle.std.proofs.lemmas.List.Splits.{length-slice_split, join_with_byte-slice_split}
 use Rattle.dm_uri.specs.Grammar.{has_name_form, is_short, is_name, is_within_limits, IsPath, joined, printed_path}
@@ -56,7 +56,7 @@ printed_some : (names : List (List ℕ)) (text : List ℕ) → 1 ≤ length name
 printed_some [] text h e = absurd (omega (arith, h))
 printed_some (n ∷ ns) text h e = ap (λ t. codes "./" ++ t) e
 
-some_parts : (text : List ℕ) → 1 ≤ length (slice_split is_slash text)
+pub some_parts : (text : List ℕ) → 1 ≤ length (slice_split is_slash text)
 some_parts text = omega (arith, length-slice_split is_slash text)
 
 pub printed-split : (text : List ℕ) → printed_path (slice_split is_slash text) ≡ codes "./" ++ text

@@ -1,13 +1,13 @@
 -- Path parts: what stands between the slashes of one is the names that it spells, and no other names are.
-use Rattle.std.proofs.Common.{ℕ, ◌≡◌, ◌≢◌, ◌≤◌, ◌<◌, ◌+◌, List, [], ◌∷◌, ◌++◌, length, take, drop, get_or, arith, rules, refl, sym, ap, ◌∙◌, inl, inr, absurd, subst}
-use Rattle.std.specs.Prelude.{Bool, true, false, not, ◌==◌, ◌&&◌, ◌||◌, nat_le, nat_lt, nat_eq, if◌then◌else◌, IsTrue, bytes_eq, codes, ◌⊎◌}
-use Rattle.std.specs.List.{list_all, slice_split, join_with_byte, starts_with, AllPass}
+use Rattle.std.proofs.Common.{ℕ, ◌≡◌, ◌≤◌, ◌<◌, List, [], ◌∷◌, ◌++◌, length, drop, get_or, arith, rules, refl, sym, ap, ◌∙◌, inl, inr}
+use Rattle.std.specs.Prelude.{Bool, true, false, not, ◌||◌, nat_eq, if◌then◌else◌, bytes_eq, codes, ◌⊎◌}
+use Rattle.std.specs.List.{list_all, slice_split, starts_with, AllPass}
 use Rattle.std.proofs.lemmas.Bool.{and_parts, and_from}
 use Rattle.std.proofs.lemmas.Slice.Eq.{bytes_eq-Decides}
-use Rattle.std.proofs.lemmas.List.Sums.{AllPass-from_list_all, list_all-from_AllPass}
+use Rattle.std.proofs.lemmas.List.Sums.{AllPass-from_list_all}
 use Rattle.std.proofs.lemmas.List.Splits.{join_with_byte-slice_split, slice_split_none, slice_split_at}
 use Rattle.std.proofs.lemmas.Grind.{common_steps}
-use Rattle.dm_uri.specs.Grammar.{is_name_byte, has_name_form, is_short, is_name, is_within_limits, IsPath, IsPathPart, SpellsPath, joined, printed_path}
+use Rattle.dm_uri.specs.Grammar.{is_name_byte, has_name_form, IsPathPart, SpellsPath, joined}
 use Rattle.dm_uri.specs.Reading.{is_slash, is_root, without_front, names_in}
 use Rattle.dm_uri.proofs.Limits.{some_parts}
 
@@ -84,13 +84,33 @@ split-joined n (m ∷ ms) h =
     slice_split_at is_slash n 0x2F (joined (m ∷ ms)) (without_slash n (form n both.0).bytes) refl
     ∙ ap (λ rest. n ∷ rest) (split-joined m ms both.1)
 
+not_dot_first : (b : ℕ) (rest : List ℕ) → nat_eq b 0x2E ≡ false
+    → (is_root (b ∷ rest) ≡ false) × (starts_with nat_eq (b ∷ rest) (codes "./") ≡ false)
+not_dot_first b rest h = (grind (arith, common_steps), grind (arith, common_steps))
+
+not_slash_next : (b c : ℕ) (rest : List ℕ) → nat_eq c 0x2F ≡ false
+    → (is_root (b ∷ c ∷ rest) ≡ false) × (starts_with nat_eq (b ∷ c ∷ rest) (codes "./") ≡ false)
+not_slash_next b c rest h = (grind (arith, common_steps), grind (arith, common_steps))
+
+lone_byte : (b : ℕ) → has_name_form (b ∷ []) ≡ true → nat_eq b 0x2E ≡ false
+lone_byte b h = grind (arith, common_steps)
+
+next_byte : (b c : ℕ) (bs : List ℕ) → has_name_form (b ∷ c ∷ bs) ≡ true → nat_eq c 0x2F ≡ false
+next_byte b c bs h = grind (arith, common_steps)
+
 -- names that are joined are no root, and have no `./` in front
 plain_joined : (n : List ℕ) (ns : List (List ℕ)) → has_name_form n ≡ true
     → (is_root (joined (n ∷ ns)) ≡ false) × (starts_with nat_eq (joined (n ∷ ns)) (codes "./") ≡ false)
-plain_joined n ns h = ?
+plain_joined [] ns h = cc
+plain_joined (b ∷ []) [] h = not_dot_first b [] (lone_byte b h)
+plain_joined (b ∷ []) (m ∷ ms) h = not_dot_first b (0x2F ∷ joined (m ∷ ms)) (lone_byte b h)
+plain_joined (b ∷ c ∷ bs) [] h = not_slash_next b c bs (next_byte b c bs h)
+plain_joined (b ∷ c ∷ bs) (m ∷ ms) h = not_slash_next b c (bs ++ 0x2F ∷ joined (m ∷ ms)) (next_byte b c bs h)
 
 front_joined : (n : List ℕ) (ns : List (List ℕ)) → has_name_form n ≡ true → is_root (codes "./" ++ joined (n ∷ ns)) ≡ false
-front_joined n ns h = ?
+front_joined [] ns h = cc
+front_joined (b ∷ bs) [] h = refl
+front_joined (b ∷ bs) (m ∷ ms) h = refl
 
 pub only_names : (names : List (List ℕ)) (part : List ℕ) → IsPathPart names part → names_in part ≡ names
 only_names [] part (h, inl e) = rw e refl

@@ -1,5 +1,5 @@
 -- Queries, and what a whole text of a URI is.
-use Rattle.std.specs.Prelude.{◌≡◌, ◌==◌, ◌≤◌, ◌<◌, ◌⊎◌, ◌++◌, ℕ, Bool, true, false, IsTrue, List, [], ◌∷◌, length, drop, codes}
+use Rattle.std.specs.Prelude.{◌≡◌, ◌==◌, ◌≤◌, ◌<◌, ◌⊎◌, ◌++◌, ℕ, Bool, false, IsTrue, List, [], length, drop, codes}
 use Rattle.std.specs.List.{before_first, position_or_len}
 use Rattle.dm_uri.specs.Grammar.{IsPathPart, is_within_limits, printed_path}
 use Rattle.dm_uri.specs.declared.uri.Prop.{Prop}

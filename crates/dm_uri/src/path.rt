@@ -79,4 +79,44 @@ impl Path {
     {
         self.names.cut_to(0);
     }
+
+    /// Whether two paths have the same names, with case.
+    pub fn is_same(&self, other: &Path) -> bool
+        ensures { result ≡ pointwise bytes_eq self.now other.now }
+    {
+        are_same(self.as_slice(), other.as_slice())
+    }
+
+    /// The order of two paths by their names: a path stands before those below it, and siblings by their bytes.
+    pub fn compare(&self, other: &Path) -> Ordering
+        ensures { result ≡ slice_cmp (slice_cmp nat_cmp) self.now other.now }
+    {
+        order_of(self.as_slice(), other.as_slice())
+    }
+}
+
+fn are_same(left: &[Name], right: &[Name]) -> bool
+    ensures { result ≡ pointwise bytes_eq left.now right.now }
+{
+    if left.len() != right.len() {
+        return false;
+    }
+    for i in 0..left.len() {
+        if !left[i].is_same(&right[i]) {
+            return false;
+        }
+    }
+    true
+}
+
+fn order_of(left: &[Name], right: &[Name]) -> Ordering
+    ensures { result ≡ slice_cmp (slice_cmp nat_cmp) left.now right.now }
+{
+    for i in 0..left.len().min(right.len()) {
+        match left[i].compare(&right[i]) {
+            Ordering::Equal => {}
+            other => return other,
+        }
+    }
+    left.len().cmp(&right.len())
 }

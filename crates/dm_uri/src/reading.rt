@@ -1,9 +1,10 @@
 // A text is read.
-ghost use Rattle.std.specs.Prelude.{◌≡◌, ◌≤◌, ◌&&◌, ◌∷◌, [], IsTrue, IfOk, MatchOption, nat_le, length};
+ghost use Rattle.std.specs.Prelude.{◌≡◌, ◌≢◌, ◌≤◌, ◌&&◌, ◌∷◌, [], IsTrue, IfOk, IfErr, MatchOption, nat_le, length};
 ghost use Rattle.std.specs.List.{list_all, slice_split, position_or_len};
 ghost use Rattle.dm_uri.specs.Grammar.{has_name_form, is_short, is_name, is_within_limits};
 ghost use Rattle.dm_uri.specs.Queries.{is_question, IsUriText, IsRefused};
 ghost use Rattle.dm_uri.specs.Reading.{is_slash, is_root, without_front, names_in, query_of, read_path, parse_of, Gives, FirstPart};
+ghost use Rattle.dm_uri.specs.declared.uri.UriError.TheVariants as error;
 
 use crate::name::{Name, has_name_form, is_short};
 use crate::path::Path;
@@ -29,7 +30,10 @@ const QUERIES: [Query; 11] = [
 fn query_of(text: &[u8]) -> Option<Query>
     ensures { result ≡ query_of text.now }
 {
-    QUERIES.iter().find(|query| query_text(**query) == text).copied()
+    QUERIES
+        .iter()
+        .find(|query| query_text(**query) == text)
+        .copied()
 }
 
 // The place of the first `?`, or the length.
@@ -141,4 +145,16 @@ fn read(alloc: Global, text: &[u8]) -> Result<Uri, UriError>
             None => Err(UriError::UnknownQuery),
         },
     }
+}
+
+/// The URI that a text spells. TooLong comes where the text has more than 255 bytes; then Malformed where the path part,
+/// which ends at the first `?`, isn't of the form, lengths aside; then TooLong where a name has more than 64 bytes, there are
+/// more than 16 names, or the written form of the path has more than 255 bytes; then UnknownQuery where anything else than a
+/// query follows. Memory may come wherever the path is kept.
+pub fn parse(alloc: Global, text: &[u8]) -> Result<Uri, UriError>
+    ensures exact { Gives result (parse_of text.now) }
+    ensures ok { IfOk result (λ uri. IsUriText text.now uri) }
+    ensures err { IfErr result (λ e. e ≢ error.Memory → IsRefused text.now e) }
+{
+    read(alloc, text)
 }
