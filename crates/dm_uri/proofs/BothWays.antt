@@ -7,8 +7,9 @@ use Rattle.dm_uri.specs.declared.uri.Query.{Query}
 use Rattle.dm_uri.specs.declared.uri.Uri.{Uri}
 use Rattle.dm_uri.specs.declared.uri.UriError.{UriError}
 use Rattle.dm_uri.specs.declared.uri.UriError.TheVariants as error
-use Rattle.dm_uri.specs.Grammar.{has_name_form, is_within_limits, IsPath, IsPathPart, printed_path}
-use Rattle.dm_uri.specs.Queries.{query_text, printed, IsUriText, path_part, query_part}
+use Rattle.dm_uri.specs.Names.{has_name_form, is_within_limits, IsPath, IsPathPart, printed_path}
+use Rattle.dm_uri.specs.Grammar.{query_text, printed, IsUriText}
+use Rattle.dm_uri.specs.Refusals.{path_part, query_part}
 use Rattle.dm_uri.specs.Reading.{names_in, query_of, with_query, parse_of}
 use Rattle.dm_uri.specs.Laws.{ReadsGrammar, ReadsWritten, OneWritten}
 use Rattle.dm_uri.proofs.Limits.{limits_of_path, all_forms}

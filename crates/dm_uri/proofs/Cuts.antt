@@ -10,8 +10,9 @@ use Rattle.std.proofs.lemmas.Grind.{common_steps}
 use Rattle.dm_uri.specs.declared.uri.Prop.TheVariants as prop
 use Rattle.dm_uri.specs.declared.uri.Query.{Query}
 use Rattle.dm_uri.specs.declared.uri.Query.TheVariants as query
-use Rattle.dm_uri.specs.Grammar.{is_name_byte, has_name_form, IsPathPart, joined}
-use Rattle.dm_uri.specs.Queries.{query_text, is_question, path_part, query_part}
+use Rattle.dm_uri.specs.Names.{is_name_byte, has_name_form, IsPathPart, joined}
+use Rattle.dm_uri.specs.Grammar.{query_text}
+use Rattle.dm_uri.specs.Refusals.{is_question, path_part, query_part}
 use Rattle.dm_uri.specs.Reading.{queries, query_of}
 use Rattle.dm_uri.proofs.PathParts.{same_bytes}
 

@@ -4,7 +4,7 @@ use Rattle.std.specs.Prelude.{true, ◌&&◌, nat_le, codes}
 use Rattle.std.specs.List.{list_all, slice_split}
 use Rattle.std.proofs.lemmas.Bool.{and_parts, and_from}
 use Rattle.std.proofs.lemmas.List.Splits.{length-slice_split, join_with_byte-slice_split}
-use Rattle.dm_uri.specs.Grammar.{has_name_form, is_short, is_name, is_within_limits, IsPath, joined, printed_path}
+use Rattle.dm_uri.specs.Names.{has_name_form, is_short, is_name, is_within_limits, IsPath, joined, printed_path}
 use Rattle.dm_uri.specs.Reading.{is_slash}
 
 at_most : (m n : ℕ) → nat_le m n ≡ true → m ≤ n

@@ -7,7 +7,7 @@ use Rattle.std.proofs.lemmas.Slice.Eq.{bytes_eq-Decides}
 use Rattle.std.proofs.lemmas.List.Sums.{AllPass-from_list_all}
 use Rattle.std.proofs.lemmas.List.Splits.{join_with_byte-slice_split, slice_split_none, slice_split_at}
 use Rattle.std.proofs.lemmas.Grind.{common_steps}
-use Rattle.dm_uri.specs.Grammar.{is_name_byte, has_name_form, IsPathPart, SpellsPath, joined}
+use Rattle.dm_uri.specs.Names.{is_name_byte, has_name_form, IsPathPart, SpellsPath, joined}
 use Rattle.dm_uri.specs.Reading.{is_slash, is_root, without_front, names_in}
 use Rattle.dm_uri.proofs.Limits.{some_parts}
 

@@ -1,7 +1,7 @@
 -- The written form of a path, name by name.
 use Rattle.std.proofs.Common.{ℕ, ◌≡◌, List, [], ◌∷◌, ◌++◌, refl, ap, sym, append-nil}
 use Rattle.std.specs.List.{flat_map}
-use Rattle.dm_uri.specs.Grammar.{joined, printed_path}
+use Rattle.dm_uri.specs.Names.{joined, printed_path}
 
 abbrev pub slashed : List ℕ → List ℕ
 slashed name = 0x2F ∷ name

@@ -6,8 +6,9 @@ use Rattle.std.proofs.lemmas.Bool.{ltb-true, ltb-false, lt-ltb, le-ltb}
 use Rattle.dm_uri.specs.declared.uri.Query.{Query}
 use Rattle.dm_uri.specs.declared.uri.UriError.{UriError}
 use Rattle.dm_uri.specs.declared.uri.UriError.TheVariants as error
-use Rattle.dm_uri.specs.Grammar.{has_name_form, is_within_limits, IsPathPart}
-use Rattle.dm_uri.specs.Queries.{query_text, IsRefused, path_part, query_part}
+use Rattle.dm_uri.specs.Names.{has_name_form, is_within_limits, IsPathPart}
+use Rattle.dm_uri.specs.Grammar.{query_text}
+use Rattle.dm_uri.specs.Refusals.{IsRefused, path_part, query_part}
 use Rattle.dm_uri.specs.Reading.{names_in, query_of, parse_of}
 use Rattle.dm_uri.specs.Laws.{RefusesRest}
 use Rattle.dm_uri.proofs.PathParts.{spelled, only_names}

@@ -1,45 +1,37 @@
--- URIs of the management tree: names joined by `/`, which is byte 2F, and a query behind `?`, which is byte 3F.
-use Rattle.std.specs.Prelude.{◌≡◌, ◌==◌, ◌&&◌, ◌≤◌, ◌⊎◌, ◌++◌, ℕ, Bool, not, nat_le, IsTrue, List, [], ◌∷◌, length, bytes_eq, codes}
-use Rattle.std.specs.List.{list_all, join_with_byte}
+-- A URI: a path part, and at most one query behind a `?`.
+use Rattle.std.specs.Prelude.{◌≡◌, ◌≤◌, ◌++◌, ℕ, IsTrue, List, [], length, codes}
+use Rattle.dm_uri.specs.Names.{IsPathPart, is_within_limits, printed_path}
+use Rattle.dm_uri.specs.declared.uri.Prop.{Prop}
+use Rattle.dm_uri.specs.declared.uri.Prop.TheVariants as prop
+use Rattle.dm_uri.specs.declared.uri.Query.{Query}
+use Rattle.dm_uri.specs.declared.uri.Query.TheVariants as query
+use Rattle.dm_uri.specs.declared.uri.Uri.{Uri}
 
--- 21 to 7E but `/` and `?`
-abbrev pub is_name_byte : ℕ → Bool
-is_name_byte b = nat_le 0x21 b && nat_le b 0x7E && not (b == 0x2F) && not (b == 0x3F)
+abbrev pub prop_text : Prop → List ℕ
+prop_text prop.Acl = codes "?prop=ACL"
+prop_text prop.Format = codes "?prop=Format"
+prop_text prop.Name = codes "?prop=Name"
+prop_text prop.Size = codes "?prop=Size"
+prop_text prop.Media = codes "?prop=Type"
+prop_text prop.Title = codes "?prop=Title"
+prop_text prop.VerNo = codes "?prop=VerNo"
+prop_text prop.TStamp = codes "?prop=TStamp"
 
--- a name, however long: one such byte or more, and neither `.` nor `..`
-abbrev pub has_name_form : List ℕ → Bool
-has_name_form name =
-    not (length name == 0) && list_all is_name_byte name && not (bytes_eq name (codes ".")) && not (bytes_eq name (codes ".."))
+-- the text of a query, with its `?`
+abbrev pub query_text : Query → List ℕ
+query_text query.Plain = []
+query_text (query.Prop p) = prop_text p
+query_text query.Struct = codes "?list=Struct"
+query_text query.StructData = codes "?list=StructData"
 
-abbrev pub is_short : List ℕ → Bool
-is_short name = nat_le (length name) 64
+-- the one written form of a URI
+abbrev pub printed : Uri → List ℕ
+printed uri = printed_path uri.path ++ query_text uri.query
 
-abbrev pub is_name : List ℕ → Bool
-is_name name = has_name_form name && is_short name
-
--- at most 16 names
-pub record IsPath (path : List (List ℕ)) : Type 0 where
-  pub few : length path ≤ 16
-  pub names : IsTrue (list_all is_name path)
-
--- names with a `/` between each two
-abbrev pub joined : List (List ℕ) → List ℕ
-joined names = join_with_byte 0x2F names
-
--- a text of the path with these names: `.` or `./` is the root; other paths may have `./` in front
-abbrev pub SpellsPath : List (List ℕ) → List ℕ → Type 0
-SpellsPath [] text = (text ≡ codes ".") ⊎ (text ≡ codes "./")
-SpellsPath (n ∷ ns) text = (text ≡ joined (n ∷ ns)) ⊎ (text ≡ codes "./" ++ joined (n ∷ ns))
-
--- the same of names that are of the form, however long and however many
-abbrev pub IsPathPart : List (List ℕ) → List ℕ → Type 0
-IsPathPart names text = IsTrue (list_all has_name_form names) × SpellsPath names text
-
--- the one written form of a path
-abbrev pub printed_path : List (List ℕ) → List ℕ
-printed_path [] = codes "."
-printed_path (n ∷ ns) = codes "./" ++ joined (n ∷ ns)
-
--- the limits: 64 bytes for a name, 16 names, 255 bytes written
-abbrev pub is_within_limits : List (List ℕ) → Bool
-is_within_limits names = list_all is_short names && nat_le (length names) 16 && nat_le (length (printed_path names)) 255
+-- at most 255 bytes: a path part, and then the query
+pub record IsUriText (text : List ℕ) (uri : Uri) : Type 0 where
+  pub short : length text ≤ 255
+  pub part : List ℕ
+  pub path : IsPathPart uri.path part
+  pub within : IsTrue (is_within_limits uri.path)
+  pub whole : text ≡ part ++ query_text uri.query

@@ -1,7 +1,8 @@
 -- What reading and writing have to do with the grammar.
 use Rattle.std.specs.Prelude.{◌≡◌, ◌≤◌, ◌↔◌, ℕ, List, length, Ok, Err}
-use Rattle.dm_uri.specs.Grammar.{IsPath}
-use Rattle.dm_uri.specs.Queries.{printed, IsUriText, IsRefused}
+use Rattle.dm_uri.specs.Names.{IsPath}
+use Rattle.dm_uri.specs.Grammar.{printed, IsUriText}
+use Rattle.dm_uri.specs.Refusals.{IsRefused}
 use Rattle.dm_uri.specs.Reading.{parse_of}
 use Rattle.dm_uri.specs.declared.uri.Uri.{Uri}
 use Rattle.dm_uri.specs.declared.uri.UriError.{UriError}

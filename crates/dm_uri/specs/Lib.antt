@@ -1,4 +1,5 @@
+pub mod Names
 pub mod Grammar
-pub mod Queries
+pub mod Refusals
 pub mod Reading
 pub mod Laws

@@ -1,8 +1,9 @@
 -- How a text is read: the value, or the first refusal.
 use Rattle.std.specs.Prelude.{◌≡◌, ◌<◌, ◌==◌, ◌||◌, ℕ, Bool, not, nat_lt, nat_eq, if◌then◌else◌, List, [], ◌∷◌, length, drop, bytes_eq, codes, ⊤, Option, Some, None, Result, Ok, Err}
 use Rattle.std.specs.List.{list_all, slice_split, starts_with, find}
-use Rattle.dm_uri.specs.Grammar.{has_name_form, is_short, is_within_limits}
-use Rattle.dm_uri.specs.Queries.{query_text, path_part, query_part}
+use Rattle.dm_uri.specs.Names.{has_name_form, is_short, is_within_limits}
+use Rattle.dm_uri.specs.Grammar.{query_text}
+use Rattle.dm_uri.specs.Refusals.{path_part, query_part}
 use Rattle.dm_uri.specs.declared.uri.Prop.TheVariants as prop
 use Rattle.dm_uri.specs.declared.uri.Query.{Query}
 use Rattle.dm_uri.specs.declared.uri.Query.TheVariants as query

@@ -5,6 +5,8 @@ pub mod laws;
 pub mod name;
 pub mod path;
 pub mod reading;
+#[cfg(test)]
+mod tests;
 pub mod uri;
 pub mod writing;
 

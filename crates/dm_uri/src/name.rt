@@ -3,7 +3,7 @@ ghost use Rattle.std.specs.Prelude.{◌≡◌, ◌↔◌, IsTrue, IfOk, Result, 
 ghost use Rattle.std.specs.Ordering.{nat_cmp};
 ghost use Rattle.std.specs.Cmp.Lexicographic.{slice_cmp};
 ghost use Rattle.std.specs.List.{list_all};
-ghost use Rattle.dm_uri.specs.Grammar.{is_name_byte, has_name_form, is_short, is_name};
+ghost use Rattle.dm_uri.specs.Names.{is_name_byte, has_name_form, is_short, is_name};
 ghost use Rattle.dm_uri.specs.Reading.{Gives, parse_name_of};
 
 use crate::uri::UriError;
@@ -20,7 +20,7 @@ pub struct Name {
 
 impl Model for Name {
     ghost use Rattle.std.specs.Prelude.{List, ℕ, IsTrue};
-    ghost use Rattle.dm_uri.specs.Grammar.{is_name};
+    ghost use Rattle.dm_uri.specs.Names.{is_name};
 
     ghost Value = { List ℕ };
 

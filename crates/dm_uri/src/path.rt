@@ -2,7 +2,7 @@
 ghost use Rattle.std.specs.Prelude.{◌≡◌, ◌<◌, ◌≤◌, ◌==◌, ◌∷◌, ◌++◌, [], length, OnOk, OnErr, IfErr, MatchOption, bytes_eq};
 ghost use Rattle.std.specs.Ordering.{nat_cmp};
 ghost use Rattle.std.specs.Cmp.Lexicographic.{pointwise, slice_cmp};
-ghost use Rattle.dm_uri.specs.Grammar.{IsPath};
+ghost use Rattle.dm_uri.specs.Names.{IsPath};
 ghost use Rattle.dm_uri.specs.declared.uri.UriError.TheVariants as error;
 
 use crate::name::Name;
@@ -20,7 +20,7 @@ pub struct Path {
 
 impl Model for Path {
     ghost use Rattle.std.specs.Prelude.{List, ℕ};
-    ghost use Rattle.dm_uri.specs.Grammar.{IsPath};
+    ghost use Rattle.dm_uri.specs.Names.{IsPath};
 
     ghost Value = { List (List ℕ) };
 
@@ -60,6 +60,7 @@ impl Path {
         ensures err { OnErr result (self.new ≡ self.old) }
         ensures memory { IfErr result (λ e. e ≡ error.Memory) }
     {
+        // Its contract says that the name keeps to the form and the limit.
         let _ = name.as_slice();
         self.names.push(name)?;
         Ok(())

@@ -1,9 +1,11 @@
 // A text is read.
-ghost use Rattle.std.specs.Prelude.{◌≡◌, ◌≢◌, ◌≤◌, ◌&&◌, ◌∷◌, [], IsTrue, IfOk, IfErr, MatchOption, nat_le, length};
+ghost use Rattle.std.specs.Prelude.{◌≡◌, ◌≢◌, ◌≤◌, ◌&&◌, ◌∷◌, [], IsTrue, Ok, IfOk, IfErr, MatchOption, nat_le, length};
 ghost use Rattle.std.specs.List.{list_all, slice_split, position_or_len};
-ghost use Rattle.dm_uri.specs.Grammar.{has_name_form, is_short, is_name, is_within_limits};
-ghost use Rattle.dm_uri.specs.Queries.{is_question, IsUriText, IsRefused};
+ghost use Rattle.dm_uri.specs.Names.{has_name_form, is_short, is_name, is_within_limits};
+ghost use Rattle.dm_uri.specs.Grammar.{IsUriText};
+ghost use Rattle.dm_uri.specs.Refusals.{is_question, IsRefused};
 ghost use Rattle.dm_uri.specs.Reading.{is_slash, is_root, without_front, names_in, query_of, read_path, parse_of, Gives, FirstPart};
+ghost use Rattle.dm_uri.specs.declared.uri.Uri.{Uri};
 ghost use Rattle.dm_uri.specs.declared.uri.UriError.TheVariants as error;
 
 use crate::name::{Name, has_name_form, is_short};
@@ -147,13 +149,16 @@ fn read(alloc: Global, text: &[u8]) -> Result<Uri, UriError>
     }
 }
 
-/// The URI that a text spells. TooLong comes where the text has more than 255 bytes; then Malformed where the path part,
-/// which ends at the first `?`, isn't of the form, lengths aside; then TooLong where a name has more than 64 bytes, there are
-/// more than 16 names, or the written form of the path has more than 255 bytes; then UnknownQuery where anything else than a
-/// query follows. Memory may come wherever the path is kept.
+/// The URI that a text spells, or the first refusal that holds. TooLong: the text has more than 255 bytes. Malformed: the path
+/// part, which ends at the first `?`, isn't of the form, lengths aside. TooLong: a name has more than 64 bytes, there are more
+/// than 16 names, or the written form of the path has more than 255 bytes. UnknownQuery: a `?` stands there, and what follows
+/// isn't a query. Memory may come in place of any value, and of UnknownQuery.
 pub fn parse(alloc: Global, text: &[u8]) -> Result<Uri, UriError>
     ensures exact { Gives result (parse_of text.now) }
     ensures ok { IfOk result (λ uri. IsUriText text.now uri) }
+
+    // What is a URI's text is read as this URI, unless memory runs out.
+    ensures only { (uri : Uri) → IsUriText text.now uri → Gives result (Ok uri) }
     ensures err { IfErr result (λ e. e ≢ error.Memory → IsRefused text.now e) }
 {
     read(alloc, text)

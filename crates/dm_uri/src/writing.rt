@@ -1,7 +1,7 @@
 // The one written form.
 ghost use Rattle.std.specs.Prelude.{◌≡◌, ◌≤◌, ◌++◌, Ok, IfOk, IfErr, OnOk, length};
-ghost use Rattle.dm_uri.specs.Grammar.{printed_path};
-ghost use Rattle.dm_uri.specs.Queries.{prop_text, query_text, printed};
+ghost use Rattle.dm_uri.specs.Names.{printed_path};
+ghost use Rattle.dm_uri.specs.Grammar.{prop_text, query_text, printed};
 ghost use Rattle.dm_uri.specs.Reading.{parse_of};
 ghost use Rattle.dm_uri.specs.declared.uri.UriError.TheVariants as error;
 
@@ -65,6 +65,7 @@ pub fn print(alloc: Global, uri: &Uri) -> Result<Vec<u8>, UriError>
     ensures memory { IfErr result (λ e. e ≡ error.Memory) }
     ensures read { IfOk result (λ text. length text.items ≤ 255 → parse_of text.items ≡ Ok uri.now) }
 {
+    // Its contract says that the path keeps to the limits.
     let _ = uri.path.as_slice();
     Ok(written(alloc, uri)?.into_vec())
 }

@@ -1,7 +1,7 @@
 use Rattle.std.proofs.Common.{rules, tests}
 use Rattle.std.proofs.lemmas.Iterator.Search.{all_from_yields_List}
 use Rattle.std.proofs.lemmas.Iterator.Splits.{YieldsList-from_slice_split}
-use Rattle.dm_uri.specs.Grammar.{has_name_form}
+use Rattle.dm_uri.specs.Names.{has_name_form}
 use Rattle.dm_uri.specs.Reading.{is_slash}
 use Rattle.dm_uri.proofs.reading.all_have_form.Goals as goal
 

@@ -1,7 +1,7 @@
 use Rattle.std.proofs.Common.{rules, tests}
 use Rattle.std.proofs.lemmas.Iterator.Search.{all_from_yields_List}
 use Rattle.std.proofs.lemmas.Iterator.Splits.{YieldsList-from_slice_split}
-use Rattle.dm_uri.specs.Grammar.{is_short}
+use Rattle.dm_uri.specs.Names.{is_short}
 use Rattle.dm_uri.specs.Reading.{is_slash}
 use Rattle.dm_uri.proofs.reading.all_short.Goals as goal
 

@@ -1,7 +1,7 @@
 use Rattle.std.proofs.Common.{◌≡◌, ◌++◌, length}
 use Rattle.std.specs.Prelude.{IsTrue}
 use Rattle.std.specs.List.{list_all, slice_split}
-use Rattle.dm_uri.specs.Grammar.{is_name}
+use Rattle.dm_uri.specs.Names.{is_name}
 use Rattle.dm_uri.specs.Reading.{is_slash}
 use Rattle.dm_uri.proofs.reading.names_of.Given as goal
 

@@ -2,7 +2,7 @@ use Rattle.std.proofs.Common.{rules, tests, ◌∙◌, ap, length}
 use Rattle.std.specs.Prelude.{unwrap_or}
 use Rattle.std.proofs.lemmas.Iterator.{YieldsList-from_slice}
 use Rattle.std.proofs.lemmas.Iterator.Search.{position_from_yields_List}
-use Rattle.dm_uri.specs.Queries.{is_question}
+use Rattle.dm_uri.specs.Refusals.{is_question}
 use Rattle.dm_uri.proofs.Pieces.{first_or_length}
 use Rattle.dm_uri.proofs.reading.path_end.Goals as goal
 

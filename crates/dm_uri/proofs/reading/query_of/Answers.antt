@@ -1,7 +1,7 @@
 use Rattle.std.proofs.Common.{rules, tests, bytes_eq, ◌∙◌}
 use Rattle.std.proofs.lemmas.Iterator.{YieldsList-from_slice}
 use Rattle.std.proofs.lemmas.Iterator.Search.{find_from_yields_List}
-use Rattle.dm_uri.specs.Queries.{query_text}
+use Rattle.dm_uri.specs.Grammar.{query_text}
 use Rattle.dm_uri.specs.Reading.{queries}
 use Rattle.dm_uri.proofs.reading.query_of.Goals as goal
 

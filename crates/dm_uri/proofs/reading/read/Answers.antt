@@ -1,6 +1,6 @@
 use Rattle.std.proofs.Common.{not, arith}
 use Rattle.std.proofs.lemmas.List.Sums.{prefix_len-le-length}
-use Rattle.dm_uri.specs.Queries.{is_question}
+use Rattle.dm_uri.specs.Refusals.{is_question}
 use Rattle.dm_uri.proofs.reading.read.Goals as goal
 
 pub split_at-requires : goal.split_at-requires

@@ -1,7 +1,7 @@
 use Rattle.std.proofs.Common.{◌≡◌}
 use Rattle.std.specs.Prelude.{true}
 use Rattle.std.specs.List.{list_all, slice_split}
-use Rattle.dm_uri.specs.Grammar.{has_name_form, is_within_limits}
+use Rattle.dm_uri.specs.Names.{has_name_form, is_within_limits}
 use Rattle.dm_uri.specs.Reading.{is_slash}
 use Rattle.dm_uri.proofs.Limits.{path_of_limits}
 use Rattle.dm_uri.proofs.reading.read_path.Goals as goal

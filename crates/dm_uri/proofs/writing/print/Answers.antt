@@ -1,5 +1,5 @@
 use Rattle.std.proofs.Common.{◌≡◌, ◌∙◌}
-use Rattle.dm_uri.specs.Queries.{printed}
+use Rattle.dm_uri.specs.Grammar.{printed}
 use Rattle.dm_uri.proofs.BothWays.{reads_written}
 use Rattle.dm_uri.proofs.writing.print.Goals as goal
 
