@@ -1,3 +1,5 @@
+ghost use Rattle.std.specs.Prelude.{◌<◌, ◌≤◌, ◌+◌, length};
+
 use crate::{Path, Prop, Query, Uri, UriError, parse, parse_name, print};
 use dm_base::Bytes;
 use std::alloc::Global;
@@ -210,12 +212,19 @@ fn wrong_row(alloc: Global, rows: &[Row]) -> Option<&'static str> {
     None
 }
 
-fn read_joined(alloc: Global, pieces: &[&'static str]) -> Result<Uri, UriError> {
+fn joined(alloc: Global, pieces: &[&'static str]) -> Result<Bytes, UriError> {
     let mut text = Bytes::new(alloc);
     for piece in pieces {
         text.extend(piece.as_bytes())?;
     }
-    parse(alloc, text.as_slice())
+    Ok(text)
+}
+
+fn read_joined(alloc: Global, pieces: &[&'static str]) -> Result<Uri, UriError> {
+    match joined(alloc, pieces) {
+        Ok(text) => parse(alloc, text.as_slice()),
+        Err(error) => Err(error),
+    }
 }
 
 fn written_length(alloc: Global, uri: &Uri) -> Option<usize> {
@@ -263,79 +272,110 @@ fn name_error(alloc: Global, text: &[u8]) -> Option<UriError> {
     parse_name(alloc, text).err()
 }
 
-#[test]
-fn reads_single_names(rt: HostRuntime) -> Result<(), Fail> {
-    let mut text = Bytes::of_slice(rt.alloc(), N64.as_bytes())?;
-    assert_eq!(rt; name_error(rt.alloc(), text.as_slice()), None);
-    text.push(b'x')?;
-    assert_eq!(rt;
-        name_error(rt.alloc(), text.as_slice()),
-        Some(UriError::TooLong)
-    );
-    text.push(b'/')?;
-    assert_eq!(rt;
-        name_error(rt.alloc(), text.as_slice()),
-        Some(UriError::Malformed)
-    );
-    assert_eq!(rt; name_error(rt.alloc(), b""), Some(UriError::Malformed));
-    assert_eq!(rt; name_error(rt.alloc(), b"."), Some(UriError::Malformed));
-    assert_eq!(rt; name_error(rt.alloc(), b".."), Some(UriError::Malformed));
-    assert_eq!(rt; name_error(rt.alloc(), b"a?b"), Some(UriError::Malformed));
-    assert_eq!(rt; name_error(rt.alloc(), b"..."), None);
-    assert_eq!(rt; name_error(rt.alloc(), b"%"), None);
-    Ok(())
-}
-
-#[test]
-fn compares_names(rt: HostRuntime) -> Result<(), Fail> {
-    let low = parse_name(rt.alloc(), b"a")?;
-    let high = parse_name(rt.alloc(), b"a!")?;
-    let copy = high.copy(rt.alloc())?;
-    assert!(rt; high.is_same(&copy));
-    assert!(rt; !high.is_same(&low));
-    assert_eq!(rt; low.compare(&high), Ordering::Less);
-    assert_eq!(rt; high.compare(&copy), Ordering::Equal);
-    assert_eq!(rt; copy.as_slice(), b"a!".as_slice());
-    Ok(())
-}
-
-fn path_of(alloc: Global, text: &[u8]) -> Result<Path, UriError> {
-    match parse(alloc, text) {
-        Ok(uri) => Ok(uri.path),
-        Err(error) => Err(error),
+fn name_error_joined(alloc: Global, pieces: &[&'static str]) -> Option<UriError> {
+    match joined(alloc, pieces) {
+        Ok(text) => name_error(alloc, text.as_slice()),
+        Err(_) => Some(UriError::Memory),
     }
 }
 
 #[test]
-fn compares_paths(rt: HostRuntime) -> Result<(), Fail> {
-    let above = path_of(rt.alloc(), b"./a")?;
-    let below = path_of(rt.alloc(), b"a/b")?;
-    let beside = path_of(rt.alloc(), b"a!")?;
-    assert!(rt; above.is_same(&above));
-    assert!(rt; !above.is_same(&below));
-    assert!(rt; !above.is_same(&beside));
-    assert_eq!(rt; above.compare(&below), Ordering::Less);
-    assert_eq!(rt; below.compare(&beside), Ordering::Less);
-    assert_eq!(rt; beside.compare(&above), Ordering::Greater);
-    assert_eq!(rt; below.compare(&below), Ordering::Equal);
-    Ok(())
+fn reads_single_names(rt: HostRuntime) {
+    let alloc = rt.alloc();
+    assert_eq!(rt; name_error_joined(alloc, &[N64]), None);
+    assert_eq!(rt;
+        name_error_joined(alloc, &[N64, "x"]),
+        Some(UriError::TooLong)
+    );
+    assert_eq!(rt;
+        name_error_joined(alloc, &[N64, "x/"]),
+        Some(UriError::Malformed)
+    );
+    assert_eq!(rt; name_error(alloc, b""), Some(UriError::Malformed));
+    assert_eq!(rt; name_error(alloc, b"."), Some(UriError::Malformed));
+    assert_eq!(rt; name_error(alloc, b".."), Some(UriError::Malformed));
+    assert_eq!(rt; name_error(alloc, b"a?b"), Some(UriError::Malformed));
+    assert_eq!(rt; name_error(alloc, b"..."), None);
+    assert_eq!(rt; name_error(alloc, b"%"), None);
+}
+
+fn name_order(alloc: Global, left: &[u8], right: &[u8]) -> Option<(bool, Ordering)> {
+    match (parse_name(alloc, left), parse_name(alloc, right)) {
+        (Ok(left), Ok(right)) => Some((left.is_same(&right), left.compare(&right))),
+        _ => None,
+    }
+}
+
+fn is_copied(alloc: Global, text: &[u8]) -> bool {
+    match parse_name(alloc, text) {
+        Ok(name) => name.copy(alloc).is_ok_and(|copy| copy.as_slice() == text),
+        Err(_) => false,
+    }
+}
+
+#[test]
+fn compares_names(rt: HostRuntime) {
+    let alloc = rt.alloc();
+    assert!(rt; name_order(alloc, b"a", b"a!") == Some((false, Ordering::Less)));
+    assert!(rt; name_order(alloc, b"b", b"B") == Some((false, Ordering::Greater)));
+    assert!(rt; name_order(alloc, b"ab", b"ab") == Some((true, Ordering::Equal)));
+    assert!(rt; is_copied(alloc, b"ab"));
+}
+
+fn path_order(alloc: Global, left: &[u8], right: &[u8]) -> Option<(bool, Ordering)> {
+    match (parse(alloc, left), parse(alloc, right)) {
+        (Ok(left), Ok(right)) => Some((
+            left.path.is_same(&right.path),
+            left.path.compare(&right.path),
+        )),
+        _ => None,
+    }
+}
+
+#[test]
+fn compares_paths(rt: HostRuntime) {
+    let alloc = rt.alloc();
+    assert!(rt; path_order(alloc, b"a", b"./a/b") == Some((false, Ordering::Less)));
+    assert!(rt; path_order(alloc, b"a/b", b"a!") == Some((false, Ordering::Less)));
+    assert!(rt; path_order(alloc, b"a!", b"a") == Some((false, Ordering::Greater)));
+    assert!(rt; path_order(alloc, b".", b"a") == Some((false, Ordering::Less)));
+    assert!(rt; path_order(alloc, b"a/b", b"./a/b") == Some((true, Ordering::Equal)));
+}
+
+fn pushed(alloc: Global, path: &mut Path, name: &[u8]) -> Result<(), UriError>
+    requires { length path.old < 16 }
+    ensures { length path.new ≤ length path.old + 1 }
+{
+    let name = parse_name(alloc, name)?;
+    path.push(name)
+}
+
+fn path_of_two(alloc: Global) -> Result<Path, UriError> {
+    let mut path = Path::new(alloc);
+    pushed(alloc, &mut path, b"a")?;
+    pushed(alloc, &mut path, b"b")?;
+    Ok(path)
+}
+
+fn is_written_path(alloc: Global, path: Path, want: &[u8]) -> bool {
+    let uri = Uri {
+        path,
+        query: Query::Prop(Prop::TStamp),
+    };
+    is_written(alloc, &uri, want)
 }
 
 #[test]
 fn edits_paths(rt: HostRuntime) -> Result<(), Fail> {
-    let mut path = Path::new(rt.alloc());
-    path.push(parse_name(rt.alloc(), b"a")?)?;
-    path.push(parse_name(rt.alloc(), b"b")?)?;
-    let mut uri = Uri {
-        path,
-        query: Query::Prop(Prop::TStamp),
-    };
-    assert!(rt; is_written(rt.alloc(), &uri, b"./a/b?prop=TStamp"));
-    let last = uri.path.pop();
-    assert!(rt; last.is_some_and(|name| name.as_slice() == b"b".as_slice()));
-    assert_eq!(rt; uri.path.as_slice().len(), 1);
-    uri.path.clear();
-    assert!(rt; uri.path.pop().is_none());
-    assert!(rt; is_written(rt.alloc(), &uri, b".?prop=TStamp"));
+    let mut path = path_of_two(rt.alloc())?;
+    assert!(rt;
+        path.pop()
+            .is_some_and(|name| name.as_slice() == b"b".as_slice())
+    );
+    assert!(rt; is_written_path(rt.alloc(), path, b"./a?prop=TStamp"));
+    let mut path = path_of_two(rt.alloc())?;
+    path.clear();
+    assert!(rt; path.pop().is_none());
+    assert!(rt; is_written_path(rt.alloc(), path, b".?prop=TStamp"));
     Ok(())
 }
