@@ -6,8 +6,8 @@ pub fn reads_grammar()
     ensures { ReadsGrammar }
 {}
 
-/// Each refusal comes exactly where it stands, in the stated order: a text of more than 255 bytes, a path part out of form,
-/// a path that passes a limit, an unknown query.
+/// Each refusal comes exactly where it stands, in the stated order: a text of more than 255 bytes, a path part out of
+/// form, a path that passes a limit, an unknown query.
 #[tactic(auto, using(crate::proofs::Refusals::refuses_rest))]
 pub fn refuses_rest()
     ensures { RefusesRest }

@@ -53,11 +53,15 @@ pub(crate) fn is_short(text: &[u8]) -> bool
     text.len() <= 64
 }
 
-/// The name that a text is. Malformed comes exactly where it isn't of the form, its length aside; TooLong exactly where it
-/// is, and has more than 64 bytes.
+/// The name that a text is. Malformed comes exactly where it isn't of the form, its length aside; TooLong exactly
+/// where it is, and has more than 64 bytes.
 #[tactic(auto, unfolding(crate::specs::Reading::parse_name_of))]
 pub fn parse_name(alloc: Global, text: &[u8]) -> Result<Name, UriError>
-    ensures { Gives result (parse_name_of text.now) }
+    ensures exact { Gives result (parse_name_of text.now) }
+    ensures ok { IfOk result (λ name. (name ≡ text.now) × IsTrue (is_name text.now)) }
+
+    // What is a name is read as this name, unless memory runs out.
+    ensures only { IsTrue (is_name text.now) → Gives result (Ok text.now) }
 {
     if !has_name_form(text) {
         return Err(UriError::Malformed);

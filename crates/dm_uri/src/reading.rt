@@ -149,10 +149,15 @@ fn read(alloc: Global, text: &[u8]) -> Result<Uri, UriError>
     }
 }
 
-/// The URI that a text spells, or the first refusal that holds. TooLong: the text has more than 255 bytes. Malformed: the path
-/// part, which ends at the first `?`, isn't of the form, lengths aside. TooLong: a name has more than 64 bytes, there are more
-/// than 16 names, or the written form of the path has more than 255 bytes. UnknownQuery: a `?` stands there, and what follows
-/// isn't a query. Memory may come in place of any value, and of UnknownQuery.
+/// The URI that a text spells, or the first refusal that holds.
+///
+/// - TooLong: the text has more than 255 bytes.
+/// - Malformed: the path part, which ends at the first `?`, isn't of the form, lengths aside.
+/// - TooLong: a name has more than 64 bytes, there are more than 16 names, or the written form of the path has more than
+///   255 bytes.
+/// - UnknownQuery: a `?` stands there, and what follows isn't a query.
+///
+/// Memory may come in place of any value, and of UnknownQuery.
 pub fn parse(alloc: Global, text: &[u8]) -> Result<Uri, UriError>
     ensures exact { Gives result (parse_of text.now) }
     ensures ok { IfOk result (λ uri. IsUriText text.now uri) }

@@ -58,8 +58,8 @@ fn written(alloc: Global, uri: &Uri) -> Result<Bytes, Memory>
     Ok(out)
 }
 
-/// The one written form: `.` or `./` and the names joined by `/`, then the query. Memory is the only error. Where it has at
-/// most 255 bytes, `parse` reads it as the same value.
+/// The one written form: `.` or `./` and the names joined by `/`, then the query. Memory is the only error. Where it
+/// has at most 255 bytes, `parse` reads it as the same value.
 pub fn print(alloc: Global, uri: &Uri) -> Result<Vec<u8>, UriError>
     ensures ok { IfOk result (λ text. text.items ≡ printed uri.now) }
     ensures memory { IfErr result (λ e. e ≡ error.Memory) }
