@@ -1,0 +1,9 @@
+pub mod Pieces
+pub mod Printing
+pub mod Limits
+pub mod PathParts
+pub mod Cuts
+pub mod BothWays
+pub mod Refusals
+pub mod Answered
+pub mod Orders

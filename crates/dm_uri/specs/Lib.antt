@@ -1,0 +1,5 @@
+pub mod Names
+pub mod Grammar
+pub mod Refusals
+pub mod Reading
+pub mod Laws

@@ -1,0 +1,17 @@
+//! URIs of the management tree: a path of at most 16 names, and at most one query.
+#![tactic(auto)]
+
+pub mod laws;
+pub mod name;
+pub mod path;
+pub mod reading;
+#[cfg(test)]
+mod tests;
+pub mod uri;
+pub mod writing;
+
+pub use name::{Name, parse_name};
+pub use path::Path;
+pub use reading::parse;
+pub use uri::{Prop, Query, Uri, UriError};
+pub use writing::print;

@@ -1,0 +1,170 @@
+// A text is read.
+ghost use Rattle.std.specs.Prelude.{◌≡◌, ◌≢◌, ◌≤◌, ◌&&◌, ◌∷◌, [], IsTrue, Ok, IfOk, IfErr, MatchOption, nat_le, length};
+ghost use Rattle.std.specs.List.{list_all, slice_split, position_or_len};
+ghost use Rattle.dm_uri.specs.Names.{has_name_form, is_short, is_name, is_within_limits};
+ghost use Rattle.dm_uri.specs.Grammar.{IsUriText};
+ghost use Rattle.dm_uri.specs.Refusals.{is_question, IsRefused};
+ghost use Rattle.dm_uri.specs.Reading.{is_slash, is_root, without_front, names_in, query_of, read_path, parse_of, Gives, FirstPart};
+ghost use Rattle.dm_uri.specs.declared.uri.Uri.{Uri};
+ghost use Rattle.dm_uri.specs.declared.uri.UriError.TheVariants as error;
+
+use crate::name::{Name, has_name_form, is_short};
+use crate::path::Path;
+use crate::uri::{Prop, Query, Uri, UriError};
+use crate::writing::query_text;
+use dm_base::{List, Memory};
+use std::alloc::Global;
+
+const QUERIES: [Query; 11] = [
+    Query::Plain,
+    Query::Prop(Prop::Acl),
+    Query::Prop(Prop::Format),
+    Query::Prop(Prop::Name),
+    Query::Prop(Prop::Size),
+    Query::Prop(Prop::Media),
+    Query::Prop(Prop::Title),
+    Query::Prop(Prop::VerNo),
+    Query::Prop(Prop::TStamp),
+    Query::Struct,
+    Query::StructData,
+];
+
+fn query_of(text: &[u8]) -> Option<Query>
+    ensures { result ≡ query_of text.now }
+{
+    QUERIES
+        .iter()
+        .find(|query| query_text(**query) == text)
+        .copied()
+}
+
+// The place of the first `?`, or the length.
+fn path_end(text: &[u8]) -> usize
+    ensures { result ≡ position_or_len is_question text.now }
+{
+    text.iter().position(|b| *b == b'?').unwrap_or(text.len())
+}
+
+fn is_root(part: &[u8]) -> bool
+    ensures { result ≡ is_root part.now }
+{
+    part == b".".as_slice() || part == b"./".as_slice()
+}
+
+fn without_front(part: &[u8]) -> &[u8]
+    ensures { result.now ≡ without_front part.now }
+{
+    part.strip_prefix(b"./".as_slice()).unwrap_or(part)
+}
+
+fn all_have_form(text: &[u8]) -> bool
+    ensures { result ≡ list_all has_name_form (slice_split is_slash text.now) }
+{
+    text.split(|b| *b == b'/').all(has_name_form)
+}
+
+fn all_short(text: &[u8]) -> bool
+    ensures { result ≡ list_all is_short (slice_split is_slash text.now) }
+{
+    text.split(|b| *b == b'/').all(is_short)
+}
+
+fn count_of(text: &[u8]) -> usize
+    ensures { result ≡ length (slice_split is_slash text.now) }
+{
+    text.split(|b| *b == b'/').count()
+}
+
+// What stands before the first slash, and what behind it. None comes where there is no slash.
+fn around_slash(text: &[u8]) -> Option<(&[u8], &[u8])>
+    ensures { MatchOption result (slice_split is_slash text.now ≡ text.now ∷ [])
+        (λ parts. FirstPart text.now parts.0.now parts.1.now) }
+{
+    match text.iter().position(|b| *b == b'/') {
+        Some(at) => Some((text.split_at(at).0, text.split_at(at + 1).1)),
+        None => None,
+    }
+}
+
+// The names between the slashes of a text.
+fn names_of(alloc: Global, text: &[u8]) -> Result<List<Name>, Memory>
+    requires { IsTrue (list_all is_name (slice_split is_slash text.now)) }
+    ensures { IfOk result (λ names. names ≡ slice_split is_slash text.now) }
+{
+    let mut names = List::new(alloc);
+    let mut rest = text;
+    while let Some((front, behind)) = around_slash(rest) {
+        names.push(Name::of(alloc, front)?)?;
+        rest = behind;
+    }
+    names.push(Name::of(alloc, rest)?)?;
+    Ok(names)
+}
+
+// Whether names of the form, between the slashes of a text, are within the limits behind a `./`.
+#[tactic(auto, using(crate::proofs::Limits::length_printed_split))]
+fn is_within_limits(text: &[u8]) -> bool
+    requires { length text.now ≤ 255 }
+    ensures { result ≡ is_within_limits (slice_split is_slash text.now) }
+{
+    all_short(text) && count_of(text) <= 16 && text.len() + 2 <= 255
+}
+
+// The path that a path part spells.
+fn read_path(alloc: Global, part: &[u8]) -> Result<Path, UriError>
+    requires { length part.now ≤ 255 }
+    ensures { Gives result (read_path (names_in part.now)) }
+{
+    if is_root(part) {
+        return Ok(Path::new(alloc));
+    }
+    let text = without_front(part);
+    if !all_have_form(text) {
+        return Err(UriError::Malformed);
+    }
+    if !is_within_limits(text) {
+        return Err(UriError::TooLong);
+    }
+    match names_of(alloc, text) {
+        Ok(names) => Ok(Path::of(names)),
+        Err(Memory) => Err(UriError::Memory),
+    }
+}
+
+// The value of a text, or its first refusal.
+#[tactic(auto, unfolding(crate::specs::Reading::parse_of))]
+fn read(alloc: Global, text: &[u8]) -> Result<Uri, UriError>
+    ensures { Gives result (parse_of text.now) }
+{
+    if text.len() > 255 {
+        return Err(UriError::TooLong);
+    }
+    let (part, query) = text.split_at(path_end(text));
+    match read_path(alloc, part) {
+        Err(error) => Err(error),
+        Ok(path) => match query_of(query) {
+            Some(query) => Ok(Uri { path, query }),
+            None => Err(UriError::UnknownQuery),
+        },
+    }
+}
+
+/// The URI that a text spells, or the first refusal that holds.
+///
+/// - TooLong: the text has more than 255 bytes.
+/// - Malformed: the path part, which ends at the first `?`, isn't of the form, lengths aside.
+/// - TooLong: a name has more than 64 bytes, there are more than 16 names, or the written form of the path has more than
+///   255 bytes.
+/// - UnknownQuery: a `?` stands there, and what follows isn't a query.
+///
+/// Memory may come in place of any value, and of UnknownQuery.
+pub fn parse(alloc: Global, text: &[u8]) -> Result<Uri, UriError>
+    ensures exact { Gives result (parse_of text.now) }
+    ensures ok { IfOk result (λ uri. IsUriText text.now uri) }
+
+    // What is a URI's text is read as this URI, unless memory runs out.
+    ensures only { (uri : Uri) → IsUriText text.now uri → Gives result (Ok uri) }
+    ensures err { IfErr result (λ e. e ≢ error.Memory → IsRefused text.now e) }
+{
+    read(alloc, text)
+}

@@ -1,0 +1,381 @@
+ghost use Rattle.std.specs.Prelude.{◌<◌, ◌≤◌, ◌+◌, length};
+
+use crate::{Path, Prop, Query, Uri, UriError, parse, parse_name, print};
+use dm_base::Bytes;
+use std::alloc::Global;
+use std::cmp::Ordering;
+use std::test::Fail;
+
+// Each of the helpers below that looks for a wrong row answers the text of the first, for the test to show.
+
+// A text, and the written form of the value that is read, or why it is refused. The written form tells the value.
+type Row = (&'static str, Result<&'static str, UriError>);
+
+const ROOTS: [Row; 9] = [
+    (".", Ok(".")),
+    ("./", Ok(".")),
+    ("", Err(UriError::Malformed)),
+    ("/", Err(UriError::Malformed)),
+    (".//", Err(UriError::Malformed)),
+    ("./.", Err(UriError::Malformed)),
+    ("./..", Err(UriError::Malformed)),
+    ("..", Err(UriError::Malformed)),
+    ("././a", Err(UriError::Malformed)),
+];
+
+const NAMES: [Row; 16] = [
+    ("a", Ok("./a")),
+    ("./a", Ok("./a")),
+    ("./a/b", Ok("./a/b")),
+    ("a//b", Err(UriError::Malformed)),
+    ("/a", Err(UriError::Malformed)),
+    ("a/", Err(UriError::Malformed)),
+    ("./a/", Err(UriError::Malformed)),
+    ("a/./b", Err(UriError::Malformed)),
+    ("a/../b", Err(UriError::Malformed)),
+    ("...", Ok("./...")),
+    (".a/a.", Ok("./.a/a.")),
+    ("a%2Fb%", Ok("./a%2Fb%")),
+    ("!/~", Ok("./!/~")),
+    ("a b", Err(UriError::Malformed)),
+    ("a\x7f", Err(UriError::Malformed)),
+    ("a\x1f", Err(UriError::Malformed)),
+];
+
+const QUERIES: [Row; 40] = [
+    ("a?prop=ACL", Ok("./a?prop=ACL")),
+    ("a?prop=Format", Ok("./a?prop=Format")),
+    ("a?prop=Name", Ok("./a?prop=Name")),
+    ("a?prop=Size", Ok("./a?prop=Size")),
+    ("a?prop=Type", Ok("./a?prop=Type")),
+    ("a?prop=Title", Ok("./a?prop=Title")),
+    ("a?prop=VerNo", Ok("./a?prop=VerNo")),
+    ("a?prop=TStamp", Ok("./a?prop=TStamp")),
+    ("a?list=Struct", Ok("./a?list=Struct")),
+    ("a?list=StructData", Ok("./a?list=StructData")),
+    ("./?list=Struct", Ok(".?list=Struct")),
+    (".?prop=ACL", Ok(".?prop=ACL")),
+    ("?prop=ACL", Err(UriError::Malformed)),
+    ("a?", Err(UriError::UnknownQuery)),
+    ("a??", Err(UriError::UnknownQuery)),
+    ("a?prop=ACL?", Err(UriError::UnknownQuery)),
+    ("a?prop=ACL?prop=ACL", Err(UriError::UnknownQuery)),
+    ("a?prop=Acl", Err(UriError::UnknownQuery)),
+    ("a?prop=ACLs", Err(UriError::UnknownQuery)),
+    ("a?prop=AC", Err(UriError::UnknownQuery)),
+    ("a?prop=format", Err(UriError::UnknownQuery)),
+    ("a?prop=Format ", Err(UriError::UnknownQuery)),
+    ("a?prop=", Err(UriError::UnknownQuery)),
+    ("a?prop=name", Err(UriError::UnknownQuery)),
+    ("a?prop=Media", Err(UriError::UnknownQuery)),
+    ("a?prop=Sizes", Err(UriError::UnknownQuery)),
+    ("a?prop=Typ", Err(UriError::UnknownQuery)),
+    ("a?prop=title", Err(UriError::UnknownQuery)),
+    ("a?prop=Verno", Err(UriError::UnknownQuery)),
+    ("a?prop=Tstamp", Err(UriError::UnknownQuery)),
+    ("a?PROP=ACL", Err(UriError::UnknownQuery)),
+    ("a?list=", Err(UriError::UnknownQuery)),
+    ("a?list=struct", Err(UriError::UnknownQuery)),
+    ("a?list=StructDat", Err(UriError::UnknownQuery)),
+    ("a?list=StructData1", Err(UriError::UnknownQuery)),
+    ("a?list=ACL", Err(UriError::UnknownQuery)),
+    ("a?prop=Struct", Err(UriError::UnknownQuery)),
+    ("a?prop=ACL/b", Err(UriError::UnknownQuery)),
+    ("a//b?x", Err(UriError::Malformed)),
+    ("a/?x", Err(UriError::Malformed)),
+];
+
+// A long text, as pieces that are joined: the length of the written form, or why it is refused.
+type LongRow = (&'static [&'static str], Result<usize, UriError>);
+
+const N64: &str = "aaaaaaaabbbbbbbbccccccccddddddddeeeeeeeeffffffffgggggggghhhhhhhh";
+
+const N32: &str = "aaaaaaaabbbbbbbbccccccccdddddddd";
+
+const NAMES_16: &str = "a/b/c/d/e/f/g/h/i/j/k/l/m/n/o/p";
+
+// Three names of 64 bytes with their slashes are 195 bytes, so that 58 more make 253, and 255 with `./`.
+const LONG: [LongRow; 17] = [
+    (&[N64], Ok(66)),
+    (&["./", N64, "/", N64], Ok(131)),
+    (&[N64, "x"], Err(UriError::TooLong)),
+    (&["a/", N64, "x"], Err(UriError::TooLong)),
+    (&[N64, "x", " "], Err(UriError::Malformed)),
+    (&[N64, "x", "//"], Err(UriError::Malformed)),
+    (&[N64, "x", "?x"], Err(UriError::TooLong)),
+    (&[NAMES_16], Ok(33)),
+    (&[NAMES_16, "/q"], Err(UriError::TooLong)),
+    (&[NAMES_16, "/q/"], Err(UriError::Malformed)),
+    (&[NAMES_16, "/q?x"], Err(UriError::TooLong)),
+    (
+        &[
+            N64,
+            "/",
+            N64,
+            "/",
+            N64,
+            "/",
+            N32,
+            "aaaaaaaaaaaaaaaaaaaaaaaaaa",
+        ],
+        Ok(255),
+    ),
+    (
+        &[
+            "./",
+            N64,
+            "/",
+            N64,
+            "/",
+            N64,
+            "/",
+            N32,
+            "aaaaaaaaaaaaaaaaaaaaaaaaaa",
+        ],
+        Ok(255),
+    ),
+    (
+        &[
+            N64,
+            "/",
+            N64,
+            "/",
+            N64,
+            "/",
+            N32,
+            "aaaaaaaaaaaaaaaaaaaaaaaaaab",
+        ],
+        Err(UriError::TooLong),
+    ),
+    (
+        &[
+            N64,
+            "/",
+            N64,
+            "/",
+            N64,
+            "/",
+            N32,
+            "aaaaaaaaaaaaaaaaaaaaaaaaaabc",
+        ],
+        Err(UriError::TooLong),
+    ),
+    (
+        &[
+            N64,
+            "/",
+            N64,
+            "/",
+            N64,
+            "/",
+            N32,
+            "aaaaaaaaaaaaaaaaaaaaaaaaaab ",
+        ],
+        Err(UriError::Malformed),
+    ),
+    (
+        &[
+            N64,
+            "/",
+            N64,
+            "/",
+            N64,
+            "/",
+            N32,
+            "aaaaaaaaaaaaaaaaaaaaaaaaaabc ",
+        ],
+        Err(UriError::TooLong),
+    ),
+];
+
+fn is_written(alloc: Global, uri: &Uri, want: &[u8]) -> bool {
+    match print(alloc, uri) {
+        Ok(text) => text.as_slice() == want,
+        Err(_) => false,
+    }
+}
+
+fn is_row(alloc: Global, row: &Row) -> bool {
+    match (parse(alloc, row.0.as_bytes()), row.1) {
+        (Ok(uri), Ok(want)) => is_written(alloc, &uri, want.as_bytes()),
+        (Err(error), Err(want)) => error == want,
+        _ => false,
+    }
+}
+
+fn wrong_row(alloc: Global, rows: &[Row]) -> Option<&'static str> {
+    for row in rows {
+        if !is_row(alloc, row) {
+            return Some(row.0);
+        }
+    }
+    None
+}
+
+fn joined(alloc: Global, pieces: &[&'static str]) -> Result<Bytes, UriError> {
+    let mut text = Bytes::new(alloc);
+    for piece in pieces {
+        text.extend(piece.as_bytes())?;
+    }
+    Ok(text)
+}
+
+fn read_joined(alloc: Global, pieces: &[&'static str]) -> Result<Uri, UriError> {
+    match joined(alloc, pieces) {
+        Ok(text) => parse(alloc, text.as_slice()),
+        Err(error) => Err(error),
+    }
+}
+
+fn written_length(alloc: Global, uri: &Uri) -> Option<usize> {
+    match print(alloc, uri) {
+        Ok(text) => Some(text.len()),
+        Err(_) => None,
+    }
+}
+
+fn is_long_row(alloc: Global, row: &LongRow) -> bool {
+    match (read_joined(alloc, row.0), row.1) {
+        (Ok(uri), Ok(want)) => written_length(alloc, &uri) == Some(want),
+        (Err(error), Err(want)) => error == want,
+        _ => false,
+    }
+}
+
+// The place of the first wrong row.
+fn wrong_long_row(alloc: Global) -> Option<usize> {
+    for (i, row) in LONG.iter().enumerate() {
+        if !is_long_row(alloc, row) {
+            return Some(i);
+        }
+    }
+    None
+}
+
+#[test]
+fn reads_roots_and_names(rt: HostRuntime) {
+    assert_eq!(rt; wrong_row(rt.alloc(), &ROOTS), None);
+    assert_eq!(rt; wrong_row(rt.alloc(), &NAMES), None);
+}
+
+#[test]
+fn reads_queries(rt: HostRuntime) {
+    assert_eq!(rt; wrong_row(rt.alloc(), &QUERIES), None);
+}
+
+#[test]
+fn keeps_to_the_limits(rt: HostRuntime) {
+    assert_eq!(rt; wrong_long_row(rt.alloc()), None);
+}
+
+fn name_error(alloc: Global, text: &[u8]) -> Option<UriError> {
+    parse_name(alloc, text).err()
+}
+
+fn name_error_joined(alloc: Global, pieces: &[&'static str]) -> Option<UriError> {
+    match joined(alloc, pieces) {
+        Ok(text) => name_error(alloc, text.as_slice()),
+        Err(_) => Some(UriError::Memory),
+    }
+}
+
+#[test]
+fn reads_single_names(rt: HostRuntime) {
+    let alloc = rt.alloc();
+    assert_eq!(rt; name_error_joined(alloc, &[N64]), None);
+    assert_eq!(rt;
+        name_error_joined(alloc, &[N64, "x"]),
+        Some(UriError::TooLong)
+    );
+    assert_eq!(rt;
+        name_error_joined(alloc, &[N64, "x/"]),
+        Some(UriError::Malformed)
+    );
+    assert_eq!(rt; name_error(alloc, b""), Some(UriError::Malformed));
+    assert_eq!(rt; name_error(alloc, b"."), Some(UriError::Malformed));
+    assert_eq!(rt; name_error(alloc, b".."), Some(UriError::Malformed));
+    assert_eq!(rt; name_error(alloc, b"a?b"), Some(UriError::Malformed));
+    assert_eq!(rt; name_error(alloc, b"..."), None);
+    assert_eq!(rt; name_error(alloc, b"%"), None);
+}
+
+fn name_order(alloc: Global, left: &[u8], right: &[u8]) -> Option<(bool, Ordering)> {
+    match (parse_name(alloc, left), parse_name(alloc, right)) {
+        (Ok(left), Ok(right)) => Some((left.is_same(&right), left.compare(&right))),
+        _ => None,
+    }
+}
+
+fn is_copied(alloc: Global, text: &[u8]) -> bool {
+    match parse_name(alloc, text) {
+        Ok(name) => name.copy(alloc).is_ok_and(|copy| copy.as_slice() == text),
+        Err(_) => false,
+    }
+}
+
+#[test]
+fn compares_names(rt: HostRuntime) {
+    let alloc = rt.alloc();
+    assert!(rt; name_order(alloc, b"a", b"a!") == Some((false, Ordering::Less)));
+    assert!(rt; name_order(alloc, b"b", b"B") == Some((false, Ordering::Greater)));
+    assert!(rt; name_order(alloc, b"ab", b"ab") == Some((true, Ordering::Equal)));
+    assert!(rt; is_copied(alloc, b"ab"));
+}
+
+fn path_order(alloc: Global, left: &[u8], right: &[u8]) -> Option<(bool, Ordering)> {
+    match (parse(alloc, left), parse(alloc, right)) {
+        (Ok(left), Ok(right)) => Some((
+            left.path.is_same(&right.path),
+            left.path.compare(&right.path),
+        )),
+        _ => None,
+    }
+}
+
+#[test]
+fn compares_paths(rt: HostRuntime) {
+    let alloc = rt.alloc();
+    assert!(rt; path_order(alloc, b"a", b"./a/b") == Some((false, Ordering::Less)));
+    assert!(rt; path_order(alloc, b"a/b", b"a!") == Some((false, Ordering::Less)));
+    assert!(rt; path_order(alloc, b"a!", b"a") == Some((false, Ordering::Greater)));
+    assert!(rt; path_order(alloc, b".", b"a") == Some((false, Ordering::Less)));
+    assert!(rt; path_order(alloc, b"a/b", b"./a/b") == Some((true, Ordering::Equal)));
+}
+
+fn pushed(alloc: Global, path: &mut Path, name: &[u8]) -> Result<(), UriError>
+    requires { length path.old < 16 }
+    ensures { length path.new ≤ length path.old + 1 }
+{
+    let name = parse_name(alloc, name)?;
+    path.push(name)
+}
+
+fn path_of_two(alloc: Global) -> Result<Path, UriError> {
+    let mut path = Path::new(alloc);
+    pushed(alloc, &mut path, b"a")?;
+    pushed(alloc, &mut path, b"b")?;
+    Ok(path)
+}
+
+fn is_written_path(alloc: Global, path: Path, want: &[u8]) -> bool {
+    let uri = Uri {
+        path,
+        query: Query::Prop(Prop::TStamp),
+    };
+    is_written(alloc, &uri, want)
+}
+
+#[test]
+fn edits_paths(rt: HostRuntime) -> Result<(), Fail> {
+    let mut path = path_of_two(rt.alloc())?;
+    assert!(rt;
+        path.pop()
+            .is_some_and(|name| name.as_slice() == b"b".as_slice())
+    );
+    assert!(rt; is_written_path(rt.alloc(), path, b"./a?prop=TStamp"));
+    let mut path = path_of_two(rt.alloc())?;
+    path.clear();
+    assert!(rt; path.pop().is_none());
+    assert!(rt; is_written_path(rt.alloc(), path, b".?prop=TStamp"));
+    Ok(())
+}
