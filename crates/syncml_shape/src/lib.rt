@@ -1,0 +1,14 @@
+//! The shape of a message: which elements stand in which, over the tokens of a body.
+#![tactic(auto)]
+
+pub mod fault;
+pub mod outline;
+pub mod place;
+pub mod progress;
+pub mod rows;
+
+pub use fault::{is_left_out, tag_fault};
+pub use outline::{Outline, ShapeError, Verdict};
+pub use place::{Place, place_of};
+pub use progress::Progress;
+pub use rows::{Choice, Kind, MetaRow, Row};
