@@ -1,1 +1,9 @@
 pub mod MetaRows
+pub mod Contents
+pub mod Accepts
+pub mod Completes
+pub mod Names
+pub mod Frames
+pub mod Judging
+pub mod Spelling
+pub mod Answering

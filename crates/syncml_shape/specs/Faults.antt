@@ -64,14 +64,17 @@ abbrev pub without_first : List Element → List Element
 without_first [] = []
 without_first (e ∷ opened) = opened
 
--- the open elements behind tokens, where some were open before them; the innermost first
+-- the open elements behind one more token, the innermost first
+abbrev pub open_after : List Element → Token → List Element
+open_after opened (Tag e true) = e ∷ opened
+open_after opened (Tag e false) = opened
+open_after opened End = without_first opened
+open_after opened (Text bytes) = opened
+open_after opened (Opaque bytes) = opened
+
 abbrev pub open_behind : List Element → List Token → List Element
 open_behind opened [] = opened
-open_behind opened (Tag e true ∷ tokens) = open_behind (e ∷ opened) tokens
-open_behind opened (Tag e false ∷ tokens) = open_behind opened tokens
-open_behind opened (End ∷ tokens) = open_behind (without_first opened) tokens
-open_behind opened (Text bytes ∷ tokens) = open_behind opened tokens
-open_behind opened (Opaque bytes ∷ tokens) = open_behind opened tokens
+open_behind opened (token ∷ tokens) = open_behind (open_after opened token) tokens
 
 abbrev pub open_elements : List Token → List Element
 open_elements tokens = open_behind [] tokens
@@ -84,18 +87,18 @@ abbrev pub or_misplaced : Option Reason → Reason
 or_misplaced None = Misplaced
 or_misplaced (Some reason) = reason
 
--- why a token is refused, where it is
-abbrev pub reason_of : List Token → Token → Reason
-reason_of before (Tag e content) = or_misplaced (tag_fault (innermost (open_elements before)) e)
-reason_of before End = Misplaced
-reason_of before (Text bytes) = Misplaced
-reason_of before (Opaque bytes) = Misplaced
+-- why a token is refused, where it is: for its name, or else for its place
+abbrev pub reason_in : List Element → Token → Reason
+reason_in opened (Tag e content) = or_misplaced (tag_fault (innermost opened) e)
+reason_in opened End = Misplaced
+reason_in opened (Text bytes) = Misplaced
+reason_in opened (Opaque bytes) = Misplaced
 
 -- some document begins with these tokens, and none with these and the next
 pub record IsRefused (before : List Token) (token : Token) (reason : Reason) : Type 0 where
   pub viable : IsViable before
   pub not_viable : IsViable (before ++ token ∷ []) → ⊥
-  pub named : reason ≡ reason_of before token
+  pub named : reason ≡ reason_in (open_elements before) token
 
 -- the token at a place is refused
 abbrev pub IsRefusedAt : List Token → ℕ → Reason → Type 0

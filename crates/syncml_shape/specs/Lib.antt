@@ -4,5 +4,7 @@ pub mod Forest
 pub mod Shape
 pub mod Faults
 pub mod Progress
+pub mod Steps
 pub mod Machine
 pub mod Outline
+pub mod Laws

@@ -1,5 +1,5 @@
 -- The open elements of an outline, and what a token does to them.
-use Rattle.std.specs.Prelude.{◌≡◌, Bool, true, false, ◌&&◌, if◌then◌else◌, List, [], ◌∷◌, map, Option, Some, None, Result, Ok, Err}
+use Rattle.std.specs.Prelude.{Bool, true, false, if◌then◌else◌, List, [], ◌∷◌, Option, Some, None, Result, Ok, Err}
 use Rattle.dm_base.specs.declared.values.Reason.{Reason}
 use Rattle.dm_base.specs.declared.values.Reason.TheVariants.{Misplaced}
 use Rattle.wbxml_tables.specs.declared.Element.{Element}

@@ -1,5 +1,5 @@
 -- What an outline says of the tokens that it took, and what is answered of a whole list.
-use Rattle.std.specs.Prelude.{◌≡◌, ℕ, zero, suc, ◌+◌, List, [], ◌∷◌, ◌++◌, map, reverse, Bool, true, false, if◌then◌else◌, Option, Some, None, Result, Ok, Err, IsOk}
+use Rattle.std.specs.Prelude.{◌≡◌, ℕ, ◌+◌, List, [], ◌∷◌, map, reverse, Bool, true, false, Result, Ok, Err, IsOk}
 use Rattle.dm_base.specs.declared.values.Reason.{Reason}
 use Rattle.wbxml_tokens.specs.declared.token.Token.{Token}
 use Rattle.syncml_shape.specs.declared.outline.Entry.{Entry}
@@ -9,7 +9,7 @@ use Rattle.syncml_shape.specs.declared.outline.Verdict.{Verdict}
 use Rattle.syncml_shape.specs.declared.outline.Verdict.TheVariants as verdict
 use Rattle.syncml_shape.specs.Forest.{Forest}
 use Rattle.syncml_shape.specs.Shape.{HasShape, IsViable}
-use Rattle.syncml_shape.specs.Faults.{IsRefused, IsRefusedAt}
+use Rattle.syncml_shape.specs.Faults.{IsRefusedAt}
 use Rattle.syncml_shape.specs.Machine.{Frame, root, step, is_whole}
 use Rattle.syncml_shape.specs.Progress.{content_of}
 

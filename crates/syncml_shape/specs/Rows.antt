@@ -1,11 +1,11 @@
 -- The children of each element: what the rows of the table mean.
-use Rattle.std.specs.Prelude.{ℕ, ◌+◌, Bool, true, false, not, ◌&&◌, ◌||◌, if◌then◌else◌, List, [], ◌∷◌, Option, Some, None, is_some, set}
+use Rattle.std.specs.Prelude.{ℕ, ◌+◌, Bool, true, false, not, ◌&&◌, ◌||◌, if◌then◌else◌, List, [], ◌∷◌, Option, Some, None, set}
 use denote.Enum.Bare.{sameb}
 use Rattle.wbxml_tables.specs.contracts.Element.{the_type}
 use Rattle.wbxml_tables.specs.declared.Element.{Element}
 use Rattle.wbxml_tables.specs.declared.Element.TheVariants.{EAdd, EAlert, EAtomic, ECopy, EDelete, EExec, EGet, EMetInf, EReplace, EResults, ESequence, EStatus}
 use Rattle.syncml_shape.specs.declared.rows.Kind.{Kind}
-use Rattle.syncml_shape.specs.declared.rows.Kind.TheVariants as kind
+use Rattle.syncml_shape.specs.declared.rows.Kind.TheVariants as kinds
 use Rattle.syncml_shape.specs.declared.rows.Choice.{Choice}
 use Rattle.syncml_shape.specs.declared.rows.Choice.TheVariants.{One, Commands, AtomicMembers, SequenceMembers}
 use Rattle.syncml_shape.specs.declared.rows.Row.{Row}
@@ -17,25 +17,25 @@ same a b = sameb the_type a b
 
 -- what a member of an Atomic holds
 abbrev pub atomic_member : Element → Option Kind
-atomic_member EAdd = Some kind.Plain
-atomic_member EAlert = Some kind.Alert
-atomic_member ECopy = Some kind.Plain
-atomic_member EDelete = Some kind.Plain
-atomic_member EExec = Some kind.Exec
-atomic_member EGet = Some kind.Plain
-atomic_member EReplace = Some kind.Plain
+atomic_member EAdd = Some kinds.Plain
+atomic_member EAlert = Some kinds.Alert
+atomic_member ECopy = Some kinds.Plain
+atomic_member EDelete = Some kinds.Plain
+atomic_member EExec = Some kinds.Exec
+atomic_member EGet = Some kinds.Plain
+atomic_member EReplace = Some kinds.Plain
 atomic_member other = None
 
 -- what a member of a Sequence holds
 abbrev pub sequence_member : Element → Option Kind
-sequence_member EAtomic = Some kind.Atomic
+sequence_member EAtomic = Some kinds.Atomic
 sequence_member other = atomic_member other
 
 -- what a command of a body holds
 abbrev pub command : Element → Option Kind
-command EResults = Some kind.Results
-command ESequence = Some kind.Sequence
-command EStatus = Some kind.Status
+command EResults = Some kinds.Results
+command ESequence = Some kinds.Sequence
+command EStatus = Some kinds.Status
 command other = sequence_member other
 
 -- what the element holds where a row allows it there
@@ -60,28 +60,28 @@ none_came = false ∷ false ∷ false ∷ false ∷ false ∷ false ∷ false �
 
 -- what may come in an element that has just begun
 abbrev pub start : Kind → Content
-start kind.Message = in_order false table.MESSAGE
-start kind.Header = in_order false table.HEADER
-start kind.Body = in_order false table.BODY
-start kind.Plain = in_order false table.PLAIN
-start kind.Exec = in_order false table.EXEC
-start kind.Alert = in_order false table.ALERT
-start kind.Atomic = in_order false table.ATOMIC
-start kind.Sequence = in_order false table.SEQUENCE
-start kind.Status = in_order false table.STATUS
-start kind.Results = in_order false table.RESULTS
-start kind.Item = in_order false table.ITEM
-start kind.Loc = in_order false table.LOC
-start kind.Cred = in_order false table.CRED
-start kind.Chal = in_order false table.CHAL
-start kind.Meta = in_any_order true none_came
-start kind.MetInf = in_any_order false none_came
-start kind.Text = pieces
-start kind.Bytes = pieces
-start kind.Id = pieces
-start kind.Code = pieces
-start kind.Size = pieces
-start kind.Flag = in_order false []
+start kinds.Message = in_order false table.MESSAGE
+start kinds.Header = in_order false table.HEADER
+start kinds.Body = in_order false table.BODY
+start kinds.Plain = in_order false table.PLAIN
+start kinds.Exec = in_order false table.EXEC
+start kinds.Alert = in_order false table.ALERT
+start kinds.Atomic = in_order false table.ATOMIC
+start kinds.Sequence = in_order false table.SEQUENCE
+start kinds.Status = in_order false table.STATUS
+start kinds.Results = in_order false table.RESULTS
+start kinds.Item = in_order false table.ITEM
+start kinds.Loc = in_order false table.LOC
+start kinds.Cred = in_order false table.CRED
+start kinds.Chal = in_order false table.CHAL
+start kinds.Meta = in_any_order true none_came
+start kinds.MetInf = in_any_order false none_came
+start kinds.Text = pieces
+start kinds.Bytes = pieces
+start kinds.Id = pieces
+start kinds.Code = pieces
+start kinds.Size = pieces
+start kinds.Flag = in_order false []
 
 -- what may come in a document
 abbrev pub document : Content
@@ -116,7 +116,7 @@ after_meta came (Some x) = Some (x.0, in_any_order false (set came x.1 true))
 abbrev pub next : Content → Element → Option (Kind × Content)
 next (in_order came rows) e = after_row (next_row came rows e)
 next (in_any_order wrap came) e =
-    if wrap && same e EMetInf then Some (kind.MetInf, in_order false []) else after_meta came (meta_place 0 table.META came e)
+    if wrap && same e EMetInf then Some (kinds.MetInf, in_order false []) else after_meta came (meta_place 0 table.META came e)
 next pieces e = None
 
 abbrev pub all_optional : List Row → Bool

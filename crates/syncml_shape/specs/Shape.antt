@@ -1,8 +1,6 @@
 -- Which trees and which tokens the grammar has.
-use Rattle.std.specs.Prelude.{◌≡◌, Bool, true, false, ◌&&◌, List, [], ◌∷◌, ◌++◌, Option, Some, None, IsTrue}
-use Rattle.wbxml_tables.specs.declared.Element.{Element}
+use Rattle.std.specs.Prelude.{◌≡◌, Bool, false, ◌&&◌, List, ◌++◌, Some, None, IsTrue}
 use Rattle.wbxml_tokens.specs.declared.token.Token.{Token}
-use Rattle.syncml_shape.specs.declared.rows.Kind.{Kind}
 use Rattle.syncml_shape.specs.Forest.{Forest, nothing, text, opaque, bare, full, spelling}
 use Rattle.syncml_shape.specs.Rows.{Content, document, start, next, is_complete, takes_text}
 

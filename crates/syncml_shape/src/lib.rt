@@ -2,13 +2,14 @@
 #![tactic(auto)]
 
 pub mod fault;
+pub mod laws;
 pub mod outline;
 pub mod place;
 pub mod progress;
 pub mod rows;
 
 pub use fault::{is_left_out, tag_fault};
-pub use outline::{Outline, ShapeError, Verdict};
+pub use outline::{Outline, ShapeError, Verdict, judge};
 pub use place::{Place, place_of};
 pub use progress::Progress;
 pub use rows::{Choice, Kind, MetaRow, Row};

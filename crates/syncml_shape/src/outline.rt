@@ -1,8 +1,15 @@
 // The open elements of a document, over its tokens.
-ghost use Rattle.std.specs.Prelude.{◌≡◌, [], ◌∷◌, OnErr, IfOk};
+ghost use Rattle.std.specs.Prelude.{◌≡◌, ◌↔◌, [], ◌∷◌, ◌++◌, List as ListOf, Err, IsTrue, OnOk, OnErr, IfOk};
 ghost use Rattle.wbxml_tokens.specs.declared.token.Token.TheVariants.{Tag, End, Text};
+ghost use Rattle.dm_base.specs.declared.values.Reason.{Reason as Why};
+ghost use Rattle.wbxml_tokens.specs.declared.token.Token.{Token as Piece};
+ghost use Rattle.syncml_shape.specs.declared.outline.ShapeError.TheVariants.{Refused};
+ghost use Rattle.syncml_shape.specs.declared.outline.Verdict.{Verdict as Judgement};
+ghost use Rattle.syncml_shape.specs.Forest.{Forest};
+ghost use Rattle.syncml_shape.specs.Shape.{HasShape};
+ghost use Rattle.syncml_shape.specs.Faults.{IsRefused};
 ghost use Rattle.syncml_shape.specs.Machine.{root, step, with_name, is_whole as may_end_here};
-ghost use Rattle.syncml_shape.specs.Outline.{frame_of, Opens, Steps, verdict_of};
+ghost use Rattle.syncml_shape.specs.Outline.{frame_of, HasTaken, Judges, Opens, Steps, verdict_of};
 
 use crate::fault::tag_fault;
 use crate::progress::Progress;
@@ -49,6 +56,7 @@ impl Outline {
     /// No token was taken.
     pub fn new(alloc: Global) -> Outline
         ensures state { result ≡ root ∷ [] }
+        ensures taken { HasTaken result [] }
     {
         Outline {
             top: Entry {
@@ -76,11 +84,19 @@ impl Outline {
         }
     }
 
-    /// Whether the tokens are a whole document.
-    pub fn is_whole(&self) -> bool
+    fn may_end(&self) -> bool
         ensures { result ≡ may_end_here self.now }
     {
         self.below.is_empty() && self.top.progress.is_complete()
+    }
+
+    /// Whether the tokens that were taken are a whole document.
+    pub fn is_whole(&self) -> bool
+        ensures value { result ≡ may_end_here self.now }
+        ensures shape { (tokens : ListOf Piece) → HasTaken self.now tokens
+            → IsTrue result ↔ ((tree : Forest) × HasShape tokens tree) }
+    {
+        self.may_end()
     }
 
     // A tag that isn't refused for its name.
@@ -146,7 +162,6 @@ impl Outline {
         }
     }
 
-    // Takes the next token.
     fn go_on(&mut self, token: &Token) -> Result<(), ShapeError>
         ensures step { Steps result self.new (step self.old token.now) }
         ensures err { OnErr result (self.new ≡ self.old) }
@@ -157,6 +172,20 @@ impl Outline {
             Token::Text(_) => self.piece(),
             Token::Opaque(_) => self.piece(),
         }
+    }
+
+    /// Takes the next token. It is refused exactly where the tokens before it begin a document and none begins with it
+    /// too: as Leftout or Nested for its name and its parent's, else as Misplaced. `Memory` comes only where it isn't
+    /// refused.
+    pub fn take(&mut self, token: &Token) -> Result<(), ShapeError>
+        ensures step { Steps result self.new (step self.old token.now) }
+        ensures err { OnErr result (self.new ≡ self.old) }
+        ensures taken { (before : ListOf Piece) → HasTaken self.old before
+            → OnOk result (HasTaken self.new (before ++ token.now ∷ [])) }
+        ensures refused { (before : ListOf Piece) (reason : Why) → HasTaken self.old before
+            → (result ≡ Err (Refused reason)) ↔ IsRefused before token.now reason }
+    {
+        self.go_on(token)
     }
 }
 
@@ -182,9 +211,17 @@ fn judged(alloc: Global, tokens: &[Token]) -> Result<Verdict, Memory>
             Err(ShapeError::Refused(reason)) => return Ok(Verdict::Refused { at, reason }),
         }
     }
-    if outline.is_whole() {
+    if outline.may_end() {
         Ok(Verdict::Whole)
     } else {
         Ok(Verdict::Unfinished)
     }
+}
+
+/// Says of tokens whether they are a document, begin one, or which is refused first and why. Exactly one of these is so.
+pub fn judge(alloc: Global, tokens: &[Token]) -> Result<Verdict, Memory>
+    ensures exact { IfOk result (λ verdict. Judges tokens.now verdict) }
+    ensures only { (other : Judgement) → Judges tokens.now other → IfOk result (λ verdict. verdict ≡ other) }
+{
+    judged(alloc, tokens)
 }

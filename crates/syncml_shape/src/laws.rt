@@ -1,0 +1,37 @@
+// What outlines, steps, documents and their trees have to do with each other, for whatever tokens.
+ghost use Rattle.syncml_shape.specs.Laws.{OneTree, FaultsHaveNoShape, FitsIsStepped, ClosingIsFit, ViableIsOpen, ViableIsTaken, OneVerdict};
+
+/// A law: tokens spell one tree at most.
+pub fn one_tree()
+    ensures { OneTree }
+{}
+
+/// A law: no document has a tag that is refused for its name and its parent's.
+pub fn faults_have_no_shape()
+    ensures { FaultsHaveNoShape }
+{}
+
+/// A law: a tree that fits an open element is stepped over, with the END behind it, and ends that element.
+pub fn fits_is_stepped()
+    ensures { FitsIsStepped }
+{}
+
+/// A law: steps that end all that is open are over trees that fit, one for each open element.
+pub fn closing_is_fit()
+    ensures { ClosingIsFit }
+{}
+
+/// A law: tokens begin a document exactly where the steps over them leave something open.
+pub fn viable_is_open()
+    ensures { ViableIsOpen }
+{}
+
+/// A law: tokens begin a document exactly where an outline takes them all.
+pub fn viable_is_taken()
+    ensures { ViableIsTaken }
+{}
+
+/// A law: one thing at most is judged of tokens.
+pub fn one_verdict()
+    ensures { OneVerdict }
+{}
