@@ -7,6 +7,8 @@ pub mod outline;
 pub mod place;
 pub mod progress;
 pub mod rows;
+#[cfg(test)]
+mod tests;
 
 pub use fault::{is_left_out, tag_fault};
 pub use outline::{Outline, ShapeError, Verdict, judge};
