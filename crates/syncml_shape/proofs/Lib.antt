@@ -7,3 +7,4 @@ pub mod Frames
 pub mod Judging
 pub mod Spelling
 pub mod Answering
+pub mod PlaceRows

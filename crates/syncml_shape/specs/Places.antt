@@ -1,5 +1,5 @@
 -- The places of children in the rows of their parent.
-use Rattle.std.specs.Prelude.{ℕ, ◌+◌, if◌then◌else◌, List, [], ◌∷◌, Option, Some, None, is_some}
+use Rattle.std.specs.Prelude.{◌≡◌, ℕ, ◌+◌, Bool, false, if◌then◌else◌, List, [], ◌∷◌, ◌++◌, length, Option, Some, None, is_some, IsTrue, ⊤}
 use Rattle.wbxml_tables.specs.declared.Element.{Element}
 use Rattle.wbxml_tables.specs.declared.Element.TheVariants.{EAdd, EAlert, EAtomic, EChal, ECopy, ECred, EDelete, EExec, EGet, EItem, EReplace, EResults, ESequence, ESource, EStatus, ESyncBody, ESyncHdr, ESyncML, ETarget}
 use Rattle.syncml_shape.specs.declared.rows.Row.{Row}
@@ -30,13 +30,31 @@ rows_of ECred = table.CRED
 rows_of EChal = table.CHAL
 rows_of other = []
 
--- the first row that allows the child, where the rows count from an order on
+abbrev pub names : Row → Element → Bool
+names row child = is_some (kind_in row.choice child)
+
+-- the first row that names the child, where the rows count from an order on
 abbrev pub place_in : ℕ → List Row → Element → Option Place
 place_in order [] child = None
 place_in order (row ∷ rows) child =
-    if is_some (kind_in row.choice child) then Some (record { order = order; required = row.required; many = row.many })
+    if names row child then Some (record { order = order; required = row.required; many = row.many })
     else place_in (order + 1) rows child
 
 -- the place of a child in its parent, orders counted from 1
 abbrev pub place_of : Element → Element → Option Place
 place_of parent child = place_in 1 (rows_of parent) child
+
+-- none of the rows names the child
+abbrev pub NameNone : List Row → Element → Type 0
+NameNone [] child = ⊤
+NameNone (row ∷ rows) child = (names row child ≡ false) × NameNone rows child
+
+-- the first row that names the child has this place
+pub record IsPlace (rows : List Row) (child : Element) (place : Place) : Type 0 where
+  pub before : List Row
+  pub row : Row
+  pub after : List Row
+  pub all : rows ≡ before ++ row ∷ after
+  pub is_first : NameNone before child
+  pub named : IsTrue (names row child)
+  pub is : place ≡ record { order = length before + 1; required = row.required; many = row.many }

@@ -6,6 +6,8 @@ pub mod laws;
 pub mod outline;
 pub mod place;
 pub mod progress;
+#[cfg(test)]
+mod row_tests;
 pub mod rows;
 #[cfg(test)]
 mod tests;

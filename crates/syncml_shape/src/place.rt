@@ -1,6 +1,6 @@
 // The place of a child in its parent.
-ghost use Rattle.std.specs.Prelude.{◌≡◌, ◌+◌, ◌<◌, ◌≤◌, ◌^◌, length};
-ghost use Rattle.syncml_shape.specs.Places.{rows_of as rows_in_table, place_in, place_of as place_by_rows};
+ghost use Rattle.std.specs.Prelude.{◌≡◌, ◌+◌, ◌<◌, ◌≤◌, ◌^◌, length, IfSome, IfNone};
+ghost use Rattle.syncml_shape.specs.Places.{rows_of as rows_in_table, place_in, place_of as place_by_rows, IsPlace, NameNone};
 
 use crate::progress::kind_of;
 use crate::rows::{
@@ -60,7 +60,9 @@ fn place_among(rows: &[Row], child: Element) -> Option<Place>
 /// The place of a child in its parent; None exactly where the parent's rows don't name it. Elements that hold a text or a
 /// number, and Meta and MetInf, have no rows. It takes no memory.
 pub fn place_of(parent: Element, child: Element) -> Option<Place>
-    ensures { result ≡ place_by_rows parent child }
+    ensures value { result ≡ place_by_rows parent child }
+    ensures found { IfSome result (λ place. IsPlace (rows_in_table parent) child place) }
+    ensures none { IfNone result (NameNone (rows_in_table parent) child) }
 {
     place_among(rows_of(parent), child)
 }
