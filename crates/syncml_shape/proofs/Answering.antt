@@ -11,10 +11,10 @@ use Rattle.syncml_shape.specs.Forest.{Forest}
 use Rattle.syncml_shape.specs.Shape.{HasShape}
 use Rattle.syncml_shape.specs.Faults.{IsRefused}
 use Rattle.syncml_shape.specs.Machine.{Frame, step, is_whole}
-use Rattle.syncml_shape.specs.Outline.{HasTaken, Steps, Judges, verdict_of}
+use Rattle.syncml_shape.specs.Outline.{HasTaken, GivesStep, Judges, verdict_of}
 use Rattle.syncml_shape.proofs.Judging.{takes_one, refused_here, refused_only, whole_shaped, shaped_whole, verdict_judges, one_verdict}
 
-pub answer_taken : (r : Result Unit ShapeError) (s after : List Frame) (t : Token) (before : List Token) → Steps r after (step s t) → HasTaken s before
+pub answer_taken : (r : Result Unit ShapeError) (s after : List Frame) (t : Token) (before : List Token) → GivesStep r after (step s t) → HasTaken s before
     → OnOk r (HasTaken after (before ++ t ∷ []))
 answer_taken (Ok u) s after t before x h = takes_one before s after t h x
 answer_taken (Err e) s after t before x h = tt
@@ -23,7 +23,7 @@ not_refused : (o : Result (List Frame) Reason) (reason : Reason) → IsOk o → 
 not_refused (Ok s) reason h w = cc
 not_refused (Err other) reason h w = cc
 
-pub answer_refused : (r : Result Unit ShapeError) (s after : List Frame) (t : Token) (before : List Token) (reason : Reason) → Steps r after (step s t) → HasTaken s before
+pub answer_refused : (r : Result Unit ShapeError) (s after : List Frame) (t : Token) (before : List Token) (reason : Reason) → GivesStep r after (step s t) → HasTaken s before
     → (r ≡ Err (error.Refused reason)) ↔ IsRefused before t reason
 answer_refused (Ok u) s after t before reason x h =
     (λ w. cc, λ no_more. let stopped = refused_only before s t reason h no_more in cc)

@@ -13,7 +13,7 @@ use Rattle.syncml_shape.specs.Rows.{Content, document, is_complete, next}
 use Rattle.syncml_shape.specs.Shape.{HasShape, IsViable}
 use Rattle.syncml_shape.specs.Faults.{tag_fault, innermost, open_behind, open_elements, open_after, IsRefused}
 use Rattle.syncml_shape.specs.Machine.{Frame, root, step, with_tag, is_whole}
-use Rattle.syncml_shape.specs.Laws.{FaultsHaveNoShape, FitsIsStepped, ClosingIsFit, ViableIsOpen, ViableIsTaken, OneVerdict}
+use Rattle.syncml_shape.specs.Laws.{FaultsHaveNoShape, FitsIsStepped, ClosingIsFit, ViableIsOpen, ViableIsTaken, JudgedIsComputed}
 use Rattle.syncml_shape.specs.Outline.{then_outline, outline_from, HasTaken, Judges, whole_or_not, verdict_then, verdict_from, verdict_of}
 use Rattle.syncml_shape.specs.Steps.{Open, then_steps, steps}
 use Rattle.syncml_shape.specs.Steps.{step as content_step}
@@ -237,5 +237,5 @@ viable_is_open tokens = (viable-only tokens, λ o. viable-if tokens o.0 o.1 o.2)
 pub viable_is_taken : ViableIsTaken
 viable_is_taken tokens = (viable_taken tokens, λ took. taken_viable tokens took.0 took.1)
 
-pub is_one_verdict : OneVerdict
-is_one_verdict tokens a b x y = sym (one_verdict tokens a x) ∙ one_verdict tokens b y
+pub judged_is_computed : JudgedIsComputed
+judged_is_computed tokens verdict = (one_verdict tokens verdict, λ is. subst (Judges tokens) is (verdict_judges tokens))

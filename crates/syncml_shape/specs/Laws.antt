@@ -11,7 +11,7 @@ use Rattle.syncml_shape.specs.Shape.{fits, HasShape, IsViable}
 use Rattle.syncml_shape.specs.Faults.{tag_fault, innermost, open_elements}
 use Rattle.syncml_shape.specs.Steps.{Open, steps, Closes}
 use Rattle.syncml_shape.specs.Machine.{Frame}
-use Rattle.syncml_shape.specs.Outline.{HasTaken, Judges}
+use Rattle.syncml_shape.specs.Outline.{HasTaken, Judges, verdict_of}
 
 -- tokens spell one tree at most
 abbrev pub OneTree : Type 0
@@ -42,6 +42,6 @@ ViableIsOpen =
 abbrev pub ViableIsTaken : Type 0
 ViableIsTaken = (tokens : List Token) → IsViable tokens ↔ ((frames : List Frame) × HasTaken frames tokens)
 
--- one thing at most is judged of tokens
-abbrev pub OneVerdict : Type 0
-OneVerdict = (tokens : List Token) (a b : Verdict) → Judges tokens a → Judges tokens b → a ≡ b
+-- of each list of tokens exactly one thing is judged, and it is the computed one
+abbrev pub JudgedIsComputed : Type 0
+JudgedIsComputed = (tokens : List Token) (verdict : Verdict) → Judges tokens verdict ↔ (verdict_of tokens ≡ verdict)

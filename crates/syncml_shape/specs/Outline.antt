@@ -38,10 +38,10 @@ abbrev pub HasTaken : List Frame → List Token → Type 0
 HasTaken frames tokens = outline_from (root ∷ []) tokens ≡ Ok frames
 
 -- what is answered of one more token; memory is wanted only where it isn't refused
-abbrev pub Steps : Result Unit ShapeError → List Frame → Result (List Frame) Reason → Type 0
-Steps (Ok u) after x = x ≡ Ok after
-Steps (Err (error.Refused reason)) after x = x ≡ Err reason
-Steps (Err error.Memory) after x = IsOk x
+abbrev pub GivesStep : Result Unit ShapeError → List Frame → Result (List Frame) Reason → Type 0
+GivesStep (Ok u) after x = x ≡ Ok after
+GivesStep (Err (error.Refused reason)) after x = x ≡ Err reason
+GivesStep (Err error.Memory) after x = IsOk x
 
 -- the innermost element is another, and a child is open in it
 abbrev pub Opens : Result Unit ShapeError → List Frame → List Frame → Frame → Frame → Type 0

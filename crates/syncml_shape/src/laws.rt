@@ -1,5 +1,5 @@
 // What outlines, steps, documents and their trees have to do with each other, for whatever tokens.
-ghost use Rattle.syncml_shape.specs.Laws.{OneTree, FaultsHaveNoShape, FitsIsStepped, ClosingIsFit, ViableIsOpen, ViableIsTaken, OneVerdict};
+ghost use Rattle.syncml_shape.specs.Laws.{OneTree, FaultsHaveNoShape, FitsIsStepped, ClosingIsFit, ViableIsOpen, ViableIsTaken, JudgedIsComputed};
 
 /// A law: tokens spell one tree at most.
 pub fn one_tree()
@@ -31,7 +31,7 @@ pub fn viable_is_taken()
     ensures { ViableIsTaken }
 {}
 
-/// A law: one thing at most is judged of tokens.
-pub fn one_verdict()
-    ensures { OneVerdict }
+/// A law: of each list of tokens exactly one thing is judged, and it is the computed one.
+pub fn judged_is_computed()
+    ensures { JudgedIsComputed }
 {}

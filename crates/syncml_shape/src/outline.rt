@@ -9,7 +9,7 @@ ghost use Rattle.syncml_shape.specs.Forest.{Forest};
 ghost use Rattle.syncml_shape.specs.Shape.{HasShape};
 ghost use Rattle.syncml_shape.specs.Faults.{IsRefused};
 ghost use Rattle.syncml_shape.specs.Machine.{root, step, with_name, is_whole as may_end_here};
-ghost use Rattle.syncml_shape.specs.Outline.{frame_of, HasTaken, Judges, Opens, Steps, verdict_of};
+ghost use Rattle.syncml_shape.specs.Outline.{frame_of, HasTaken, Judges, Opens, GivesStep, verdict_of};
 
 use crate::fault::tag_fault;
 use crate::progress::Progress;
@@ -101,7 +101,7 @@ impl Outline {
 
     // A tag that isn't refused for its name.
     fn child(&mut self, element: Element, content: bool) -> Result<(), ShapeError>
-        ensures step { Steps result self.new (with_name self.old element content) }
+        ensures step { GivesStep result self.new (with_name self.old element content) }
         ensures err { OnErr result (self.new ≡ self.old) }
     {
         let mut parent = self.top;
@@ -126,7 +126,7 @@ impl Outline {
     }
 
     fn end(&mut self) -> Result<(), ShapeError>
-        ensures step { Steps result self.new (step self.old End) }
+        ensures step { GivesStep result self.new (step self.old End) }
         ensures err { OnErr result (self.new ≡ self.old) }
     {
         if !self.top.progress.is_complete() {
@@ -142,7 +142,7 @@ impl Outline {
     }
 
     fn piece(&mut self) -> Result<(), ShapeError>
-        ensures step { Steps result self.new (step self.old (Text [])) }
+        ensures step { GivesStep result self.new (step self.old (Text [])) }
         ensures err { OnErr result (self.new ≡ self.old) }
     {
         if self.top.progress.takes_text() {
@@ -153,7 +153,7 @@ impl Outline {
     }
 
     fn tag(&mut self, element: Element, content: bool) -> Result<(), ShapeError>
-        ensures step { Steps result self.new (step self.old (Tag element content)) }
+        ensures step { GivesStep result self.new (step self.old (Tag element content)) }
         ensures err { OnErr result (self.new ≡ self.old) }
     {
         match tag_fault(self.top.element, element) {
@@ -163,7 +163,7 @@ impl Outline {
     }
 
     fn go_on(&mut self, token: &Token) -> Result<(), ShapeError>
-        ensures step { Steps result self.new (step self.old token.now) }
+        ensures step { GivesStep result self.new (step self.old token.now) }
         ensures err { OnErr result (self.new ≡ self.old) }
     {
         match token {
@@ -178,7 +178,7 @@ impl Outline {
     /// too: as Leftout or Nested for its name and its parent's, else as Misplaced. `Memory` comes only where it isn't
     /// refused.
     pub fn take(&mut self, token: &Token) -> Result<(), ShapeError>
-        ensures step { Steps result self.new (step self.old token.now) }
+        ensures step { GivesStep result self.new (step self.old token.now) }
         ensures err { OnErr result (self.new ≡ self.old) }
         ensures taken { (before : ListOf Piece) → HasTaken self.old before
             → OnOk result (HasTaken self.new (before ++ token.now ∷ [])) }
