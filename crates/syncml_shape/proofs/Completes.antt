@@ -131,7 +131,7 @@ own_kind Commands = refl
 own_kind AtomicMembers = refl
 own_kind SequenceMembers = refl
 
-and_both : (a b : Bool) → IsTrue a → IsTrue b → IsTrue (a && b)
+pub and_both : (a b : Bool) → IsTrue a → IsTrue b → IsTrue (a && b)
 and_both true b p q = q
 and_both false b p q = cc
 

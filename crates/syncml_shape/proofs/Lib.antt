@@ -8,3 +8,4 @@ pub mod Judging
 pub mod Spelling
 pub mod Answering
 pub mod PlaceRows
+pub mod Orders

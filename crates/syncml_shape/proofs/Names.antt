@@ -76,7 +76,7 @@ command_allowed p EStatus kind a s h = refl
 command_allowed p ESequence kind a s h = none_of (tag_fault p ESequence) s
 command_allowed p e kind a s h = sequence_allowed p e kind a h
 
-of_same : (one e : Element) (held kind : Kind) → (if same one e then Some held else None) ≡ Some kind → (one ≡ e) × (held ≡ kind)
+pub of_same : (one e : Element) (held kind : Kind) → (if same one e then Some held else None) ≡ Some kind → (one ≡ e) × (held ≡ kind)
 of_same one e held kind h =
     (elim (same one e) as (λ (b : Bool). same one e ≡ b → (if b then Some held else None) ≡ Some kind → (one ≡ e) × (held ≡ kind)) [
       | true ↦ λ w h'. (same_only one e w, cc)

@@ -1,13 +1,16 @@
 -- What outlines, steps, documents and their trees have to do with each other.
-use Rattle.std.specs.Prelude.{◌≡◌, ◌↔◌, List, [], ◌∷◌, ◌++◌, Bool, Some, IsTrue}
+use Rattle.std.specs.Prelude.{◌≡◌, ◌↔◌, false, List, [], ◌∷◌, ◌++◌, Bool, Some, IsTrue}
 use Rattle.dm_base.specs.declared.values.Reason.{Reason}
 use Rattle.wbxml_tables.specs.declared.Element.{Element}
 use Rattle.wbxml_tokens.specs.declared.token.Token.{Token}
 use Rattle.wbxml_tokens.specs.declared.token.Token.TheVariants.{Tag, End}
+use Rattle.syncml_shape.specs.declared.rows.Kind.{Kind}
+use Rattle.syncml_shape.specs.declared.rows.Row.{Row}
 use Rattle.syncml_shape.specs.declared.outline.Verdict.{Verdict}
 use Rattle.syncml_shape.specs.Forest.{Forest, spelling}
-use Rattle.syncml_shape.specs.Rows.{Content, document}
+use Rattle.syncml_shape.specs.Rows.{Content, document, in_order, start}
 use Rattle.syncml_shape.specs.Shape.{fits, HasShape, IsViable}
+use Rattle.syncml_shape.specs.Children.{children, has_text, FollowRows}
 use Rattle.syncml_shape.specs.Faults.{tag_fault, innermost, open_elements}
 use Rattle.syncml_shape.specs.Steps.{Open, steps, Closes}
 use Rattle.syncml_shape.specs.Machine.{Frame}
@@ -16,6 +19,12 @@ use Rattle.syncml_shape.specs.Outline.{HasTaken, Judges, verdict_of}
 -- tokens spell one tree at most
 abbrev pub OneTree : Type 0
 OneTree = (tokens : List Token) (a b : Forest) → HasShape tokens a → HasShape tokens b → a ≡ b
+
+-- what fits an element with rows is children that follow the rows, without text between them
+abbrev pub FitsInOrder : Type 0
+FitsInOrder =
+    (kind : Kind) (rows : List Row) (tree : Forest) → start kind ≡ in_order false rows
+    → IsTrue (fits (start kind) tree) ↔ ((has_text tree ≡ false) × FollowRows rows (children tree))
 
 -- no document has a tag that is refused for its name and its parent's
 abbrev pub FaultsHaveNoShape : Type 0

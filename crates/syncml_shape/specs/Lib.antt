@@ -2,6 +2,7 @@ pub mod Rows
 pub mod Places
 pub mod Forest
 pub mod Shape
+pub mod Children
 pub mod Faults
 pub mod Progress
 pub mod Steps

@@ -1,9 +1,15 @@
 // What outlines, steps, documents and their trees have to do with each other, for whatever tokens.
-ghost use Rattle.syncml_shape.specs.Laws.{OneTree, FaultsHaveNoShape, FitsIsStepped, ClosingIsFit, ViableIsOpen, ViableIsTaken, JudgedIsComputed};
+ghost use Rattle.syncml_shape.specs.Laws.{OneTree, FitsInOrder, FaultsHaveNoShape, FitsIsStepped, ClosingIsFit, ViableIsOpen, ViableIsTaken, JudgedIsComputed};
 
 /// A law: tokens spell one tree at most.
 pub fn one_tree()
     ensures { OneTree }
+{}
+
+/// A law: what fits an element with rows is children that follow the rows, each with what fits it, without text between
+/// them.
+pub fn fits_in_order()
+    ensures { FitsInOrder }
 {}
 
 /// A law: no document has a tag that is refused for its name and its parent's.
