@@ -9,3 +9,4 @@ pub mod Spelling
 pub mod Answering
 pub mod PlaceRows
 pub mod Orders
+pub mod AnyOrder

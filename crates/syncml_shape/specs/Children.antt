@@ -1,11 +1,15 @@
 -- What fits an element, said of the list of its children.
-use Rattle.std.specs.Prelude.{◌≡◌, ◌<◌, ◌≤◌, Bool, true, false, List, [], ◌∷◌, ◌++◌, length, Some, IsTrue, ⊤}
+use Rattle.std.specs.Prelude.{◌≡◌, ◌<◌, ◌≤◌, Bool, true, false, if◌then◌else◌, List, [], ◌∷◌, ◌++◌, length, Option, Some, None, IsTrue, ⊤}
 use Rattle.wbxml_tables.specs.declared.Element.{Element}
+use Rattle.wbxml_tables.specs.declared.Element.TheVariants.{EMetInf}
 use Rattle.syncml_shape.specs.declared.rows.Kind.{Kind}
+use Rattle.syncml_shape.specs.declared.rows.Kind.TheVariants as kinds
 use Rattle.syncml_shape.specs.declared.rows.Choice.{Choice}
 use Rattle.syncml_shape.specs.declared.rows.Row.{Row}
+use Rattle.syncml_shape.specs.declared.rows.MetaRow.{MetaRow}
+use Rattle.syncml_shape.specs.declared.rows.TheConstants as table
 use Rattle.syncml_shape.specs.Forest.{Forest, nothing, text, opaque, bare, full}
-use Rattle.syncml_shape.specs.Rows.{kind_in, start}
+use Rattle.syncml_shape.specs.Rows.{same, kind_in, start}
 use Rattle.syncml_shape.specs.Shape.{fits}
 
 -- a child and what stands in it
@@ -46,3 +50,33 @@ FollowRows [] all = all ≡ []
 FollowRows (row ∷ rows) all =
     (here : List Child) × (rest : List Child)
     × (all ≡ here ++ rest) × AllOf row.choice here × IsInNumber row here × FollowRows rows rest
+
+-- what a child of a Meta holds
+abbrev pub meta_kind : List MetaRow → Element → Option Kind
+meta_kind [] e = None
+meta_kind (row ∷ rows) e = if same row.element e then Some row.kind else meta_kind rows e
+
+-- the child is one of a Meta's, and what stands in it fits what it holds
+abbrev pub IsOfMeta : Child → Type 0
+IsOfMeta child = (kind : Kind) × (meta_kind table.META child.element ≡ Some kind) × IsTrue (fits (start kind) child.inner)
+
+abbrev pub AllOfMeta : List Child → Type 0
+AllOfMeta [] = ⊤
+AllOfMeta (child ∷ rest) = IsOfMeta child × AllOfMeta rest
+
+abbrev pub AllOther : Element → List Child → Type 0
+AllOther e [] = ⊤
+AllOther e (child ∷ rest) = (child.element ≡ e → ⊥) × AllOther e rest
+
+-- no two children are of one element
+abbrev pub AreDistinct : List Child → Type 0
+AreDistinct [] = ⊤
+AreDistinct (child ∷ rest) = AllOther child.element rest × AreDistinct rest
+
+abbrev pub child_of : Element → Forest → Child
+child_of e inner = record { element = e; inner = inner }
+
+-- the one child is a MetInf, and what stands in it fits it
+abbrev pub IsWrapped : Forest → Type 0
+IsWrapped tree =
+    (inner : Forest) × (has_text tree ≡ false) × (children tree ≡ child_of EMetInf inner ∷ []) × IsTrue (fits (start kinds.MetInf) inner)

@@ -1,16 +1,17 @@
 -- What outlines, steps, documents and their trees have to do with each other.
-use Rattle.std.specs.Prelude.{◌≡◌, ◌↔◌, false, List, [], ◌∷◌, ◌++◌, Bool, Some, IsTrue}
+use Rattle.std.specs.Prelude.{◌≡◌, ◌↔◌, ◌⊎◌, false, List, [], ◌∷◌, ◌++◌, Bool, Some, IsTrue}
 use Rattle.dm_base.specs.declared.values.Reason.{Reason}
 use Rattle.wbxml_tables.specs.declared.Element.{Element}
 use Rattle.wbxml_tokens.specs.declared.token.Token.{Token}
 use Rattle.wbxml_tokens.specs.declared.token.Token.TheVariants.{Tag, End}
 use Rattle.syncml_shape.specs.declared.rows.Kind.{Kind}
+use Rattle.syncml_shape.specs.declared.rows.Kind.TheVariants as kinds
 use Rattle.syncml_shape.specs.declared.rows.Row.{Row}
 use Rattle.syncml_shape.specs.declared.outline.Verdict.{Verdict}
 use Rattle.syncml_shape.specs.Forest.{Forest, spelling}
 use Rattle.syncml_shape.specs.Rows.{Content, document, in_order, start}
 use Rattle.syncml_shape.specs.Shape.{fits, HasShape, IsViable}
-use Rattle.syncml_shape.specs.Children.{children, has_text, FollowRows}
+use Rattle.syncml_shape.specs.Children.{children, has_text, FollowRows, AllOfMeta, AreDistinct, IsWrapped}
 use Rattle.syncml_shape.specs.Faults.{tag_fault, innermost, open_elements}
 use Rattle.syncml_shape.specs.Steps.{Open, steps, Closes}
 use Rattle.syncml_shape.specs.Machine.{Frame}
@@ -25,6 +26,16 @@ abbrev pub FitsInOrder : Type 0
 FitsInOrder =
     (kind : Kind) (rows : List Row) (tree : Forest) → start kind ≡ in_order false rows
     → IsTrue (fits (start kind) tree) ↔ ((has_text tree ≡ false) × FollowRows rows (children tree))
+
+-- what fits a MetInf is children of a Meta, in any order, no two of one element
+abbrev pub FitsInAnyOrder : Type 0
+FitsInAnyOrder =
+    (tree : Forest) → IsTrue (fits (start kinds.MetInf) tree)
+    ↔ ((has_text tree ≡ false) × AllOfMeta (children tree) × AreDistinct (children tree))
+
+-- what fits a Meta is what fits a MetInf, or one MetInf that holds it
+abbrev pub FitsMeta : Type 0
+FitsMeta = (tree : Forest) → IsTrue (fits (start kinds.Meta) tree) ↔ (IsTrue (fits (start kinds.MetInf) tree) ⊎ IsWrapped tree)
 
 -- no document has a tag that is refused for its name and its parent's
 abbrev pub FaultsHaveNoShape : Type 0

@@ -1,5 +1,5 @@
 // What outlines, steps, documents and their trees have to do with each other, for whatever tokens.
-ghost use Rattle.syncml_shape.specs.Laws.{OneTree, FitsInOrder, FaultsHaveNoShape, FitsIsStepped, ClosingIsFit, ViableIsOpen, ViableIsTaken, JudgedIsComputed};
+ghost use Rattle.syncml_shape.specs.Laws.{OneTree, FitsInOrder, FitsInAnyOrder, FitsMeta, FaultsHaveNoShape, FitsIsStepped, ClosingIsFit, ViableIsOpen, ViableIsTaken, JudgedIsComputed};
 
 /// A law: tokens spell one tree at most.
 pub fn one_tree()
@@ -10,6 +10,16 @@ pub fn one_tree()
 /// them.
 pub fn fits_in_order()
     ensures { FitsInOrder }
+{}
+
+/// A law: what fits a MetInf is children of a Meta in any order, no two of one element, without text between them.
+pub fn fits_in_any_order()
+    ensures { FitsInAnyOrder }
+{}
+
+/// A law: what fits a Meta is what fits a MetInf, or one MetInf that holds it.
+pub fn fits_meta()
+    ensures { FitsMeta }
 {}
 
 /// A law: no document has a tag that is refused for its name and its parent's.

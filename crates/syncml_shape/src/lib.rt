@@ -15,5 +15,5 @@ mod tests;
 pub use fault::{is_left_out, tag_fault};
 pub use outline::{Outline, ShapeError, Verdict, judge};
 pub use place::{Place, place_of};
-pub use progress::Progress;
+pub use progress::{MetaProgress, Progress};
 pub use rows::{Choice, Kind, MetaRow, Row};
