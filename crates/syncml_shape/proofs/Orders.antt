@@ -7,11 +7,12 @@ use Rattle.syncml_shape.specs.declared.rows.Kind.TheVariants as kinds
 use Rattle.syncml_shape.specs.declared.rows.Choice.{Choice}
 use Rattle.syncml_shape.specs.declared.rows.Choice.TheVariants.{One, Commands, AtomicMembers, SequenceMembers}
 use Rattle.syncml_shape.specs.declared.rows.Row.{Row}
+use Rattle.syncml_shape.specs.declared.rows.TheConstants as table
 use Rattle.syncml_shape.specs.Forest.{Forest, nothing, text, opaque, bare, full}
 use Rattle.syncml_shape.specs.Rows.{same, atomic_member, sequence_member, command, kind_in, Content, in_order, in_any_order, pieces, start, in_row, next_row, after_row, all_optional, is_complete}
 use Rattle.syncml_shape.specs.Shape.{fits}
 use Rattle.syncml_shape.specs.Children.{Child, children, has_text, AllOf, IsInNumber, FollowRows}
-use Rattle.syncml_shape.specs.Laws.{FitsInOrder}
+use Rattle.syncml_shape.specs.Laws.{FitsInOrder, DocumentInOrder}
 use Rattle.syncml_shape.proofs.Accepts.{and_true}
 use Rattle.syncml_shape.proofs.Completes.{none_of, and_both}
 use Rattle.syncml_shape.proofs.Names.{of_same}
@@ -291,4 +292,10 @@ pub fits_in_order : FitsInOrder
 fits_in_order kind rows f is = (
   λ h. let both = fit_follows f false rows (subst (λ c. IsTrue (fits c f)) is h) in (both.0, not_begun rows (children f) both.1),
   λ both. subst (λ c. IsTrue (fits c f)) (sym is) (follows_fit f false rows (apart_of kind rows is) both.0 (begun rows (children f) both.1)),
+)
+
+pub document_in_order : DocumentInOrder
+document_in_order f = (
+  λ h. let both = fit_follows f false table.DOCUMENT h in (both.0, not_begun table.DOCUMENT (children f) both.1),
+  λ both. follows_fit f false table.DOCUMENT refl both.0 (begun table.DOCUMENT (children f) both.1),
 )

@@ -1,5 +1,5 @@
 // What outlines, steps, documents and their trees have to do with each other, for whatever tokens.
-ghost use Rattle.syncml_shape.specs.Laws.{OneTree, FitsInOrder, FitsInAnyOrder, FitsMeta, FaultsHaveNoShape, FitsIsStepped, ClosingIsFit, ViableIsOpen, ViableIsTaken, JudgedIsComputed};
+ghost use Rattle.syncml_shape.specs.Laws.{OneTree, FitsInOrder, DocumentInOrder, FitsInAnyOrder, FitsMeta, FaultsHaveNoShape, FitsIsStepped, ClosingIsFit, ViableIsOpen, ViableIsTaken, JudgedIsComputed};
 
 /// A law: tokens spell one tree at most.
 pub fn one_tree()
@@ -10,6 +10,11 @@ pub fn one_tree()
 /// them.
 pub fn fits_in_order()
     ensures { FitsInOrder }
+{}
+
+/// A law: a document is one SyncML, without text beside it.
+pub fn document_in_order()
+    ensures { DocumentInOrder }
 {}
 
 /// A law: what fits a MetInf is children of a Meta in any order, no two of one element, without text between them.
