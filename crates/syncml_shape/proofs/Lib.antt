@@ -1,0 +1,12 @@
+pub mod MetaRows
+pub mod Contents
+pub mod Accepts
+pub mod Completes
+pub mod Names
+pub mod Frames
+pub mod Judging
+pub mod Spelling
+pub mod Answering
+pub mod PlaceRows
+pub mod Orders
+pub mod AnyOrder

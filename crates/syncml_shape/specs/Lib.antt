@@ -1,0 +1,11 @@
+pub mod Rows
+pub mod Places
+pub mod Forest
+pub mod Shape
+pub mod Children
+pub mod Faults
+pub mod Progress
+pub mod Steps
+pub mod Machine
+pub mod Outline
+pub mod Laws

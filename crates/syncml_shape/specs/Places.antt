@@ -1,0 +1,60 @@
+-- The places of children in the rows of their parent.
+use Rattle.std.specs.Prelude.{◌≡◌, ℕ, ◌+◌, Bool, false, if◌then◌else◌, List, [], ◌∷◌, ◌++◌, length, Option, Some, None, is_some, IsTrue, ⊤}
+use Rattle.wbxml_tables.specs.declared.Element.{Element}
+use Rattle.wbxml_tables.specs.declared.Element.TheVariants.{EAdd, EAlert, EAtomic, EChal, ECopy, ECred, EDelete, EExec, EGet, EItem, EReplace, EResults, ESequence, ESource, EStatus, ESyncBody, ESyncHdr, ESyncML, ETarget}
+use Rattle.syncml_shape.specs.declared.rows.Row.{Row}
+use Rattle.syncml_shape.specs.declared.rows.TheConstants as table
+use Rattle.syncml_shape.specs.declared.place.Place.{Place}
+use Rattle.syncml_shape.specs.Rows.{kind_in}
+
+-- the rows of an element's children; elements that hold a text or a number, and Meta and MetInf, have none
+abbrev pub rows_of : Element → List Row
+rows_of ESyncML = table.MESSAGE
+rows_of ESyncHdr = table.HEADER
+rows_of ESyncBody = table.BODY
+rows_of EAdd = table.PLAIN
+rows_of ECopy = table.PLAIN
+rows_of EDelete = table.PLAIN
+rows_of EGet = table.PLAIN
+rows_of EReplace = table.PLAIN
+rows_of EExec = table.EXEC
+rows_of EAlert = table.ALERT
+rows_of EAtomic = table.ATOMIC
+rows_of ESequence = table.SEQUENCE
+rows_of EStatus = table.STATUS
+rows_of EResults = table.RESULTS
+rows_of EItem = table.ITEM
+rows_of ETarget = table.LOC
+rows_of ESource = table.LOC
+rows_of ECred = table.CRED
+rows_of EChal = table.CHAL
+rows_of other = []
+
+abbrev pub names : Row → Element → Bool
+names row child = is_some (kind_in row.choice child)
+
+-- the first row that names the child, where the rows count from an order on
+abbrev pub place_in : ℕ → List Row → Element → Option Place
+place_in order [] child = None
+place_in order (row ∷ rows) child =
+    if names row child then Some (record { order = order; required = row.required; many = row.many })
+    else place_in (order + 1) rows child
+
+-- the place of a child in its parent, orders counted from 1
+abbrev pub place_of : Element → Element → Option Place
+place_of parent child = place_in 1 (rows_of parent) child
+
+-- none of the rows names the child
+abbrev pub NameNone : List Row → Element → Type 0
+NameNone [] child = ⊤
+NameNone (row ∷ rows) child = (names row child ≡ false) × NameNone rows child
+
+-- the first row that names the child has this place
+pub record IsPlace (rows : List Row) (child : Element) (place : Place) : Type 0 where
+  pub before : List Row
+  pub row : Row
+  pub after : List Row
+  pub all : rows ≡ before ++ row ∷ after
+  pub is_first : NameNone before child
+  pub named : IsTrue (names row child)
+  pub is : place ≡ record { order = length before + 1; required = row.required; many = row.many }

@@ -1,0 +1,58 @@
+// What outlines, steps, documents and their trees have to do with each other, for whatever tokens.
+ghost use Rattle.syncml_shape.specs.Laws.{OneTree, FitsInOrder, DocumentInOrder, FitsInAnyOrder, FitsMeta, FaultsHaveNoShape, FitsIsStepped, ClosingIsFit, ViableIsOpen, ViableIsTaken, JudgedIsComputed};
+
+/// A law: tokens spell one tree at most.
+pub fn one_tree()
+    ensures { OneTree }
+{}
+
+/// A law: what fits an element with rows is children that follow the rows, each with what fits it, without text between
+/// them.
+pub fn fits_in_order()
+    ensures { FitsInOrder }
+{}
+
+/// A law: a document is one SyncML, without text beside it.
+pub fn document_in_order()
+    ensures { DocumentInOrder }
+{}
+
+/// A law: what fits a MetInf is children of a Meta in any order, no two of one element, without text between them.
+pub fn fits_in_any_order()
+    ensures { FitsInAnyOrder }
+{}
+
+/// A law: what fits a Meta is what fits a MetInf, or one MetInf that holds it.
+pub fn fits_meta()
+    ensures { FitsMeta }
+{}
+
+/// A law: no document has a tag that is refused for its name and its parent's.
+pub fn faults_have_no_shape()
+    ensures { FaultsHaveNoShape }
+{}
+
+/// A law: a tree that fits an open element is stepped over, with the END behind it, and ends that element.
+pub fn fits_is_stepped()
+    ensures { FitsIsStepped }
+{}
+
+/// A law: steps that end all that is open are over trees that fit, one for each open element.
+pub fn closing_is_fit()
+    ensures { ClosingIsFit }
+{}
+
+/// A law: tokens begin a document exactly where the steps over them leave something open.
+pub fn viable_is_open()
+    ensures { ViableIsOpen }
+{}
+
+/// A law: tokens begin a document exactly where an outline takes them all.
+pub fn viable_is_taken()
+    ensures { ViableIsTaken }
+{}
+
+/// A law: of each list of tokens exactly one thing is judged, and it is the computed one.
+pub fn judged_is_computed()
+    ensures { JudgedIsComputed }
+{}

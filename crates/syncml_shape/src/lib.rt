@@ -1,0 +1,19 @@
+//! The shape of a message: which elements stand in which, over the tokens of a body.
+#![tactic(auto)]
+
+pub mod fault;
+pub mod laws;
+pub mod outline;
+pub mod place;
+pub mod progress;
+#[cfg(test)]
+mod row_tests;
+pub mod rows;
+#[cfg(test)]
+mod tests;
+
+pub use fault::{is_left_out, tag_fault};
+pub use outline::{Outline, ShapeError, Verdict, judge};
+pub use place::{Place, place_of};
+pub use progress::{MetaProgress, Progress};
+pub use rows::{Choice, Kind, MetaRow, Row};
