@@ -13,7 +13,7 @@ use Rattle.syncml_types.specs.declared.values.Item.{Item}
 use Rattle.syncml_types.specs.declared.command.Command.{Command}
 use Rattle.syncml_types.specs.declared.command.Command.TheVariants as command
 use Rattle.syncml_types.specs.Message.{Parts}
-use Rattle.syncml_types.specs.Canonical.{element_tokens, parent_tokens, text_tokens, number_tokens, flag_tokens, data_tokens, optional, loc_tokens, meta_tokens, meta_children, is_empty_meta, item_tokens, item_children, is_empty_item, plain_tokens, alert_tokens, status_tokens, results_tokens, command_tokens, commands_tokens, body_tokens, body_children, is_empty_body}
+use Rattle.syncml_types.specs.Canonical.{element_tokens, parent_tokens, text_tokens, number_tokens, flag_tokens, data_tokens, optional, loc_tokens, meta_tokens, meta_children, is_empty_meta, item_tokens, item_children, is_empty_item, plain_tokens, alert_tokens, atomic_tokens, sequence_tokens, status_tokens, results_tokens, command_tokens, commands_tokens, body_tokens, body_children, is_empty_body}
 
 is_nil : List Token → Bool
 is_nil [] = true
@@ -112,9 +112,11 @@ unfolding item_tokens
 full_item item h = element-full EItem (item_children item) (nil_item_children item ∙ h)
 
 nil_command : (c : Command) → is_nil (command_tokens c) ≡ false
-unfolding is_nil command_tokens plain_tokens alert_tokens status_tokens results_tokens
+unfolding is_nil command_tokens plain_tokens alert_tokens atomic_tokens sequence_tokens status_tokens results_tokens
 nil_command (command.Plain c) = refl
 nil_command (command.Alert c) = refl
+nil_command (command.Atomic b) = refl
+nil_command (command.Sequence b) = refl
 nil_command (command.Status c) = refl
 nil_command (command.Results c) = refl
 

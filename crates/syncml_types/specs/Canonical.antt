@@ -6,7 +6,7 @@ use Rattle.std.specs.Option.{is_none}
 use Rattle.std.specs.Fmt.{decimal}
 use Rattle.std.specs.Str.{is_utf8}
 use Rattle.wbxml_tables.specs.declared.Element.{Element}
-use Rattle.wbxml_tables.specs.declared.Element.TheVariants.{EAdd, EAlert, EChal, ECmd, ECmdID, ECmdRef, ECopy, ECred, EData, EDelete, EExec, EFinal, EGet, EItem, ELocName, ELocURI, EMeta, EMsgID, EMsgRef, ENoResp, EReplace, ERespURI, EResults, ESessionID, ESource, ESourceRef, EStatus, ESyncBody, ESyncHdr, ESyncML, ETarget, ETargetRef, EVerDTD, EVerProto, EMoreData, ECorrelator, EFormat, EMark, EMaxMsgSize, ENextNonce, ESize, EType, EVersion, EMaxObjSize}
+use Rattle.wbxml_tables.specs.declared.Element.TheVariants.{EAdd, EAlert, EAtomic, EChal, ECmd, ECmdID, ECmdRef, ECopy, ECred, EData, EDelete, EExec, EFinal, EGet, EItem, ELocName, ELocURI, EMeta, EMsgID, EMsgRef, ENoResp, EReplace, ERespURI, EResults, ESequence, ESessionID, ESource, ESourceRef, EStatus, ESyncBody, ESyncHdr, ESyncML, ETarget, ETargetRef, EVerDTD, EVerProto, EMoreData, ECorrelator, EFormat, EMark, EMaxMsgSize, ENextNonce, ESize, EType, EVersion, EMaxObjSize}
 use Rattle.wbxml_tokens.specs.declared.token.Token.{Token}
 use Rattle.wbxml_tokens.specs.declared.token.Token.TheVariants.{Tag, End, Text, Opaque}
 use Rattle.wbxml_tokens.specs.Spelling.{spelled, prologue}
@@ -19,6 +19,12 @@ use Rattle.syncml_types.specs.declared.command.Verb.{Verb}
 use Rattle.syncml_types.specs.declared.command.Verb.TheVariants as verb
 use Rattle.syncml_types.specs.declared.command.Plain.{Plain}
 use Rattle.syncml_types.specs.declared.command.AlertCmd.{AlertCmd}
+use Rattle.syncml_types.specs.declared.command.Member.{Member}
+use Rattle.syncml_types.specs.declared.command.Member.TheVariants as member
+use Rattle.syncml_types.specs.declared.command.Block.{Block}
+use Rattle.syncml_types.specs.declared.command.SeqMember.{SeqMember}
+use Rattle.syncml_types.specs.declared.command.SeqMember.TheVariants as seq_member
+use Rattle.syncml_types.specs.declared.command.SeqBlock.{SeqBlock}
 use Rattle.syncml_types.specs.declared.command.StatusCmd.{StatusCmd}
 use Rattle.syncml_types.specs.declared.command.ResultsCmd.{ResultsCmd}
 use Rattle.syncml_types.specs.declared.command.Command.{Command}
@@ -158,6 +164,36 @@ alert_tokens c =
     ++ optional (text_tokens ECorrelator) c.correlator
     ++ items_tokens c.items)
 
+unfoldable pub member_tokens : Member → List Token
+member_tokens (member.One c) = plain_tokens c
+member_tokens (member.Alert c) = alert_tokens c
+
+unfoldable pub members_tokens : List Member → List Token
+members_tokens ms = flat_map member_tokens ms
+
+unfoldable pub atomic_tokens : Block → List Token
+atomic_tokens b =
+    parent_tokens EAtomic
+    (number_tokens ECmdID b.id
+    ++ flag_tokens ENoResp b.no_resp
+    ++ optional meta_tokens b.meta
+    ++ members_tokens b.members)
+
+unfoldable pub seq_member_tokens : SeqMember → List Token
+seq_member_tokens (seq_member.Single m) = member_tokens m
+seq_member_tokens (seq_member.Atomic b) = atomic_tokens b
+
+unfoldable pub seq_members_tokens : List SeqMember → List Token
+seq_members_tokens ms = flat_map seq_member_tokens ms
+
+unfoldable pub sequence_tokens : SeqBlock → List Token
+sequence_tokens b =
+    parent_tokens ESequence
+    (number_tokens ECmdID b.id
+    ++ flag_tokens ENoResp b.no_resp
+    ++ optional meta_tokens b.meta
+    ++ seq_members_tokens b.members)
+
 unfoldable pub status_tokens : StatusCmd → List Token
 status_tokens c =
     parent_tokens EStatus
@@ -185,6 +221,8 @@ results_tokens c =
 unfoldable pub command_tokens : Command → List Token
 command_tokens (command.Plain c) = plain_tokens c
 command_tokens (command.Alert c) = alert_tokens c
+command_tokens (command.Atomic b) = atomic_tokens b
+command_tokens (command.Sequence b) = sequence_tokens b
 command_tokens (command.Status c) = status_tokens c
 command_tokens (command.Results c) = results_tokens c
 

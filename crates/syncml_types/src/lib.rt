@@ -10,7 +10,9 @@ pub mod put_value;
 pub mod put_whole;
 pub mod values;
 
-pub use command::{AlertCmd, Command, Plain, ResultsCmd, StatusCmd, Verb};
+pub use command::{
+    AlertCmd, Block, Command, Member, Plain, ResultsCmd, SeqBlock, SeqMember, StatusCmd, Step, Verb,
+};
 pub use lengths::{command_length, head_length, length};
 pub use message::Message;
 pub use put_whole::put_message;

@@ -2,11 +2,13 @@
 ghost use Rattle.std.specs.Prelude.{◌≡◌, OnOk};
 ghost use Rattle.std.specs.List.{AllByRecursion};
 ghost use Rattle.wbxml_tokens.specs.Spelling.{given};
-ghost use Rattle.syncml_types.specs.Message.{HasShortData, HasShortItems};
-ghost use Rattle.syncml_types.specs.Canonical.{verb_element, plain_tokens, alert_tokens, status_tokens, results_tokens, command_tokens, commands_tokens, number_tokens, optional};
+ghost use Rattle.syncml_types.specs.Message.{HasShortData, HasShortMember, HasShortSeqMember, HasShortItems};
+ghost use Rattle.syncml_types.specs.Canonical.{verb_element, plain_tokens, alert_tokens, member_tokens, members_tokens, atomic_tokens, seq_member_tokens, seq_members_tokens, sequence_tokens, status_tokens, results_tokens, command_tokens, commands_tokens, number_tokens, optional};
 ghost use Rattle.wbxml_tables.specs.declared.Element.TheVariants.{EMsgRef};
 
-use crate::command::{AlertCmd, Command, Plain, ResultsCmd, StatusCmd, Verb};
+use crate::command::{
+    AlertCmd, Block, Command, Member, Plain, ResultsCmd, SeqBlock, SeqMember, StatusCmd, Verb,
+};
 use crate::put_value::{
     put_flag, put_items, put_number, put_option_chal, put_option_meta, put_option_text, put_text,
     put_texts,
@@ -55,6 +57,82 @@ pub fn put_alert<W: Writer>(w: &mut W, c: &AlertCmd) -> Result<(), W::Error>
     put_number(w, Element::EData, c.code as u64)?;
     put_option_text(w, Element::ECorrelator, &c.correlator)?;
     put_items(w, &c.items)?;
+    w.end()
+}
+
+/// Gives a member of a container.
+#[tactic(auto, unfolding(crate::specs::Canonical::member_tokens))]
+pub fn put_member<W: Writer>(w: &mut W, member: &Member) -> Result<(), W::Error>
+    requires { HasShortMember member.now }
+    ensures { OnOk result (w.new ≡ given W.after w.old (member_tokens member.now)) }
+{
+    match member {
+        Member::One(c) => put_plain(w, c),
+        Member::Alert(c) => put_alert(w, c),
+    }
+}
+
+// Gives the members of an Atomic.
+#[tactic(auto, using(crate::proofs::Given::given_append), unfolding(crate::specs::Canonical::members_tokens))]
+fn put_members<W: Writer>(w: &mut W, members: &List<Member>) -> Result<(), W::Error>
+    requires { AllByRecursion HasShortMember members.now }
+    ensures { OnOk result (w.new ≡ given W.after w.old (members_tokens members.now)) }
+{
+    for member in members.as_slice() {
+        put_member(w, member)?;
+    }
+    Ok(())
+}
+
+/// Gives an Atomic.
+#[tactic(auto, using(crate::proofs::Given::given_append), unfolding(crate::specs::Canonical::atomic_tokens))]
+pub fn put_atomic<W: Writer>(w: &mut W, block: &Block) -> Result<(), W::Error>
+    requires { AllByRecursion HasShortMember block.now.members }
+    ensures { OnOk result (w.new ≡ given W.after w.old (atomic_tokens block.now)) }
+{
+    w.tag(Element::EAtomic, true)?;
+    put_number(w, Element::ECmdID, block.id as u64)?;
+    put_flag(w, Element::ENoResp, block.no_resp)?;
+    put_option_meta(w, &block.meta)?;
+    put_members(w, &block.members)?;
+    w.end()
+}
+
+/// Gives a member of a Sequence.
+#[tactic(auto, unfolding(crate::specs::Canonical::seq_member_tokens))]
+pub fn put_seq_member<W: Writer>(w: &mut W, member: &SeqMember) -> Result<(), W::Error>
+    requires { HasShortSeqMember member.now }
+    ensures { OnOk result (w.new ≡ given W.after w.old (seq_member_tokens member.now)) }
+{
+    match member {
+        SeqMember::Single(member) => put_member(w, member),
+        SeqMember::Atomic(block) => put_atomic(w, block),
+    }
+}
+
+// Gives the members of a Sequence.
+#[tactic(auto, using(crate::proofs::Given::given_append), unfolding(crate::specs::Canonical::seq_members_tokens))]
+fn put_seq_members<W: Writer>(w: &mut W, members: &List<SeqMember>) -> Result<(), W::Error>
+    requires { AllByRecursion HasShortSeqMember members.now }
+    ensures { OnOk result (w.new ≡ given W.after w.old (seq_members_tokens members.now)) }
+{
+    for member in members.as_slice() {
+        put_seq_member(w, member)?;
+    }
+    Ok(())
+}
+
+/// Gives a Sequence.
+#[tactic(auto, using(crate::proofs::Given::given_append), unfolding(crate::specs::Canonical::sequence_tokens))]
+pub fn put_sequence<W: Writer>(w: &mut W, block: &SeqBlock) -> Result<(), W::Error>
+    requires { AllByRecursion HasShortSeqMember block.now.members }
+    ensures { OnOk result (w.new ≡ given W.after w.old (sequence_tokens block.now)) }
+{
+    w.tag(Element::ESequence, true)?;
+    put_number(w, Element::ECmdID, block.id as u64)?;
+    put_flag(w, Element::ENoResp, block.no_resp)?;
+    put_option_meta(w, &block.meta)?;
+    put_seq_members(w, &block.members)?;
     w.end()
 }
 
@@ -113,6 +191,8 @@ pub fn put_command<W: Writer>(w: &mut W, c: &Command) -> Result<(), W::Error>
     match c {
         Command::Plain(c) => put_plain(w, c),
         Command::Alert(c) => put_alert(w, c),
+        Command::Atomic(block) => put_atomic(w, block),
+        Command::Sequence(block) => put_sequence(w, block),
         Command::Status(c) => put_status(w, c),
         Command::Results(c) => put_results(w, c),
     }
