@@ -1,3 +1,5 @@
 pub mod Bare
 pub mod Given
 pub mod Counts
+pub mod Pieces
+pub mod Fitting

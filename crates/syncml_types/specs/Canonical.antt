@@ -231,18 +231,18 @@ commands_tokens cs = flat_map command_tokens cs
 
 -- ---- messages
 
-abbrev pub body_children : Parts → List Token
-body_children m = commands_tokens m.body ++ flag_tokens EFinal m.last
+abbrev pub body_children : List Command → Bool → List Token
+body_children body last = commands_tokens body ++ flag_tokens EFinal last
 
 -- whether a body has no children
-abbrev pub is_empty_body : Parts → Bool
-is_empty_body m = length m.body == 0 && not m.last
+abbrev pub is_empty_body : List Command → Bool → Bool
+is_empty_body body last = length body == 0 && not last
 
-unfoldable pub body_tokens : Parts → List Token
-body_tokens m = element_tokens ESyncBody (body_children m)
+unfoldable pub body_tokens : List Command → Bool → List Token
+body_tokens body last = element_tokens ESyncBody (body_children body last)
 
 unfoldable pub message_tokens : Parts → List Token
-message_tokens m = parent_tokens ESyncML (header_tokens m.header ++ body_tokens m)
+message_tokens m = parent_tokens ESyncML (header_tokens m.header ++ body_tokens m.body m.last)
 
 -- the canonical spelling
 unfoldable pub canonical : Parts → List ℕ

@@ -1,3 +1,4 @@
 pub mod Message
 pub mod Canonical
 pub mod Lengths
+pub mod Fitness

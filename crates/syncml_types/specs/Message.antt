@@ -40,6 +40,6 @@ HasShortItems (command.Status c) = AllByRecursion HasShortData c.items
 HasShortItems (command.Results c) = AllByRecursion HasShortData c.items
 
 -- no Data is too long for a spelling
-pub record CanBeSpelled (m : Parts) : Type 0 where
-  pub cred : IfSome m.header.cred (λ (c : Cred). IsShortData c.value)
-  pub body : AllByRecursion HasShortItems m.body
+pub record CanBeSpelled (h : Header) (commands : List Command) : Type 0 where
+  pub cred : IfSome h.cred (λ (c : Cred). IsShortData c.value)
+  pub body : AllByRecursion HasShortItems commands

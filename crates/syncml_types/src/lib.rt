@@ -3,6 +3,11 @@
 
 pub mod command;
 pub mod copies;
+mod fit_data;
+mod fit_forms;
+mod fit_numbers;
+mod fit_texts;
+mod fitness;
 pub mod lengths;
 pub mod message;
 pub mod put_command;
@@ -14,8 +19,8 @@ pub use command::{
     AlertCmd, Block, Command, Member, Plain, ResultsCmd, SeqBlock, SeqMember, StatusCmd, Step, Verb,
 };
 pub use lengths::{command_length, head_length, length};
-pub use message::Message;
-pub use put_whole::put_message;
+pub use message::{Message, Unfit};
+pub use put_whole::{put_message, put_parts};
 pub use values::{Cred, Header, Item, Loc, Meta};
 
 #[cfg(test)]
