@@ -3,3 +3,5 @@ pub mod Given
 pub mod Counts
 pub mod Pieces
 pub mod Fitting
+pub mod Numbered
+pub mod Parted

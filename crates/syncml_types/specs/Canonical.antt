@@ -247,3 +247,10 @@ message_tokens m = parent_tokens ESyncML (header_tokens m.header ++ body_tokens 
 -- the canonical spelling
 unfoldable pub canonical : Parts → List ℕ
 canonical m = prologue ++ spelled 0 (message_tokens m)
+
+-- ---- how it is given
+
+-- a container up to its first member
+abbrev pub block_head : Element → ℕ → Bool → Option Meta → List Token
+block_head e id no_resp meta =
+    Tag e true ∷ number_tokens ECmdID id ++ flag_tokens ENoResp no_resp ++ optional meta_tokens meta

@@ -2,3 +2,5 @@ pub mod Message
 pub mod Canonical
 pub mod Lengths
 pub mod Fitness
+pub mod Numbering
+pub mod Packing
