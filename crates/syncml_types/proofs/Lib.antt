@@ -5,3 +5,4 @@ pub mod Pieces
 pub mod Fitting
 pub mod Numbered
 pub mod Parted
+pub mod Rest

@@ -14,7 +14,7 @@ use Rattle.syncml_types.specs.declared.command.SeqMember.{SeqMember}
 use Rattle.syncml_types.specs.declared.command.SeqMember.TheVariants as seq_member
 use Rattle.syncml_types.specs.declared.command.Command.{Command}
 use Rattle.syncml_types.specs.declared.command.Command.TheVariants as command
-use Rattle.syncml_types.specs.Canonical.{data_piece, flag_tokens, commands_tokens, canonical}
+use Rattle.syncml_types.specs.Canonical.{data_piece, flag_tokens, command_tokens, commands_tokens, canonical}
 use Rattle.syncml_types.specs.Lengths.{head_tokens}
 
 -- ---- a spelling taken apart
@@ -99,3 +99,62 @@ cut_item (command.Atomic b) = option_and_then member_item (last_of b.members)
 cut_item (command.Sequence b) = option_and_then seq_member_item (last_of b.members)
 cut_item (command.Status c) = None
 cut_item (command.Results c) = only_item c.items
+
+-- ---- that item changed where it stands
+
+abbrev pub only_changed : (Item → Item) → List Item → List Item
+only_changed f (i ∷ []) = f i ∷ []
+only_changed f other = other
+
+abbrev pub write_changed : (Item → Item) → Verb → List Item → List Item
+write_changed f verb.Add items = only_changed f items
+write_changed f verb.Replace items = only_changed f items
+write_changed f other items = items
+
+abbrev pub member_changed : (Item → Item) → Member → Member
+member_changed f (member.One c) = member.One (record c { items = write_changed f c.verb c.items })
+member_changed f (member.Alert c) = member.Alert c
+
+abbrev pub seq_member_changed : (Item → Item) → SeqMember → SeqMember
+seq_member_changed f (seq_member.Single m) = seq_member.Single (member_changed f m)
+seq_member_changed f (seq_member.Atomic b) = seq_member.Atomic b
+
+abbrev pub last_changed : {A : Type 0} → (A → A) → List A → List A
+last_changed f [] = []
+last_changed f (x ∷ []) = f x ∷ []
+last_changed f (x ∷ y ∷ xs) = x ∷ last_changed f (y ∷ xs)
+
+-- a command without one stays
+abbrev pub cut_changed : (Item → Item) → Command → Command
+cut_changed f (command.Plain c) = command.Plain (record c { items = write_changed f c.verb c.items })
+cut_changed f (command.Alert c) = command.Alert c
+cut_changed f (command.Atomic b) = command.Atomic (record b { members = last_changed (member_changed f) b.members })
+cut_changed f (command.Sequence b) = command.Sequence (record b { members = last_changed (seq_member_changed f) b.members })
+cut_changed f (command.Status c) = command.Status c
+cut_changed f (command.Results c) = command.Results (record c { items = only_changed f c.items })
+
+-- ---- a command's length without the Data of that item
+
+abbrev pub emptied : Item → Item
+emptied i = record i { value = Some [] }
+
+-- all but the token of the Data: with the Data emptied, and the END that Data has where it isn't empty
+abbrev pub rest_length : ℕ → Command → ℕ
+rest_length page c = length (spelled page (command_tokens (cut_changed emptied c))) + 1
+
+abbrev pub bytes_in : Option (List ℕ) → List ℕ
+bytes_in None = []
+bytes_in (Some value) = value
+
+abbrev pub data_in : Option Item → List ℕ
+data_in None = []
+data_in (Some i) = bytes_in i.value
+
+-- the Data of the item that may be cut
+abbrev pub cut_data : Command → List ℕ
+cut_data c = data_in (cut_item c)
+
+abbrev pub RestAndData : Type 0
+RestAndData =
+    (page : ℕ) (c : Command) → 0 < length (cut_data c)
+    → length (spelled page (command_tokens c)) ≡ rest_length page c + data_length (cut_data c)

@@ -1,10 +1,13 @@
 // What packing needs: the item whose Data may be cut, and the length of Data.
-ghost use Rattle.std.specs.Prelude.{◌≡◌, option_map, option_and_then, length};
-ghost use Rattle.syncml_types.specs.Message.{IsShortData};
+ghost use Rattle.std.specs.Prelude.{◌≡◌, ◌<◌, ◌^◌, option_map, option_and_then, length};
+ghost use Rattle.wbxml_tokens.specs.Spelling.{spelled, page_behind};
+ghost use Rattle.syncml_types.specs.Message.{IsShortData, HasShortItems};
+ghost use Rattle.syncml_types.specs.Canonical.{command_tokens};
 ghost use Rattle.syncml_types.specs.Packing as Spec;
-ghost use Rattle.syncml_types.specs.Packing.{last_of, only_item, write_item, BoundsData, SpellsCommands, SpellsInParts};
+ghost use Rattle.syncml_types.specs.Packing.{last_of, only_item, write_item, BoundsData, RestAndData, SpellsCommands, SpellsInParts};
 
 use crate::command::{Command, Member, SeqMember, Verb};
+use crate::lengths::command_length;
 use crate::put_value::is_plain_text;
 use crate::values::Item;
 use wbxml_ints::write_mb;
@@ -99,6 +102,35 @@ impl Command {
     }
 }
 
+// The Data of the item that may be cut, or nothing.
+fn cut_data(command: &Command) -> &[u8]
+    ensures { result.now ≡ Spec.cut_data command.now }
+{
+    match command.cut_item() {
+        None => &[],
+        Some(item) => match &item.value {
+            None => &[],
+            Some(value) => value.as_slice(),
+        },
+    }
+}
+
+/// How many bytes a command has in canonical spelling, where it begins on a page, all but the token of the Data that may be
+/// cut (`data_length`); and the page after it.
+#[tactic(auto, using(crate::proofs::Rest::rest_counted))]
+pub fn rest_length(page: u8, command: &Command) -> (u64, u8)
+    requires short { HasShortItems command.now }
+    requires some { 0 < length (Spec.cut_data command.now) }
+    requires data { IsShortData (Spec.cut_data command.now) }
+    requires fits { length (spelled page (command_tokens command.now)) < 2 ^ 64 }
+    ensures length { result.0 ≡ Spec.rest_length page command.now }
+    ensures page { result.1 ≡ page_behind page (command_tokens command.now) }
+{
+    let (whole, behind) = command_length(page, command);
+    let token = data_length(cut_data(command));
+    (whole - token, behind)
+}
+
 /// A spelling is taken apart into those of its head, its commands and its tail, each from the page behind those before it on.
 #[tactic(auto, using(crate::proofs::Parted::spells_in_parts, crate::proofs::Parted::spells_commands))]
 pub fn spellings_are_parted()
@@ -110,4 +142,11 @@ pub fn spellings_are_parted()
 #[tactic(auto, using(crate::proofs::Parted::bounds_data))]
 pub fn data_is_bounded()
     ensures { BoundsData }
+{}
+
+/// A command is as long as the token of the Data that may be cut, where that isn't empty, and all the rest, which doesn't
+/// depend on it.
+#[tactic(auto, using(crate::proofs::Rest::rest_and_data))]
+pub fn rest_and_data()
+    ensures { RestAndData }
 {}
