@@ -16,7 +16,7 @@ pub mod wholes;
 
 pub use bytes::{Bytes, Memory};
 pub use fields::{Form, field, hex_bytes, hex_into, is_field, nonce, num};
-pub use first::{FirstInfo, FirstLeaf};
+pub use first::{FirstInfo, FirstLeaf, FirstText};
 pub use lines::{LineOut, LineReason, Lines};
 pub use list::List;
 pub use memory::{MemSink, MemSource};

@@ -23,7 +23,7 @@ impl<T> List<T> {
     ghost use Rattle.std.specs.Prelude.{◌≡◌, ◌==◌, ◌∷◌, ◌++◌, [], length, slice_get, MatchOption};
     ghost use Rattle.std.specs.Option.{option_copied_mut};
     ghost use Rattle.std.specs.Borrow.{sem};
-    ghost use Rattle.dm_base.specs.Lends.{lends_first};
+    ghost use Rattle.dm_base.specs.Lends.{lends_first, lends_at};
 
     pub fn new(alloc: Global) -> List<T>
         ensures { result ≡ [] }
@@ -71,6 +71,14 @@ impl<T> List<T> {
         ensures value { option_copied_mut result ≡ slice_get self.old 0 }
     {
         self.items.first_mut()
+    }
+
+    /// The value at a place, for writing. None comes exactly where the list is no longer than this.
+    pub fn get_mut(&mut self, at: usize) -> Option<&mut T>
+        ensures* writes_back { sem 𝓛 (lends_at T.row self.entry at result) }
+        ensures value { option_copied_mut result ≡ slice_get self.old at }
+    {
+        self.items.get_mut(at)
     }
 
     /// Takes the last value off. None comes exactly where the list is empty.

@@ -1,13 +1,15 @@
 // The start section of a first-path trace.
-ghost use Rattle.std.specs.Prelude.{◌≡◌, ◌&&◌, option_map, Some, IfOk, IfSome};
+ghost use Rattle.std.specs.Prelude.{◌≡◌, ◌&&◌, true, option_map, Some, IfOk, IfSome};
 ghost use Rattle.std.specs.List.{list_all};
-ghost use Rattle.dm_base.specs.Fields.{parts, is_short};
+ghost use Rattle.dm_base.specs.Fields.{parts, is_short, is_word};
 ghost use Rattle.dm_tree.specs.FirstTree.{HasShortValue};
 ghost use Rattle.dm_replay.specs.Start as Spec;
 ghost use Rattle.dm_replay.specs.Start.{start_step as start_step_of};
 
 use crate::fields::{five_fields, seven_fields, six_fields, three_fields};
-use dm_base::{Bytes, FirstInfo, FirstLeaf, Form, Limits, Memory, hex_bytes, is_field, num};
+use dm_base::{
+    Bytes, FirstInfo, FirstLeaf, FirstText, Form, Limits, Memory, hex_bytes, is_field, num,
+};
 use dm_tree::{FirstTree, NamedLeaf};
 use std::alloc::Global;
 use syncml_codec::{is_leaf_name, name_in_uri};
@@ -18,7 +20,7 @@ const MAX_LEAVES: usize = 16;
 #[derive(Drop)]
 pub struct FirstStart {
     pub limits: Limits,
-    pub server: Bytes,
+    pub server: FirstText,
     pub tree: FirstTree,
 }
 
@@ -63,6 +65,7 @@ fn info_of(
     dm_v: &[u8],
     lang: &[u8],
 ) -> Result<FirstInfo, Memory>
+    requires { is_short dev_id.now ≡ true }
     ensures { IfOk result (λ info. info ≡ record {
       dev_id = dev_id.now;
       man = man.now;
@@ -72,7 +75,7 @@ fn info_of(
     }) }
 {
     Ok(FirstInfo {
-        dev_id: Bytes::of_slice(alloc, dev_id)?,
+        dev_id: FirstText::of_slice(alloc, dev_id)?,
         man: Bytes::of_slice(alloc, man)?,
         model: Bytes::of_slice(alloc, model)?,
         dm_v: Bytes::of_slice(alloc, dm_v)?,
@@ -128,7 +131,8 @@ fn is_none_field(text: &[u8]) -> bool
 
 // The server's ID in an `account` line.
 fn read_account(line: &[u8]) -> Option<&[u8]>
-    ensures { option_map (λ server. server.now) result ≡ Spec.account_in (parts line.now) }
+    ensures value { option_map (λ server. server.now) result ≡ Spec.account_in (parts line.now) }
+    ensures word { IfSome result (λ server. is_word server.now ≡ true) }
 {
     let (word, server, a, b, c, d, e) = seven_fields(line)?;
     if word != b"account".as_slice() || !is_field(Form::Id, server) {
@@ -172,6 +176,7 @@ fn named_leaf(
     media: &[u8],
     value: Bytes,
 ) -> Result<Option<NamedLeaf>, Memory>
+    requires { is_word media.now ≡ true }
     ensures value { IfOk result (λ named. named ≡ Spec.named_leaf (Some name.now) media.now (Some value)) }
     ensures short { IfOk result (λ named. IfSome named HasShortValue) }
 {
@@ -181,7 +186,7 @@ fn named_leaf(
     Ok(Some(NamedLeaf {
         name: Bytes::of_slice(alloc, name)?,
         leaf: FirstLeaf {
-            media: Bytes::of_slice(alloc, media)?,
+            media: FirstText::of_slice(alloc, media)?,
             value,
         },
     }))
@@ -246,7 +251,7 @@ fn account_step(
 {
     match read_account(line) {
         Some(server) => {
-            let server = Bytes::of_slice(alloc, server)?;
+            let server = FirstText::of_slice(alloc, server)?;
             Ok(StartStep::More(Place::Leaves(FirstStart {
                 limits,
                 server,

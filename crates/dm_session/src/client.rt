@@ -9,7 +9,7 @@ ghost use Rattle.dm_session.specs.History.{answer_now, next};
 ghost use Rattle.dm_session.specs.View.{Tells, sent_last, Begins};
 
 use crate::values::{Answer, BeginError, End, Kind};
-use dm_base::{Bytes, FirstLeaf, Limits, Memory, num};
+use dm_base::{Bytes, FirstLeaf, FirstText, Limits, Memory, num};
 use dm_tree::FirstTree;
 use std::alloc::Global;
 use std::marker::Model;
@@ -89,7 +89,7 @@ impl Client {
     pub fn new(
         alloc: Global,
         limits: Limits,
-        server: Bytes,
+        server: FirstText,
         tree: FirstTree,
     ) -> Result<Client, Memory>
         ensures { IfOk result (λ client. client ≡ beginning limits server tree) }
@@ -279,7 +279,7 @@ mod tests {
 
     fn device(alloc: Global) -> Result<Client, Memory> {
         let info = FirstInfo {
-            dev_id: Bytes::of_slice(alloc, b"IMEI:004400152020000")?,
+            dev_id: FirstText::of_slice(alloc, b"IMEI:004400152020000")?,
             man: Bytes::of_slice(alloc, b"Maker")?,
             model: Bytes::of_slice(alloc, b"Model")?,
             dm_v: Bytes::of_slice(alloc, b"1.2")?,
@@ -289,7 +289,7 @@ mod tests {
             max_msg: 4096,
             max_obj: 65536,
         };
-        let server = Bytes::of_slice(alloc, b"server")?;
+        let server = FirstText::of_slice(alloc, b"server")?;
         Client::new(alloc, limits, server, FirstTree::new(alloc, info))
     }
 

@@ -130,6 +130,7 @@ impl FirstTree {
 #[cfg(test)]
 mod tests {
     use super::*;
+    use dm_base::FirstText;
     use std::test::Fail;
 
     const TEXT: &[u8] = b"node . 0 p Add=*&Get=* - -
@@ -144,7 +145,7 @@ leaf ./DevInfo/Mod 0 p - - chr 746578742f706c61696e 426f78
 
     fn box_tree(alloc: Global) -> Result<FirstTree, Memory> {
         let info = FirstInfo {
-            dev_id: Bytes::of_slice(alloc, b"d1")?,
+            dev_id: FirstText::of_slice(alloc, b"d1")?,
             man: Bytes::of_slice(alloc, b"Acme")?,
             model: Bytes::of_slice(alloc, b"Box")?,
             dm_v: Bytes::of_slice(alloc, b"1.2")?,
@@ -155,7 +156,7 @@ leaf ./DevInfo/Mod 0 p - - chr 746578742f706c61696e 426f78
 
     fn add_x(alloc: Global, tree: &mut FirstTree) -> Result<bool, Memory> {
         let leaf = FirstLeaf {
-            media: Bytes::of_slice(alloc, b"text/plain")?,
+            media: FirstText::of_slice(alloc, b"text/plain")?,
             value: Bytes::of_slice(alloc, b"x")?,
         };
         tree.add(Bytes::of_slice(alloc, b"A")?, leaf)

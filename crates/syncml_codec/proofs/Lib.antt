@@ -5,3 +5,5 @@ pub mod Elements
 pub mod Spelling
 pub mod Reading
 pub mod Listings
+pub mod Texts
+pub mod FirstFit

@@ -25,7 +25,7 @@ digits_clear (b ∷ bs) h =
     let parts = and_parts (is_ascii_digit b) (all_ascii_digits bs) h in
     rw (digit_clear b parts.0, digits_clear bs parts.1) refl
 
-decimal_clear : (n : ℕ) → n < 2 ^ 64 → list_all is_not_zero (decimal n) ≡ true
+pub decimal_clear : (n : ℕ) → n < 2 ^ 64 → list_all is_not_zero (decimal n) ≡ true
 decimal_clear n small = digits_clear (decimal n) (digits_decimal own n small)
 
 -- a text of digits is a number where it doesn't begin with a zero

@@ -1,11 +1,11 @@
 // The values of the first path. They go when the decoder and the client's packing come.
-use dm_base::{Bytes, Limits};
+use dm_base::{Bytes, FirstText, Limits};
 
 /// What the client's headers say: the server that it talks to, its own DevId, and its limits.
 #[derive(Drop)]
 pub struct FirstEnds {
-    pub server: Bytes,
-    pub device: Bytes,
+    pub server: FirstText,
+    pub device: FirstText,
     pub limits: Limits,
 }
 

@@ -1,5 +1,6 @@
 // The reader of first-path messages: it looks the parts up loosely, spells the message and compares.
-ghost use Rattle.std.specs.Prelude.{◌≡◌, ◌==◌, ◌∷◌, [], drop, position, take_while, IfOk};
+ghost use Rattle.std.specs.Prelude.{◌≡◌, ◌==◌, ◌∷◌, [], drop, length, position, take_while, nat_le, bytes_eq, if◌then◌else◌, true, Some, None, IfOk};
+ghost use Rattle.syncml_types.specs.Canonical.{canonical};
 ghost use Rattle.syncml_codec.specs.FirstGet as Spec;
 ghost use Rattle.syncml_codec.specs.FirstGet.{first_message};
 
@@ -154,13 +155,27 @@ fn get_header(alloc: Global, g: &FirstGet) -> Result<Header, Memory>
     )
 }
 
-#[tactic(auto, unfolding(crate::specs::FirstGet::get_message))]
-fn get_message(alloc: Global, g: &FirstGet) -> Result<Message, Memory>
-    ensures { IfOk result (λ m. m ≡ Spec.get_message g.now) }
+// The message of parts that are sound. None comes exactly where its spelling is too long.
+fn get_message(alloc: Global, g: &FirstGet) -> Result<Option<Message>, Memory>
+    requires { Spec.has_sound_parts g.now ≡ true }
+    ensures { IfOk result (λ m. m ≡ (if nat_le (length (canonical (Spec.get_message g.now))) 65536
+        then Some (Spec.get_message g.now) else None)) }
 {
     let header = get_header(alloc, g)?;
     let body = get_body(alloc, g)?;
-    Ok(Message::of_parts(header, body, true))
+    Ok(Message::new(header, body, true).ok())
+}
+
+// The message, where the bytes are its spelling.
+fn if_same(alloc: Global, message: Message, bytes: &[u8]) -> Result<Option<Message>, Memory>
+    ensures { IfOk result (λ m. m ≡ (if bytes_eq (canonical message) bytes.now then Some message else None)) }
+{
+    let spelling = encode(alloc, &message)?;
+    if spelling.as_slice() == bytes {
+        Ok(Some(message))
+    } else {
+        Ok(None)
+    }
 }
 
 // The message of the parts, where they are sound and the bytes are its spelling.
@@ -171,12 +186,9 @@ fn message_spelled(alloc: Global, g: &FirstGet, bytes: &[u8]) -> Result<Option<M
     if !has_sound_parts(g) {
         return Ok(None);
     }
-    let message = get_message(alloc, g)?;
-    let spelling = encode(alloc, &message)?;
-    if spelling.len() <= 65536 && spelling.as_slice() == bytes {
-        Ok(Some(message))
-    } else {
-        Ok(None)
+    match get_message(alloc, g)? {
+        Some(message) => if_same(alloc, message, bytes),
+        None => Ok(None),
     }
 }
 

@@ -1,6 +1,8 @@
 // The two messages that the client sends on the first path.
-ghost use Rattle.std.specs.Prelude.{◌≡◌, ◌≤◌, length, codes, IfOk, IfSome, option_map};
+ghost use Rattle.std.specs.Prelude.{◌≡◌, ◌≢◌, true, codes, IfOk, IfSome, Some, option_map};
+ghost use Rattle.dm_base.specs.Fields.{is_word};
 ghost use Rattle.syncml_types.specs.Message.{IsShortData};
+ghost use Rattle.syncml_types.specs.Fitness.{IsFit};
 ghost use Rattle.syncml_codec.specs.FirstMessages as Spec;
 ghost use Rattle.syncml_codec.specs.FirstMessages.{open_message, reply_message, HasShortTexts};
 
@@ -12,17 +14,14 @@ use std::alloc::Global;
 use syncml_types::{AlertCmd, Command, Header, Item, Message, Plain, ResultsCmd, Verb};
 
 fn header_of(alloc: Global, ends: &FirstEnds, session: u32, msg: u32) -> Result<Header, Memory>
-    ensures { IfOk result (λ header. header ≡ Spec.header_of ends.now session msg) }
+    ensures value { IfOk result (λ header. header ≡ Spec.header_of ends.now session msg) }
+    ensures server { is_word ends.now.server ≡ true }
+    ensures device { is_word ends.now.device ≡ true }
 {
+    let server = ends.server.as_slice();
+    let device = ends.device.as_slice();
     let meta = Some(limits_meta(ends.limits));
-    plain_header(
-        alloc,
-        session,
-        msg,
-        ends.server.as_slice(),
-        ends.device.as_slice(),
-        meta,
-    )
+    plain_header(alloc, session, msg, server, device, meta)
 }
 
 fn device_item(alloc: Global, uri: &[u8], value: &[u8]) -> Result<Item, Memory>
@@ -144,9 +143,10 @@ fn reply_body(
     message: &Message,
     leaf: Option<&FirstLeaf>,
 ) -> Result<List<Command>, Memory>
-    ensures { IfOk result (λ body. body
+    ensures value { IfOk result (λ body. body
         ≡ Spec.reply_body message.now.header.msg (Spec.got_of message.now.body)
         (option_map (λ l. l.now) leaf.entry)) }
+    ensures fit { IsFit message.now.header message.now.body }
 {
     let msg = message.header().msg;
     let mut body = List::new(alloc);
@@ -155,6 +155,13 @@ fn reply_body(
         body.append(get_entries(alloc, msg, &got, leaf)?)?;
     }
     Ok(body)
+}
+
+// A leaf's Type, as it is known here: a word.
+fn media_of(leaf: Option<&FirstLeaf>) -> Option<&[u8]>
+    ensures { IfSome leaf.entry (λ l. is_word l.now.media ≡ true) }
+{
+    Some(leaf?.media.as_slice())
 }
 
 /// The reply to a message as the client's message `own` of the session, with the leaf that the message's Get finds.
@@ -167,10 +174,12 @@ pub fn write_reply(
     message: &Message,
     leaf: Option<&FirstLeaf>,
 ) -> Result<Message, Memory>
-    requires { IfSome leaf (λ l. IsShortData l.now.value) }
+    requires own { own ≢ 0 }
+    requires leaf { IfSome leaf (λ l. IsShortData l.now.value) }
     ensures { IfOk result (λ m. m
         ≡ reply_message ends.now session own message.now (option_map (λ l. l.now) leaf.entry)) }
 {
+    let _media = media_of(leaf);
     let header = header_of(alloc, ends, session, own)?;
     let entries = reply_body(alloc, message, leaf)?;
     Ok(Message::of_parts(header, entries, true))

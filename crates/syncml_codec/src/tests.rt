@@ -2,7 +2,7 @@ ghost use Rattle.std.specs.Prelude.{◌≡◌, codes, IfOk};
 ghost use Rattle.syncml_codec.specs.FirstMessages.{HasShortTexts};
 
 use crate::{FirstEnds, encode, listing, read_first, write_open, write_reply};
-use dm_base::{Bytes, FirstInfo, FirstLeaf, Limits, Memory, hex_bytes};
+use dm_base::{Bytes, FirstInfo, FirstLeaf, FirstText, Limits, Memory, hex_bytes};
 use std::alloc::Global;
 use std::test::Fail;
 use syncml_types::{Message, command_length, head_length, length};
@@ -88,8 +88,8 @@ fn reads_whole_spellings_alone(rt: HostRuntime) -> Result<(), Fail> {
 
 fn ends(alloc: Global) -> Result<FirstEnds, Memory> {
     Ok(FirstEnds {
-        server: Bytes::of_slice(alloc, b"s1")?,
-        device: Bytes::of_slice(alloc, b"d1")?,
+        server: FirstText::of_slice(alloc, b"s1")?,
+        device: FirstText::of_slice(alloc, b"d1")?,
         limits: Limits {
             max_msg: 16384,
             max_obj: 4194304,
@@ -101,7 +101,7 @@ fn leaf(alloc: Global) -> Result<FirstLeaf, Memory>
     ensures { IfOk result (λ l. l.value ≡ codes "x") }
 {
     Ok(FirstLeaf {
-        media: Bytes::of_slice(alloc, b"text/plain")?,
+        media: FirstText::of_slice(alloc, b"text/plain")?,
         value: Bytes::of_slice(alloc, b"x")?,
     })
 }
@@ -124,7 +124,7 @@ fn info(alloc: Global) -> Result<FirstInfo, Memory>
     ensures { IfOk result HasShortTexts }
 {
     Ok(FirstInfo {
-        dev_id: Bytes::of_slice(alloc, b"d1")?,
+        dev_id: FirstText::of_slice(alloc, b"d1")?,
         man: Bytes::of_slice(alloc, b"m")?,
         model: Bytes::of_slice(alloc, b"o")?,
         dm_v: Bytes::of_slice(alloc, b"1")?,

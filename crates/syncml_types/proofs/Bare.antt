@@ -12,8 +12,7 @@ use Rattle.syncml_types.specs.declared.values.Meta.{Meta}
 use Rattle.syncml_types.specs.declared.values.Item.{Item}
 use Rattle.syncml_types.specs.declared.command.Command.{Command}
 use Rattle.syncml_types.specs.declared.command.Command.TheVariants as command
-use Rattle.syncml_types.specs.Message.{Parts}
-use Rattle.syncml_types.specs.Canonical.{element_tokens, parent_tokens, text_tokens, number_tokens, flag_tokens, data_tokens, optional, loc_tokens, meta_tokens, meta_children, is_empty_meta, item_tokens, item_children, is_empty_item, plain_tokens, alert_tokens, status_tokens, results_tokens, command_tokens, commands_tokens, body_tokens, body_children, is_empty_body}
+use Rattle.syncml_types.specs.Canonical.{element_tokens, parent_tokens, text_tokens, number_tokens, flag_tokens, data_tokens, optional, loc_tokens, meta_tokens, meta_children, is_empty_meta, item_tokens, item_children, is_empty_item, plain_tokens, alert_tokens, atomic_tokens, sequence_tokens, status_tokens, results_tokens, command_tokens, commands_tokens, body_tokens, body_children, is_empty_body}
 
 is_nil : List Token → Bool
 is_nil [] = true
@@ -112,9 +111,11 @@ unfolding item_tokens
 full_item item h = element-full EItem (item_children item) (nil_item_children item ∙ h)
 
 nil_command : (c : Command) → is_nil (command_tokens c) ≡ false
-unfolding is_nil command_tokens plain_tokens alert_tokens status_tokens results_tokens
+unfolding is_nil command_tokens plain_tokens alert_tokens atomic_tokens sequence_tokens status_tokens results_tokens
 nil_command (command.Plain c) = refl
 nil_command (command.Alert c) = refl
+nil_command (command.Atomic b) = refl
+nil_command (command.Sequence b) = refl
 nil_command (command.Status c) = refl
 nil_command (command.Results c) = refl
 
@@ -124,13 +125,15 @@ nil_commands [] = refl
 nil_commands (c ∷ cs) =
     nil_append (command_tokens c) (commands_tokens cs) ∙ both (nil_command c) refl ∙ sym (ne_eqb _ 0 (λ e. omega (arith, e)))
 
-nil_body_children : (m : Parts) → is_nil (body_children m) ≡ is_empty_body m
-nil_body_children m = nil_append (commands_tokens m.body) (flag_tokens EFinal m.last) ∙ both (nil_commands m.body) (nil_flag EFinal m.last)
+nil_body_children : (body : List Command) (last : Bool) → is_nil (body_children body last) ≡ is_empty_body body last
+nil_body_children body last =
+    nil_append (commands_tokens body) (flag_tokens EFinal last) ∙ both (nil_commands body) (nil_flag EFinal last)
 
-pub bare_body : (m : Parts) → is_empty_body m ≡ true → body_tokens m ≡ Tag ESyncBody false ∷ []
+pub bare_body : (body : List Command) (last : Bool) → is_empty_body body last ≡ true → body_tokens body last ≡ Tag ESyncBody false ∷ []
 unfolding body_tokens
-bare_body m h = element-nil ESyncBody (body_children m) (nil_body_children m ∙ h)
+bare_body body last h = element-nil ESyncBody (body_children body last) (nil_body_children body last ∙ h)
 
-pub full_body : (m : Parts) → is_empty_body m ≡ false → body_tokens m ≡ parent_tokens ESyncBody (body_children m)
+pub full_body : (body : List Command) (last : Bool) → is_empty_body body last ≡ false
+    → body_tokens body last ≡ parent_tokens ESyncBody (body_children body last)
 unfolding body_tokens
-full_body m h = element-full ESyncBody (body_children m) (nil_body_children m ∙ h)
+full_body body last h = element-full ESyncBody (body_children body last) (nil_body_children body last ∙ h)

@@ -1,3 +1,8 @@
 pub mod Bare
 pub mod Given
 pub mod Counts
+pub mod Pieces
+pub mod Fitting
+pub mod Numbered
+pub mod Parted
+pub mod Rest

@@ -6,7 +6,7 @@ use Rattle.std.specs.Option.{is_none}
 use Rattle.std.specs.Fmt.{decimal}
 use Rattle.std.specs.Str.{is_utf8}
 use Rattle.wbxml_tables.specs.declared.Element.{Element}
-use Rattle.wbxml_tables.specs.declared.Element.TheVariants.{EAdd, EAlert, EChal, ECmd, ECmdID, ECmdRef, ECopy, ECred, EData, EDelete, EExec, EFinal, EGet, EItem, ELocName, ELocURI, EMeta, EMsgID, EMsgRef, ENoResp, EReplace, ERespURI, EResults, ESessionID, ESource, ESourceRef, EStatus, ESyncBody, ESyncHdr, ESyncML, ETarget, ETargetRef, EVerDTD, EVerProto, EMoreData, ECorrelator, EFormat, EMark, EMaxMsgSize, ENextNonce, ESize, EType, EVersion, EMaxObjSize}
+use Rattle.wbxml_tables.specs.declared.Element.TheVariants.{EAdd, EAlert, EAtomic, EChal, ECmd, ECmdID, ECmdRef, ECopy, ECred, EData, EDelete, EExec, EFinal, EGet, EItem, ELocName, ELocURI, EMeta, EMsgID, EMsgRef, ENoResp, EReplace, ERespURI, EResults, ESequence, ESessionID, ESource, ESourceRef, EStatus, ESyncBody, ESyncHdr, ESyncML, ETarget, ETargetRef, EVerDTD, EVerProto, EMoreData, ECorrelator, EFormat, EMark, EMaxMsgSize, ENextNonce, ESize, EType, EVersion, EMaxObjSize}
 use Rattle.wbxml_tokens.specs.declared.token.Token.{Token}
 use Rattle.wbxml_tokens.specs.declared.token.Token.TheVariants.{Tag, End, Text, Opaque}
 use Rattle.wbxml_tokens.specs.Spelling.{spelled, prologue}
@@ -19,6 +19,12 @@ use Rattle.syncml_types.specs.declared.command.Verb.{Verb}
 use Rattle.syncml_types.specs.declared.command.Verb.TheVariants as verb
 use Rattle.syncml_types.specs.declared.command.Plain.{Plain}
 use Rattle.syncml_types.specs.declared.command.AlertCmd.{AlertCmd}
+use Rattle.syncml_types.specs.declared.command.Member.{Member}
+use Rattle.syncml_types.specs.declared.command.Member.TheVariants as member
+use Rattle.syncml_types.specs.declared.command.Block.{Block}
+use Rattle.syncml_types.specs.declared.command.SeqMember.{SeqMember}
+use Rattle.syncml_types.specs.declared.command.SeqMember.TheVariants as seq_member
+use Rattle.syncml_types.specs.declared.command.SeqBlock.{SeqBlock}
 use Rattle.syncml_types.specs.declared.command.StatusCmd.{StatusCmd}
 use Rattle.syncml_types.specs.declared.command.ResultsCmd.{ResultsCmd}
 use Rattle.syncml_types.specs.declared.command.Command.{Command}
@@ -158,6 +164,36 @@ alert_tokens c =
     ++ optional (text_tokens ECorrelator) c.correlator
     ++ items_tokens c.items)
 
+unfoldable pub member_tokens : Member → List Token
+member_tokens (member.One c) = plain_tokens c
+member_tokens (member.Alert c) = alert_tokens c
+
+unfoldable pub members_tokens : List Member → List Token
+members_tokens ms = flat_map member_tokens ms
+
+unfoldable pub atomic_tokens : Block → List Token
+atomic_tokens b =
+    parent_tokens EAtomic
+    (number_tokens ECmdID b.id
+    ++ flag_tokens ENoResp b.no_resp
+    ++ optional meta_tokens b.meta
+    ++ members_tokens b.members)
+
+unfoldable pub seq_member_tokens : SeqMember → List Token
+seq_member_tokens (seq_member.Single m) = member_tokens m
+seq_member_tokens (seq_member.Atomic b) = atomic_tokens b
+
+unfoldable pub seq_members_tokens : List SeqMember → List Token
+seq_members_tokens ms = flat_map seq_member_tokens ms
+
+unfoldable pub sequence_tokens : SeqBlock → List Token
+sequence_tokens b =
+    parent_tokens ESequence
+    (number_tokens ECmdID b.id
+    ++ flag_tokens ENoResp b.no_resp
+    ++ optional meta_tokens b.meta
+    ++ seq_members_tokens b.members)
+
 unfoldable pub status_tokens : StatusCmd → List Token
 status_tokens c =
     parent_tokens EStatus
@@ -185,6 +221,8 @@ results_tokens c =
 unfoldable pub command_tokens : Command → List Token
 command_tokens (command.Plain c) = plain_tokens c
 command_tokens (command.Alert c) = alert_tokens c
+command_tokens (command.Atomic b) = atomic_tokens b
+command_tokens (command.Sequence b) = sequence_tokens b
 command_tokens (command.Status c) = status_tokens c
 command_tokens (command.Results c) = results_tokens c
 
@@ -193,19 +231,26 @@ commands_tokens cs = flat_map command_tokens cs
 
 -- ---- messages
 
-abbrev pub body_children : Parts → List Token
-body_children m = commands_tokens m.body ++ flag_tokens EFinal m.last
+abbrev pub body_children : List Command → Bool → List Token
+body_children body last = commands_tokens body ++ flag_tokens EFinal last
 
 -- whether a body has no children
-abbrev pub is_empty_body : Parts → Bool
-is_empty_body m = length m.body == 0 && not m.last
+abbrev pub is_empty_body : List Command → Bool → Bool
+is_empty_body body last = length body == 0 && not last
 
-unfoldable pub body_tokens : Parts → List Token
-body_tokens m = element_tokens ESyncBody (body_children m)
+unfoldable pub body_tokens : List Command → Bool → List Token
+body_tokens body last = element_tokens ESyncBody (body_children body last)
 
 unfoldable pub message_tokens : Parts → List Token
-message_tokens m = parent_tokens ESyncML (header_tokens m.header ++ body_tokens m)
+message_tokens m = parent_tokens ESyncML (header_tokens m.header ++ body_tokens m.body m.last)
 
 -- the canonical spelling
 unfoldable pub canonical : Parts → List ℕ
 canonical m = prologue ++ spelled 0 (message_tokens m)
+
+-- ---- how it is given
+
+-- a container up to its first member
+abbrev pub block_head : Element → ℕ → Bool → Option Meta → List Token
+block_head e id no_resp meta =
+    Tag e true ∷ number_tokens ECmdID id ++ flag_tokens ENoResp no_resp ++ optional meta_tokens meta

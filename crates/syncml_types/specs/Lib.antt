@@ -1,3 +1,6 @@
 pub mod Message
 pub mod Canonical
 pub mod Lengths
+pub mod Fitness
+pub mod Numbering
+pub mod Packing

@@ -4,6 +4,10 @@ use Rattle.std.specs.List.{AllByRecursion}
 use Rattle.syncml_types.specs.declared.values.Item.{Item}
 use Rattle.syncml_types.specs.declared.values.Header.{Header}
 use Rattle.syncml_types.specs.declared.values.Cred.{Cred}
+use Rattle.syncml_types.specs.declared.command.Member.{Member}
+use Rattle.syncml_types.specs.declared.command.Member.TheVariants as member
+use Rattle.syncml_types.specs.declared.command.SeqMember.{SeqMember}
+use Rattle.syncml_types.specs.declared.command.SeqMember.TheVariants as seq_member
 use Rattle.syncml_types.specs.declared.command.Command.{Command}
 use Rattle.syncml_types.specs.declared.command.Command.TheVariants as command
 
@@ -19,16 +23,23 @@ IsShortData value = length value ≤ 2147483648
 abbrev pub HasShortData : Item → Type 0
 HasShortData item = IfSome item.value IsShortData
 
-abbrev pub items_of : Command → List Item
-items_of (command.Plain c) = c.items
-items_of (command.Alert c) = c.items
-items_of (command.Status c) = c.items
-items_of (command.Results c) = c.items
+abbrev pub HasShortMember : Member → Type 0
+HasShortMember (member.One c) = AllByRecursion HasShortData c.items
+HasShortMember (member.Alert c) = AllByRecursion HasShortData c.items
+
+abbrev pub HasShortSeqMember : SeqMember → Type 0
+HasShortSeqMember (seq_member.Single m) = HasShortMember m
+HasShortSeqMember (seq_member.Atomic b) = AllByRecursion HasShortMember b.members
 
 abbrev pub HasShortItems : Command → Type 0
-HasShortItems c = AllByRecursion HasShortData (items_of c)
+HasShortItems (command.Plain c) = AllByRecursion HasShortData c.items
+HasShortItems (command.Alert c) = AllByRecursion HasShortData c.items
+HasShortItems (command.Atomic b) = AllByRecursion HasShortMember b.members
+HasShortItems (command.Sequence b) = AllByRecursion HasShortSeqMember b.members
+HasShortItems (command.Status c) = AllByRecursion HasShortData c.items
+HasShortItems (command.Results c) = AllByRecursion HasShortData c.items
 
 -- no Data is too long for a spelling
-pub record CanBeSpelled (m : Parts) : Type 0 where
-  pub cred : IfSome m.header.cred (λ (c : Cred). IsShortData c.value)
-  pub body : AllByRecursion HasShortItems m.body
+pub record CanBeSpelled (h : Header) (commands : List Command) : Type 0 where
+  pub cred : IfSome h.cred (λ (c : Cred). IsShortData c.value)
+  pub body : AllByRecursion HasShortItems commands

@@ -34,6 +34,38 @@ pub struct AlertCmd {
     pub items: List<Item>,
 }
 
+/// A command on the management tree or an Alert, in a container.
+#[derive(Drop)]
+pub enum Member {
+    One(Plain),
+    Alert(AlertCmd),
+}
+
+/// An Atomic. Its Meta isn't handed to its members.
+#[derive(Drop)]
+pub struct Block {
+    pub id: u32,
+    pub no_resp: bool,
+    pub meta: Option<Meta>,
+    pub members: List<Member>,
+}
+
+/// A member of a Sequence.
+#[derive(Drop)]
+pub enum SeqMember {
+    Single(Member),
+    Atomic(Block),
+}
+
+/// A Sequence. Its Meta isn't handed to its members.
+#[derive(Drop)]
+pub struct SeqBlock {
+    pub id: u32,
+    pub no_resp: bool,
+    pub meta: Option<Meta>,
+    pub members: List<SeqMember>,
+}
+
 /// The answer to the command `cmd_ref` of the message `msg_ref`; 0 stands for that message's header.
 #[derive(Drop)]
 pub struct StatusCmd {
@@ -65,6 +97,20 @@ pub struct ResultsCmd {
 pub enum Command {
     Plain(Plain),
     Alert(AlertCmd),
+    Atomic(Block),
+    Sequence(SeqBlock),
     Status(StatusCmd),
     Results(ResultsCmd),
+}
+
+/// One command on one node, as it is run: the command of one item. An item without Data gives the empty `value`.
+#[derive(Drop)]
+pub struct Step {
+    pub verb: Verb,
+    pub target: Option<Bytes>,
+    pub format: Option<Bytes>,
+    pub media: Option<Bytes>,
+    pub value: Bytes,
+    pub correlator: Option<Bytes>,
+    pub in_atomic: bool,
 }

@@ -1,7 +1,9 @@
 // Copies, each equal to what it copies.
 ghost use Rattle.std.specs.Prelude.{◌≡◌, IfOk};
 
-use crate::command::{AlertCmd, Command, Plain, ResultsCmd, StatusCmd};
+use crate::command::{
+    AlertCmd, Block, Command, Member, Plain, ResultsCmd, SeqBlock, SeqMember, StatusCmd,
+};
 use crate::values::{Item, Loc, Meta};
 use dm_base::{Bytes, List, Memory};
 use std::alloc::Global;
@@ -123,6 +125,66 @@ fn copy_alert(alloc: Global, command: &AlertCmd) -> Result<AlertCmd, Memory>
     })
 }
 
+fn copy_member(alloc: Global, member: &Member) -> Result<Member, Memory>
+    ensures { IfOk result (λ copied. copied ≡ member.now) }
+{
+    match member {
+        Member::One(command) => Ok(Member::One(copy_plain(alloc, command)?)),
+        Member::Alert(command) => Ok(Member::Alert(copy_alert(alloc, command)?)),
+    }
+}
+
+fn copy_members(alloc: Global, members: &List<Member>) -> Result<List<Member>, Memory>
+    ensures { IfOk result (λ copied. copied ≡ members.now) }
+{
+    let mut copied = List::new(alloc);
+    for member in members.as_slice() {
+        copied.push(copy_member(alloc, member)?)?;
+    }
+    Ok(copied)
+}
+
+fn copy_atomic(alloc: Global, block: &Block) -> Result<Block, Memory>
+    ensures { IfOk result (λ copied. copied ≡ block.now) }
+{
+    Ok(Block {
+        id: block.id,
+        no_resp: block.no_resp,
+        meta: copy_meta(alloc, &block.meta)?,
+        members: copy_members(alloc, &block.members)?,
+    })
+}
+
+fn copy_seq_member(alloc: Global, member: &SeqMember) -> Result<SeqMember, Memory>
+    ensures { IfOk result (λ copied. copied ≡ member.now) }
+{
+    match member {
+        SeqMember::Single(member) => Ok(SeqMember::Single(copy_member(alloc, member)?)),
+        SeqMember::Atomic(block) => Ok(SeqMember::Atomic(copy_atomic(alloc, block)?)),
+    }
+}
+
+fn copy_seq_members(alloc: Global, members: &List<SeqMember>) -> Result<List<SeqMember>, Memory>
+    ensures { IfOk result (λ copied. copied ≡ members.now) }
+{
+    let mut copied = List::new(alloc);
+    for member in members.as_slice() {
+        copied.push(copy_seq_member(alloc, member)?)?;
+    }
+    Ok(copied)
+}
+
+fn copy_sequence(alloc: Global, block: &SeqBlock) -> Result<SeqBlock, Memory>
+    ensures { IfOk result (λ copied. copied ≡ block.now) }
+{
+    Ok(SeqBlock {
+        id: block.id,
+        no_resp: block.no_resp,
+        meta: copy_meta(alloc, &block.meta)?,
+        members: copy_seq_members(alloc, &block.members)?,
+    })
+}
+
 fn copy_status(alloc: Global, command: &StatusCmd) -> Result<StatusCmd, Memory>
     ensures { IfOk result (λ copied. copied ≡ command.now) }
 {
@@ -161,6 +223,8 @@ impl Command {
         match self {
             Command::Plain(command) => Ok(Command::Plain(copy_plain(alloc, command)?)),
             Command::Alert(command) => Ok(Command::Alert(copy_alert(alloc, command)?)),
+            Command::Atomic(block) => Ok(Command::Atomic(copy_atomic(alloc, block)?)),
+            Command::Sequence(block) => Ok(Command::Sequence(copy_sequence(alloc, block)?)),
             Command::Status(command) => Ok(Command::Status(copy_status(alloc, command)?)),
             Command::Results(command) => Ok(Command::Results(copy_results(alloc, command)?)),
         }

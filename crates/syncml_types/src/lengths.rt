@@ -1,15 +1,18 @@
 // The lengths of canonical spellings, which take no memory.
-ghost use Rattle.std.specs.Prelude.{◌≡◌, IfSome, OnOk, length};
+ghost use Rattle.std.specs.Prelude.{◌≡◌, ◌<◌, ◌+◌, ◌^◌, IfSome, OnOk, length};
 ghost use Rattle.wbxml_tokens.specs.Spelling.{given, page_behind};
-ghost use Rattle.syncml_types.specs.Message.{IsShortData, HasShortItems};
+ghost use Rattle.syncml_types.specs.Message.{IsShortData, HasShortItems, CanBeSpelled};
 ghost use Rattle.syncml_types.specs.Canonical.{canonical, command_tokens};
+ghost use Rattle.syncml_types.specs.Numbering.{ids_in, with_numbers};
 ghost use Rattle.syncml_types.specs.Lengths.{counter_after, head_tokens, spelled_length, up_to_most};
 
 use crate::command::Command;
 use crate::message::Message;
 use crate::put_command::put_command;
-use crate::put_whole::{put_header, put_message};
+use crate::put_numbered::put_command_from;
+use crate::put_whole::{put_header, put_parts};
 use crate::values::Header;
+use dm_base::List;
 use wbxml_ints::write_mb;
 use wbxml_tables::{Element, code_of};
 use wbxml_tokens::Writer;
@@ -74,19 +77,28 @@ fn put_head(counter: &mut Counter, header: &Header) -> Result<(), Never>
     put_header(counter, header)
 }
 
-/// How many bytes the canonical spelling of a message has, in steps linear in it.
+/// How many bytes the canonical spelling of a message of these parts has.
 #[tactic(auto, using(crate::proofs::Counts::given_counted, crate::proofs::Counts::canonical_counted))]
-pub fn length(message: &Message) -> u64
-    ensures { result ≡ up_to_most (length (canonical message.now)) }
+pub(crate) fn parts_length(header: &Header, body: &List<Command>, last: bool) -> u64
+    requires { CanBeSpelled header.now body.now }
+    ensures { result ≡ up_to_most (length
+        (canonical (record { header = header.now; body = body.now; last = last }))) }
 {
     let mut counter = Counter {
         count: PROLOGUE,
         page: 0,
     };
-    match put_message(&mut counter, message) {
+    match put_parts(&mut counter, header, body, last) {
         Ok(()) => counter.count,
         Err(never) => match never {},
     }
+}
+
+/// How many bytes the canonical spelling of a message has, in steps linear in it.
+pub fn length(message: &Message) -> u64
+    ensures { result ≡ up_to_most (length (canonical message.now)) }
+{
+    parts_length(message.header(), message.body(), message.last())
 }
 
 /// How many bytes stand before a message's body in canonical spelling: the prologue, the tag SyncML and the header; and the
@@ -116,6 +128,22 @@ pub fn command_length(page: u8, command: &Command) -> (u64, u8)
 {
     let mut counter = Counter { count: 0, page };
     match put_command(&mut counter, command) {
+        Ok(()) => (counter.count, counter.page),
+        Err(never) => match never {},
+    }
+}
+
+/// How many bytes a command has in canonical spelling, where it begins on a page and is numbered from a CmdID on; and the
+/// page after it. Nothing is numbered.
+#[tactic(auto, using(crate::proofs::Counts::given_counted))]
+pub fn numbered_length(page: u8, first: u32, command: &Command) -> (u64, u8)
+    requires short { HasShortItems command.now }
+    requires room { first + ids_in command.now < 2 ^ 32 }
+    ensures length { result.0 ≡ spelled_length 0 page (command_tokens (with_numbers first command.now)) }
+    ensures page { result.1 ≡ page_behind page (command_tokens (with_numbers first command.now)) }
+{
+    let mut counter = Counter { count: 0, page };
+    match put_command_from(&mut counter, command, first) {
         Ok(()) => (counter.count, counter.page),
         Err(never) => match never {},
     }

@@ -1,15 +1,18 @@
 // The canonical tokens of a whole message, given to a writer of any kind.
 ghost use Rattle.std.specs.Prelude.{◌≡◌, OnOk, IfSome};
+ghost use Rattle.std.specs.List.{AllByRecursion};
 ghost use Rattle.wbxml_tokens.specs.Spelling.{given};
-ghost use Rattle.syncml_types.specs.Message.{IsShortData};
+ghost use Rattle.syncml_types.specs.Message.{IsShortData, HasShortItems, CanBeSpelled};
 ghost use Rattle.syncml_types.specs.Canonical.{header_tokens, body_tokens, is_empty_body, message_tokens};
 
+use crate::command::Command;
 use crate::message::Message;
 use crate::put_command::put_commands;
 use crate::put_value::{
     put_flag, put_loc, put_number, put_option_cred, put_option_meta, put_option_text, put_text,
 };
 use crate::values::Header;
+use dm_base::List;
 use wbxml_tables::Element;
 use wbxml_tokens::Writer;
 
@@ -33,33 +36,48 @@ pub fn put_header<W: Writer>(w: &mut W, h: &Header) -> Result<(), W::Error>
     w.end()
 }
 
-fn is_bare_body(message: &Message) -> bool
-    ensures { result ≡ is_empty_body message.now }
+fn is_bare_body(body: &List<Command>, last: bool) -> bool
+    ensures { result ≡ is_empty_body body.now last }
 {
-    message.body().is_empty() && !message.last()
+    body.is_empty() && !last
 }
 
 /// Gives the body of a message. One without children is its tag alone.
 #[tactic(auto, using(crate::proofs::Given::given_append, crate::proofs::Bare::bare_body, crate::proofs::Bare::full_body))]
-pub fn put_body<W: Writer>(w: &mut W, message: &Message) -> Result<(), W::Error>
-    ensures { OnOk result (w.new ≡ given W.after w.old (body_tokens message.now)) }
+pub fn put_body<W: Writer>(w: &mut W, body: &List<Command>, last: bool) -> Result<(), W::Error>
+    requires { AllByRecursion HasShortItems body.now }
+    ensures { OnOk result (w.new ≡ given W.after w.old (body_tokens body.now last)) }
 {
-    if is_bare_body(message) {
+    if is_bare_body(body, last) {
         return w.tag(Element::ESyncBody, false);
     }
     w.tag(Element::ESyncBody, true)?;
-    put_commands(w, message.body())?;
-    put_flag(w, Element::EFinal, message.last())?;
+    put_commands(w, body)?;
+    put_flag(w, Element::EFinal, last)?;
     w.end()
 }
 
-/// Gives a whole message. This one traversal serves every writer.
+/// Gives a message by its parts. This one traversal serves every writer.
 #[tactic(auto, using(crate::proofs::Given::given_append), unfolding(crate::specs::Canonical::message_tokens))]
+pub fn put_parts<W: Writer>(
+    w: &mut W,
+    header: &Header,
+    body: &List<Command>,
+    last: bool,
+) -> Result<(), W::Error>
+    requires { CanBeSpelled header.now body.now }
+    ensures { OnOk result (w.new ≡ given W.after w.old
+        (message_tokens (record { header = header.now; body = body.now; last = last }))) }
+{
+    w.tag(Element::ESyncML, true)?;
+    put_header(w, header)?;
+    put_body(w, body, last)?;
+    w.end()
+}
+
+/// Gives a whole message.
 pub fn put_message<W: Writer>(w: &mut W, message: &Message) -> Result<(), W::Error>
     ensures { OnOk result (w.new ≡ given W.after w.old (message_tokens message.now)) }
 {
-    w.tag(Element::ESyncML, true)?;
-    put_header(w, message.header())?;
-    put_body(w, message)?;
-    w.end()
+    put_parts(w, message.header(), message.body(), message.last())
 }

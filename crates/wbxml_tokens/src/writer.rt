@@ -37,6 +37,15 @@ impl TokenWriter {
         })
     }
 
+    /// As `new`, with room for so many bytes in all, so that these are written without more memory.
+    pub fn with_room(alloc: Global, room: usize) -> Result<TokenWriter, Memory>
+        ensures { IfOk result (λ w. w ≡ record { bytes = prologue; page = 0 }) }
+    {
+        let mut bytes = Bytes::of_vec(Vec::with_capacity(alloc, room)?);
+        bytes.extend(&[0x03, 0xa4, 0x01, 0x6a, 0x00])?;
+        Ok(TokenWriter { bytes, page: 0 })
+    }
+
     /// All that was written.
     pub fn finish(self) -> Bytes
         ensures { result ≡ self.bytes }
@@ -130,6 +139,17 @@ mod tests {
     #[test]
     fn writes_a_bare_root(rt: HostRuntime) -> Result<(), Fail> {
         let mut w = TokenWriter::new(rt.alloc())?;
+        w.tag(Element::ESyncML, false)?;
+        assert_eq!(rt;
+            w.finish().as_slice(),
+            [0x03, 0xa4, 0x01, 0x6a, 0x00, 0x2d].as_slice()
+        );
+        Ok(())
+    }
+
+    #[test]
+    fn writes_into_its_room(rt: HostRuntime) -> Result<(), Fail> {
+        let mut w = TokenWriter::with_room(rt.alloc(), 6)?;
         w.tag(Element::ESyncML, false)?;
         assert_eq!(rt;
             w.finish().as_slice(),

@@ -21,7 +21,7 @@ lines_joined info o u v w x y z =
 pub returns : goal.returns
 returns c =
     lines_joined c.args.info.now c.args.out.now _ _ _ _ _ _ c.in_ok-extend.ensures.ok
-    (rw c.as_slice.ensures at c.in_ok-put_info_leaf.ensures)
+    (rw c.as_slice.ensures.value at c.in_ok-put_info_leaf.ensures)
     (rw c.as_slice-2.ensures at c.in_ok-put_info_leaf-2.ensures)
     (rw c.as_slice-3.ensures at c.in_ok-put_info_leaf-3.ensures)
     (rw c.as_slice-4.ensures at c.in_ok-put_info_leaf-4.ensures)

@@ -11,7 +11,7 @@ returns c = simp (
   c.in_ok-extend-2.ensures.ok,
   c.in_ok-extend.ensures.ok,
   c.as_slice.ensures,
-  c.as_slice-2.ensures,
+  c.as_slice-2.ensures.value,
   c.as_slice-3.ensures,
   append_assoc,
 )
