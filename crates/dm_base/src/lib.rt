@@ -21,5 +21,5 @@ pub use lines::{LineOut, LineReason, Lines};
 pub use list::List;
 pub use memory::{MemSink, MemSource};
 pub use outside::{Failed, Fault, Sink, Source, Stream, TakeError};
-pub use values::{Limits, Nonce, Reason, Refusal};
+pub use values::{Limits, Nonce};
 pub use wholes::{put_all, take_all};

@@ -90,9 +90,16 @@ impl Lister {
 impl Writer for Lister {
     type Error = Memory;
 
+    ghost use Rattle.std.specs.Prelude.{None, ⊤};
     ghost use Rattle.syncml_codec.specs.Listing.{listed_after};
 
     ghost after = { listed_after };
+
+    ghost refusal = { λ _ _. None };
+
+    ghost told = { λ _. None };
+
+    ghost left = { λ _ _. ⊤ };
 
     fn tag(&mut self, element: Element, content: bool) -> Result<(), Memory> {
         self.end_line()?;

@@ -2,7 +2,7 @@
 use Rattle.std.specs.Prelude.{◌≡◌, ◌↔◌, Bool, List, [], ◌∷◌, ◌++◌, IsTrue, Result, Ok, Err, IsOk, OnOk, IfOk}
 use Rattle.std.proofs.Common.{sym, ap, subst, ◌∙◌}
 use Rattle.dm_base.specs.declared.bytes.Memory.{Memory}
-use Rattle.dm_base.specs.declared.values.Reason.{Reason}
+use Rattle.wbxml_tokens.specs.declared.reason.Reason.{Reason}
 use Rattle.wbxml_tokens.specs.declared.token.Token.{Token}
 use Rattle.syncml_shape.specs.declared.outline.ShapeError.{ShapeError}
 use Rattle.syncml_shape.specs.declared.outline.ShapeError.TheVariants as error

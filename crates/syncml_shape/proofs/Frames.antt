@@ -1,8 +1,8 @@
 -- The step over the open elements with their names is the step over what may still come in them.
 use Rattle.std.specs.Prelude.{◌≡◌, Bool, true, false, if◌then◌else◌, List, [], ◌∷◌, Option, Some, None, IsTrue, Ok, Err, refl}
 use Rattle.std.proofs.Common.{sym, ap, subst, ◌∙◌}
-use Rattle.dm_base.specs.declared.values.Reason.{Reason}
-use Rattle.dm_base.specs.declared.values.Reason.TheVariants.{Misplaced}
+use Rattle.wbxml_tokens.specs.declared.reason.Reason.{Reason}
+use Rattle.wbxml_tokens.specs.declared.reason.Reason.TheVariants.{Misplaced}
 use Rattle.wbxml_tables.specs.declared.Element.{Element}
 use Rattle.wbxml_tokens.specs.declared.token.Token.{Token}
 use Rattle.wbxml_tokens.specs.declared.token.Token.TheVariants.{Tag, End, Text, Opaque}

@@ -1,7 +1,7 @@
 -- Tags that are refused for their name, and the first token that is refused.
 use Rattle.std.specs.Prelude.{◌≡◌, ℕ, Bool, true, false, not, ◌&&◌, ◌||◌, if◌then◌else◌, List, [], ◌∷◌, ◌++◌, length, Option, Some, None}
-use Rattle.dm_base.specs.declared.values.Reason.{Reason}
-use Rattle.dm_base.specs.declared.values.Reason.TheVariants.{Leftout, Nested, Misplaced}
+use Rattle.wbxml_tokens.specs.declared.reason.Reason.{Reason}
+use Rattle.wbxml_tokens.specs.declared.reason.Reason.TheVariants.{Leftout, Nested, Misplaced}
 use Rattle.wbxml_tables.specs.declared.Element.{Element}
 use Rattle.wbxml_tables.specs.declared.Element.TheVariants.{EAnchor, EArchive, EAtomic, ECred, EEMI, EField, EFieldLevel, EFilter, EFilterType, EFreeID, EFreeMem, ELang, ELast, EMap, EMapItem, EMem, EMove, ENext, ENoResults, ENumberOfChanges, EPut, ERecord, ESearch, ESequence, ESftDel, ESharedMem, ESourceParent, ESync, ESyncHdr, ETargetParent}
 use Rattle.wbxml_tokens.specs.declared.token.Token.{Token}

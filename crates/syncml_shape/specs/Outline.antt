@@ -1,6 +1,6 @@
 -- What an outline says of the tokens that it took, and what is answered of a whole list.
 use Rattle.std.specs.Prelude.{◌≡◌, ℕ, ◌+◌, List, [], ◌∷◌, map, reverse, Bool, true, false, Result, Ok, Err, IsOk}
-use Rattle.dm_base.specs.declared.values.Reason.{Reason}
+use Rattle.wbxml_tokens.specs.declared.reason.Reason.{Reason}
 use Rattle.wbxml_tokens.specs.declared.token.Token.{Token}
 use Rattle.syncml_shape.specs.declared.outline.Entry.{Entry}
 use Rattle.syncml_shape.specs.declared.outline.ShapeError.{ShapeError}

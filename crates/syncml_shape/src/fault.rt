@@ -2,7 +2,7 @@
 ghost use Rattle.std.specs.Prelude.{◌≡◌};
 ghost use Rattle.syncml_shape.specs.Faults.{is_left_out as is_left_out_of_profile, is_in, is_stray as is_stray_tag, is_nested as is_nested_tag, tag_fault as fault_of_tag};
 
-use dm_base::Reason;
+use wbxml_tokens::Reason;
 use wbxml_tables::Element;
 
 /// Whether this profile leaves the element out, wherever it stands.

@@ -1,7 +1,7 @@
 // The open elements of a document, over its tokens.
 ghost use Rattle.std.specs.Prelude.{◌≡◌, ◌↔◌, [], ◌∷◌, ◌++◌, List as ListOf, Err, IsTrue, OnOk, OnErr, IfOk};
 ghost use Rattle.wbxml_tokens.specs.declared.token.Token.TheVariants.{Tag, End, Text};
-ghost use Rattle.dm_base.specs.declared.values.Reason.{Reason as Why};
+ghost use Rattle.wbxml_tokens.specs.declared.reason.Reason.{Reason as Why};
 ghost use Rattle.wbxml_tokens.specs.declared.token.Token.{Token as Piece};
 ghost use Rattle.syncml_shape.specs.declared.outline.ShapeError.TheVariants.{Refused};
 ghost use Rattle.syncml_shape.specs.declared.outline.Verdict.{Verdict as Judgement};
@@ -14,11 +14,11 @@ ghost use Rattle.syncml_shape.specs.Outline.{frame_of, HasTaken, Judges, Opens, 
 use crate::fault::tag_fault;
 use crate::progress::Progress;
 use crate::rows::DOCUMENT;
-use dm_base::{List, Memory, Reason};
+use dm_base::{List, Memory};
 use std::alloc::Global;
 use std::marker::Model;
 use wbxml_tables::Element;
-use wbxml_tokens::Token;
+use wbxml_tokens::{Reason, Token};
 
 /// Why a token isn't taken.
 #[derive(Clone, Copy, Debug, PartialEq, Eq)]

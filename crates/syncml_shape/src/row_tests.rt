@@ -6,7 +6,7 @@ use crate::rows::{
 use crate::tests::Piece::{self, Bare, End, Open};
 use crate::tests::{HEAD, token_of};
 use crate::{Choice, Kind, Outline, Row, ShapeError};
-use dm_base::Reason;
+use wbxml_tokens::Reason;
 use std::alloc::Global;
 use std::test::Fail;
 use wbxml_tables::Element;

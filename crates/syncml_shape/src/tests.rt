@@ -1,6 +1,6 @@
 // Lists of tokens with their judgements. What the texts are plays no part here.
 use crate::{Place, Verdict, judge, place_of};
-use dm_base::{Bytes, Memory, Reason};
+use dm_base::{Bytes, Memory};
 use std::alloc::Global;
 use std::test::Fail;
 use wbxml_tables::Element;
@@ -11,7 +11,7 @@ use wbxml_tables::Element::{
     ESequence, ESessionID, ESize, ESource, ESourceRef, EStatus, ESyncBody, ESyncHdr, ESyncML,
     ETarget, EType, EVerDTD, EVerProto, EVersion,
 };
-use wbxml_tokens::Token;
+use wbxml_tokens::{Reason, Token};
 
 /// A token, whatever its text.
 #[derive(Clone, Copy)]

@@ -33,9 +33,16 @@ struct Counter {
 impl Writer for Counter {
     type Error = Never;
 
+    ghost use Rattle.std.specs.Prelude.{None, ⊤};
     ghost use Rattle.syncml_types.specs.Lengths.{counter_after};
 
     ghost after = { counter_after };
+
+    ghost refusal = { λ _ _. None };
+
+    ghost told = { λ _. None };
+
+    ghost left = { λ _ _. ⊤ };
 
     fn tag(&mut self, element: Element, content: bool) -> Result<(), Never> {
         let (page, _) = code_of(element);
