@@ -2,8 +2,8 @@
 ghost use Rattle.std.specs.Prelude.{◌≡◌};
 ghost use Rattle.syncml_shape.specs.Faults.{is_left_out as is_left_out_of_profile, is_in, is_stray as is_stray_tag, is_nested as is_nested_tag, tag_fault as fault_of_tag};
 
-use wbxml_tokens::Reason;
 use wbxml_tables::Element;
+use wbxml_tokens::Reason;
 
 /// Whether this profile leaves the element out, wherever it stands.
 pub fn is_left_out(element: Element) -> bool

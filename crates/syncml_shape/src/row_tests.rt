@@ -6,7 +6,6 @@ use crate::rows::{
 use crate::tests::Piece::{self, Bare, End, Open};
 use crate::tests::{HEAD, token_of};
 use crate::{Choice, Kind, Outline, Row, ShapeError};
-use wbxml_tokens::Reason;
 use std::alloc::Global;
 use std::test::Fail;
 use wbxml_tables::Element;
@@ -18,6 +17,7 @@ use wbxml_tables::Element::{
     ESessionID, ESftDel, ESharedMem, ESource, ESourceParent, EStatus, ESync, ESyncHdr, ESyncML,
     ETarget, ETargetParent, EVerDTD, EVerProto,
 };
+use wbxml_tokens::Reason;
 
 // An element that has just begun, behind the head or from the root on, and the rows of its children.
 struct Context {
