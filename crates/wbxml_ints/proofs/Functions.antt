@@ -1,9 +1,9 @@
 -- What stands at the front of bytes is the function of them.
-use Rattle.std.proofs.Common.{ℕ, zero, suc, ◌≡◌, ◌<◌, ◌≤◌, ◌^◌, ◌+◌, ◌*◌, ◌-◌, List, [], ◌∷◌, length, take, inl, inr, refl, sym, ap, ◌∙◌, arith}
+use Rattle.std.proofs.Common.{ℕ, zero, suc, ◌≡◌, ◌<◌, ◌≤◌, ◌^◌, ◌+◌, ◌*◌, ◌-◌, List, [], ◌∷◌, length, take, inl, inr, refl, sym, ap, ◌∙◌, subst, rules, arith}
 use Rattle.std.specs.Prelude.{Bool, true, false, nat_lt, if◌then◌else◌}
 use Rattle.wbxml_ints.specs.declared.Mb.{Mb}
 use Rattle.wbxml_ints.specs.declared.Mb.TheVariants as mb
-use Rattle.wbxml_ints.specs.Multibyte.{IsDigitsFrom, AllGoOn, whole_of, integer_from, integer_at, Finds}
+use Rattle.wbxml_ints.specs.Multibyte.{IsDigitsFrom, IsDigits, AreBytes, AllGoOn, whole_of, integer_from, integer_at, Finds}
 
 ends : (value used left b : ℕ) (bs : List ℕ) → b < 128 → integer_from value used (suc left) (b ∷ bs) ≡ whole_of (value * 128 + b) (suc used)
 ends value used left b bs small =
@@ -61,3 +61,52 @@ found_is_at bytes (mb.Value n k) h = sym (digits_lead bytes n 0 0 5 k h.0 h.1.0 
 found_is_at bytes mb.More h = sym (all_go_on bytes 0 0 5 h.0 h.1)
 found_is_at bytes mb.TooBig (inl h) = sym (no_end bytes 0 0 5 h.0 h.1)
 found_is_at bytes mb.TooBig (inr h) = sym (digits_lead bytes h.1 0 0 5 h.0 h.2 h.3 ∙ passes h.1 (0 + h.0) h.4)
+
+-- ---- the way back, over bytes
+
+-- digits that were read, so many of these bytes
+abbrev Digits : ℕ → ℕ → ℕ → ℕ → ℕ → List ℕ → Type 0
+Digits n m value used left bytes = (k : ℕ) × (m ≡ used + k) × (k ≤ length bytes) × IsDigitsFrom n value left (take k bytes) × (n < 2 ^ 32)
+
+value_is : (a b c d : ℕ) → mb.Value a b ≡ mb.Value c d → (a ≡ c) × (b ≡ d)
+value_is a b c d e = (cc, cc)
+
+digits_one : (value used left b n m : ℕ) (bs : List ℕ) (c : Bool) → nat_lt (value * 128 + b) (2 ^ 32) ≡ c → b < 128
+    → (if c then mb.Value (value * 128 + b) (suc used) else mb.TooBig) ≡ mb.Value n m → Digits n m value used (suc left) (b ∷ bs)
+digits_one value used left b n m bs true e small is =
+    let same = value_is (value * 128 + b) (suc used) n m is in
+    let fits_in : value * 128 + b < 2 ^ 32 = search rules in
+    (1, omega (arith, same.1), omega arith, (small, sym same.0), omega (arith, same.0, fits_in))
+digits_one value used left b n m bs false e small is = absurd cc
+
+digits_on : (value used left b n m : ℕ) (bs : List ℕ) → 128 ≤ b → b < 256 → Digits n m (value * 128 + (b - 128)) (suc used) left bs
+    → Digits n m value used (suc left) (b ∷ bs)
+digits_on value used left b n m [] low high (k, is, few, digits, small) = absurd (none k few digits)
+  where
+    none : (k : ℕ) → k ≤ 0 → IsDigitsFrom n (value * 128 + (b - 128)) left (take k []) → ⊥
+    none zero few h = absurd h
+    none (suc k) few h = omega (arith, few)
+digits_on value used left b n m (c ∷ cs) low high (zero, is, few, digits, small) = absurd digits
+digits_on value used left b n m (c ∷ cs) low high (suc k, is, few, digits, small) =
+    (suc (suc k), omega (arith, is), omega (arith, few), (low, high, digits), small)
+
+digits_read : (bytes : List ℕ) (value used left n m : ℕ) → AreBytes bytes → integer_from value used left bytes ≡ mb.Value n m → Digits n m value used left bytes
+digits_read bytes value used zero n m fit is = absurd cc
+digits_read [] value used (suc left) n m fit is = absurd cc
+digits_read (b ∷ bs) value used (suc left) n m fit is =
+    digits_first value used left b n m bs (nat_lt b 128) refl fit.0 is (digits_read bs (value * 128 + (b - 128)) (suc used) left n m fit.1)
+  where
+    digits_first : (value used left b n m : ℕ) (bs : List ℕ) (c : Bool) → nat_lt b 128 ≡ c → b < 256
+        → (if c then whole_of (value * 128 + b) (suc used) else integer_from (value * 128 + (b - 128)) (suc used) left bs) ≡ mb.Value n m
+        → (integer_from (value * 128 + (b - 128)) (suc used) left bs ≡ mb.Value n m → Digits n m (value * 128 + (b - 128)) (suc used) left bs)
+        → Digits n m value used (suc left) (b ∷ bs)
+    digits_first value used left b n m bs true e high is later =
+        digits_one value used left b n m bs (nat_lt (value * 128 + b) (2 ^ 32)) refl (search rules) is
+    digits_first value used left b n m bs false e high is later = digits_on value used left b n m bs (search rules) high (later is)
+
+-- the integer at the front of bytes is spelled there
+pub at_is_found : (bytes : List ℕ) (n used : ℕ) → AreBytes bytes → integer_at bytes ≡ mb.Value n used → Finds bytes (mb.Value n used)
+at_is_found bytes n used fit is =
+    let h = digits_read bytes 0 0 5 n used fit is in
+    let same : h.0 ≡ used = omega (arith, h.1) in
+    (omega (arith, h.2, same), (subst (λ k. IsDigits n (take k bytes)) same h.3, h.4))

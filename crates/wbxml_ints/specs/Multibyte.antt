@@ -52,6 +52,10 @@ integer_from value used (suc left) (b ∷ bs) =
 abbrev pub integer_at : List ℕ → Mb
 integer_at bytes = integer_from 0 0 5 bytes
 
+abbrev pub AreBytes : List ℕ → Type 0
+AreBytes [] = ⊤
+AreBytes (b ∷ bs) = (b < 256) × AreBytes bs
+
 -- one thing at most stands at the front of bytes
 abbrev pub OneIsFound : Type 0
 OneIsFound = (bytes : List ℕ) (x y : Mb) → Finds bytes x → Finds bytes y → x ≡ y

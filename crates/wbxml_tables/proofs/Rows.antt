@@ -32,6 +32,11 @@ found_in [] page code e h is = cc
 found_in (r ∷ rows) page code e h is =
     found_at r rows page code e (r.page == page && r.code == code) refl h (found_in rows page code e) is
 
+-- an element of a row has its page and its code
+pub row_is_right : (page code : ℕ) (e : Element) → element_at page code ≡ Some e → IsAt page code e
+unfolding element_at
+row_is_right page code e is = found_in (table.PROTOCOL.rows ++ table.META.rows) page code e rows_are_right is
+
 none_there : (o : Option Element) (page code : ℕ) → element_at page code ≡ o → ((e : Element) → IsAt page code e → ⊥) → None ≡ o
 unfolding element_at
 none_there None page code is none = refl

@@ -7,3 +7,7 @@ pub mod Loops
 pub mod Holding
 pub mod Beyond
 pub mod Queueing
+pub mod Spells
+pub mod Bodies
+pub mod Heads
+pub mod Documents

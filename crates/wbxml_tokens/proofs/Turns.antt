@@ -99,10 +99,10 @@ part_positive r bytes (switch page) p s = omega arith
 part_positive r bytes (token t size) p s = omega (arith, s.1, has_bytes r bytes (token t size) s.0 p s.3)
 
 -- a reader that holds nothing
-abbrev Between : Reader → List ℕ → Type 0
+abbrev pub Between : Reader → List ℕ → Type 0
 Between r bytes = (r.held ≡ []) × (is_whole r.extent ≡ false) × (r.place + length bytes ≤ most_bytes)
 
-walks_first : (r : Reader) (bytes : List ℕ) → Between r bytes → Walks (begun_by r) bytes bytes (found r bytes)
+pub walks_first : (r : Reader) (bytes : List ℕ) → Between r bytes → Walks (begun_by r) bytes bytes (found r bytes)
 walks_first r bytes b = walk bytes [] (begun_by r) refl b.0 b.1 (omega (arith, b.2)) (nothing r)
 
 holds_none : (r : Reader) (part : Front) → r.held ≡ [] → IsPart part → record (behind r part) { held = [] } ≡ behind r part
@@ -117,7 +117,7 @@ past_told r part e p =
     ap (λ h. record { tokens = tokens_of r.place part; refused = None; reader = h }) (holds_none r part e p)
     ∙ ap (λ t. record { tokens = t; refused = None; reader = behind r part }) (sym (append-nil (tokens_of r.place part)))
 
-of_walk : (r : Reader) (bytes : List ℕ) (part : Front) → IsPart part → Walks (begun_by r) bytes bytes part
+pub of_walk : (r : Reader) (bytes : List ℕ) (part : Front) → IsPart part → Walks (begun_by r) bytes bytes part
     → reads (begun_by r) bytes ≡ reads (past (begun_by r) part) (drop (size_of part) bytes)
 of_walk r bytes more p w = absurd p
 of_walk r bytes (wrong at reason) p w = absurd p
@@ -126,7 +126,7 @@ of_walk r bytes (switch page) p w = w
 of_walk r bytes (token t size) p w = w
 
 -- reading goes on behind a part
-after_part : (r : Reader) (bytes : List ℕ) (part : Front) → Between r bytes → IsPart part → found r bytes ≡ part
+pub after_part : (r : Reader) (bytes : List ℕ) (part : Front) → Between r bytes → IsPart part → found r bytes ≡ part
     → reads (begun_by r) bytes ≡ told (tokens_of r.place part) (reads (begun_by (behind r part)) (drop (size_of part) bytes))
 after_part r bytes part b p is =
     of_walk r bytes part p (subst (Walks (begun_by r) bytes bytes) is (walks_first r bytes b))

@@ -5,3 +5,4 @@ pub mod Reading
 pub mod Taking
 pub mod Parts
 pub mod Waiting
+pub mod Spelled

@@ -2,6 +2,7 @@
 #![tactic(auto)]
 
 mod extent;
+pub mod laws;
 mod part;
 mod prologue;
 mod queue;

@@ -1,0 +1,96 @@
+-- What bytes spell, as WBXML 1.3 has it (sections 5.1 to 5.8), with the choices of this profile; the reader is held to it.
+use Rattle.std.specs.Prelude.{◌≡◌, ◌+◌, ◌<◌, ◌≤◌, ◌⊎◌, ℕ, true, false, ⊤, List, [], ◌∷◌, ◌++◌, length, None}
+use Rattle.wbxml_ints.specs.Multibyte.{IsMultibyte, AreBytes}
+use Rattle.wbxml_tables.specs.Tables.{page_of}
+use Rattle.wbxml_tokens.specs.declared.token.Token.{Token}
+use Rattle.wbxml_tokens.specs.declared.token.Token.TheVariants.{Tag, End, Text, Opaque}
+use Rattle.wbxml_tokens.specs.declared.token.Placed.{Placed}
+use Rattle.wbxml_tokens.specs.declared.extent.Extent.{Extent}
+use Rattle.wbxml_tokens.specs.declared.extent.Extent.TheVariants as extents
+use Rattle.wbxml_tokens.specs.Spelling.{tag_byte}
+use Rattle.wbxml_tokens.specs.Fronts.{more, front, prologue_at, table_string, identifier_number, identifier_text, utf_8}
+use Rattle.wbxml_tokens.specs.Reading.{most_bytes, extent_after, is_whole, reading}
+
+abbrev pub HasNoZero : List ℕ → Type 0
+HasNoZero [] = ⊤
+HasNoZero (b ∷ bs) = (0 < b) × HasNoZero bs
+
+-- ---- tokens
+
+-- a text as it stands
+abbrev pub IsInline : List ℕ → List ℕ → Type 0
+IsInline text bytes = (bytes ≡ 0x03 ∷ text ++ 0x00 ∷ []) × HasNoZero text
+
+-- a text by its index in the string table
+abbrev pub IsOfTable : List ℕ → List ℕ → List ℕ → Type 0
+IsOfTable table text bytes =
+    (index : ℕ) × (number : List ℕ) × (bytes ≡ 0x83 ∷ number) × IsMultibyte index number × (index < length table) × (text ≡ table_string table index)
+
+-- the bytes spell the token, on this page and with this string table
+abbrev pub IsSpelled : ℕ → List ℕ → Token → List ℕ → Type 0
+IsSpelled page table (Tag e content) bytes = (page_of e ≡ page) × (bytes ≡ tag_byte e content ∷ [])
+IsSpelled page table End bytes = bytes ≡ 0x01 ∷ []
+IsSpelled page table (Text text) bytes = IsInline text bytes ⊎ IsOfTable table text bytes
+IsSpelled page table (Opaque content) bytes = (number : List ℕ) × (bytes ≡ 0xc3 ∷ number ++ content) × IsMultibyte (length content) number
+
+-- Bytes of the body spell the placed tokens: from a page, a place and an extent of the one element on, up to a page and an extent.
+-- A token or a page switch stands only where the element isn't whole.
+pub data SpellsTokens (table : List ℕ) : ℕ → ℕ → Extent → List Placed → List ℕ → ℕ → Extent → Type 0 where
+  none : {page at : ℕ} {extent : Extent} → SpellsTokens table page at extent [] [] page extent
+  switch : {page other at last : ℕ} {extent end : Extent} {tokens : List Placed} {bytes : List ℕ} → is_whole extent ≡ false → other < 2
+      → SpellsTokens table other (at + 2) extent tokens bytes last end → SpellsTokens table page at extent tokens (0x00 ∷ other ∷ bytes) last end
+  token : {page at last : ℕ} {extent end : Extent} {tokens : List Placed} (t : Token) (first rest bytes : List ℕ) → is_whole extent ≡ false
+      → IsSpelled page table t first → SpellsTokens table page (at + length first) (extent_after extent t) tokens rest last end → bytes ≡ first ++ rest
+      → SpellsTokens table page at extent (record { at = at; token = t } ∷ tokens) bytes last end
+
+-- ---- the prologue
+
+-- the public identifier of SyncML 1.2: its number, or the number 0 and the index of its text in the string table
+abbrev pub IsIdentifier : List ℕ → List ℕ → Type 0
+IsIdentifier table bytes =
+    IsMultibyte identifier_number bytes
+    ⊎ ((zero : List ℕ) × (number : List ℕ) × (index : ℕ) × (bytes ≡ zero ++ number) × IsMultibyte 0 zero × IsMultibyte index number × (index < length table)
+    × (table_string table index ≡ identifier_text))
+
+-- the bytes are a prologue with this string table
+pub record IsPrologue (table bytes : List ℕ) : Type 0 where
+  pub version : ℕ
+  pub identifier : List ℕ
+  pub charset : List ℕ
+  pub count : List ℕ
+  pub is_version : (1 ≤ version) × (version ≤ 3)
+  pub is_identifier : IsIdentifier table identifier
+  pub is_charset : IsMultibyte utf_8 charset
+  pub is_count : IsMultibyte (length table) count
+  pub whole : bytes ≡ version ∷ identifier ++ (charset ++ (count ++ table))
+
+-- ---- documents
+
+-- The bytes are a prologue, then bytes that spell the placed tokens, then a part that isn't whole; or all of them are of a
+-- prologue that isn't whole.
+pub record IsReadSo (bytes : List ℕ) (tokens : List Placed) : Type 0 where
+  pub table : List ℕ
+  pub prologue : List ℕ
+  pub body : List ℕ
+  pub rest : List ℕ
+  pub page : ℕ
+  pub extent : Extent
+  pub whole : bytes ≡ prologue ++ (body ++ rest)
+  pub is_prologue : IsPrologue table prologue
+  pub spells : SpellsTokens table 0 (length prologue) extents.Before tokens body page extent
+  pub begun : front page table rest ≡ more
+  pub ended : is_whole extent ≡ true → rest ≡ []
+
+-- What spells tokens is read as them, in a document that isn't too long: they are read, with their places, and nothing is refused.
+abbrev pub SpelledIsRead : Type 0
+SpelledIsRead =
+    (table prologue body : List ℕ) (tokens : List Placed) (page : ℕ) (extent : Extent) → IsPrologue table prologue
+    → SpellsTokens table 0 (length prologue) extents.Before tokens body page extent → length (prologue ++ body) ≤ most_bytes
+    → ((reading (prologue ++ body)).tokens ≡ tokens) × ((reading (prologue ++ body)).refused ≡ None)
+    × ((reading (prologue ++ body)).reader.extent ≡ extent)
+
+-- What is read, where nothing is refused, is spelled by the bytes up to a part that isn't whole.
+abbrev pub ReadIsSpelled : Type 0
+ReadIsSpelled =
+    (bytes : List ℕ) → AreBytes bytes → length bytes ≤ most_bytes → (reading bytes).refused ≡ None
+    → IsReadSo bytes (reading bytes).tokens ⊎ (((reading bytes).tokens ≡ []) × (prologue_at bytes ≡ more))

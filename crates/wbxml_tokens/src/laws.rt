@@ -1,0 +1,16 @@
+// What is read of bytes, and what they spell.
+ghost use Rattle.wbxml_tokens.specs.Spelled.{SpelledIsRead, ReadIsSpelled};
+
+/// A law: of a document that has at most 65,536 bytes, and whose prologue and body spell tokens with their places, exactly
+/// these are read, and nothing is refused.
+#[tactic(auto, using(crate::proofs::Documents::spelled_is_read))]
+pub fn spelled_is_read()
+    ensures { SpelledIsRead }
+{}
+
+/// A law: where nothing is refused, the tokens that are read are spelled by the bytes, from a whole prologue up to a part that
+/// isn't whole; or a prologue has begun and isn't whole.
+#[tactic(auto, using(crate::proofs::Documents::read_is_spelled))]
+pub fn read_is_spelled()
+    ensures { ReadIsSpelled }
+{}
