@@ -1,9 +1,9 @@
 -- What stands at the front of bytes is the function of them.
-use Rattle.std.proofs.Common.{ℕ, zero, suc, ◌≡◌, ◌<◌, ◌≤◌, ◌^◌, ◌+◌, ◌*◌, ◌-◌, List, [], ◌∷◌, length, take, inl, inr, refl, sym, ap, ◌∙◌, subst, rules, arith}
+use Rattle.std.proofs.Common.{ℕ, zero, suc, ◌≡◌, ◌<◌, ◌≤◌, ◌^◌, ◌+◌, ◌*◌, ◌-◌, List, [], ◌∷◌, length, take, inl, inr, ◌⊎◌, refl, sym, ap, ◌∙◌, subst, rules, arith}
 use Rattle.std.specs.Prelude.{Bool, true, false, nat_lt, if◌then◌else◌}
 use Rattle.wbxml_ints.specs.declared.Mb.{Mb}
 use Rattle.wbxml_ints.specs.declared.Mb.TheVariants as mb
-use Rattle.wbxml_ints.specs.Multibyte.{IsDigitsFrom, IsDigits, AreBytes, AllGoOn, whole_of, integer_from, integer_at, Finds}
+use Rattle.wbxml_ints.specs.Multibyte.{IsDigitsFrom, IsDigits, AreBytes, AllGoOn, whole_of, integer_from, integer_at, IsTooBig, Finds}
 
 ends : (value used left b : ℕ) (bs : List ℕ) → b < 128 → integer_from value used (suc left) (b ∷ bs) ≡ whole_of (value * 128 + b) (suc used)
 ends value used left b bs small =
@@ -110,3 +110,38 @@ at_is_found bytes n used fit is =
     let h = digits_read bytes 0 0 5 n used fit is in
     let same : h.0 ≡ used = omega (arith, h.1) in
     (omega (arith, h.2, same), (subst (λ k. IsDigits n (take k bytes)) same h.3, h.4))
+
+-- bytes that go on, or digits past 32 bits
+abbrev Passes : ℕ → ℕ → List ℕ → Type 0
+Passes value left bytes =
+    ((left ≤ length bytes) × AllGoOn (take left bytes))
+    ⊎ ((k : ℕ) × (n : ℕ) × (k ≤ length bytes) × IsDigitsFrom n value left (take k bytes) × (2 ^ 32 ≤ n))
+
+passes_one : (value used left b : ℕ) (bs : List ℕ) (c : Bool) → nat_lt (value * 128 + b) (2 ^ 32) ≡ c → b < 128
+    → (if c then mb.Value (value * 128 + b) (suc used) else mb.TooBig) ≡ mb.TooBig → Passes value (suc left) (b ∷ bs)
+passes_one value used left b bs true e small is = absurd cc
+passes_one value used left b bs false e small is =
+    let above : 2 ^ 32 ≤ value * 128 + b = search rules in inr (1, value * 128 + b, omega arith, (small, refl), above)
+
+passes_on : (value left b : ℕ) (bs : List ℕ) → 128 ≤ b → b < 256 → Passes (value * 128 + (b - 128)) left bs → Passes value (suc left) (b ∷ bs)
+passes_on value left b bs low high (inl (few, all)) = inl (omega (arith, few), (low, all))
+passes_on value left b [] low high (inr (zero, n, few, digits, large)) = absurd digits
+passes_on value left b [] low high (inr (suc k, n, few, digits, large)) = absurd (omega (arith, few))
+passes_on value left b (c ∷ cs) low high (inr (zero, n, few, digits, large)) = absurd digits
+passes_on value left b (c ∷ cs) low high (inr (suc k, n, few, digits, large)) = inr (suc (suc k), n, omega (arith, few), (low, high, digits), large)
+
+passes_read : (bytes : List ℕ) (value used left : ℕ) → AreBytes bytes → integer_from value used left bytes ≡ mb.TooBig → Passes value left bytes
+passes_read bytes value used zero fit is = inl (omega arith, tt)
+passes_read [] value used (suc left) fit is = absurd cc
+passes_read (b ∷ bs) value used (suc left) fit is =
+    passes_first value used left b bs (nat_lt b 128) refl fit.0 is (passes_read bs (value * 128 + (b - 128)) (suc used) left fit.1)
+  where
+    passes_first : (value used left b : ℕ) (bs : List ℕ) (c : Bool) → nat_lt b 128 ≡ c → b < 256
+        → (if c then whole_of (value * 128 + b) (suc used) else integer_from (value * 128 + (b - 128)) (suc used) left bs) ≡ mb.TooBig
+        → (integer_from (value * 128 + (b - 128)) (suc used) left bs ≡ mb.TooBig → Passes (value * 128 + (b - 128)) left bs) → Passes value (suc left) (b ∷ bs)
+    passes_first value used left b bs true e high is later =
+        passes_one value used left b bs (nat_lt (value * 128 + b) (2 ^ 32)) refl (search rules) is
+    passes_first value used left b bs false e high is later = passes_on value left b bs (search rules) high (later is)
+
+pub big_is_found : (bytes : List ℕ) → AreBytes bytes → integer_at bytes ≡ mb.TooBig → IsTooBig bytes
+big_is_found bytes fit is = passes_read bytes 0 0 5 fit is

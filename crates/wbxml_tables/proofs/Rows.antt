@@ -37,6 +37,14 @@ pub row_is_right : (page code : ℕ) (e : Element) → element_at page code ≡ 
 unfolding element_at
 row_is_right page code e is = found_in (table.PROTOCOL.rows ++ table.META.rows) page code e rows_are_right is
 
+-- no row is found where no element is
+pub no_row : (page code : ℕ) → ((e : Element) → IsAt page code e → ⊥) → element_at page code ≡ None
+no_row page code none = none_by (element_at page code) refl
+  where
+    none_by : (o : Option Element) → element_at page code ≡ o → o ≡ None
+    none_by None is = refl
+    none_by (Some e) is = absurd (none e (row_is_right page code e is))
+
 none_there : (o : Option Element) (page code : ℕ) → element_at page code ≡ o → ((e : Element) → IsAt page code e → ⊥) → None ≡ o
 unfolding element_at
 none_there None page code is none = refl

@@ -11,3 +11,4 @@ pub mod Spells
 pub mod Bodies
 pub mod Heads
 pub mod Documents
+pub mod Wrongs

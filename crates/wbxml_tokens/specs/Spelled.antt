@@ -1,7 +1,10 @@
 -- What bytes spell, as WBXML 1.3 has it (sections 5.1 to 5.8), with the choices of this profile; the reader is held to it.
-use Rattle.std.specs.Prelude.{◌≡◌, ◌+◌, ◌<◌, ◌≤◌, ◌⊎◌, ℕ, true, false, ⊤, List, [], ◌∷◌, ◌++◌, length, None}
-use Rattle.wbxml_ints.specs.Multibyte.{IsMultibyte, AreBytes}
-use Rattle.wbxml_tables.specs.Tables.{page_of}
+use Rattle.std.specs.Prelude.{◌≡◌, ◌+◌, ◌%◌, ◌<◌, ◌≤◌, ◌⊎◌, take, ℕ, true, false, ⊤, List, [], ◌∷◌, ◌++◌, length, None}
+use Rattle.wbxml_ints.specs.Multibyte.{IsMultibyte, IsTooBig, AreBytes}
+use Rattle.wbxml_tables.specs.declared.Element.{Element}
+use Rattle.wbxml_tables.specs.Tables.{page_of, IsAt}
+use Rattle.wbxml_tokens.specs.declared.reason.Reason.{Reason}
+use Rattle.wbxml_tokens.specs.declared.reason.Reason.TheVariants as reasons
 use Rattle.wbxml_tokens.specs.declared.token.Token.{Token}
 use Rattle.wbxml_tokens.specs.declared.token.Token.TheVariants.{Tag, End, Text, Opaque}
 use Rattle.wbxml_tokens.specs.declared.token.Placed.{Placed}
@@ -94,3 +97,27 @@ abbrev pub ReadIsSpelled : Type 0
 ReadIsSpelled =
     (bytes : List ℕ) → AreBytes bytes → length bytes ≤ most_bytes → (reading bytes).refused ≡ None
     → IsReadSo bytes (reading bytes).tokens ⊎ (((reading bytes).tokens ≡ []) × (prologue_at bytes ≡ more))
+
+-- ---- refusals
+
+-- a byte that begins no token: entities, literals, extensions, processing instructions, and tags with attributes
+abbrev pub IsNoToken : ℕ → Type 0
+IsNoToken b =
+    ((0x80 ≤ b) × (b ≡ 0x83 → ⊥) × (b ≡ 0xc3 → ⊥))
+    ⊎ ((b < 0x80) × (b % 0x40 < 5) × (b ≡ 0x00 → ⊥) × (b ≡ 0x01 → ⊥) × (b ≡ 0x03 → ⊥))
+
+-- a tag whose code no element has on this page
+abbrev pub IsNoTag : ℕ → ℕ → Type 0
+IsNoTag page b = (b < 0x80) × (5 ≤ b % 0x40) × ((e : Element) → IsAt page (b % 0x40) e → ⊥)
+
+-- why the part at the front of bytes of the body is refused, at its first byte
+abbrev pub IsWrong : ℕ → List ℕ → List ℕ → Reason → Type 0
+IsWrong page table bytes reasons.Token = (b : ℕ) × (rest : List ℕ) × (bytes ≡ b ∷ rest) × IsNoToken b
+IsWrong page table bytes reasons.Tag =
+    ((other : ℕ) × (rest : List ℕ) × (bytes ≡ 0x00 ∷ other ∷ rest) × (2 ≤ other))
+    ⊎ ((b : ℕ) × (rest : List ℕ) × (bytes ≡ b ∷ rest) × IsNoTag page b)
+IsWrong page table bytes reasons.Integer =
+    (b : ℕ) × (rest : List ℕ) × (bytes ≡ b ∷ rest) × ((b ≡ 0x83) ⊎ (b ≡ 0xc3)) × IsTooBig rest
+IsWrong page table bytes reasons.Index =
+    (rest : List ℕ) × (index : ℕ) × (used : ℕ) × (bytes ≡ 0x83 ∷ rest) × (used ≤ length rest) × IsMultibyte index (take used rest) × (length table ≤ index)
+IsWrong page table bytes other = ⊥
