@@ -1,17 +1,15 @@
 -- What is refused at the front of bytes of the body.
-use Rattle.std.proofs.Common.{ℕ, zero, suc, ◌≡◌, ◌<◌, ◌≤◌, ◌+◌, ◌%◌, List, [], ◌∷◌, ◌++◌, length, take, drop, refl, sym, ap, ◌∙◌, subst, arith, rules, inl, inr}
-use Rattle.std.specs.Prelude.{◌==◌, ◌||◌, Bool, true, false, if◌then◌else◌, nat_lt, nat_le, Option, Some, None, ⊤, ◌⊎◌}
-use Rattle.wbxml_ints.specs.declared.Mb.{Mb}
+use Rattle.std.proofs.Common.{ℕ, ◌≡◌, ◌≤◌, ◌+◌, ◌%◌, List, ◌∷◌, length, refl, sym, ap, ◌∙◌, arith, rules, inl, inr}
+use Rattle.std.specs.Prelude.{◌==◌, Bool, true, false, if◌then◌else◌, nat_lt, nat_le, None}
 use Rattle.wbxml_ints.specs.declared.Mb.TheVariants as mb
-use Rattle.wbxml_ints.specs.Multibyte.{IsMultibyte, IsTooBig, AreBytes, Finds, integer_at}
-use Rattle.wbxml_ints.proofs.Functions.{found_is_at, at_is_found, big_is_found}
-use Rattle.wbxml_tables.specs.declared.Element.{Element}
-use Rattle.wbxml_tables.specs.Tables.{element_at, IsAt}
-use Rattle.wbxml_tables.proofs.Rows.{row_is_right, no_row}
+use Rattle.wbxml_ints.specs.Multibyte.{IsTooBig, integer_at}
+use Rattle.wbxml_ints.proofs.Functions.{found_is_at}
+use Rattle.wbxml_tables.specs.Tables.{element_at}
+use Rattle.wbxml_tables.proofs.Rows.{no_row}
 use Rattle.wbxml_tokens.specs.declared.reason.Reason.{Reason}
 use Rattle.wbxml_tokens.specs.declared.reason.Reason.TheVariants as reasons
-use Rattle.wbxml_tokens.specs.declared.token.Token.TheVariants.{Tag, End, Text, Opaque}
-use Rattle.wbxml_tokens.specs.Fronts.{Front, more, wrong, head, switch, token, until_zero, table_string, integer_then, switch_in, text_in, table_text_in, opaque_in, tag_in, tag_of, front}
+use Rattle.wbxml_tokens.specs.declared.token.Token.TheVariants.{Text}
+use Rattle.wbxml_tokens.specs.Fronts.{wrong, switch, token, table_string, integer_then, table_text_in, opaque_in, front}
 use Rattle.wbxml_tokens.specs.Spelled.{IsNoToken, IsNoTag, IsWrong}
 
 -- ---- what is wrong there is refused

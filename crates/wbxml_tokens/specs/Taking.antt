@@ -4,6 +4,8 @@ use Rattle.wbxml_tokens.specs.declared.reason.Reason.{Reason}
 use Rattle.wbxml_tokens.specs.declared.reason.Refusal.{Refusal}
 use Rattle.wbxml_tokens.specs.declared.reason.FeedError.{FeedError}
 use Rattle.wbxml_tokens.specs.declared.reason.FeedError.TheVariants as errors
+use Rattle.wbxml_tokens.specs.declared.spot.Stop.{Stop}
+use Rattle.wbxml_tokens.specs.declared.spot.Stop.TheVariants as stops
 use Rattle.wbxml_tokens.specs.declared.token.Token.{Token}
 use Rattle.wbxml_tokens.specs.declared.token.Placed.{Placed}
 use Rattle.wbxml_tokens.specs.Fronts.{Front, more, wrong}
@@ -82,10 +84,19 @@ GivesPart k left (Ok size) old new w v part =
 GivesPart k left (Err (errors.Refused f)) old new w v part = (Refuses old.place part f × (v ≡ w)) ⊎ (taken k w (tokens_of old.place part) ≡ Err f)
 GivesPart k left (Err errors.Memory) old new w v part = StopsAmong k left w v (tokens_of old.place part)
 
--- the error of a taker that tells this of the token at a place
-abbrev pub error_of : ℕ → Option Reason → FeedError
-error_of place (Some reason) = errors.Refused (record { at = place; reason = reason })
-error_of place None = errors.Memory
+-- why a taker stops that tells this of a token
+abbrev pub stop_of : Option Reason → Stop
+stop_of (Some reason) = stops.Refused reason
+stop_of None = stops.Memory
+
+-- the same as an error, at a place
+abbrev pub stop_at : ℕ → Stop → FeedError
+stop_at place (stops.Refused reason) = errors.Refused (record { at = place; reason = reason })
+stop_at place stops.Memory = errors.Memory
+
+abbrev pub told_at : ℕ → Result ℕ Stop → Result ℕ FeedError
+told_at place (Ok n) = Ok n
+told_at place (Err stop) = Err (stop_at place stop)
 
 -- what reading a part without tokens gives
 abbrev pub GivesNoToken : Result ℕ FeedError → Reader → Reader → Front → Type 0

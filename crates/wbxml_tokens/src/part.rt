@@ -1,5 +1,5 @@
 // The token or the page switch at the front of bytes, read and handed on.
-ghost use Rattle.std.specs.Prelude.{◌≡◌, ◌<◌, ◌≤◌, ◌+◌, ◌∷◌, [], OnOk, ◌%◌, ◌^◌, ◌-◌, ◌||◌, ℕ, List, length, nat_le, nat_lt, if◌then◌else◌};
+ghost use Rattle.std.specs.Prelude.{◌≡◌, ◌<◌, ◌≤◌, ◌+◌, ◌∷◌, [], OnOk, OnErr, ◌%◌, ◌^◌, ◌-◌, ◌||◌, ℕ, List, length, nat_le, nat_lt, if◌then◌else◌};
 ghost use Rattle.wbxml_ints.specs.Multibyte.{integer_at};
 ghost use Rattle.wbxml_tables.specs.Tables.{element_at};
 ghost use Rattle.wbxml_tokens.specs.declared.reason.Reason.TheVariants as reasons;
@@ -7,11 +7,11 @@ ghost use Rattle.wbxml_tokens.specs.declared.token.Token.TheVariants as pieces;
 ghost use Rattle.wbxml_tokens.specs.Fronts as Spec;
 ghost use Rattle.wbxml_tokens.specs.Fronts.{front, until_zero, table_string};
 ghost use Rattle.wbxml_tokens.specs.Reading.{depth_of};
-ghost use Rattle.wbxml_tokens.specs.Taking.{taking, GivesPart};
+ghost use Rattle.wbxml_tokens.specs.Taking.{taking, told_at, GivesPart};
 ghost use Rattle.wbxml_tokens.specs.Parts.{reader_at, HasRoom};
 
-use crate::reason::{FeedError, Reason};
-use crate::spot::{Spot, error_of, refused};
+use crate::reason::Reason;
+use crate::spot::{Spot, Stop, stop_of};
 use crate::token::Taker;
 use memchr::memchr;
 use wbxml_ints::{Mb, read_mb};
@@ -35,12 +35,13 @@ fn hand_tag<T: Taker>(
     content: bool,
     size: usize,
     taker: &mut T,
-) -> Result<usize, FeedError>
+) -> Result<usize, Stop>
     requires room { HasRoom spot.old size }
     requires some { 0 < size }
-    ensures gives { (table : List ℕ) → GivesPart (taking T.placed T.after T.refusal) T.left result
+    ensures gives { (table : List ℕ) → GivesPart (taking T.placed T.after T.refusal) T.left (told_at spot.old.place result)
         (reader_at spot.old table) (reader_at spot.new table) taker.old taker.new (Spec.token (pieces.Tag element content) size) }
     ensures room { OnOk result (depth_of spot.new.extent ≤ spot.new.place) }
+    ensures place { OnErr result (spot.new.place ≡ spot.old.place) }
 {
     taker.place(spot.place);
     match taker.tag(element, content) {
@@ -49,17 +50,18 @@ fn hand_tag<T: Taker>(
             spot.place += size as u64;
             Ok(size)
         }
-        Err(error) => Err(error_of::<T>(spot.place, error)),
+        Err(error) => Err(stop_of::<T>(error)),
     }
 }
 
 // Hands on an END.
-fn hand_end<T: Taker>(spot: &mut Spot, size: usize, taker: &mut T) -> Result<usize, FeedError>
+fn hand_end<T: Taker>(spot: &mut Spot, size: usize, taker: &mut T) -> Result<usize, Stop>
     requires room { HasRoom spot.old size }
     requires some { 0 < size }
-    ensures gives { (table : List ℕ) → GivesPart (taking T.placed T.after T.refusal) T.left result
+    ensures gives { (table : List ℕ) → GivesPart (taking T.placed T.after T.refusal) T.left (told_at spot.old.place result)
         (reader_at spot.old table) (reader_at spot.new table) taker.old taker.new (Spec.token pieces.End size) }
     ensures room { OnOk result (depth_of spot.new.extent ≤ spot.new.place) }
+    ensures place { OnErr result (spot.new.place ≡ spot.old.place) }
 {
     taker.place(spot.place);
     match taker.end() {
@@ -68,7 +70,7 @@ fn hand_end<T: Taker>(spot: &mut Spot, size: usize, taker: &mut T) -> Result<usi
             spot.place += size as u64;
             Ok(size)
         }
-        Err(error) => Err(error_of::<T>(spot.place, error)),
+        Err(error) => Err(stop_of::<T>(error)),
     }
 }
 
@@ -78,12 +80,13 @@ fn hand_text<T: Taker>(
     text: &[u8],
     size: usize,
     taker: &mut T,
-) -> Result<usize, FeedError>
+) -> Result<usize, Stop>
     requires room { HasRoom spot.old size }
     requires some { 0 < size }
-    ensures gives { (table : List ℕ) → GivesPart (taking T.placed T.after T.refusal) T.left result
+    ensures gives { (table : List ℕ) → GivesPart (taking T.placed T.after T.refusal) T.left (told_at spot.old.place result)
         (reader_at spot.old table) (reader_at spot.new table) taker.old taker.new (Spec.token (pieces.Text text.now) size) }
     ensures room { OnOk result (depth_of spot.new.extent ≤ spot.new.place) }
+    ensures place { OnErr result (spot.new.place ≡ spot.old.place) }
 {
     taker.place(spot.place);
     match taker.text(text) {
@@ -92,7 +95,7 @@ fn hand_text<T: Taker>(
             spot.place += size as u64;
             Ok(size)
         }
-        Err(error) => Err(error_of::<T>(spot.place, error)),
+        Err(error) => Err(stop_of::<T>(error)),
     }
 }
 
@@ -102,13 +105,14 @@ fn hand_opaque<T: Taker>(
     bytes: &[u8],
     size: usize,
     taker: &mut T,
-) -> Result<usize, FeedError>
+) -> Result<usize, Stop>
     requires room { HasRoom spot.old size }
     requires some { 0 < size }
     requires short { length bytes.now < 2 ^ 32 }
-    ensures gives { (table : List ℕ) → GivesPart (taking T.placed T.after T.refusal) T.left result
+    ensures gives { (table : List ℕ) → GivesPart (taking T.placed T.after T.refusal) T.left (told_at spot.old.place result)
         (reader_at spot.old table) (reader_at spot.new table) taker.old taker.new (Spec.token (pieces.Opaque bytes.now) size) }
     ensures room { OnOk result (depth_of spot.new.extent ≤ spot.new.place) }
+    ensures place { OnErr result (spot.new.place ≡ spot.old.place) }
 {
     taker.place(spot.place);
     match taker.opaque(bytes) {
@@ -117,31 +121,33 @@ fn hand_opaque<T: Taker>(
             spot.place += size as u64;
             Ok(size)
         }
-        Err(error) => Err(error_of::<T>(spot.place, error)),
+        Err(error) => Err(stop_of::<T>(error)),
     }
 }
 // A byte that begins no other token.
-fn tag<T: Taker>(spot: &mut Spot, byte: u8, taker: &mut T) -> Result<usize, FeedError>
+fn tag<T: Taker>(spot: &mut Spot, byte: u8, taker: &mut T) -> Result<usize, Stop>
     requires room { HasRoom spot.old 1 }
-    ensures gives { (table : List ℕ) → GivesPart (taking T.placed T.after T.refusal) T.left result
+    ensures gives { (table : List ℕ) → GivesPart (taking T.placed T.after T.refusal) T.left (told_at spot.old.place result)
         (reader_at spot.old table) (reader_at spot.new table) taker.old taker.new (Spec.tag_of spot.old.page byte) }
     ensures room { OnOk result (depth_of spot.new.extent ≤ spot.new.place) }
+    ensures place { OnErr result (spot.new.place ≡ spot.old.place) }
 {
     if byte >= 0x80 || byte % 0x40 < 5 {
-        return Err(refused(spot.place, Reason::Token));
+        return Err(Stop::Refused(Reason::Token));
     }
     match element_of(spot.page, byte % 0x40) {
-        None => Err(refused(spot.place, Reason::Tag)),
+        None => Err(Stop::Refused(Reason::Tag)),
         Some(element) => hand_tag(spot, element, byte >= 0x40, 1, taker),
     }
 }
 
 // A text that ends with the byte 0.
-fn text<T: Taker>(spot: &mut Spot, bytes: &[u8], taker: &mut T) -> Result<usize, FeedError>
+fn text<T: Taker>(spot: &mut Spot, bytes: &[u8], taker: &mut T) -> Result<usize, Stop>
     requires room { HasRoom spot.old (length bytes.now + 1) }
-    ensures gives { (table : List ℕ) → GivesPart (taking T.placed T.after T.refusal) T.left result
+    ensures gives { (table : List ℕ) → GivesPart (taking T.placed T.after T.refusal) T.left (told_at spot.old.place result)
         (reader_at spot.old table) (reader_at spot.new table) taker.old taker.new (Spec.text_in (until_zero bytes.now) bytes.now) }
     ensures room { OnOk result (depth_of spot.new.extent ≤ spot.new.place) }
+    ensures place { OnErr result (spot.new.place ≡ spot.old.place) }
 {
     let text = before_zero(bytes);
     if text.len() < bytes.len() {
@@ -166,37 +172,39 @@ fn table_text<T: Taker>(
     table: &[u8],
     bytes: &[u8],
     taker: &mut T,
-) -> Result<usize, FeedError>
+) -> Result<usize, Stop>
     requires room { HasRoom spot.old (length bytes.now + 1) }
-    ensures gives { GivesPart (taking T.placed T.after T.refusal) T.left result
+    ensures gives { GivesPart (taking T.placed T.after T.refusal) T.left (told_at spot.old.place result)
         (reader_at spot.old table.now) (reader_at spot.new table.now) taker.old taker.new
         (Spec.integer_then 0 1 (integer_at bytes.now) bytes.now (Spec.table_text_in table.now)) }
     ensures room { OnOk result (depth_of spot.new.extent ≤ spot.new.place) }
+    ensures place { OnErr result (spot.new.place ≡ spot.old.place) }
 {
     match read_mb(bytes) {
         Mb::More => Ok(0),
-        Mb::TooBig => Err(refused(spot.place, Reason::Integer)),
+        Mb::TooBig => Err(Stop::Refused(Reason::Integer)),
         Mb::Value { number, used } => {
             let index = number as usize;
             if index < table.len() {
                 hand_text(spot, string_at(table, index), 1 + used, taker)
             } else {
-                Err(refused(spot.place, Reason::Index))
+                Err(Stop::Refused(Reason::Index))
             }
         }
     }
 }
 
 // Bytes behind their length.
-fn opaque<T: Taker>(spot: &mut Spot, bytes: &[u8], taker: &mut T) -> Result<usize, FeedError>
+fn opaque<T: Taker>(spot: &mut Spot, bytes: &[u8], taker: &mut T) -> Result<usize, Stop>
     requires room { HasRoom spot.old (length bytes.now + 1) }
-    ensures gives { (table : List ℕ) → GivesPart (taking T.placed T.after T.refusal) T.left result
+    ensures gives { (table : List ℕ) → GivesPart (taking T.placed T.after T.refusal) T.left (told_at spot.old.place result)
         (reader_at spot.old table) (reader_at spot.new table) taker.old taker.new (Spec.integer_then 0 1 (integer_at bytes.now) bytes.now Spec.opaque_in) }
     ensures room { OnOk result (depth_of spot.new.extent ≤ spot.new.place) }
+    ensures place { OnErr result (spot.new.place ≡ spot.old.place) }
 {
     match read_mb(bytes) {
         Mb::More => Ok(0),
-        Mb::TooBig => Err(refused(spot.place, Reason::Integer)),
+        Mb::TooBig => Err(Stop::Refused(Reason::Integer)),
         Mb::Value { number, used } => {
             let count = number as usize;
             let (_, from) = bytes.split_at(used);
@@ -217,11 +225,12 @@ pub(crate) fn part<T: Taker>(
     table: &[u8],
     bytes: &[u8],
     taker: &mut T,
-) -> Result<usize, FeedError>
+) -> Result<usize, Stop>
     requires room { HasRoom spot.old (length bytes.now) }
-    ensures gives { GivesPart (taking T.placed T.after T.refusal) T.left result
+    ensures gives { GivesPart (taking T.placed T.after T.refusal) T.left (told_at spot.old.place result)
         (reader_at spot.old table.now) (reader_at spot.new table.now) taker.old taker.new (front spot.old.page table.now bytes.now) }
     ensures room { OnOk result (depth_of spot.new.extent ≤ spot.new.place) }
+    ensures place { OnErr result (spot.new.place ≡ spot.old.place) }
 {
     match bytes {
         [] | [0x00] => Ok(0),
@@ -230,7 +239,7 @@ pub(crate) fn part<T: Taker>(
             spot.place += 2;
             Ok(2)
         }
-        [0x00, ..] => Err(refused(spot.place, Reason::Tag)),
+        [0x00, ..] => Err(Stop::Refused(Reason::Tag)),
         [0x01, ..] => hand_end(spot, 1, taker),
         [0x03, rest @ ..] => text(spot, rest, taker),
         [0x83, rest @ ..] => table_text(spot, table, rest, taker),

@@ -9,7 +9,7 @@ ghost use Rattle.wbxml_tokens.specs.Parts.{reader_of, IsReached, IsBeyond, EndsP
 use crate::extent::Extent;
 use crate::part::before_zero;
 use crate::reason::{FeedError, Reason, Refusal};
-use crate::spot::{Spot, refused};
+use crate::spot::{Spot, Stop};
 use crate::state::all_parts;
 use crate::token::Taker;
 use dm_base::{Bytes, Memory};
@@ -138,9 +138,9 @@ impl State {
         ensures { IsBeyond result (reader_of self.now) }
     {
         if self.spot.extent.is_whole() {
-            refused(self.spot.place, Reason::Trailing)
+            Stop::Refused(Reason::Trailing).at(self.spot.place)
         } else {
-            refused(MOST_BYTES, Reason::Toolong)
+            Stop::Refused(Reason::Toolong).at(MOST_BYTES)
         }
     }
 }

@@ -1,6 +1,7 @@
 // Where a reader stands between two parts of a document.
-ghost use Rattle.std.specs.Prelude.{◌≡◌, ◌<◌, ◌+◌, ◌^◌, Some};
+ghost use Rattle.std.specs.Prelude.{◌≡◌};
 ghost use Rattle.wbxml_tokens.specs.Taking as Spec;
+ghost use Rattle.wbxml_tokens.specs.Taking.{stop_at};
 
 use crate::extent::Extent;
 use crate::reason::{FeedError, Reason, Refusal};
@@ -15,19 +16,31 @@ pub struct Spot {
     pub extent: Extent,
 }
 
-// A refusal of a reader.
-pub(crate) fn refused(at: u64, reason: Reason) -> FeedError
-    ensures { result ≡ Spec.error_of at (Some reason) }
-{
-    FeedError::Refused(Refusal { at, reason })
+// Why a part isn't taken: a refusal at its first byte, or want of memory. It is small, since each token's answer may be one.
+#[derive(Clone, Copy)]
+pub(crate) enum Stop {
+    Refused(Reason),
+    Memory,
 }
 
-// The error of a writer that was handed the token at a place.
-pub(crate) fn error_of<T: Taker>(place: u64, error: T::Error) -> FeedError
-    ensures { result ≡ Spec.error_of place (T.told error) }
+impl Stop {
+    // The error of a part that begins at this place.
+    pub fn at(self, place: u64) -> FeedError
+        ensures { result ≡ stop_at place self }
+    {
+        match self {
+            Stop::Refused(reason) => FeedError::Refused(Refusal { at: place, reason }),
+            Stop::Memory => FeedError::Memory,
+        }
+    }
+}
+
+// Why a writer didn't take a token.
+pub(crate) fn stop_of<T: Taker>(error: T::Error) -> Stop
+    ensures { result ≡ Spec.stop_of (T.told error) }
 {
     match T::reason(error) {
-        Some(reason) => refused(place, reason),
-        None => FeedError::Memory,
+        Some(reason) => Stop::Refused(reason),
+        None => Stop::Memory,
     }
 }

@@ -2,13 +2,13 @@
 ghost use Rattle.std.specs.Prelude.{◌≡◌, ◌<◌, ◌≤◌, ◌+◌, ◌-◌, [], true, false, ℕ, List, length, drop, IfOk, OnOk, OnErr};
 ghost use Rattle.wbxml_tokens.specs.Reading.{is_whole};
 ghost use Rattle.wbxml_tokens.specs.Fronts.{prologue_at};
-ghost use Rattle.wbxml_tokens.specs.Taking.{taking, GivesFirst, GivesAll, GivesNoToken};
+ghost use Rattle.wbxml_tokens.specs.Taking.{taking, told_at, GivesFirst, GivesAll, GivesNoToken};
 ghost use Rattle.wbxml_tokens.specs.Parts.{reader_at, HasRoom};
 
 use crate::part::part;
 use crate::prologue::prologue;
 use crate::reason::{FeedError, Reason};
-use crate::spot::{Spot, refused};
+use crate::spot::{Spot, Stop};
 use crate::token::Taker;
 use dm_base::{Bytes, Memory};
 use std::alloc::Global;
@@ -19,17 +19,18 @@ fn next_part<T: Taker>(
     table: &[u8],
     bytes: &[u8],
     taker: &mut T,
-) -> Result<usize, FeedError>
+) -> Result<usize, Stop>
     requires room { HasRoom spot.old (length bytes.now) }
     requires body { spot.old.is_in_body ≡ true }
     requires some { 0 < length bytes.now }
-    ensures gives { GivesFirst (taking T.placed T.after T.refusal) T.left result
+    ensures gives { GivesFirst (taking T.placed T.after T.refusal) T.left (told_at spot.old.place result)
         (reader_at spot.old table.now) (reader_at spot.new table.now) taker.old taker.new bytes.now }
     ensures room { IfOk result (λ size. HasRoom spot.new (length bytes.now - size)) }
+    ensures place { OnErr result (spot.new.place ≡ spot.old.place) }
     ensures body { IfOk result (λ size. spot.new.is_in_body ≡ true) }
 {
     if spot.extent.is_whole() {
-        return Err(refused(spot.place, Reason::Trailing));
+        return Err(Stop::Refused(Reason::Trailing));
     }
     part(spot, table, bytes, taker)
 }
@@ -54,7 +55,7 @@ fn parts<T: Taker>(
         match next_part(spot, table, rest, taker) {
             Ok(0) => return Ok(at),
             Ok(size) => at += size,
-            Err(error) => return Err(error),
+            Err(stop) => return Err(stop.at(spot.place)),
         }
     }
     Ok(at)
@@ -85,7 +86,7 @@ fn enter(
             }
             Err(Memory) => Err(FeedError::Memory),
         },
-        Err(refusal) => Err(refused(spot.place + refusal.at, refusal.reason)),
+        Err(refusal) => Err(Stop::Refused(refusal.reason).at(spot.place + refusal.at)),
     }
 }
 
