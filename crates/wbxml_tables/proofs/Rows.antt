@@ -45,13 +45,20 @@ no_row page code none = none_by (element_at page code) refl
     none_by None is = refl
     none_by (Some e) is = absurd (none e (row_is_right page code e is))
 
+some_there : (page code p c : ℕ) (e : Element) → p ≡ page → c ≡ code → element_at p c ≡ Some e → Some e ≡ element_at page code
+some_there page code p c e same_page same_code is = sym is ∙ ap (λ x. element_at x c) same_page ∙ ap (element_at page) same_code
+
+-- no element is where no row is found
+pub none_at : (page code : ℕ) (e : Element) → element_at page code ≡ None → IsAt page code e → ⊥
+none_at page code e none at = none_and_some (sym none ∙ sym (some_there page code (page_of e) (code_on_page e) e at.0 at.1 (own_row e)))
+  where
+    none_and_some : None ≡ Some e → ⊥
+    none_and_some h = cc
+
 none_there : (o : Option Element) (page code : ℕ) → element_at page code ≡ o → ((e : Element) → IsAt page code e → ⊥) → None ≡ o
 unfolding element_at
 none_there None page code is none = refl
 none_there (Some e) page code is none = absurd (none e (found_in (table.PROTOCOL.rows ++ table.META.rows) page code e rows_are_right is))
-
-some_there : (page code p c : ℕ) (e : Element) → p ≡ page → c ≡ code → element_at p c ≡ Some e → Some e ≡ element_at page code
-some_there page code p c e same_page same_code is = sym is ∙ ap (λ x. element_at x c) same_page ∙ ap (element_at page) same_code
 
 -- what is found among the elements is found among the rows
 pub same_row : (o : Option Element) (page code : ℕ) → IfSome o (λ e. IsAt page code e) → IfNone o ((e : Element) → IsAt page code e → ⊥)

@@ -1,5 +1,5 @@
 -- What bytes spell, as WBXML 1.3 has it (sections 5.1 to 5.8), with the choices of this profile; the reader is held to it.
-use Rattle.std.specs.Prelude.{◌≡◌, ◌+◌, ◌%◌, ◌<◌, ◌≤◌, ◌⊎◌, take, ℕ, true, false, ⊤, List, [], ◌∷◌, ◌++◌, length, None}
+use Rattle.std.specs.Prelude.{◌≡◌, ◌↔◌, ◌+◌, ◌%◌, ◌<◌, ◌≤◌, ◌⊎◌, take, ℕ, true, false, ⊤, List, [], ◌∷◌, ◌++◌, length, None}
 use Rattle.wbxml_ints.specs.Multibyte.{IsMultibyte, IsTooBig, AreBytes}
 use Rattle.wbxml_tables.specs.declared.Element.{Element}
 use Rattle.wbxml_tables.specs.Tables.{page_of, IsAt}
@@ -11,7 +11,7 @@ use Rattle.wbxml_tokens.specs.declared.token.Placed.{Placed}
 use Rattle.wbxml_tokens.specs.declared.extent.Extent.{Extent}
 use Rattle.wbxml_tokens.specs.declared.extent.Extent.TheVariants as extents
 use Rattle.wbxml_tokens.specs.Spelling.{tag_byte}
-use Rattle.wbxml_tokens.specs.Fronts.{more, front, prologue_at, table_string, identifier_number, identifier_text, utf_8}
+use Rattle.wbxml_tokens.specs.Fronts.{more, wrong, front, prologue_at, table_string, identifier_number, identifier_text, utf_8}
 use Rattle.wbxml_tokens.specs.Reading.{most_bytes, extent_after, is_whole, reading}
 
 abbrev pub HasNoZero : List ℕ → Type 0
@@ -121,3 +121,9 @@ IsWrong page table bytes reasons.Integer =
 IsWrong page table bytes reasons.Index =
     (rest : List ℕ) × (index : ℕ) × (used : ℕ) × (bytes ≡ 0x83 ∷ rest) × (used ≤ length rest) × IsMultibyte index (take used rest) × (length table ≤ index)
 IsWrong page table bytes other = ⊥
+
+-- The part at the front of bytes of the body is refused exactly where it is wrong, for its reason and at its first byte.
+abbrev pub WrongIsRefused : Type 0
+WrongIsRefused =
+    (page : ℕ) (table bytes : List ℕ) (at : ℕ) (reason : Reason) → AreBytes bytes
+    → (front page table bytes ≡ wrong at reason) ↔ ((at ≡ 0) × IsWrong page table bytes reason)

@@ -1,5 +1,5 @@
 // What is read of bytes, and what they spell.
-ghost use Rattle.wbxml_tokens.specs.Spelled.{SpelledIsRead, ReadIsSpelled};
+ghost use Rattle.wbxml_tokens.specs.Spelled.{SpelledIsRead, ReadIsSpelled, WrongIsRefused};
 
 /// A law: of a document that has at most 65,536 bytes, and whose prologue and body spell tokens with their places, exactly
 /// these are read, and nothing is refused.
@@ -13,4 +13,10 @@ pub fn spelled_is_read()
 #[tactic(auto, using(crate::proofs::Documents::read_is_spelled))]
 pub fn read_is_spelled()
     ensures { ReadIsSpelled }
+{}
+
+/// A law: the part at the front of bytes of the body is refused exactly where a byte begins no token, a tag has no element, a
+/// page is another than 0 and 1, an integer is too big, or a string's index isn't below the table's length.
+pub fn wrong_is_refused()
+    ensures { WrongIsRefused }
 {}
