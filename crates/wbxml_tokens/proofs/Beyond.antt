@@ -53,7 +53,7 @@ takes_all (b ∷ bs) x h = takes_on x b bs (step x b).refused refl h (takes_all 
 
 -- ---- no byte is taken behind the last
 
-limit_refuses : (x : Reading) (reason : Reason) (at : ℕ) (bytes : List ℕ) → x.refused ≡ None → limit x.reader ≡ Some reason → taken_by x.reader ≡ at
+pub limit_refuses : (x : Reading) (reason : Reason) (at : ℕ) (bytes : List ℕ) → x.refused ≡ None → limit x.reader ≡ Some reason → taken_by x.reader ≡ at
     → 0 < length bytes → reads x bytes ≡ refuse x at reason
 unfolding reads
 limit_refuses x reason at [] sound is place some = absurd (omega (arith, some))

@@ -12,3 +12,4 @@ pub mod Bodies
 pub mod Heads
 pub mod Documents
 pub mod Wrongs
+pub mod Refusals

@@ -1,5 +1,5 @@
 -- What bytes spell, as WBXML 1.3 has it (sections 5.1 to 5.8), with the choices of this profile; the reader is held to it.
-use Rattle.std.specs.Prelude.{◌≡◌, ◌↔◌, ◌+◌, ◌%◌, ◌<◌, ◌≤◌, ◌⊎◌, take, ℕ, true, false, ⊤, List, [], ◌∷◌, ◌++◌, length, None}
+use Rattle.std.specs.Prelude.{◌≡◌, ◌↔◌, ◌+◌, ◌%◌, ◌<◌, ◌≤◌, ◌⊎◌, take, ℕ, true, false, ⊤, List, [], ◌∷◌, ◌++◌, length, None, Some}
 use Rattle.wbxml_ints.specs.Multibyte.{IsMultibyte, IsTooBig, AreBytes}
 use Rattle.wbxml_tables.specs.declared.Element.{Element}
 use Rattle.wbxml_tables.specs.Tables.{page_of, IsAt}
@@ -127,3 +127,32 @@ abbrev pub WrongIsRefused : Type 0
 WrongIsRefused =
     (page : ℕ) (table bytes : List ℕ) (at : ℕ) (reason : Reason) → AreBytes bytes
     → (front page table bytes ≡ wrong at reason) ↔ ((at ≡ 0) × IsWrong page table bytes reason)
+
+-- The bytes are a prologue with this string table, bytes that spell tokens up to a page and an extent, and then the rest, which
+-- begins at a place.
+pub record ReadsUpTo (bytes table : List ℕ) (page at : ℕ) (extent : Extent) (rest : List ℕ) : Type 0 where
+  pub prologue : List ℕ
+  pub body : List ℕ
+  pub tokens : List Placed
+  pub whole : bytes ≡ prologue ++ (body ++ rest)
+  pub is_prologue : IsPrologue table prologue
+  pub spells : SpellsTokens table 0 (length prologue) extents.Before tokens body page extent
+  pub place : at ≡ length prologue + length body
+
+-- Where bytes are refused, and why: the first 65,536 have a prologue that is refused, or a part of the body that is wrong, or a
+-- byte behind the whole element; or they are no whole document, and another byte comes.
+pub data RefusedAt (bytes : List ℕ) : ℕ → Reason → Type 0 where
+  in_prologue : {at : ℕ} {reason : Reason} → prologue_at (take most_bytes bytes) ≡ wrong at reason → RefusedAt bytes at reason
+  in_body : {table : List ℕ} {page at : ℕ} {extent : Extent} {rest : List ℕ} {reason : Reason} → ReadsUpTo (take most_bytes bytes) table page at extent rest
+      → is_whole extent ≡ false → IsWrong page table rest reason → RefusedAt bytes at reason
+  trailing : {table : List ℕ} {page at : ℕ} {extent : Extent} {rest : List ℕ} → ReadsUpTo bytes table page at extent rest
+      → is_whole extent ≡ true → 0 < length rest → at ≤ most_bytes → RefusedAt bytes at reasons.Trailing
+  unfinished_prologue : prologue_at (take most_bytes bytes) ≡ more → most_bytes < length bytes → RefusedAt bytes most_bytes reasons.Toolong
+  unfinished_body : {table : List ℕ} {page at : ℕ} {extent : Extent} {rest : List ℕ} → ReadsUpTo (take most_bytes bytes) table page at extent rest
+      → is_whole extent ≡ false → front page table rest ≡ more → most_bytes < length bytes → RefusedAt bytes most_bytes reasons.Toolong
+
+-- Bytes are refused exactly there and for this reason, so at one place and for one reason at most.
+abbrev pub RefusedIsTold : Type 0
+RefusedIsTold =
+    (bytes : List ℕ) (at : ℕ) (reason : Reason) → AreBytes bytes
+    → ((reading bytes).refused ≡ Some (record { at = at; reason = reason })) ↔ RefusedAt bytes at reason

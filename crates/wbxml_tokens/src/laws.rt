@@ -1,5 +1,5 @@
 // What is read of bytes, and what they spell.
-ghost use Rattle.wbxml_tokens.specs.Spelled.{SpelledIsRead, ReadIsSpelled, WrongIsRefused};
+ghost use Rattle.wbxml_tokens.specs.Spelled.{SpelledIsRead, ReadIsSpelled, WrongIsRefused, RefusedIsTold};
 
 /// A law: of a document that has at most 65,536 bytes, and whose prologue and body spell tokens with their places, exactly
 /// these are read, and nothing is refused.
@@ -19,4 +19,9 @@ pub fn read_is_spelled()
 /// page is another than 0 and 1, an integer is too big, or a string's index isn't below the table's length.
 pub fn wrong_is_refused()
     ensures { WrongIsRefused }
+{}
+
+/// A law: bytes are refused exactly at the place and for the reason of `RefusedAt`, so at one place and for one reason at most.
+pub fn refused_is_told()
+    ensures { RefusedIsTold }
 {}
