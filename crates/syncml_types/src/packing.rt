@@ -5,6 +5,7 @@ ghost use Rattle.syncml_types.specs.Message.{IsShortData, HasShortItems};
 ghost use Rattle.syncml_types.specs.Canonical.{command_tokens};
 ghost use Rattle.syncml_types.specs.Packing as Spec;
 ghost use Rattle.syncml_types.specs.Packing.{last_of, only_item, write_item, BoundsData, RestAndData, SpellsCommands, SpellsInParts};
+ghost use Rattle.syncml_types.specs.Pages.{PagesFollowElements, PageWithoutNumbers, PageWithoutData, HeaderPage};
 
 use crate::command::{Command, Member, SeqMember, Verb};
 use crate::lengths::command_length;
@@ -149,4 +150,14 @@ pub fn data_is_bounded()
 #[tactic(auto, using(crate::proofs::Rest::rest_and_data))]
 pub fn rest_and_data()
     ensures { RestAndData }
+{}
+
+/// The page behind tokens depends on the elements alone that they open, so numbers, texts and Data don't change it: neither
+/// the CmdIDs of a command nor the Data that may be cut, nor a header's session, number and secret.
+#[tactic(auto, using(crate::proofs::Pages::pages_follow_elements, crate::proofs::Pages::page_without_numbers, crate::proofs::Pages::header_page))]
+pub fn pages_follow_elements()
+    ensures elements { PagesFollowElements }
+    ensures numbers { PageWithoutNumbers }
+    ensures data { PageWithoutData }
+    ensures header { HeaderPage }
 {}
