@@ -118,11 +118,10 @@ fn cut_data(command: &Command) -> &[u8]
 
 /// How many bytes a command has in canonical spelling, where it begins on a page, all but the token of the Data that may be
 /// cut (`data_length`); and the page after it.
-#[tactic(auto, using(crate::proofs::Rest::rest_counted))]
+#[tactic(auto, using(crate::proofs::Rest::rest_counted, crate::proofs::Short::short_cut))]
 pub fn rest_length(page: u8, command: &Command) -> (u64, u8)
     requires short { HasShortItems command.now }
     requires some { 0 < length (Spec.cut_data command.now) }
-    requires data { IsShortData (Spec.cut_data command.now) }
     requires fits { length (spelled page (command_tokens command.now)) < 2 ^ 64 }
     ensures length { result.0 ≡ Spec.rest_length page command.now }
     ensures page { result.1 ≡ page_behind page (command_tokens command.now) }
