@@ -5,4 +5,7 @@ pub mod Pieces
 pub mod Fitting
 pub mod Numbered
 pub mod Parted
+pub mod Last
+pub mod Pages
+pub mod Short
 pub mod Rest

@@ -9,9 +9,9 @@ use Rattle.wbxml_tokens.specs.declared.token.Token.TheVariants.{Tag, End, Text, 
 use Rattle.wbxml_tokens.specs.Spelling.{token_bytes, page_after, spelled, page_behind, prologue}
 use Rattle.syncml_types.specs.declared.values.Header.{Header}
 use Rattle.syncml_types.specs.declared.command.Command.{Command}
-use Rattle.syncml_types.specs.Canonical.{is_text, data_piece, flag_tokens, header_tokens, command_tokens, commands_tokens, body_tokens, body_children, is_empty_body, parent_tokens, message_tokens, canonical}
+use Rattle.syncml_types.specs.Canonical.{is_text, flag_tokens, header_tokens, command_tokens, commands_tokens, is_empty_body, parent_tokens, message_tokens, canonical}
 use Rattle.syncml_types.specs.Lengths.{head_tokens}
-use Rattle.syncml_types.specs.Packing.{head_bytes, body_tag, tail_tokens, SpellsInParts, SpellsCommands, BoundsData, data_length}
+use Rattle.syncml_types.specs.Packing.{body_tag, tail_tokens, SpellsInParts, SpellsCommands, BoundsData}
 use Rattle.syncml_types.proofs.Bare.{full_body}
 
 pub spelled_append : (page : ℕ) (ts us : List Token) → spelled page (ts ++ us) ≡ spelled page ts ++ spelled (page_behind page ts) us

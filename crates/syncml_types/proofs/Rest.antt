@@ -1,9 +1,8 @@
 -- A command's length without the Data of the item that may be cut.
-use Rattle.std.proofs.Common.{◌≡◌, ◌<◌, ◌≤◌, ◌+◌, ◌-◌, ◌^◌, ◌==◌, ℕ, suc, Bool, true, false, if◌then◌else◌, List, [], ◌∷◌, ◌++◌, length, length-append, Option, Some, None, option_and_then, slice_get, refl, sym, ap, ◌∙◌, append_assoc, arith}
+use Rattle.std.proofs.Common.{◌≡◌, ◌<◌, ◌+◌, ◌^◌, ◌==◌, ℕ, Bool, true, false, if◌then◌else◌, List, [], ◌∷◌, ◌++◌, length, length-append, Option, Some, None, option_and_then, refl, sym, ap, ◌∙◌, append_assoc, arith}
 use Rattle.std.specs.List.{flat_map}
 use Rattle.wbxml_tables.specs.declared.Element.{Element}
 use Rattle.wbxml_tables.specs.declared.Element.TheVariants.{EData, EItem}
-use Rattle.wbxml_tables.specs.Tables.{page_of}
 use Rattle.wbxml_tokens.specs.declared.token.Token.{Token}
 use Rattle.wbxml_tokens.specs.declared.token.Token.TheVariants.{Tag, End, Text, Opaque}
 use Rattle.wbxml_tokens.specs.Spelling.{token_bytes, page_after, spelled, page_behind}
@@ -20,6 +19,7 @@ use Rattle.syncml_types.specs.Canonical.{parent_tokens, element_tokens, is_text,
 use Rattle.syncml_types.specs.Packing.{data_length, only_item, write_item, member_item, seq_member_item, last_of, cut_item, only_changed, write_changed, member_changed, seq_member_changed, last_changed, cut_changed, emptied, rest_length, bytes_in, data_in, cut_data, RestAndData}
 use Rattle.syncml_types.specs.Lengths.{spelled_length}
 use Rattle.syncml_types.proofs.Parted.{spelled_append}
+use Rattle.syncml_types.proofs.Last.{last_next}
 
 -- tokens with Data, and the same with the Data emptied
 record Swaps (v : List ℕ) (ts us : List Token) : Type 0 where
@@ -102,13 +102,6 @@ swaps_seq_member : (b : ℕ) (bs : List ℕ) (m : SeqMember) (i : Item) → seq_
 unfolding seq_member_tokens
 swaps_seq_member b bs (seq_member.Single m) i h e = swaps_member b bs m i h e
 swaps_seq_member b bs (seq_member.Atomic c) i h e = absurd (cc)
-
-less_one : (n : ℕ) → suc n - 1 ≡ n
-less_one n = omega arith
-
-last_next : {A : Type 0} (x y : A) (xs : List A) → last_of (x ∷ y ∷ xs) ≡ last_of (y ∷ xs)
-last_next x y xs =
-    ap (slice_get (x ∷ y ∷ xs)) (less_one (suc (length xs))) ∙ ap (slice_get (y ∷ xs)) (sym (less_one (length xs)))
 
 swaps_last : {A : Type 0} (v : List ℕ) (tokens : A → List Token) (item : A → Option Item) (changed : A → A)
     → ((x : A) (i : Item) → item x ≡ Some i → i.value ≡ Some v → Swaps v (tokens x) (tokens (changed x)))

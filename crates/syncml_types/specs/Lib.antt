@@ -4,3 +4,5 @@ pub mod Lengths
 pub mod Fitness
 pub mod Numbering
 pub mod Packing
+pub mod Lends
+pub mod Pages

@@ -3,6 +3,7 @@
 
 pub mod command;
 pub mod copies;
+pub mod cutting;
 mod fit_data;
 mod fit_forms;
 mod fit_numbers;
@@ -23,7 +24,10 @@ pub use command::{
 };
 pub use lengths::{command_length, head_length, length, numbered_length};
 pub use message::{Message, Unfit};
-pub use packing::{data_is_bounded, data_length, rest_and_data, rest_length, spellings_are_parted};
+pub use packing::{
+    data_is_bounded, data_length, pages_follow_elements, rest_and_data, rest_length,
+    spellings_are_parted,
+};
 pub use put_numbered::put_command_from;
 pub use put_whole::{put_message, put_parts};
 pub use values::{Cred, Header, Item, Loc, Meta};

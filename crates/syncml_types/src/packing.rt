@@ -5,6 +5,7 @@ ghost use Rattle.syncml_types.specs.Message.{IsShortData, HasShortItems};
 ghost use Rattle.syncml_types.specs.Canonical.{command_tokens};
 ghost use Rattle.syncml_types.specs.Packing as Spec;
 ghost use Rattle.syncml_types.specs.Packing.{last_of, only_item, write_item, BoundsData, RestAndData, SpellsCommands, SpellsInParts};
+ghost use Rattle.syncml_types.specs.Pages.{PagesFollowElements, PageWithoutNumbers, PageWithoutData, HeaderPage};
 
 use crate::command::{Command, Member, SeqMember, Verb};
 use crate::lengths::command_length;
@@ -117,11 +118,10 @@ fn cut_data(command: &Command) -> &[u8]
 
 /// How many bytes a command has in canonical spelling, where it begins on a page, all but the token of the Data that may be
 /// cut (`data_length`); and the page after it.
-#[tactic(auto, using(crate::proofs::Rest::rest_counted))]
+#[tactic(auto, using(crate::proofs::Rest::rest_counted, crate::proofs::Short::short_cut))]
 pub fn rest_length(page: u8, command: &Command) -> (u64, u8)
     requires short { HasShortItems command.now }
     requires some { 0 < length (Spec.cut_data command.now) }
-    requires data { IsShortData (Spec.cut_data command.now) }
     requires fits { length (spelled page (command_tokens command.now)) < 2 ^ 64 }
     ensures length { result.0 ≡ Spec.rest_length page command.now }
     ensures page { result.1 ≡ page_behind page (command_tokens command.now) }
@@ -149,4 +149,14 @@ pub fn data_is_bounded()
 #[tactic(auto, using(crate::proofs::Rest::rest_and_data))]
 pub fn rest_and_data()
     ensures { RestAndData }
+{}
+
+/// The page behind tokens depends on the elements alone that they open, so numbers, texts and Data don't change it: neither
+/// the CmdIDs of a command nor the Data that may be cut, nor a header's session, number and secret.
+#[tactic(auto, using(crate::proofs::Pages::pages_follow_elements, crate::proofs::Pages::page_without_numbers, crate::proofs::Pages::header_page))]
+pub fn pages_follow_elements()
+    ensures elements { PagesFollowElements }
+    ensures numbers { PageWithoutNumbers }
+    ensures data { PageWithoutData }
+    ensures header { HeaderPage }
 {}
