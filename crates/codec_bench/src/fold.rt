@@ -3,6 +3,7 @@ ghost use Rattle.std.specs.Prelude.{◌≡◌};
 ghost use Rattle.codec_bench.specs.Folding.{folded, with_number};
 ghost use Rattle.wbxml_tokens.specs.declared.token.Token.TheVariants.{Tag};
 
+use dm_base::Memory;
 use wbxml_tables::{Element, code_of};
 use wbxml_tokens::{Reason, Taker, Token, Writer};
 
@@ -43,12 +44,9 @@ impl Fold {
     }
 }
 
-/// The error of a taker that takes each token.
-#[derive(Drop)]
-pub enum Never {}
-
 impl Writer for Fold {
-    type Error = Never;
+    // No token is refused, and none takes memory, so no error comes.
+    type Error = Memory;
 
     ghost use Rattle.std.specs.Prelude.{None, ⊤};
     ghost use Rattle.codec_bench.specs.Folding.{folded};
@@ -61,22 +59,22 @@ impl Writer for Fold {
 
     ghost left = { λ _ _. ⊤ };
 
-    fn tag(&mut self, element: Element, content: bool) -> Result<(), Never> {
+    fn tag(&mut self, element: Element, content: bool) -> Result<(), Memory> {
         self.add_tag(element, content);
         Ok(())
     }
 
-    fn end(&mut self) -> Result<(), Never> {
+    fn end(&mut self) -> Result<(), Memory> {
         self.add(1);
         Ok(())
     }
 
-    fn text(&mut self, text: &[u8]) -> Result<(), Never> {
+    fn text(&mut self, text: &[u8]) -> Result<(), Memory> {
         self.add(text.len() as u64);
         Ok(())
     }
 
-    fn opaque(&mut self, bytes: &[u8]) -> Result<(), Never> {
+    fn opaque(&mut self, bytes: &[u8]) -> Result<(), Memory> {
         self.add(bytes.len() as u64);
         Ok(())
     }
@@ -87,7 +85,7 @@ impl Taker for Fold {
 
     fn place(&mut self, _at: u64) {}
 
-    fn reason(_error: Never) -> Option<Reason> {
+    fn reason(_error: Memory) -> Option<Reason> {
         None
     }
 }
