@@ -12,4 +12,6 @@ pub mod Bodies
 pub mod Heads
 pub mod Documents
 pub mod Wrongs
+pub mod Prologues
 pub mod Refusals
+pub mod Elements

@@ -22,6 +22,7 @@ use Rattle.wbxml_tokens.proofs.Bodies.{body_at, refused_none}
 use Rattle.wbxml_tokens.proofs.Documents.{spelled_reading, entered_body, known, Known}
 use Rattle.wbxml_tokens.proofs.Heads.{prologue_there, OfPrologue, of_prologue}
 use Rattle.wbxml_tokens.proofs.Wrongs.{wrong_there, wrong_refused}
+use Rattle.wbxml_tokens.proofs.Prologues.{wrong_prologue_refused, wrong_prologue_there}
 
 -- ---- the body, where it is refused
 
@@ -240,10 +241,10 @@ begun_sound bytes room is =
 
 -- what the relation refuses is refused
 told_refused : (bytes : List ℕ) (at : ℕ) (reason : Reason) → RefusedAt bytes at reason → (reading bytes).refused ≡ Some (record { at = at; reason = reason })
-told_refused bytes at reason (in_prologue is) =
+told_refused bytes at reason (in_prologue h) =
     let first : List ℕ = take most_bytes bytes in
     let walked : Walks (begun_by at_start) first first (wrong at reason) =
-    subst (Walks (begun_by at_start) first first) is (walks_first at_start first (refl, refl, omega (arith, front_room bytes))) in
+    subst (Walks (begun_by at_start) first first) (wrong_prologue_refused first at reason h) (walks_first at_start first (refl, refl, omega (arith, front_room bytes))) in
     let same : 0 + at ≡ at = omega arith in
     refused_front bytes (record { at = at; reason = reason }) (walked.0 ∙ ap (λ n. Some (record { at = n; reason = reason })) same)
 told_refused bytes at reason (in_body {table} {page} {extent = extent} {rest = rest} s open_ h) =
@@ -304,7 +305,8 @@ front_by bytes f (wrong at reason) fit h is =
     subst (Walks (begun_by at_start) first first) is (walks_first at_start first (refl, refl, omega (arith, front_room bytes))) in
     let same : f ≡ record { at = 0 + at; reason = reason } = same_refusal f (record { at = 0 + at; reason = reason }) (sym h ∙ walked.0) in
     let place : at ≡ f.at = omega (arith, ap (λ x. x.at) same) in
-    in_prologue (is ∙ ap (λ n. wrong n reason) place ∙ ap (wrong f.at) (sym (ap (λ x. x.reason) same)))
+    in_prologue (wrong_prologue_there first f.at f.reason (bytes_front most_bytes bytes fit)
+    (is ∙ ap (λ n. wrong n reason) place ∙ ap (wrong f.at) (sym (ap (λ x. x.reason) same))))
 front_by bytes f (head table used) fit h is =
     let first : List ℕ = take most_bytes bytes in
     let there = prologue_there first table used (bytes_front most_bytes bytes fit) is in
