@@ -13,5 +13,6 @@ pub mod Heads
 pub mod Documents
 pub mod Wrongs
 pub mod Prologues
+pub mod Unfinished
 pub mod Refusals
 pub mod Elements

@@ -189,6 +189,26 @@ abbrev pub WrongPrologueIsRefused : Type 0
 WrongPrologueIsRefused =
     (bytes : List ℕ) (at : ℕ) (reason : Reason) → AreBytes bytes → (prologue_at bytes ≡ wrong at reason) ↔ IsWrongPrologue bytes at reason
 
+-- a prologue that isn't whole: none stands at the front of the bytes, and it isn't wrong
+pub record IsUnfinishedPrologue (bytes : List ℕ) : Type 0 where
+  pub no_prologue : (table prologue rest : List ℕ) → bytes ≡ prologue ++ rest → IsPrologue table prologue → ⊥
+  pub not_wrong : (at : ℕ) (reason : Reason) → IsWrongPrologue bytes at reason → ⊥
+
+-- a part of the body that isn't whole: no token and no page switch stands at the front of the bytes, and it isn't wrong
+pub record IsUnfinishedPart (page : ℕ) (table bytes : List ℕ) : Type 0 where
+  pub no_token : (t : Token) (first rest : List ℕ) → bytes ≡ first ++ rest → IsSpelled page table t first → ⊥
+  pub no_switch : (other : ℕ) (rest : List ℕ) → bytes ≡ 0x00 ∷ other ∷ rest → other < 2 → ⊥
+  pub not_wrong : (reason : Reason) → IsWrong page table bytes reason → ⊥
+
+-- The reader waits for more bytes of a prologue exactly where it is unfinished.
+abbrev pub UnfinishedPrologueWaits : Type 0
+UnfinishedPrologueWaits = (bytes : List ℕ) → AreBytes bytes → (prologue_at bytes ≡ more) ↔ IsUnfinishedPrologue bytes
+
+-- It waits for more bytes of a part of the body exactly where that is unfinished.
+abbrev pub UnfinishedPartWaits : Type 0
+UnfinishedPartWaits =
+    (page : ℕ) (table bytes : List ℕ) → AreBytes bytes → (front page table bytes ≡ more) ↔ IsUnfinishedPart page table bytes
+
 -- The bytes are a prologue with this string table, bytes that spell tokens up to a page and an extent, and then the rest, which
 -- begins at a place.
 pub record ReadsUpTo (bytes table : List ℕ) (page at : ℕ) (extent : Extent) (rest : List ℕ) : Type 0 where
@@ -208,9 +228,9 @@ pub data RefusedAt (bytes : List ℕ) : ℕ → Reason → Type 0 where
       → is_whole extent ≡ false → IsWrong page table rest reason → RefusedAt bytes at reason
   trailing : {table : List ℕ} {page at : ℕ} {extent : Extent} {rest : List ℕ} → ReadsUpTo bytes table page at extent rest
       → is_whole extent ≡ true → 0 < length rest → at ≤ most_bytes → RefusedAt bytes at reasons.Trailing
-  unfinished_prologue : prologue_at (take most_bytes bytes) ≡ more → most_bytes < length bytes → RefusedAt bytes most_bytes reasons.Toolong
+  unfinished_prologue : IsUnfinishedPrologue (take most_bytes bytes) → most_bytes < length bytes → RefusedAt bytes most_bytes reasons.Toolong
   unfinished_body : {table : List ℕ} {page at : ℕ} {extent : Extent} {rest : List ℕ} → ReadsUpTo (take most_bytes bytes) table page at extent rest
-      → is_whole extent ≡ false → front page table rest ≡ more → most_bytes < length bytes → RefusedAt bytes most_bytes reasons.Toolong
+      → is_whole extent ≡ false → IsUnfinishedPart page table rest → most_bytes < length bytes → RefusedAt bytes most_bytes reasons.Toolong
 
 -- Bytes are refused exactly there and for this reason, so at one place and for one reason at most.
 abbrev pub RefusedIsTold : Type 0
