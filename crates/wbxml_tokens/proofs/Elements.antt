@@ -218,11 +218,11 @@ reads_follow (b ∷ bytes) x h = reads_follow bytes (step x b) (from_follows x b
 reading_follows : (bytes : List ℕ) → Follows (reading bytes)
 reading_follows bytes = reads_follow bytes (begun_by at_start) refl
 
-element_of_whole : (bytes : List ℕ) → is_whole (reading bytes).reader.extent ≡ true → IsElement (tokens_read bytes)
+pub element_of_whole : (bytes : List ℕ) → is_whole (reading bytes).reader.extent ≡ true → IsElement (tokens_read bytes)
 element_of_whole bytes h =
     leads_element (tokens_read bytes) (subst (Leads extents.Before (tokens_read bytes)) (whole_is (reading bytes).reader.extent h) (reading_follows bytes))
 
-whole_of_element : (bytes : List ℕ) → IsElement (tokens_read bytes) → is_whole (reading bytes).reader.extent ≡ true
+pub whole_of_element : (bytes : List ℕ) → IsElement (tokens_read bytes) → is_whole (reading bytes).reader.extent ≡ true
 whole_of_element bytes h =
     ap is_whole (sym (leads_behind extents.Before (reading bytes).reader.extent (tokens_read bytes) (reading_follows bytes))
     ∙ leads_behind extents.Before extents.Whole (tokens_read bytes) (element_leads (tokens_read bytes) h))

@@ -10,7 +10,7 @@ use Rattle.wbxml_ints.proofs.Functions.{at_is_found, big_is_found}
 use Rattle.wbxml_tokens.specs.declared.reason.Reason.{Reason}
 use Rattle.wbxml_tokens.specs.declared.reason.Reason.TheVariants as reasons
 use Rattle.wbxml_tokens.specs.Fronts.{Front, more, wrong, head, integer_then, identifier_number, identifier_text, utf_8, table_string, is_identified, head_of, table_in, charset_in, behind_identifier, index_in, identifier_in, prologue_at}
-use Rattle.wbxml_tokens.specs.Spelled.{IsVersion, IsNamed, IsIndexOfText, UpToIdentifier, UpToIndex, UpToCharset, UpToCount, UpToInteger, IsWrongPrologue, WrongPrologueIsRefused}
+use Rattle.wbxml_tokens.specs.Spelled.{IsVersion, IsIdentifierBy, IsIndexOfText, UpToIdentifier, UpToIndex, UpToCharset, UpToCount, UpToInteger, IsWrongPrologue, WrongPrologueIsRefused}
 use Rattle.wbxml_tokens.proofs.Spells.{bytes_behind}
 use Rattle.wbxml_tokens.proofs.Heads.{then_front, same_bytes, same_text}
 use Rattle.wbxml_tokens.proofs.Wrongs.{too_big}
@@ -34,7 +34,7 @@ before_index before rest (version, zeros, is, h, is_zero) =
     ap (λ y. prologue_at (y ++ rest)) is ∙ identifier_front version (zeros ++ rest) h ∙ then_front 1 1 0 zeros rest identifier_in is_zero
     ∙ ap (λ n. integer_then n n (integer_at rest) rest index_in) size
 
-named_front : (index : Option ℕ) (version : ℕ) (identifier rest : List ℕ) → IsVersion version → IsNamed index identifier
+named_front : (index : Option ℕ) (version : ℕ) (identifier rest : List ℕ) → IsVersion version → IsIdentifierBy index identifier
     → prologue_at (version ∷ identifier ++ rest) ≡ behind_identifier index (suc (length identifier)) rest
 named_front None version identifier rest h is =
     let size : 1 + length identifier ≡ suc (length identifier) = omega arith in

@@ -132,10 +132,10 @@ WrongIsRefused =
 abbrev pub IsVersion : ℕ → Type 0
 IsVersion version = (1 ≤ version) × (version ≤ 3)
 
--- a public identifier whose index, where it has one, isn't judged: the number of SyncML 1.2, or the number 0 and an index
-abbrev pub IsNamed : Option ℕ → List ℕ → Type 0
-IsNamed None bytes = IsMultibyte identifier_number bytes
-IsNamed (Some index) bytes = (zero : List ℕ) × (number : List ℕ) × (bytes ≡ zero ++ number) × IsMultibyte 0 zero × IsMultibyte index number
+-- a public identifier by the number of SyncML 1.2, or by the number 0 and an index, which isn't judged
+abbrev pub IsIdentifierBy : Option ℕ → List ℕ → Type 0
+IsIdentifierBy None bytes = IsMultibyte identifier_number bytes
+IsIdentifierBy (Some index) bytes = (zero : List ℕ) × (number : List ℕ) × (bytes ≡ zero ++ number) × IsMultibyte 0 zero × IsMultibyte index number
 
 -- the index of the identifier's text in the string table
 abbrev pub IsIndexOfText : List ℕ → ℕ → Type 0
@@ -151,7 +151,7 @@ UpToIndex bytes = (version : ℕ) × (zero : List ℕ) × (bytes ≡ version ∷
 
 -- all before the charset, with the identifier's index
 abbrev pub UpToCharset : Option ℕ → List ℕ → Type 0
-UpToCharset index bytes = (version : ℕ) × (identifier : List ℕ) × (bytes ≡ version ∷ identifier) × IsVersion version × IsNamed index identifier
+UpToCharset index bytes = (version : ℕ) × (identifier : List ℕ) × (bytes ≡ version ∷ identifier) × IsVersion version × IsIdentifierBy index identifier
 
 -- all before the length of the string table
 abbrev pub UpToCount : Option ℕ → List ℕ → Type 0
@@ -161,7 +161,7 @@ UpToCount index bytes = (before : List ℕ) × (charset : List ℕ) × (bytes �
 abbrev pub UpToInteger : List ℕ → Type 0
 UpToInteger bytes = UpToIdentifier bytes ⊎ (UpToIndex bytes ⊎ ((index : Option ℕ) × (UpToCharset index bytes ⊎ UpToCount index bytes)))
 
--- an identifier by its number, which is another
+-- an identifier by another number
 abbrev pub HasOtherNumber : List ℕ → Type 0
 HasOtherNumber bytes =
     (before identifier rest : List ℕ) × (number : ℕ) × (bytes ≡ before ++ (identifier ++ rest)) × UpToIdentifier before × IsMultibyte number identifier
