@@ -1,5 +1,5 @@
--- Tokens folded into two numbers.
-use Rattle.std.specs.Prelude.{◌+◌, ◌*◌, ◌%◌, ◌^◌, ℕ, if◌then◌else◌, length, None}
+-- Tokens and bytes folded into two numbers.
+use Rattle.std.specs.Prelude.{◌+◌, ◌*◌, ◌%◌, ◌^◌, ℕ, if◌then◌else◌, List, [], ◌∷◌, length, None}
 use Rattle.wbxml_tables.specs.Tables.{code_on_page}
 use Rattle.wbxml_tokens.specs.declared.token.Token.{Token}
 use Rattle.wbxml_tokens.specs.declared.token.Token.TheVariants.{Tag, End, Text, Opaque}
@@ -16,6 +16,11 @@ number_of (Opaque bytes) = length bytes
 -- a fold after one more number; both of its numbers have 64 bits
 abbrev pub with_number : Fold → ℕ → Fold
 with_number f n = record { tokens = (f.tokens + 1) % 2 ^ 64; sum = (f.sum * 31 % 2 ^ 64 + n) % 2 ^ 64 }
+
+-- and after these bytes
+abbrev pub with_bytes : Fold → List ℕ → Fold
+with_bytes f [] = f
+with_bytes f (b ∷ bs) = with_bytes (with_number f b) bs
 
 abbrev pub folded : Fold → Token → Fold
 folded f token = with_number f (number_of token)

@@ -1,13 +1,13 @@
 // A taker that keeps no token.
 ghost use Rattle.std.specs.Prelude.{◌≡◌};
-ghost use Rattle.codec_bench.specs.Folding.{folded, with_number};
+ghost use Rattle.codec_bench.specs.Folding.{folded, with_number, with_bytes};
 ghost use Rattle.wbxml_tokens.specs.declared.token.Token.TheVariants.{Tag};
 
 use dm_base::Memory;
 use wbxml_tables::{Element, code_of};
 use wbxml_tokens::{Reason, Taker, Token, Writer};
 
-/// The tokens so far, folded into two numbers of 64 bits: their count, and a sum in which each place counts.
+/// The tokens or numbers so far, folded into two numbers of 64 bits: their count, and a sum in which each place counts.
 #[derive(Clone, Copy, PartialEq, Eq)]
 pub struct Fold {
     pub tokens: u64,
@@ -15,12 +15,21 @@ pub struct Fold {
 }
 
 impl Fold {
-    // One more token, which counts for this number.
-    fn add(&mut self, number: u64)
+    /// Takes a number, or a token that counts for this number.
+    pub fn add(&mut self, number: u64)
         ensures { self.new ≡ with_number self.old number }
     {
         self.tokens = self.tokens.wrapping_add(1);
         self.sum = self.sum.wrapping_mul(31).wrapping_add(number);
+    }
+
+    /// Takes bytes, each as a number.
+    pub fn add_bytes(&mut self, bytes: &[u8])
+        ensures { self.new ≡ with_bytes self.old bytes.now }
+    {
+        for byte in bytes {
+            self.add(u64::from(*byte));
+        }
     }
 
     fn add_tag(&mut self, element: Element, content: bool)

@@ -1,45 +1,30 @@
-//! Measures how fast documents are read into tokens. Without words it reads the documents of its data once each and tells
-//! what they fold to. The words FILE SECONDS PIECE READER ask for nanoseconds a byte.
+//! Measures how fast documents are read into tokens, and how fast messages are spelled and measured. Without words it does
+//! each once, and tells what it folds to. The words FILE SECONDS PIECE READER, encode SECONDS MESSAGE and
+//! length SECONDS MESSAGE ask for nanoseconds a byte.
 #![tactic(auto)]
 
 mod fold;
+mod job;
+mod messages;
+mod spell;
 mod turn;
 mod words;
 
+use dm_base::Memory;
 use fold::Fold;
-use std::alloc::Global;
+use job::{Job, turns};
+use messages::{large_data, small_commands};
+use spell::{measure_length, spell_and_fold};
 use std::process::ExitCode;
 use std::time::Instant;
 use std::{env, fs, io};
+use syncml_types::{Message, Unfit, length};
 use turn::{Way, turn};
 use wbxml_tokens::FeedError;
-use words::{Span, Work, work_of};
+use words::{Span, Work, span_of, work_of};
 
-// Between two looks at the clock at least this many bytes are read.
+// Between two looks at the clock at least this many bytes are read or spelled.
 const BYTES_A_LOOK: usize = 262_144;
-
-// The least size of pieces that a word may ask for is 1.
-fn size_of(work: Work, bytes: &[u8]) -> usize {
-    match work.size {
-        Some(size) => size.max(1),
-        None => bytes.len().max(1),
-    }
-}
-
-// Reads a document `count` times.
-fn turns(
-    alloc: Global,
-    work: Work,
-    bytes: &[u8],
-    count: u64,
-    fold: &mut Fold,
-) -> Result<(), FeedError> {
-    let size = size_of(work, bytes);
-    for _ in 0..count {
-        turn(alloc, work.way, bytes, size.max(1), fold)?;
-    }
-    Ok(())
-}
 
 // The error that a refused document, or want of memory, gives.
 fn told(error: FeedError) -> io::Error {
@@ -49,23 +34,31 @@ fn told(error: FeedError) -> io::Error {
     }
 }
 
-// Reads a document for so many seconds, and tells the mean time and that of the fastest round.
+fn of_memory(_error: Memory) -> io::Error {
+    io::Error::from(io::ErrorKind::OutOfMemory)
+}
+
+fn bad_words() -> io::Error {
+    io::Error::from(io::ErrorKind::InvalidInput)
+}
+
+// Does a job over so many bytes for so many seconds, and tells the mean time and that of the fastest round.
 fn measure(
     rt: &HostRuntime,
-    work: Work,
+    job: Job<'_>,
+    size: usize,
     seconds: u64,
-    bytes: &[u8],
     fold: &mut Fold,
 ) -> io::Result<()> {
-    let count = (1 + BYTES_A_LOOK / bytes.len().max(1)) as u64;
-    let round = u128::from(count).saturating_mul(bytes.len() as u128).max(1);
+    let count = (1 + BYTES_A_LOOK / size.max(1)) as u64;
+    let round = u128::from(count).saturating_mul(size as u128).max(1);
     let limit = u128::from(seconds).saturating_mul(1_000_000_000);
     let start = Instant::now(rt)?;
     let mut rounds = 0u128;
     let mut before = 0u128;
     let mut least = u128::MAX;
     for _ in 0..u64::MAX {
-        turns(rt.alloc(), work, bytes, count, fold).map_err(told)?;
+        turns(rt.alloc(), job, count, fold).map_err(told)?;
         let now = start.elapsed(rt)?.as_nanos();
         rounds = rounds.saturating_add(1);
         least = least.min(now.saturating_sub(before));
@@ -78,6 +71,55 @@ fn measure(
     let mean = before.saturating_mul(1000) / all;
     let best = least.saturating_mul(1000) / round;
     println!(rt; "{mean} ps a byte, fastest {best}, fold {}", fold.sum)
+}
+
+// Does a job over so many bytes for a time, or so many times.
+fn work(rt: &HostRuntime, job: Job<'_>, size: usize, span: Span) -> io::Result<()> {
+    let mut fold = Fold { tokens: 0, sum: 0 };
+    match span {
+        Span::Seconds(seconds) => measure(rt, job, size, seconds, &mut fold),
+        Span::Turns(count) => {
+            turns(rt.alloc(), job, count, &mut fold).map_err(told)?;
+            println!(rt; "fold {}", fold.sum)
+        }
+    }
+}
+
+fn read(rt: &HostRuntime, file: &str, work_asked: Work) -> io::Result<()> {
+    let bytes = fs::read(rt, file)?;
+    let size = work_asked.size.unwrap_or(bytes.len());
+    let job = Job::Read {
+        way: work_asked.way,
+        size,
+        bytes: bytes.as_slice(),
+    };
+    work(rt, job, bytes.len(), work_asked.span)
+}
+
+// A message of this name.
+fn message_of(rt: &HostRuntime, name: &str) -> io::Result<Message> {
+    let made = match name {
+        "small" => small_commands(rt.alloc()),
+        "large" => large_data(rt.alloc()),
+        _ => return Err(bad_words()),
+    };
+    match made.map_err(of_memory)? {
+        Ok(message) => Ok(message),
+        Err(_) => Err(io::Error::from(io::ErrorKind::InvalidData)),
+    }
+}
+
+fn write(rt: &HostRuntime, what: &str, span: &str, name: &str) -> io::Result<()> {
+    let Some(span) = span_of(span) else {
+        return Err(bad_words());
+    };
+    let message = message_of(rt, name)?;
+    let size = length(&message) as usize;
+    match what {
+        "encode" => work(rt, Job::Encode(&message), size, span),
+        "length" => work(rt, Job::Length(&message), size, span),
+        _ => Err(bad_words()),
+    }
 }
 
 // One turn over a document of the data, in each way, whole and byte by byte.
@@ -98,29 +140,37 @@ fn show(rt: &HostRuntime, name: &str) -> io::Result<()> {
     Ok(())
 }
 
+// One spelling of a message: its length, how many bytes come, and their sum.
+fn show_spelled(rt: &HostRuntime, name: &str) -> io::Result<()> {
+    let message = message_of(rt, name)?;
+    let mut fold = Fold { tokens: 0, sum: 0 };
+    spell_and_fold(rt.alloc(), &message, &mut fold).map_err(of_memory)?;
+    println!(rt;
+        "{name} length {} spelled {} bytes sum {}",
+        length(&message),
+        fold.tokens,
+        fold.sum
+    )
+}
+
+fn show_all(rt: &HostRuntime) -> io::Result<()> {
+    show(rt, "one_get.wbxml")?;
+    show(rt, "four_replaces.wbxml")?;
+    show(rt, "one_opaque.wbxml")?;
+    show_spelled(rt, "small")?;
+    show_spelled(rt, "large")
+}
+
 // Does what the words behind the program's name ask for.
 fn run(rt: &HostRuntime, words: &[String]) -> io::Result<()> {
     match words {
-        [] => {
-            show(rt, "one_get.wbxml")?;
-            show(rt, "four_replaces.wbxml")?;
-            show(rt, "one_opaque.wbxml")
-        }
-        [file, span, piece, way] => {
-            let Some(work) = work_of(span.as_str(), piece.as_str(), way.as_str()) else {
-                return Err(io::Error::from(io::ErrorKind::InvalidInput));
-            };
-            let bytes = fs::read(rt, file.as_str())?;
-            let mut fold = Fold { tokens: 0, sum: 0 };
-            match work.span {
-                Span::Seconds(seconds) => measure(rt, work, seconds, bytes.as_slice(), &mut fold),
-                Span::Turns(count) => {
-                    turns(rt.alloc(), work, bytes.as_slice(), count, &mut fold).map_err(told)?;
-                    println!(rt; "fold {}", fold.sum)
-                }
-            }
-        }
-        _ => Err(io::Error::from(io::ErrorKind::InvalidInput)),
+        [] => show_all(rt),
+        [what, span, name] => write(rt, what.as_str(), span.as_str(), name.as_str()),
+        [file, span, piece, way] => match work_of(span.as_str(), piece.as_str(), way.as_str()) {
+            Some(work_asked) => read(rt, file.as_str(), work_asked),
+            None => Err(bad_words()),
+        },
+        _ => Err(bad_words()),
     }
 }
 

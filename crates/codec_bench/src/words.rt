@@ -3,7 +3,7 @@ ghost use Rattle.std.specs.Prelude.{◌≡◌, ◌<◌, IfSome};
 
 use crate::turn::Way;
 
-/// How long a document is read again and again.
+/// How long something is done again and again.
 #[derive(Clone, Copy, PartialEq, Eq)]
 pub enum Span {
     Seconds(u64),
@@ -18,8 +18,8 @@ pub struct Work {
     pub way: Way,
 }
 
-// SECONDS, or xCOUNT for so many turns.
-fn span_of(word: &str) -> Option<Span> {
+/// The word SECONDS, or xCOUNT for so many turns.
+pub fn span_of(word: &str) -> Option<Span> {
     if let Some(count) = word.strip_prefix("x") {
         return count.parse::<u64>().ok().map(Span::Turns);
     }

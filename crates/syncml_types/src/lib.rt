@@ -33,4 +33,6 @@ pub use put_whole::{put_message, put_parts};
 pub use values::{Cred, Header, Item, Loc, Meta};
 
 #[cfg(test)]
+mod container_tests;
+#[cfg(test)]
 mod tests;

@@ -1,3 +1,7 @@
+ghost use Rattle.std.specs.Prelude.{◌≡◌, IfOk, IfSome};
+ghost use Rattle.std.specs.List.{AllByRecursion};
+ghost use Rattle.syncml_types.specs.Message.{IsShortData, HasShortData};
+
 use crate::put_value::put_data;
 use crate::{
     Block, Command, Header, Item, Loc, Member, Message, Plain, SeqBlock, SeqMember, Unfit, Verb,
@@ -30,7 +34,9 @@ fn header(alloc: Global) -> Result<Header, Memory> {
     })
 }
 
-fn item(alloc: Global, value: Option<Bytes>) -> Result<Item, Memory> {
+fn item(alloc: Global, value: Option<Bytes>) -> Result<Item, Memory>
+    ensures { IfOk result (λ i. i.value ≡ value) }
+{
     Ok(Item {
         target: Some(place(alloc, b"./x")?),
         source: None,
@@ -40,14 +46,18 @@ fn item(alloc: Global, value: Option<Bytes>) -> Result<Item, Memory> {
     })
 }
 
-fn items(alloc: Global, value: Option<Bytes>) -> Result<List<Item>, Memory> {
+pub(crate) fn items(alloc: Global, value: Option<Bytes>) -> Result<List<Item>, Memory>
+    ensures { IfSome value IsShortData → IfOk result (AllByRecursion HasShortData) }
+{
     let mut items = List::new(alloc);
     items.push(item(alloc, value)?)?;
     Ok(items)
 }
 
 // A Get of one item, which has a target alone.
-fn get(alloc: Global, id: u32) -> Result<Plain, Memory> {
+pub(crate) fn get(alloc: Global, id: u32) -> Result<Plain, Memory>
+    ensures { IfOk result (λ c. AllByRecursion HasShortData c.items) }
+{
     Ok(Plain {
         verb: Verb::Get,
         id,
@@ -64,7 +74,7 @@ fn message_of(alloc: Global, command: Command) -> Result<Result<Message, Unfit>,
     Ok(Message::new(header(alloc)?, body, true))
 }
 
-fn spelling_of(alloc: Global, command: Command) -> Result<Bytes, Memory> {
+pub(crate) fn spelling_of(alloc: Global, command: Command) -> Result<Bytes, Memory> {
     let mut w = TokenWriter::new(alloc)?;
     if let Ok(message) = message_of(alloc, command)? {
         put_message(&mut w, &message)?;

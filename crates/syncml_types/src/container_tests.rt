@@ -1,0 +1,313 @@
+// Containers: their copies, their numbers, and what packing asks of them.
+ghost use Rattle.std.specs.Prelude.{◌≡◌, length, IfOk};
+ghost use Rattle.std.specs.List.{AllByRecursion};
+ghost use Rattle.syncml_types.specs.Message.{HasShortData, HasShortMember, HasShortSeqMember, HasShortItems};
+ghost use Rattle.syncml_types.specs.Packing.{cut_data};
+ghost use Rattle.syncml_types.specs.Numbering.{ids_in, ids_in_seq_members};
+
+use crate::tests::{get, items, spelling_of};
+use crate::{
+    AlertCmd, Block, Command, Member, Meta, Plain, ResultsCmd, SeqBlock, SeqMember, Verb,
+    command_length, data_length, numbered_length, rest_length,
+};
+use dm_base::{Bytes, List, Memory};
+use std::alloc::Global;
+use std::test::Fail;
+
+fn format(alloc: Global) -> Result<Meta, Memory> {
+    Ok(Meta {
+        format: Some(Bytes::of_slice(alloc, b"chr")?),
+        media: None,
+        size: None,
+        next_nonce: None,
+        max_msg: None,
+        max_obj: None,
+        mark: None,
+        version: None,
+    })
+}
+
+fn alert(alloc: Global) -> Member
+    ensures { HasShortMember result }
+{
+    Member::Alert(AlertCmd {
+        id: 3,
+        no_resp: false,
+        code: 1226,
+        correlator: None,
+        items: List::new(alloc),
+    })
+}
+
+fn replace(alloc: Global) -> Result<Plain, Memory>
+    ensures { IfOk result (λ c. AllByRecursion HasShortData c.items) }
+{
+    Ok(Plain {
+        verb: Verb::Replace,
+        id: 4,
+        no_resp: false,
+        meta: None,
+        correlator: None,
+        items: items(alloc, Some(Bytes::of_slice(alloc, b"ab")?))?,
+    })
+}
+
+// An Alert and a Replace.
+fn members(alloc: Global) -> Result<List<Member>, Memory>
+    ensures { IfOk result (λ ms. (length ms ≡ 2) × AllByRecursion HasShortMember ms) }
+{
+    let mut members = List::new(alloc);
+    members.push(alert(alloc))?;
+    members.push(Member::One(replace(alloc)?))?;
+    Ok(members)
+}
+
+// An Atomic of these, which wants no response and has a Meta.
+fn block(alloc: Global) -> Result<Block, Memory>
+    ensures { IfOk result (λ b. (length b.members ≡ 2) × AllByRecursion HasShortMember b.members) }
+{
+    Ok(Block {
+        id: 2,
+        no_resp: true,
+        meta: Some(format(alloc)?),
+        members: members(alloc)?,
+    })
+}
+
+#[tactic(auto, unfolding(crate::specs::Numbering::ids_in))]
+fn atomic(alloc: Global) -> Result<Command, Memory>
+    ensures { IfOk result (λ c. ids_in c ≡ 3) }
+{
+    Ok(Command::Atomic(block(alloc)?))
+}
+
+// That Atomic and a Get.
+#[tactic(auto, unfolding(crate::specs::Numbering::ids_in_seq_members))]
+fn seq_members(alloc: Global) -> Result<List<SeqMember>, Memory>
+    ensures { IfOk result (λ ms. (ids_in_seq_members ms ≡ 4) × AllByRecursion HasShortSeqMember ms) }
+{
+    let mut members = List::new(alloc);
+    members.push(SeqMember::Atomic(block(alloc)?))?;
+    members.push(SeqMember::Single(Member::One(get(alloc, 5)?)))?;
+    Ok(members)
+}
+
+#[tactic(auto, unfolding(crate::specs::Numbering::ids_in))]
+fn sequence(alloc: Global) -> Result<Command, Memory>
+    ensures { IfOk result (λ c. (ids_in c ≡ 5) × HasShortItems c) }
+{
+    Ok(Command::Sequence(SeqBlock {
+        id: 1,
+        no_resp: false,
+        meta: None,
+        members: seq_members(alloc)?,
+    }))
+}
+
+// How the Sequence is spelled, with Final and the ENDs of the body and the message behind it.
+fn sequence_bytes() -> &'static [u8] {
+    b"\x64\x4b\x031\x00\x01\
+        \x48\x4b\x032\x00\x01\x1d\x5a\x00\x01\x47\x03chr\x00\x01\x01\
+        \x00\x00\x46\x4b\x033\x00\x01\x4f\x031226\x00\x01\x01\
+        \x60\x4b\x034\x00\x01\x54\x6e\x57\x03./x\x00\x01\x01\x4f\x03ab\x00\x01\x01\x01\x01\
+        \x53\x4b\x035\x00\x01\x54\x6e\x57\x03./x\x00\x01\x01\x01\x01\x01\
+        \x12\x01\x01"
+}
+
+// The same with CmdIDs from 9 on.
+fn numbered_bytes() -> &'static [u8] {
+    b"\x64\x4b\x039\x00\x01\
+        \x48\x4b\x0310\x00\x01\x1d\x5a\x00\x01\x47\x03chr\x00\x01\x01\
+        \x00\x00\x46\x4b\x0311\x00\x01\x4f\x031226\x00\x01\x01\
+        \x60\x4b\x0312\x00\x01\x54\x6e\x57\x03./x\x00\x01\x01\x4f\x03ab\x00\x01\x01\x01\x01\
+        \x53\x4b\x0313\x00\x01\x54\x6e\x57\x03./x\x00\x01\x01\x01\x01\x01\
+        \x12\x01\x01"
+}
+
+// The Atomic with "c" for "ab".
+fn written_bytes() -> &'static [u8] {
+    b"\x48\x4b\x032\x00\x01\x1d\x5a\x00\x01\x47\x03chr\x00\x01\x01\
+        \x00\x00\x46\x4b\x033\x00\x01\x4f\x031226\x00\x01\x01\
+        \x60\x4b\x034\x00\x01\x54\x6e\x57\x03./x\x00\x01\x01\x4f\x03c\x00\x01\x01\x01\x01\
+        \x12\x01\x01"
+}
+
+fn is_spelled(alloc: Global, command: Command, want: &[u8]) -> Result<bool, Memory> {
+    Ok(spelling_of(alloc, command)?.as_slice().ends_with(want))
+}
+
+// Whether the copy of the Sequence is spelled as the Sequence is.
+fn is_copied(alloc: Global) -> Result<bool, Memory> {
+    let copied = sequence(alloc)?.copy(alloc)?;
+    is_spelled(alloc, copied, sequence_bytes())
+}
+
+fn is_atomic_copied(alloc: Global) -> Result<bool, Memory> {
+    let copied = atomic(alloc)?.copy(alloc)?;
+    match &copied {
+        Command::Atomic(block) => Ok(block.id == 2 && block.no_resp && block.members.len() == 2),
+        _ => Ok(false),
+    }
+}
+
+#[test]
+fn copies_containers(rt: HostRuntime) -> Result<(), Fail> {
+    assert!(rt; is_copied(rt.alloc())?, "a Sequence");
+    assert!(rt; is_atomic_copied(rt.alloc())?, "an Atomic");
+    Ok(())
+}
+
+// Whether the Sequence numbered from 9 on is spelled so, and 14 is the next number.
+fn is_numbered(alloc: Global) -> Result<bool, Memory> {
+    let mut command = sequence(alloc)?;
+    let next = command.set_ids(9);
+    Ok(is_spelled(alloc, command, numbered_bytes())? && next == 14)
+}
+
+#[test]
+fn numbers_in_document_order(rt: HostRuntime) -> Result<(), Fail> {
+    assert!(rt; is_numbered(rt.alloc())?);
+    Ok(())
+}
+
+// Whether the Sequence is so long, numbered from 9 on, where it begins on a page, and page 0 is behind it.
+fn is_measured(alloc: Global, page: u8, want: u64) -> Result<bool, Memory> {
+    let command = sequence(alloc)?;
+    Ok(numbered_length(page, 9, &command) == (want, 0))
+}
+
+#[test]
+fn measures_what_would_be_numbered(rt: HostRuntime) -> Result<(), Fail> {
+    assert!(rt; is_measured(rt.alloc(), 0, 89)?, "on its page");
+    assert!(rt; is_measured(rt.alloc(), 1, 91)?, "on another page");
+    Ok(())
+}
+
+fn many(alloc: Global, byte: u8, count: usize) -> Result<Bytes, Memory> {
+    let mut bytes = Bytes::new(alloc);
+    for _ in 0..count {
+        bytes.push(byte)?;
+    }
+    Ok(bytes)
+}
+
+fn has_token(value: &[u8], want: u64) -> bool {
+    value.len() < 1000 && data_length(value) == want
+}
+
+// Whether Data that has a byte so many times has a token so long.
+fn is_data_measured(alloc: Global, byte: u8, count: usize, want: u64) -> Result<bool, Memory> {
+    let value = many(alloc, byte, count)?;
+    Ok(has_token(value.as_slice(), want))
+}
+
+// Texts have a sign in front and a 00 behind; other bytes have a sign and their count, of two bytes from 128 on.
+#[test]
+fn measures_data(rt: HostRuntime) -> Result<(), Fail> {
+    assert!(rt; is_data_measured(rt.alloc(), b'a', 128, 130)?, "a text");
+    assert!(rt; is_data_measured(rt.alloc(), 0xff, 1, 3)?, "no UTF-8");
+    assert!(rt; is_data_measured(rt.alloc(), 0, 127, 129)?, "zeros");
+    assert!(rt; is_data_measured(rt.alloc(), 0, 128, 131)?, "more zeros");
+    Ok(())
+}
+
+// The Data that may be cut, or nothing.
+fn cut_value(command: &Command) -> &[u8]
+    ensures { result.now ≡ cut_data command.now }
+{
+    match command.cut_item() {
+        None => &[],
+        Some(item) => match &item.value {
+            None => &[],
+            Some(value) => value.as_slice(),
+        },
+    }
+}
+
+// The length of the rest, of a command of less than 1,000 bytes with Data that may be cut.
+fn rest_of(page: u8, command: &Command) -> Option<(u64, u8)>
+    requires { HasShortItems command.now }
+{
+    let (whole, _) = command_length(page, command);
+    if 1000 <= whole || cut_value(command).is_empty() {
+        return None;
+    }
+    Some(rest_length(page, command))
+}
+
+// Whether the Replace is so long without its Data, where it begins on a page, and page 0 is behind it.
+fn is_rest(alloc: Global, page: u8, want: u64) -> Result<bool, Memory> {
+    let command = Command::Plain(replace(alloc)?);
+    Ok(rest_of(page, &command) == Some((want, 0)))
+}
+
+#[test]
+fn measures_the_rest(rt: HostRuntime) -> Result<(), Fail> {
+    assert!(rt; is_rest(rt.alloc(), 0, 20)?, "on its page");
+    assert!(rt; is_rest(rt.alloc(), 1, 22)?, "on another page");
+    Ok(())
+}
+
+fn may_be_cut(command: &Command) -> bool {
+    cut_value(command) == b"ab".as_slice()
+}
+
+fn results(alloc: Global) -> Result<Command, Memory> {
+    Ok(Command::Results(ResultsCmd {
+        id: 6,
+        msg_ref: None,
+        cmd_ref: 1,
+        meta: None,
+        target_ref: None,
+        source_ref: None,
+        items: items(alloc, Some(Bytes::of_slice(alloc, b"ab")?))?,
+    }))
+}
+
+fn is_found_in_a_replace(alloc: Global) -> Result<bool, Memory> {
+    let command = Command::Plain(replace(alloc)?);
+    Ok(may_be_cut(&command))
+}
+
+fn is_found_in_results(alloc: Global) -> Result<bool, Memory> {
+    let command = results(alloc)?;
+    Ok(may_be_cut(&command))
+}
+
+fn is_found_in_an_atomic(alloc: Global) -> Result<bool, Memory> {
+    let command = atomic(alloc)?;
+    Ok(may_be_cut(&command))
+}
+
+// The Sequence ends with a Get.
+fn is_found_in_the_sequence(alloc: Global) -> Result<bool, Memory> {
+    let command = sequence(alloc)?;
+    Ok(may_be_cut(&command))
+}
+
+#[test]
+fn finds_what_may_be_cut(rt: HostRuntime) -> Result<(), Fail> {
+    assert!(rt; is_found_in_a_replace(rt.alloc())?);
+    assert!(rt; is_found_in_results(rt.alloc())?);
+    assert!(rt; is_found_in_an_atomic(rt.alloc())?);
+    assert!(rt; !is_found_in_the_sequence(rt.alloc())?);
+    Ok(())
+}
+
+fn write_cut(command: &mut Command, value: Bytes) {
+    if let Some(item) = command.cut_item_mut() {
+        item.value = Some(value);
+    }
+}
+
+fn is_written(alloc: Global) -> Result<bool, Memory> {
+    let mut command = atomic(alloc)?;
+    write_cut(&mut command, Bytes::of_slice(alloc, b"c")?);
+    is_spelled(alloc, command, written_bytes())
+}
+
+#[test]
+fn writes_what_may_be_cut(rt: HostRuntime) -> Result<(), Fail> {
+    assert!(rt; is_written(rt.alloc())?);
+    Ok(())
+}
