@@ -9,3 +9,4 @@ pub mod Last
 pub mod Pages
 pub mod Short
 pub mod Rest
+pub mod Zeros

@@ -8,6 +8,7 @@ ghost use Rattle.syncml_types.specs.Canonical.{text_tokens, number_tokens, flag_
 use crate::values::{Cred, Item, Loc, Meta};
 use dm_base::{Bytes, List};
 use itoa::Buffer;
+use memchr::memchr;
 use wbxml_tables::Element;
 use wbxml_tokens::Writer;
 
@@ -41,10 +42,11 @@ pub fn put_flag<W: Writer>(w: &mut W, element: Element, flag: bool) -> Result<()
     if flag { w.tag(element, false) } else { Ok(()) }
 }
 
+#[tactic(auto, using(crate::proofs::Zeros::none_zero))]
 fn has_no_zero(bytes: &[u8]) -> bool
     ensures { result ≡ list_all (λ b. not (b == 0)) bytes.now }
 {
-    bytes.iter().all(|b| *b != 0)
+    memchr(0, bytes).is_none()
 }
 
 /// Whether bytes are UTF-8 without byte 00.
