@@ -1,3 +1,11 @@
 pub mod Names
 pub mod Order
 pub mod Pieces
+pub mod Paths
+pub mod Climbs
+pub mod Maps
+pub mod Nodewise
+pub mod Finds
+pub mod Grows
+pub mod Cuts
+pub mod Ups
