@@ -9,3 +9,6 @@ pub mod Finds
 pub mod Grows
 pub mod Cuts
 pub mod Ups
+pub mod Seen
+pub mod Decides
+pub mod Starts

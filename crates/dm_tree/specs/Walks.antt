@@ -4,7 +4,7 @@ use Rattle.std.specs.Option.{option_map_or}
 use Rattle.std.specs.List.{position_from}
 use Rattle.std.specs.Prelude.{false}
 use Rattle.dm_acl.specs.declared.values.Right.{Right}
-use Rattle.dm_acl.specs.Grammar.{has_entry}
+use Rattle.dm_acl.specs.Grammar.{has_entry, allowed}
 use Rattle.dm_tree.specs.declared.rows.Row.{Row}
 use Rattle.dm_tree.specs.Nodes.{Path}
 use Rattle.dm_tree.specs.Rows.{row_at}
@@ -29,7 +29,11 @@ path_up rows (suc d) k = path_up rows d (row_at rows k).parent ++ (row_at rows k
 abbrev pub row_names : Row → Right → Bool
 row_names r right = option_map_or (λ acl. has_entry acl right) r.node.acl false
 
--- the first such row among k and the d rows above it
+-- the row has an access list that allows the right to the server
+abbrev pub row_allows : Row → List ℕ → Right → Bool
+row_allows r server right = option_map_or (λ acl. allowed acl server right) r.node.acl false
+
+-- the first row that names the right among k and the d rows above it
 abbrev pub deciding_row : List Row → Right → ℕ → ℕ → Option ℕ
 deciding_row rows right zero k = if row_names (row_at rows k) right then Some k else None
 deciding_row rows right (suc d) k = if row_names (row_at rows k) right then Some k else deciding_row rows right d (row_at rows k).parent

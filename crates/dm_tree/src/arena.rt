@@ -9,7 +9,7 @@ ghost use Rattle.dm_tree.specs.Views.{shown};
 
 use crate::nodes::{Node, Role, Stamp, Value, View};
 use crate::rows::{NodeId, Row};
-use crate::walks::{child_row, count_in, deciding_row, found_row, put_path};
+use crate::walks::{child_row, count_in, deciding_row, found_row, put_path, row_allows};
 use dm_acl::{Acl, Right};
 use dm_base::{Bytes, Memory};
 use dm_uri::{Name, Path, parse_name};
@@ -99,10 +99,7 @@ impl Tree {
         ensures live { IfSome result (λ id.
             IsLive self.now.rows id × (path_of self.now.rows id ≡ path.now)) }
     {
-        match found_row(&self.rows, path.as_slice()) {
-            Some(row) => Some(NodeId::of(row)),
-            None => None,
-        }
+        NodeId::of_row(found_row(&self.rows, path.as_slice()))
     }
 
     /// The number of the root. Every tree keeps to the limits and is in order.
@@ -124,10 +121,7 @@ impl Tree {
         ensures live { IfSome result (λ child. IsLive self.now.rows child
             × (path_of self.now.rows child ≡ path_of self.now.rows id ++ name.now ∷ [])) }
     {
-        match child_row(&self.rows, id.row(), name) {
-            Some(row) => Some(NodeId::of(row)),
-            None => None,
-        }
+        NodeId::of_row(child_row(&self.rows, id.row(), name))
     }
 
     /// The node above. None comes exactly at the root.
@@ -191,10 +185,7 @@ impl Tree {
             (effective_path (nodes self.now.rows) (path_of self.now.rows id) right) }
         ensures live { IfSome result (λ decides. IsLive self.now.rows decides) }
     {
-        match deciding_row(&self.rows, id.row(), right) {
-            Some(row) => Some(NodeId::of(row)),
-            None => None,
-        }
+        NodeId::of_row(deciding_row(&self.rows, id.row(), right))
     }
 
     /// Whether the entry in force for a right names everybody or the server.
@@ -204,10 +195,7 @@ impl Tree {
     {
         match deciding_row(&self.rows, id.row(), right) {
             None => false,
-            Some(row) => match &self.rows[row as usize].node.acl {
-                None => false,
-                Some(acl) => acl.allows(server, right),
-            },
+            Some(row) => row_allows(&self.rows[row as usize], server, right),
         }
     }
 

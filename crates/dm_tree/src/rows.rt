@@ -73,6 +73,15 @@ impl NodeId {
         NodeId { row }
     }
 
+    pub(crate) fn of_row(row: Option<u32>) -> Option<NodeId>
+        ensures { result ≡ row }
+    {
+        match row {
+            Some(row) => Some(NodeId::of(row)),
+            None => None,
+        }
+    }
+
     pub(crate) fn row(self) -> u32
         ensures { result ≡ self }
     {

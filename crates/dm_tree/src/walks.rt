@@ -1,7 +1,7 @@
 // Searches through the rows. They look at each row, so their time grows with the number of rows.
 ghost use Rattle.std.specs.Prelude.{◌≡◌, ◌<◌, ◌≤◌, ◌+◌, ◌^◌, ◌++◌, length, OnOk, OnErr, IfOk, is_some};
 ghost use Rattle.dm_tree.specs.Rows.{IsShaped, row_at, path_below, ids_below};
-ghost use Rattle.dm_tree.specs.Walks.{is_child as is_child_row, child_of, find_from, path_up, row_names as names_right, deciding_row};
+ghost use Rattle.dm_tree.specs.Walks.{is_child as is_child_row, child_of, find_from, path_up, row_names as names_right, row_allows as row_allows_it, deciding_row};
 
 use crate::rows::Row;
 use dm_acl::Right;
@@ -129,5 +129,15 @@ pub(crate) fn deciding_row(rows: &[Row], id: u32, right: Right) -> Option<u32>
         Some(at)
     } else {
         None
+    }
+}
+
+// Whether the row's own access list allows the right to the server.
+pub(crate) fn row_allows(row: &Row, server: &[u8], right: Right) -> bool
+    ensures { result ≡ row_allows_it row.now server.now right }
+{
+    match &row.node.acl {
+        None => false,
+        Some(acl) => acl.allows(server, right),
     }
 }

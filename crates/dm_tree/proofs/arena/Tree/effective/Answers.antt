@@ -1,0 +1,25 @@
+use Rattle.std.proofs.Common.{◌≡◌, ◌∙◌, sym, subst, ap, Option, Some, None, ℕ, true, false, nat_eq, arith, ◌<◌, length, refl, [], ◌∷◌, ◌++◌, List}
+use Rattle.std.proofs.lemmas.Bool.Decides.{nat_tests}
+use Rattle.std.proofs.lemmas.List.{get_or_default}
+use Rattle.dm_tree.specs.declared.rows.Row.{Row}
+use Rattle.dm_tree.specs.Rows.{Tree, IsTree, IsShaped, IsLive, blank, row_at, node_of, path_of, ids, nodes}
+use Rattle.dm_tree.specs.Walks.{find_from, child_of, path_up, deciding_row, row_allows}
+use Rattle.dm_tree.proofs.Finds.{find-root, child-ids}
+use Rattle.dm_tree.proofs.Nodewise.{live_row}
+use Rattle.dm_tree.proofs.Seen.{found_is_live, found_node, has_parent, above-append, last_name-append, root_path, path_up-is, node_there}
+use Rattle.dm_tree.proofs.Decides.{decides-ids, decided_live, allows-none, allows-some}
+use Rattle.dm_tree.proofs.arena.Tree.effective.Goals as goal
+
+pub returns-clause-found : goal.returns-clause-found
+returns-clause-found c =
+    let tree : IsTree c.args.self.now.rows = subst (λ (t : Tree). IsTree t.rows) c.self.view_is c.self.invariant in
+    let rows = c.deref.ensures.value ∙ ap (λ (t : Tree). t.rows) c.self.view_is in
+    c.of_row.ensures ∙ c.deciding_row.ensures ∙ ap (λ r. deciding_row r c.args.right (row_at r c.row.result).depth c.row.result) rows ∙ ap (λ k. deciding_row c.args.self.now.rows c.args.right (row_at c.args.self.now.rows k).depth k) c.row.ensures
+    ∙ decides-ids c.args.self.now.rows tree.shape c.args.right c.args.id c.requires
+
+pub returns-clause-live : goal.returns-clause-live
+returns-clause-live c =
+    let tree : IsTree c.args.self.now.rows = subst (λ (t : Tree). IsTree t.rows) c.self.view_is c.self.invariant in
+    let rows = c.deref.ensures.value ∙ ap (λ (t : Tree). t.rows) c.self.view_is in
+    decided_live c.args.self.now.rows tree.shape c.args.right c.args.id c.requires c.of_row.result
+    (c.of_row.ensures ∙ c.deciding_row.ensures ∙ ap (λ r. deciding_row r c.args.right (row_at r c.row.result).depth c.row.result) rows ∙ ap (λ k. deciding_row c.args.self.now.rows c.args.right (row_at c.args.self.now.rows k).depth k) c.row.ensures)
