@@ -5,7 +5,7 @@ use Rattle.dm_tree.specs.declared.rows.Row.{Row}
 use Rattle.dm_tree.specs.Nodes.{Path}
 use Rattle.dm_tree.specs.Rows.{blank, row_at, walk, path_below, placed, ids_below, with_nodes, ids, nodes, IsShaped, IsLive, path_of}
 use Rattle.dm_tree.specs.Edits.{new_row}
-use Rattle.std.proofs.Math.ListN.{get_or-append}
+use Rattle.std.proofs.Math.ListN.{get_or-append, set}
 use Rattle.std.proofs.Math.Seq.{get_or-append_seam}
 use Rattle.std.proofs.lemmas.List.{get_or_past}
 use Rattle.std.specs.FinMap.{get, insert}
@@ -118,3 +118,70 @@ shaped-append rows shape k live name node free short room =
     twins i j (inl x) (inr y) p n = absurd (no_child rows shape k live name free i (record { attached = x.1; parent = ap (λ (s : Row). s.parent) (sym x.0) ∙ p ∙ ap (λ (s : Row). s.parent) y.1; named = ap (λ (s : Row). s.name) (sym x.0) ∙ n ∙ ap (λ (s : Row). s.name) y.1 }))
     twins i j (inr x) (inl y) p n = absurd (no_child rows shape k live name free j (record { attached = y.1; parent = ap (λ (s : Row). s.parent) (sym y.0) ∙ sym p ∙ ap (λ (s : Row). s.parent) x.1; named = ap (λ (s : Row). s.name) (sym y.0) ∙ sym n ∙ ap (λ (s : Row). s.name) x.1 }))
     twins i j (inr x) (inr y) p n = x.0 ∙ sym y.0
+
+-- ---- a row is added that isn't attached
+
+pub set_twice : {A : Type 0} (l : List A) (i : ℕ) (a b : A) → set (set l i a) i b ≡ set l i b
+set_twice [] i a b = refl
+set_twice (x ∷ l) zero a b = refl
+set_twice (x ∷ l) (suc i) a b = ap (λ t. x ∷ t) (set_twice l i a b)
+
+pub set_last : {A : Type 0} (l : List A) (a b : A) → set (l ++ a ∷ []) (length l) b ≡ l ++ b ∷ []
+set_last [] a b = refl
+set_last (x ∷ l) a b = ap (λ t. x ∷ t) (set_last l a b)
+
+pub no_place : (rows : List Row) (r : Row) (d : ℕ) → 0 < length rows → r.attached ≡ false → walk (rows ++ r ∷ []) d 0 (length rows) ≡ None
+no_place rows r zero z e = let other : nat_eq (length rows) 0 ≡ false = not_zero (length rows) (λ s. omega (arith, s, z)) in rw other refl
+no_place rows r (suc d) z e = let other : nat_eq (length rows) 0 ≡ false = not_zero (length rows) (λ s. omega (arith, s, z)) in rw (other, at_end_of rows r, e) refl
+
+pub ids-parked : (rows : List Row) → IsShaped rows → (r : Row) → r.attached ≡ false → ids (rows ++ r ∷ []) ≡ ids rows
+unfolding ids
+ids-parked rows shape r e =
+    let long : length (rows ++ r ∷ []) ≡ suc (length rows) = omega (arith, length-append rows (r ∷ [])) in
+    rw (long, no_place rows r (row_at (rows ++ r ∷ []) (length rows)).depth shape.rooted e, ids_grown rows shape r (length rows) (omega arith)) refl
+
+pub nodes-parked : (rows : List Row) → IsShaped rows → (r : Row) → r.attached ≡ false → nodes (rows ++ r ∷ []) ≡ nodes rows
+unfolding nodes
+nodes-parked rows shape r e =
+    let long : length (rows ++ r ∷ []) ≡ suc (length rows) = omega (arith, length-append rows (r ∷ [])) in
+    rw (long, no_place rows r (row_at (rows ++ r ∷ []) (length rows)).depth shape.rooted e, ids_grown rows shape r (length rows) (omega arith), nodes_grown rows r (length rows) (omega arith)) refl
+
+-- a row that is not put in keeps the shape
+pub shaped-parked : (rows : List Row) → IsShaped rows → (r : Row) → r.attached ≡ false → r.parent < length rows → r.depth ≡ suc (row_at rows r.parent).depth → r.depth ≤ 16 → length rows + 1 < 2 ^ 32 → IsShaped (rows ++ r ∷ [])
+shaped-parked rows shape r out inside deep shallow room =
+    let long : length (rows ++ r ∷ []) ≡ suc (length rows) = omega (arith, length-append rows (r ∷ [])) in
+    record {
+      rooted = omega (arith, long);
+      few = omega (arith, long, room);
+      at_root = ap (λ (s : Row). s.depth) (before_end rows r 0 shape.rooted) ∙ shape.at_root;
+      fixed = ap (λ (s : Row). s.attached) (before_end rows r 0 shape.rooted) ∙ shape.fixed;
+      inside = λ j l. at_each j (omega (arith, long, l)) (λ (s : Row). s.parent < length (rows ++ r ∷ [])) (λ h. omega (arith, long, shape.inside j h)) (omega (arith, long, inside));
+      falls = λ j a b. at_each j (omega (arith, long, b)) (λ (s : Row). s.depth ≡ suc (row_at (rows ++ r ∷ []) s.parent).depth)
+          (λ h. shape.falls j a h ∙ ap (λ (s : Row). suc s.depth) (sym (before_end rows r (row_at rows j).parent (shape.inside j h))))
+          (deep ∙ ap (λ (s : Row). suc s.depth) (sym (before_end rows r r.parent inside)));
+      shallow = λ j. elim (below_or_not j (suc (length rows))) [
+          | inl h ↦ at_each j h (λ (s : Row). s.depth ≤ 16) (λ _. shape.shallow j) shallow
+          | inr h ↦ let past : row_at (rows ++ r ∷ []) j ≡ blank = get_or_past (rows ++ r ∷ []) j blank (omega (arith, long, h)) in subst (λ (s : Row). s.depth ≤ 16) (sym past) (omega arith)
+        ];
+      no_twins = λ i j a b p n.
+        let x = old i a in
+        let y = old j b in
+        shape.no_twins i j (ap (λ (s : Row). s.attached) (sym x) ∙ a) (ap (λ (s : Row). s.attached) (sym y) ∙ b)
+          (ap (λ (s : Row). s.parent) (sym x) ∙ p ∙ ap (λ (s : Row). s.parent) y) (ap (λ (s : Row). s.name) (sym x) ∙ n ∙ ap (λ (s : Row). s.name) y);
+    }
+  where
+    at_each : (j : ℕ) → j < suc (length rows) → (P : Row → Type 0) → (j < length rows → P (row_at rows j)) → P r → P (row_at (rows ++ r ∷ []) j)
+    at_each j l P before new =
+        elim (below_or_not j (length rows)) [
+          | inl h ↦ subst P (sym (before_end rows r j h)) (before h)
+          | inr h ↦ let last : j ≡ length rows = omega (arith, h, l) in subst P (sym (ap (row_at (rows ++ r ∷ [])) last ∙ at_end_of rows r)) new
+        ]
+    old : (j : ℕ) → (row_at (rows ++ r ∷ []) j).attached ≡ true → row_at (rows ++ r ∷ []) j ≡ row_at rows j
+    old j at =
+        elim (below_or_not j (length rows)) [
+          | inl h ↦ before_end rows r j h
+          | inr h ↦ elim (below_or_not j (suc (length rows))) [
+              | inl g ↦ let last : j ≡ length rows = omega (arith, h, g) in let gone : (row_at (rows ++ r ∷ []) j).attached ≡ false = ap (λ (s : Row). s.attached) (ap (row_at (rows ++ r ∷ [])) last ∙ at_end_of rows r) ∙ out in absurd (cc)
+              | inr g ↦ let past : row_at (rows ++ r ∷ []) j ≡ blank = get_or_past (rows ++ r ∷ []) j blank (omega (arith, length-append rows (r ∷ []), g)) in let gone : (row_at (rows ++ r ∷ []) j).attached ≡ false = ap (λ (s : Row). s.attached) past in absurd (cc)
+            ]
+        ]

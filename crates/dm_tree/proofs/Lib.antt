@@ -12,3 +12,5 @@ pub mod Ups
 pub mod Seen
 pub mod Decides
 pub mod Starts
+pub mod Trees
+pub mod CutTrees

@@ -54,6 +54,14 @@ fits m p name = list_all (λ q. nat_le (length (printed_path (rekeyed p name q))
 
 -- ---- what nobody holds any more
 
+-- without bytes, Type, access list and title
+abbrev pub emptied : Node → Node
+emptied node = record node { value = record node.value { media = []; bytes = [] }; acl = None; title = [] }
+
+-- the rows with a top that is given up, and holds nothing
+abbrev pub without_content : List Row → ℕ → List Row
+without_content rows k = set rows k (record (row_at rows k) { given_up = true; node = emptied (node_of rows k) })
+
 -- what lay below `top` is free; the other rows that are live or parked are as they were
 pub record IsGivenUp (old new : List Row) (top : ℕ) : Type 0 where
   pub gone : (k : ℕ) (p : Path) → path_below old top k ≡ Some p → IsFree new k

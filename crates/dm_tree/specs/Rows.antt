@@ -85,7 +85,7 @@ ids_below rows top (suc n) = placed (path_below rows top n) n (ids_below rows to
 
 abbrev pub with_nodes : List Row → List (Path × ℕ) → List (Path × Node)
 with_nodes rows [] = []
-with_nodes rows (e ∷ es) = (e.0, node_of rows e.1) ∷ with_nodes rows es
+with_nodes rows (e ∷ es) = (e.0, (row_at rows e.1).node) ∷ with_nodes rows es
 
 unfoldable pub nodes : List Row → Nodes
 nodes rows = from_entries (with_nodes rows (ids_below rows 0 (length rows)))

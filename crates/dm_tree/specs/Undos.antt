@@ -8,8 +8,8 @@ use Rattle.dm_tree.specs.declared.rows.Row.{Row}
 use Rattle.dm_tree.specs.declared.rows.Change.{Change}
 use Rattle.dm_tree.specs.declared.rows.Change.TheVariants as change
 use Rattle.dm_tree.specs.Nodes.{with_value, with_acl, with_title}
-use Rattle.dm_tree.specs.Rows.{row_at, node_of, nodes, ids, IsTree}
-use Rattle.dm_tree.specs.Edits.{with_node, with_name, attached_as}
+use Rattle.dm_tree.specs.Rows.{row_at, node_of, nodes, ids, IsTree, IsParkedTop}
+use Rattle.dm_tree.specs.Edits.{with_node, with_name, attached_as, IsGivenUp}
 
 -- the row of which it speaks
 abbrev pub row_of : Change → ℕ
@@ -55,6 +55,24 @@ pub record Fits (rows : List Row) (undo : Change) : Type 0 where
   pub inside : row_of undo < length rows
   pub ready : IsReady rows undo
   pub sound : IsTree (flipped rows undo)
+
+-- the subtree that it holds, where it holds one, is parked
+abbrev pub IsHeld : List Row → Change → Type 0
+IsHeld rows (change.PutIn k) = IsParkedTop rows k
+IsHeld rows (change.TakeOut k) = ⊤
+IsHeld rows (change.Value k value verno stamp) = ⊤
+IsHeld rows (change.Acl k acl verno stamp) = ⊤
+IsHeld rows (change.Title k title verno stamp) = ⊤
+IsHeld rows (change.Name k name verno stamp) = ⊤
+
+-- its subtree, where it holds one, is given up
+abbrev pub IsDiscarded : Change → List Row → List Row → Type 0
+IsDiscarded (change.PutIn k) old new = IsGivenUp old new k
+IsDiscarded (change.TakeOut k) old new = new ≡ old
+IsDiscarded (change.Value k value verno stamp) old new = new ≡ old
+IsDiscarded (change.Acl k acl verno stamp) old new = new ≡ old
+IsDiscarded (change.Title k title verno stamp) old new = new ≡ old
+IsDiscarded (change.Name k name verno stamp) old new = new ≡ old
 
 -- an edit's Undo: flipped after the edit, it gives the rows before it
 pub record TakesBack (undo : Change) (old new : List Row) : Type 0 where

@@ -2,6 +2,7 @@
 #![tactic(auto)]
 
 pub mod arena;
+pub mod edits;
 pub mod nodes;
 pub mod rows;
 mod text;
@@ -9,6 +10,7 @@ pub mod tree;
 mod walks;
 
 pub use arena::Tree;
+pub use edits::TreeError;
 pub use nodes::{NewNode, Node, Role, Stamp, Value, View};
 pub use rows::{NodeId, Undo};
 pub use tree::{FirstTree, NamedLeaf};

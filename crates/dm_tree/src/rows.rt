@@ -55,7 +55,7 @@ impl Model for NodeId {
 /// What takes an edit back. Flipped, it becomes what does the edit again.
 #[derive(Drop)]
 pub struct Undo {
-    change: Change,
+    pub(crate) change: Change,
 }
 
 impl Model for Undo {
@@ -86,5 +86,19 @@ impl NodeId {
         ensures { result ≡ self }
     {
         self.row
+    }
+}
+
+impl Undo {
+    pub(crate) fn of(change: Change) -> Undo
+        ensures { result ≡ change }
+    {
+        Undo { change }
+    }
+
+    pub(crate) fn into_change(self) -> Change
+        ensures { result ≡ self }
+    {
+        self.change
     }
 }
