@@ -14,3 +14,5 @@ pub mod Decides
 pub mod Starts
 pub mod Trees
 pub mod CutTrees
+pub mod Flips
+pub mod GivenUps

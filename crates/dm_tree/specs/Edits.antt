@@ -14,9 +14,11 @@ use Rattle.dm_tree.specs.Rows.{row_at, node_of, nodes, ids, path_below, IsLive, 
 abbrev pub with_node : List Row → ℕ → Node → List Row
 with_node rows k node = set rows k (record (row_at rows k) { node = node })
 
-abbrev pub with_name : List Row → ℕ → List ℕ → List Row
-with_name rows k name = set rows k (record (row_at rows k) { name = name })
+-- the rows with another name and node in a row
+abbrev pub with_name : List Row → ℕ → List ℕ → Node → List Row
+with_name rows k name node = set rows k (record (row_at rows k) { name = name; node = node })
 
+-- the rows with a row put in, or taken out
 abbrev pub attached_as : List Row → ℕ → Bool → List Row
 attached_as rows k b = set rows k (record (row_at rows k) { attached = b })
 

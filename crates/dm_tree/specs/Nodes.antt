@@ -79,6 +79,13 @@ root_node acl = record {
 abbrev pub changed : Stamp → Node → Node
 changed clock node = record node { verno = (node.verno + 1) % 2 ^ 16; stamp = clock }
 
+-- with another VerNo and stamp
+abbrev pub counted : Node → ℕ → Stamp → Node
+counted node verno stamp = record node { verno = verno; stamp = stamp }
+
+abbrev pub with_mark : Node → Node
+with_mark node = record node { permanent = true }
+
 abbrev pub with_value : Node → Value → Node
 with_value node value = record node { value = value }
 

@@ -7,7 +7,7 @@ use Rattle.dm_tree.specs.declared.nodes.Value.{Value as Held}
 use Rattle.dm_tree.specs.declared.rows.Row.{Row}
 use Rattle.dm_tree.specs.declared.rows.Change.{Change}
 use Rattle.dm_tree.specs.declared.rows.Change.TheVariants as change
-use Rattle.dm_tree.specs.Nodes.{with_value, with_acl, with_title}
+use Rattle.dm_tree.specs.Nodes.{counted, with_value, with_acl, with_title}
 use Rattle.dm_tree.specs.Rows.{row_at, node_of, nodes, ids, IsTree, IsParkedTop}
 use Rattle.dm_tree.specs.Edits.{with_node, with_name, attached_as, IsGivenUp}
 
@@ -20,15 +20,12 @@ row_of (change.Name k name verno stamp) = k
 row_of (change.TakeOut k) = k
 row_of (change.PutIn k) = k
 
-abbrev pub counted : Node → ℕ → Stamp → Node
-counted node verno stamp = record node { verno = verno; stamp = stamp }
-
 -- the rows after a flip
 abbrev pub flipped : List Row → Change → List Row
 flipped rows (change.Value k value verno stamp) = with_node rows k (counted (with_value (node_of rows k) value) verno stamp)
 flipped rows (change.Acl k acl verno stamp) = with_node rows k (counted (with_acl (node_of rows k) acl) verno stamp)
 flipped rows (change.Title k title verno stamp) = with_node rows k (counted (with_title (node_of rows k) title) verno stamp)
-flipped rows (change.Name k name verno stamp) = with_node (with_name rows k name) k (counted (node_of rows k) verno stamp)
+flipped rows (change.Name k name verno stamp) = with_name rows k name (counted (node_of rows k) verno stamp)
 flipped rows (change.TakeOut k) = attached_as rows k false
 flipped rows (change.PutIn k) = attached_as rows k true
 

@@ -3,6 +3,7 @@
 
 pub mod arena;
 pub mod edits;
+mod lays;
 pub mod nodes;
 pub mod rows;
 mod text;

@@ -6,7 +6,8 @@ use Rattle.dm_tree.specs.declared.rows.Change.TheVariants as change
 use Rattle.dm_tree.specs.Nodes.{IsNode, IsRoot, IsValue, changed, with_value, with_acl, with_title}
 use Rattle.dm_tree.specs.Rows.{Tree, IsTree, IsLive, node_of, nodes, ids, row_at}
 use Rattle.dm_tree.specs.Edits.{with_node}
-use Rattle.dm_tree.specs.Undos.{TakesBack, counted}
+use Rattle.dm_tree.specs.Undos.{TakesBack}
+use Rattle.dm_tree.specs.Nodes.{counted}
 use Rattle.std.proofs.Math.ListN.{length-set}
 use Rattle.std.specs.Prelude.{unwrap_or}
 use Rattle.dm_tree.specs.Rows.{path_of}
