@@ -10,7 +10,7 @@ use Rattle.std.specs.FinMap.{get, len, insert, len-insert, contains_key}
 use Rattle.dm_uri.specs.Names.{is_name, is_short, printed_path, is_within_limits}
 use Rattle.dm_tree.specs.declared.nodes.Node.{Node}
 use Rattle.dm_tree.specs.declared.rows.Row.{Row}
-use Rattle.dm_tree.specs.Nodes.{Path, tree_order, IsNode, IsRoot, IsChildOf}
+use Rattle.dm_tree.specs.Nodes.{Path, tree_order, with_mark, IsNode, IsRoot, IsChildOf}
 use Rattle.dm_tree.specs.Rows.{blank, row_at, node_of, walk, path_below, placed, ids_below, ids, nodes, IsShaped, IsRow, IsTree, IsLive, IsParked, IsParkedTop, IsFree, path_of}
 use Rattle.dm_tree.specs.Edits.{with_node, attached_as, new_row, IsGrown}
 use Rattle.dm_tree.specs.declared.rows.Change.{Change}
@@ -85,6 +85,42 @@ still-node rows tree k l n held kin root = record {
 -- another node in a row of the tree
 pub tree-with_node : (rows : List Row) → IsTree rows → (k : ℕ) → k < length rows → (n : Node) → IsNode n → IsKin (node_of rows k) n → (k ≡ 0 → IsRoot n) → IsTree (with_node rows k n)
 tree-with_node rows tree k l n held kin root = tree-still rows _ tree (still-node rows tree k l n held kin root)
+
+-- a row of the tree made permanent, whose parent is
+pub tree-with_mark : (rows : List Row) → IsTree rows → (k : ℕ) → k < length rows → (nat_eq k 0 ≡ false → (node_of rows (row_at rows k).parent).permanent ≡ true)
+    → IsTree (with_node rows k (with_mark (node_of rows k)))
+tree-with_mark rows tree k l above = tree-still rows _ tree (record {
+  same = node_alike rows k n l;
+  each = λ j jl. elim (same_or_not j k) [
+      | inl h ↦ subst (λ i. IsRow (row_at (with_node rows k n) i)) (sym h) (subst IsRow (sym here) (record {
+            name = (tree.each k l).name;
+            node = record { value = (tree.each k l).node.value; acl = (tree.each k l).node.acl; title = (tree.each k l).node.title };
+            attached = (tree.each k l).attached
+          }))
+      | inr h ↦ subst IsRow (sym (get_or-set_other rows k j _ blank h)) (tree.each j jl)
+    ];
+  root = elim (same_or_not 0 k) [
+      | inl h ↦
+          let top = subst (λ i. IsRoot (node_of rows i)) h tree.root in
+          subst (λ i. IsRoot (node_of (with_node rows k n) i)) (sym h) (subst (λ (r : Row). IsRoot r.node) (sym here) (record { interior = top.interior; permanent = refl; acl = top.acl; media = top.media; role = top.role }))
+      | inr h ↦ subst (λ (r : Row). IsRoot r.node) (sym (get_or-set_other rows k 0 _ blank h)) tree.root
+    ];
+  children = λ j at. record {
+      interior = of_both rows k _ (λ r. r.node.interior) refl (row_at rows j).parent l ∙ (tree.children j at).interior;
+      permanent = λ p. elim (same_or_not (row_at rows j).parent k) [
+          | inl h ↦ ap (λ i. (node_of (with_node rows k n) i).permanent) h ∙ ap (λ (r : Row). r.node.permanent) here
+          | inr h ↦ ap (λ (r : Row). r.node.permanent) (get_or-set_other rows k (row_at rows j).parent _ blank h) ∙ elim (same_or_not j k) [
+              | inl g ↦ ap (λ i. (node_of rows (row_at rows i).parent).permanent) g ∙ above (not_zero k (λ z. omega (arith, z, g, (attached_row rows tree.shape j at).0)))
+              | inr g ↦ (tree.children j at).permanent (ap (λ (r : Row). r.node.permanent) (sym (get_or-set_other rows k j _ blank g)) ∙ p)
+            ]
+        ];
+    };
+})
+  where
+    n : Node
+    n = with_mark (node_of rows k)
+    here : row_at (with_node rows k (with_mark (node_of rows k))) k ≡ record (row_at rows k) { node = with_mark (node_of rows k) }
+    here = get_or-set_same rows k _ blank l
 
 -- ---- Undos
 
