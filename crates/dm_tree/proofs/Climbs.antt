@@ -1,5 +1,5 @@
 -- Going up from a row: the path on which it lies.
-use Rattle.std.proofs.Common.{◌≡◌, ◌≢◌, ℕ, zero, suc, ◌+◌, ◌<◌, true, false, cond, nat_eq, List, [], ◌∷◌, ◌++◌, length, Option, None, Some, refl, sym, ◌∙◌, ap, subst, arith, inl, inr, append_assoc, length-append}
+use Rattle.std.proofs.Common.{◌≡◌, ◌≢◌, ℕ, zero, suc, ◌<◌, true, false, cond, nat_eq, List, [], ◌∷◌, ◌++◌, length, Option, None, Some, refl, sym, ◌∙◌, ap, subst, arith, inl, inr, append_assoc, length-append}
 use Rattle.dm_tree.specs.declared.rows.Row.{Row}
 use Rattle.dm_tree.specs.Nodes.{Path}
 use Rattle.dm_tree.specs.Rows.{blank, row_at, walk, path_below, IsShaped}
@@ -21,7 +21,7 @@ option_up (Some r) n p e = (r, refl, cc)
 pub walk_up : (rows : List Row) (d top k : ℕ) (p : Path) → nat_eq k top ≡ false → walk rows (suc d) top k ≡ Some p → Up rows d top k p
 walk_up rows d top k p other e =
     let e' : cond false (Some []) (cond (row_at rows k).attached (option_map (λ p. p ++ (row_at rows k).name ∷ []) (walk rows d top (row_at rows k).parent)) None) ≡ Some p =
-        subst (λ b. cond b (Some []) (cond (row_at rows k).attached (option_map (λ p. p ++ (row_at rows k).name ∷ []) (walk rows d top (row_at rows k).parent)) None) ≡ Some p) other e in
+    subst (λ b. cond b (Some []) (cond (row_at rows k).attached (option_map (λ p. p ++ (row_at rows k).name ∷ []) (walk rows d top (row_at rows k).parent)) None) ≡ Some p) other e in
     elim (row_at rows k).attached as (λ b. (row_at rows k).attached ≡ b → cond b (option_map (λ p. p ++ (row_at rows k).name ∷ []) (walk rows d top (row_at rows k).parent)) None ≡ Some p → Up rows d top k p) [
       | true ↦ λ at h. let u = option_up _ _ _ h in record { attached = at; above = u.0; found = u.1; named = u.2 }
       | false ↦ λ at h. absurd (cc)
@@ -87,9 +87,10 @@ not_zero n h = grind (arith, nat_tests)
 
 -- a row that is attached is no root, and is there
 pub attached_row : (rows : List Row) → IsShaped rows → (k : ℕ) → (row_at rows k).attached ≡ true → (0 < k) × (k < length rows)
-attached_row rows shape k at =
-    (elim (same_or_not k 0) [ inl h ↦ let no : (row_at rows 0).attached ≡ true = ap (λ j. (row_at rows j).attached) (sym h) ∙ at in let f = shape.fixed in absurd (cc) | inr h ↦ omega arith ],
-     elim (below_or_not k (length rows)) [ inl h ↦ h | inr h ↦ let past : row_at rows k ≡ blank = get_or_past rows k blank h in let no : (row_at rows k).attached ≡ false = ap (λ (r : Row). r.attached) past in absurd (cc) ])
+attached_row rows shape k at = (
+  elim (same_or_not k 0) [ inl h ↦ let no : (row_at rows 0).attached ≡ true = ap (λ j. (row_at rows j).attached) (sym h) ∙ at in let f = shape.fixed in absurd (cc) | inr h ↦ omega arith ],
+  elim (below_or_not k (length rows)) [ inl h ↦ h | inr h ↦ let past : row_at rows k ≡ blank = get_or_past rows k blank h in let no : (row_at rows k).attached ≡ false = ap (λ (r : Row). r.attached) past in absurd (cc) ],
+)
 
 pub attached_falls : (rows : List Row) → IsShaped rows → (k : ℕ) → (row_at rows k).attached ≡ true → (row_at rows k).depth ≡ suc (row_at rows (row_at rows k).parent).depth
 attached_falls rows shape k at = let r = attached_row rows shape k at in shape.falls k r.0 r.1

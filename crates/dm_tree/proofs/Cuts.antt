@@ -1,5 +1,5 @@
 -- A subtree is taken out.
-use Rattle.std.proofs.Common.{◌≡◌, ◌≢◌, ℕ, zero, suc, ◌+◌, ◌<◌, Bool, true, false, cond, nat_eq, List, [], ◌∷◌, ◌++◌, length, Option, None, Some, refl, sym, ◌∙◌, ap, subst, arith, inl, inr, not}
+use Rattle.std.proofs.Common.{◌≡◌, ◌≢◌, ℕ, zero, suc, ◌<◌, Bool, true, false, cond, nat_eq, List, [], ◌∷◌, ◌++◌, length, Option, None, Some, refl, sym, ◌∙◌, ap, subst, arith, inl, inr, not}
 use Rattle.dm_tree.specs.declared.rows.Row.{Row}
 use Rattle.dm_tree.specs.Nodes.{Path, tree_order, is_below}
 use Rattle.dm_tree.specs.Rows.{blank, row_at, walk, path_below, ids, nodes, IsShaped, IsLive, path_of}
@@ -9,7 +9,7 @@ use Rattle.std.proofs.lemmas.List.{get_or-set_same, get_or-set_other}
 use Rattle.std.proofs.Math.ListN.{length-set}
 use Rattle.std.specs.Option.{option_map}
 use Rattle.dm_tree.proofs.Paths.{below_last, below_longer, below_none, below_self, same_or_not, tree_exact, tree_total}
-use Rattle.dm_tree.proofs.Climbs.{at_bottom, at_top, attached_falls, depth_is, not_zero, one_row, same_number, some_path, walk_up, way}
+use Rattle.dm_tree.proofs.Climbs.{at_bottom, at_top, attached_falls, depth_is, not_zero, one_row, same_number, some_path, walk_up}
 use Rattle.dm_tree.proofs.Maps.{get_nodes, id_is, id_of}
 use Rattle.dm_tree.proofs.Nodewise.{live_row, of_both}
 
@@ -60,11 +60,12 @@ kept_walk rows shape k p l at (suc d) i q deep e f =
         let equal : p ≡ q = some_path p q (sym at ∙ ap (path_below rows 0) (sym same) ∙ q_there) in
         let yes : is_below p q ≡ true = ap (is_below p) (sym equal) ∙ below_self p in
         cc
+
     not_longer : (r : Path) (n : List ℕ) → q ≡ r ++ n ∷ [] → is_below p r ≡ false
     not_longer r n e = elim (is_below p r) as (λ b. is_below p r ≡ b → is_below p r ≡ false) [
-        | true ↦ λ is. let yes : is_below p q ≡ true = ap (is_below p) e ∙ below_longer p r n is in absurd (cc)
-        | false ↦ λ is. is
-      ] refl
+      | true ↦ λ is. let yes : is_below p q ≡ true = ap (is_below p) e ∙ below_longer p r n is in absurd (cc)
+      | false ↦ λ is. is
+    ] refl
 
 -- going up in the rows after, one goes as before, and not through the subtree
 pub cut_walk : (rows : List Row) → IsShaped rows → (k : ℕ) (p : Path) → 0 < k → k < length rows → path_below rows 0 k ≡ Some p
@@ -89,9 +90,9 @@ cut_walk rows shape k p z l at (suc d) i q deep e =
   where
     not_here : (r : Path) (n : List ℕ) → is_below p r ≡ false → (p ≡ r ++ n ∷ [] → ⊥) → is_below p (r ++ n ∷ []) ≡ false
     not_here r n f other = elim (is_below p (r ++ n ∷ [])) as (λ b. is_below p (r ++ n ∷ []) ≡ b → is_below p (r ++ n ∷ []) ≡ false) [
-        | true ↦ λ is. absurd (other (below_last p r n is f))
-        | false ↦ λ is. is
-      ] refl
+      | true ↦ λ is. absurd (other (below_last p r n is f))
+      | false ↦ λ is. is
+    ] refl
 
 pub depth_cut : (rows : List Row) (k j : ℕ) → k < length rows → (row_at (attached_as rows k false) j).depth ≡ (row_at rows j).depth
 depth_cut rows k j l = of_both rows k (record (row_at rows k) { attached = false }) (λ r. r.depth) refl j l
@@ -104,28 +105,33 @@ ids-detached rows shape k z live = same_map tree_total tree_exact _ _ (λ q. at_
   where
     p : Path
     p = path_of rows k
+
     l : k < length rows
     l = live_row rows shape k live
+
     after : (i : ℕ) (q : Path) → get (ids (attached_as rows k false)) q ≡ Some i → (get (ids rows) q ≡ Some i) × (is_below (path_of rows k) q ≡ false)
     after i q e =
         let e' : walk (attached_as rows k false) (row_at rows i).depth 0 i ≡ Some q = ap (λ d. walk (attached_as rows k false) d 0 i) (sym (depth_cut rows k i l)) ∙ (id_is (attached_as rows k false) q i e).0 in
         let r = cut_walk rows shape k (path_of rows k) z l live (row_at rows i).depth i q refl e' in
         (id_of rows shape i q r.0, r.1)
+
     before : (i : ℕ) (q : Path) → is_below (path_of rows k) q ≡ false → get (ids rows) q ≡ Some i → get (ids (attached_as rows k false)) q ≡ Some i
     before i q f e =
         let r = kept_walk rows shape k (path_of rows k) l live (row_at rows i).depth i q refl (id_is rows q i e).0 f in
         id_of (attached_as rows k false) (shaped-detached rows shape k z l) i q (ap (λ d. walk (attached_as rows k false) d 0 i) (depth_cut rows k i l) ∙ r)
+
     kept : (q : Path) (o : Option ℕ) → is_below (path_of rows k) q ≡ false → get (ids (attached_as rows k false)) q ≡ None → get (ids rows) q ≡ o → None ≡ o
     kept q None f e g = refl
     kept q (Some i) f e g = let b = before i q f g in absurd (cc)
+
     at_path : (q : Path) → get (ids (attached_as rows k false)) q ≡ cond (not (is_below (path_of rows k) q)) (get (ids rows) q) None
     at_path q =
         elim (get (ids (attached_as rows k false)) q) as (λ o. get (ids (attached_as rows k false)) q ≡ o → o ≡ cond (not (is_below (path_of rows k) q)) (get (ids rows) q) None) [
           | Some i ↦ λ e. let a = after i q e in rw (a.1, a.0) refl
           | None ↦ λ e. elim (is_below (path_of rows k) q) as (λ b. is_below (path_of rows k) q ≡ b → None ≡ cond (not b) (get (ids rows) q) None) [
-              | true ↦ λ f. refl
-              | false ↦ λ f. kept q (get (ids rows) q) f e refl
-            ] refl
+            | true ↦ λ f. refl
+            | false ↦ λ f. kept q (get (ids rows) q) f e refl
+          ] refl
         ] refl
 
 pub nodes-detached : (rows : List Row) → IsShaped rows → (k : ℕ) → 0 < k → IsLive rows k → nodes (attached_as rows k false) ≡ pruned (nodes rows) (path_of rows k)

@@ -1,5 +1,5 @@
 -- Which access list decides, as the rows and as the map have it.
-use Rattle.std.proofs.Common.{◌≡◌, ℕ, zero, suc, ◌+◌, ◌<◌, ◌≤◌, Bool, true, false, nat_eq, List, [], ◌∷◌, ◌++◌, length, take, Option, None, Some, refl, sym, ◌∙◌, ap, subst, arith, length-append}
+use Rattle.std.proofs.Common.{◌≡◌, ℕ, zero, suc, ◌≤◌, Bool, true, false, nat_eq, List, [], ◌∷◌, ◌++◌, length, take, Option, None, Some, refl, sym, ◌∙◌, ap, subst, arith, length-append}
 use Rattle.std.specs.Prelude.{if◌then◌else◌, IfSome}
 use Rattle.std.specs.Option.{option_map, option_and_then, option_map_or}
 use Rattle.std.specs.FinMap.{get}
@@ -147,5 +147,5 @@ unfolding by_path
 allows-some rows shape server right k j live e =
     let there = node_there rows shape j (decided rows shape right (row_at rows k).depth k (path_of rows k) refl live j (sym e)).live in
     sym (ap (by_path rows server right) (decides rows shape right (row_at rows k).depth k (path_of rows k) refl live ∙ ap (option_map (path_of rows)) (sym e))
-      ∙ ap (λ o. allowed_in (option_and_then (λ acl. entry_of acl right) (option_and_then (λ (n : Node). n.acl) o)) server) there
-      ∙ allowed_by_list (row_at rows j).node.acl server right)
+    ∙ ap (λ o. allowed_in (option_and_then (λ acl. entry_of acl right) (option_and_then (λ (n : Node). n.acl) o)) server) there
+    ∙ allowed_by_list (row_at rows j).node.acl server right)

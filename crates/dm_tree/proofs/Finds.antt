@@ -1,5 +1,5 @@
 -- What the searches find is what the maps say.
-use Rattle.std.proofs.Common.{◌≡◌, ℕ, zero, suc, ◌+◌, ◌<◌, ◌≤◌, Bool, true, false, cond, nat_eq, List, [], ◌∷◌, ◌++◌, length, Option, None, Some, get_or, refl, sym, ◌∙◌, ap, subst, arith, drop, drop-cons, append_assoc, append-nil, not}
+use Rattle.std.proofs.Common.{◌≡◌, ℕ, zero, suc, ◌+◌, ◌<◌, ◌≤◌, Bool, true, false, cond, nat_eq, List, [], ◌∷◌, ◌++◌, length, Option, None, Some, get_or, refl, sym, ◌∙◌, ap, subst, arith, drop, drop-cons, append_assoc, append-nil}
 use Rattle.dm_tree.specs.declared.rows.Row.{Row}
 use Rattle.dm_tree.specs.Nodes.{Path}
 use Rattle.dm_tree.specs.Rows.{blank, row_at, path_below, ids, IsShaped, IsLive, path_of}
@@ -84,6 +84,7 @@ find_step rows shape k p n ns at rec =
         let no : is_child k n (row_at rows a.row) ≡ false = position_absent (is_child k n) 0 rows blank is a.row long in
         let yes : is_child k n (row_at rows a.row) ≡ true = child_tested rows k n a.row child in
         cc
+
     nothing : (o : Option ℕ) → get (ids rows) (p ++ n ∷ ns) ≡ o → child_of rows k n ≡ None → o ≡ None
     nothing None e is = refl
     nothing (Some i) e is = absurd (refuted is i e)

@@ -2,13 +2,11 @@
 use Rattle.std.proofs.Common.{◌≡◌, ℕ, ◌<◌, true, false, List, length, refl, sym, ◌∙◌, ap, arith}
 use Rattle.std.proofs.Math.ListN.{set, length-set}
 use Rattle.std.proofs.lemmas.List.{set-get_or, get_or-set_same}
-use Rattle.dm_tree.specs.declared.nodes.Node.{Node}
 use Rattle.dm_tree.specs.declared.rows.Row.{Row}
 use Rattle.dm_tree.specs.declared.rows.Change.{Change}
 use Rattle.dm_tree.specs.declared.rows.Change.TheVariants as change
 use Rattle.dm_tree.specs.Nodes.{counted, with_value, with_acl, with_title}
 use Rattle.dm_tree.specs.Rows.{blank, row_at, node_of, IsTree}
-use Rattle.dm_tree.specs.Edits.{with_node, with_name, attached_as}
 use Rattle.dm_tree.specs.Undos.{row_of, flipped, turned, IsReady, Fits, TakesBack}
 use Rattle.dm_tree.proofs.Grows.{set_twice}
 use Rattle.dm_tree.proofs.Trees.{takes_back, back-node}

@@ -1,6 +1,6 @@
 -- What is given up.
-use Rattle.std.proofs.Common.{◌≡◌, ◌≢◌, ℕ, zero, suc, ◌<◌, ◌≤◌, Bool, true, false, nat_eq, List, [], length, Option, None, Some, refl, sym, ◌∙◌, ap, subst, arith, inl, inr}
-use Rattle.std.proofs.Math.ListN.{set, length-set}
+use Rattle.std.proofs.Common.{◌≡◌, ◌≢◌, ℕ, zero, suc, ◌<◌, Bool, true, false, nat_eq, List, [], length, Option, None, Some, refl, sym, ◌∙◌, ap, subst, arith, inl, inr}
+use Rattle.std.proofs.Math.ListN.{length-set}
 use Rattle.std.proofs.lemmas.List.{get_or-set_same, get_or-set_other}
 use Rattle.std.proofs.lemmas.Bool.Decides.{nat_tests}
 use Rattle.std.specs.Prelude.{is_some}
@@ -9,12 +9,12 @@ use Rattle.std.specs.FinMap.{get, same_map}
 use Rattle.dm_tree.specs.declared.nodes.Node.{Node}
 use Rattle.dm_tree.specs.declared.rows.Row.{Row}
 use Rattle.dm_tree.specs.Nodes.{Path, IsNode, IsRoot}
-use Rattle.dm_tree.specs.Rows.{blank, row_at, node_of, walk, path_below, ids, nodes, IsShaped, IsRow, IsTree, IsLive, IsParked, IsParkedTop, IsFree, path_of}
+use Rattle.dm_tree.specs.Rows.{blank, row_at, node_of, walk, path_below, ids, nodes, IsRow, IsTree, IsParkedTop, path_of}
 use Rattle.dm_tree.specs.Edits.{emptied, without_content, IsGivenUp}
 use Rattle.dm_tree.proofs.Paths.{same_or_not, tree_total, tree_exact}
 use Rattle.dm_tree.proofs.Climbs.{walk_up, at_bottom, same_number, not_zero}
 use Rattle.dm_tree.proofs.Maps.{get_nodes, id_is}
-use Rattle.dm_tree.proofs.Nodewise.{IsAlike, of_both, walk_alike, same_ids, live_row}
+use Rattle.dm_tree.proofs.Nodewise.{IsAlike, of_both, walk_alike, same_ids}
 use Rattle.dm_tree.proofs.Ups.{not_in}
 use Rattle.dm_tree.proofs.Trees.{IsStill, tree-still}
 
@@ -58,18 +58,18 @@ still-given_up : (rows : List Row) → IsTree rows → (k : ℕ) → IsParkedTop
 still-given_up rows tree k top = record {
   same = alike rows k top.inside;
   each = λ j jl. elim (same_or_not j k) [
-      | inl h ↦ subst (λ i. IsRow (row_at (without_content rows k) i)) (sym h) (subst IsRow (sym here) (record {
-            name = (tree.each k top.inside).name;
-            node = empty_held (node_of rows k) (tree.each k top.inside).node;
-            attached = λ e. absurd (let out = top.out in cc)
-          }))
-      | inr h ↦ subst IsRow (sym (get_or-set_other rows k j _ blank h)) (tree.each j jl)
-    ];
+    | inl h ↦ subst (λ i. IsRow (row_at (without_content rows k) i)) (sym h) (subst IsRow (sym here) (record {
+      name = (tree.each k top.inside).name;
+      node = empty_held (node_of rows k) (tree.each k top.inside).node;
+      attached = λ e. absurd (let out = top.out in cc);
+    }))
+    | inr h ↦ subst IsRow (sym (get_or-set_other rows k j _ blank h)) (tree.each j jl)
+  ];
   root = subst (λ (r : Row). IsRoot r.node) (sym (get_or-set_other rows k 0 _ blank (λ z. omega (arith, z, top.below_root)))) tree.root;
   children = λ j at. record {
-      interior = of_both rows k _ (λ r. r.node.interior) refl (row_at rows j).parent top.inside ∙ (tree.children j at).interior;
-      permanent = λ p. of_both rows k _ (λ r. r.node.permanent) refl (row_at rows j).parent top.inside ∙ (tree.children j at).permanent (sym (of_both rows k _ (λ r. r.node.permanent) refl j top.inside) ∙ p);
-    };
+    interior = of_both rows k _ (λ r. r.node.interior) refl (row_at rows j).parent top.inside ∙ (tree.children j at).interior;
+    permanent = λ p. of_both rows k _ (λ r. r.node.permanent) refl (row_at rows j).parent top.inside ∙ (tree.children j at).permanent (sym (of_both rows k _ (λ r. r.node.permanent) refl j top.inside) ∙ p);
+  };
 }
   where
     here : row_at (without_content rows k) k ≡ record (row_at rows k) { given_up = true; node = emptied (node_of rows k) }
@@ -102,20 +102,21 @@ nodes-given_up rows k top = same_map tree_total tree_exact _ _ (λ q.
 pub given_up : (rows : List Row) → IsTree rows → (k : ℕ) → IsParkedTop rows k → IsGivenUp rows (without_content rows k) k
 given_up rows tree k top = record {
   gone = λ j p below. (
-      λ live. omega (arith, top.below_root, one_top rows (row_at rows j).depth j k 0 p _ top.out tree.shape.fixed below (before 0 j _ live)),
-      λ held.
+    λ live. omega (arith, top.below_root, one_top rows (row_at rows j).depth j k 0 p _ top.out tree.shape.fixed below (before 0 j _ live)),
+    λ held.
         let out : (row_at rows held.0).attached ≡ false = sym (of_both rows k _ (λ r. r.attached) refl held.0 top.inside) ∙ held.1.out in
         let same : k ≡ held.0 = one_top rows (row_at rows j).depth j k held.0 p held.2 top.out out below (before held.0 j held.2 held.3) in
         let up : (row_at (without_content rows k) held.0).given_up ≡ true = ap (λ i. (row_at (without_content rows k) i).given_up) (sym same) ∙ ap (λ (r : Row). r.given_up) here in
         let not_up = held.1.held in
-        absurd (cc)
-    );
+        absurd (cc),
+  );
   live = λ j live. get_or-set_other rows k j _ blank (λ same. not_live rows k top (path_of rows j) (ap (path_below rows 0) (sym same) ∙ live));
   parked = λ j held apart. get_or-set_other rows k j _ blank (λ same. absurd (let e : path_below rows k j ≡ Some [] = ap (path_below rows k) same ∙ self_below rows (row_at rows k).depth k in cc));
 }
   where
     here : row_at (without_content rows k) k ≡ record (row_at rows k) { given_up = true; node = emptied (node_of rows k) }
     here = get_or-set_same rows k _ blank top.inside
+
     before : (s j : ℕ) (p : Path) → path_below (without_content rows k) s j ≡ Some p → path_below rows s j ≡ Some p
     before s j p e =
         let same = alike rows k top.inside in

@@ -1,10 +1,12 @@
 -- A row is added at the end.
-use Rattle.std.proofs.Common.{◌≡◌, ℕ, zero, suc, ◌+◌, ◌<◌, ◌≤◌, true, false, nat_eq, List, [], ◌∷◌, ◌++◌, length, Option, None, Some, refl, sym, ◌∙◌, ap, subst, arith, ◌⊎◌, inl, inr, ◌^◌, length-append, not}
+use Rattle.std.proofs.Common.{◌≡◌, ℕ, zero, suc, ◌+◌, ◌<◌, ◌≤◌, true, false, nat_eq, List, [], ◌∷◌, ◌++◌, length, Option, None, Some, refl, sym, ◌∙◌, ap, subst, arith, ◌⊎◌, inl, inr, ◌^◌, length-append}
 use Rattle.dm_tree.specs.declared.nodes.Node.{Node}
 use Rattle.dm_tree.specs.declared.rows.Row.{Row}
 use Rattle.dm_tree.specs.Nodes.{Path}
 use Rattle.dm_tree.specs.Rows.{blank, row_at, walk, path_below, placed, ids_below, with_nodes, ids, nodes, IsShaped, IsLive, path_of}
-use Rattle.dm_tree.specs.Edits.{new_row}
+use Rattle.std.specs.Prelude.{nat_lt}
+use Rattle.std.proofs.lemmas.Bool.Decides.{nat_tests}
+use Rattle.dm_tree.specs.Edits.{with_row, new_row}
 use Rattle.std.proofs.Math.ListN.{get_or-append, set}
 use Rattle.std.proofs.Math.Seq.{get_or-append_seam}
 use Rattle.std.proofs.lemmas.List.{get_or_past}
@@ -82,38 +84,43 @@ shaped-append rows shape k live name node free short room =
           (λ h. shape.falls j a h ∙ ap (λ (s : Row). suc s.depth) (sym (before_end rows r (row_at rows j).parent (shape.inside j h))))
           (ap (λ (s : Row). suc s.depth) (sym (before_end rows r k inside)));
       shallow = λ j. elim (below_or_not j (suc (length rows))) [
-          | inl h ↦ at_each j (omega (arith, long, h)) (λ (s : Row). s.depth ≤ 16) (λ _. shape.shallow j) (omega arith)
-          | inr h ↦ let past : row_at (rows ++ r ∷ []) j ≡ blank = get_or_past (rows ++ r ∷ []) j blank (omega (arith, long, h)) in subst (λ (s : Row). s.depth ≤ 16) (sym past) (omega arith)
-        ];
+        | inl h ↦ at_each j (omega (arith, long, h)) (λ (s : Row). s.depth ≤ 16) (λ _. shape.shallow j) (omega arith)
+        | inr h ↦ let past : row_at (rows ++ r ∷ []) j ≡ blank = get_or_past (rows ++ r ∷ []) j blank (omega (arith, long, h)) in subst (λ (s : Row). s.depth ≤ 16) (sym past) (omega arith)
+      ];
       no_twins = λ i j a b p n. twins i j (old_or_new i a) (old_or_new j b) p n;
     }
   where
     r : Row
     r = new_row rows k name node
+
     at_each : (j : ℕ) → j < length (rows ++ new_row rows k name node ∷ []) → (P : Row → Type 0) → (j < length rows → P (row_at rows j)) → P (new_row rows k name node) → P (row_at (rows ++ new_row rows k name node ∷ []) j)
     at_each j l P old new =
         elim (below_or_not j (length rows)) [
           | inl h ↦ subst P (sym (before_end rows (new_row rows k name node) j h)) (old h)
           | inr h ↦ let last : j ≡ length rows = omega (arith, length-append rows (new_row rows k name node ∷ []), h, l) in subst P (sym (ap (row_at (rows ++ new_row rows k name node ∷ [])) last ∙ at_end_of rows (new_row rows k name node))) new
         ]
+
     Old : ℕ → Type 0
     Old j = (row_at (rows ++ new_row rows k name node ∷ []) j ≡ row_at rows j) × ((row_at rows j).attached ≡ true)
+
     New : ℕ → Type 0
     New j = (j ≡ length rows) × (row_at (rows ++ new_row rows k name node ∷ []) j ≡ new_row rows k name node)
+
     old_or_new : (j : ℕ) → (row_at (rows ++ new_row rows k name node ∷ []) j).attached ≡ true → Old j ⊎ New j
     old_or_new j at =
         elim (below_or_not j (length rows)) [
           | inl h ↦ let e = before_end rows (new_row rows k name node) j h in inl (e, ap (λ (s : Row). s.attached) (sym e) ∙ at)
           | inr h ↦ elim (below_or_not j (suc (length rows))) [
-              | inl g ↦ let last : j ≡ length rows = omega (arith, h, g) in inr (last, ap (row_at (rows ++ new_row rows k name node ∷ [])) last ∙ at_end_of rows (new_row rows k name node))
-              | inr g ↦
-                  let past : row_at (rows ++ new_row rows k name node ∷ []) j ≡ blank = get_or_past (rows ++ new_row rows k name node ∷ []) j blank (omega (arith, length-append rows (new_row rows k name node ∷ []), g)) in
-                  let no : (row_at (rows ++ new_row rows k name node ∷ []) j).attached ≡ false = ap (λ (s : Row). s.attached) past in absurd (cc)
-            ]
+            | inl g ↦ let last : j ≡ length rows = omega (arith, h, g) in inr (last, ap (row_at (rows ++ new_row rows k name node ∷ [])) last ∙ at_end_of rows (new_row rows k name node))
+            | inr g ↦
+                let past : row_at (rows ++ new_row rows k name node ∷ []) j ≡ blank = get_or_past (rows ++ new_row rows k name node ∷ []) j blank (omega (arith, length-append rows (new_row rows k name node ∷ []), g)) in
+                let no : (row_at (rows ++ new_row rows k name node ∷ []) j).attached ≡ false = ap (λ (s : Row). s.attached) past in absurd (cc)
+          ]
         ]
+
     twins : (i j : ℕ) → Old i ⊎ New i → Old j ⊎ New j
-      → (row_at (rows ++ new_row rows k name node ∷ []) i).parent ≡ (row_at (rows ++ new_row rows k name node ∷ []) j).parent
-      → (row_at (rows ++ new_row rows k name node ∷ []) i).name ≡ (row_at (rows ++ new_row rows k name node ∷ []) j).name → i ≡ j
+        → (row_at (rows ++ new_row rows k name node ∷ []) i).parent ≡ (row_at (rows ++ new_row rows k name node ∷ []) j).parent
+        → (row_at (rows ++ new_row rows k name node ∷ []) i).name ≡ (row_at (rows ++ new_row rows k name node ∷ []) j).name → i ≡ j
     twins i j (inl x) (inl y) p n = shape.no_twins i j x.1 y.1 (ap (λ (s : Row). s.parent) (sym x.0) ∙ p ∙ ap (λ (s : Row). s.parent) y.0) (ap (λ (s : Row). s.name) (sym x.0) ∙ n ∙ ap (λ (s : Row). s.name) y.0)
     twins i j (inl x) (inr y) p n = absurd (no_child rows shape k live name free i (record { attached = x.1; parent = ap (λ (s : Row). s.parent) (sym x.0) ∙ p ∙ ap (λ (s : Row). s.parent) y.1; named = ap (λ (s : Row). s.name) (sym x.0) ∙ n ∙ ap (λ (s : Row). s.name) y.1 }))
     twins i j (inr x) (inl y) p n = absurd (no_child rows shape k live name free j (record { attached = y.1; parent = ap (λ (s : Row). s.parent) (sym y.0) ∙ sym p ∙ ap (λ (s : Row). s.parent) x.1; named = ap (λ (s : Row). s.name) (sym y.0) ∙ sym n ∙ ap (λ (s : Row). s.name) x.1 }))
@@ -160,13 +167,13 @@ shaped-parked rows shape r out inside deep shallow room =
           (λ h. shape.falls j a h ∙ ap (λ (s : Row). suc s.depth) (sym (before_end rows r (row_at rows j).parent (shape.inside j h))))
           (deep ∙ ap (λ (s : Row). suc s.depth) (sym (before_end rows r r.parent inside)));
       shallow = λ j. elim (below_or_not j (suc (length rows))) [
-          | inl h ↦ at_each j h (λ (s : Row). s.depth ≤ 16) (λ _. shape.shallow j) shallow
-          | inr h ↦ let past : row_at (rows ++ r ∷ []) j ≡ blank = get_or_past (rows ++ r ∷ []) j blank (omega (arith, long, h)) in subst (λ (s : Row). s.depth ≤ 16) (sym past) (omega arith)
-        ];
+        | inl h ↦ at_each j h (λ (s : Row). s.depth ≤ 16) (λ _. shape.shallow j) shallow
+        | inr h ↦ let past : row_at (rows ++ r ∷ []) j ≡ blank = get_or_past (rows ++ r ∷ []) j blank (omega (arith, long, h)) in subst (λ (s : Row). s.depth ≤ 16) (sym past) (omega arith)
+      ];
       no_twins = λ i j a b p n.
-        let x = old i a in
-        let y = old j b in
-        shape.no_twins i j (ap (λ (s : Row). s.attached) (sym x) ∙ a) (ap (λ (s : Row). s.attached) (sym y) ∙ b)
+          let x = old i a in
+          let y = old j b in
+          shape.no_twins i j (ap (λ (s : Row). s.attached) (sym x) ∙ a) (ap (λ (s : Row). s.attached) (sym y) ∙ b)
           (ap (λ (s : Row). s.parent) (sym x) ∙ p ∙ ap (λ (s : Row). s.parent) y) (ap (λ (s : Row). s.name) (sym x) ∙ n ∙ ap (λ (s : Row). s.name) y);
     }
   where
@@ -176,12 +183,16 @@ shaped-parked rows shape r out inside deep shallow room =
           | inl h ↦ subst P (sym (before_end rows r j h)) (before h)
           | inr h ↦ let last : j ≡ length rows = omega (arith, h, l) in subst P (sym (ap (row_at (rows ++ r ∷ [])) last ∙ at_end_of rows r)) new
         ]
+
     old : (j : ℕ) → (row_at (rows ++ r ∷ []) j).attached ≡ true → row_at (rows ++ r ∷ []) j ≡ row_at rows j
     old j at =
         elim (below_or_not j (length rows)) [
           | inl h ↦ before_end rows r j h
           | inr h ↦ elim (below_or_not j (suc (length rows))) [
-              | inl g ↦ let last : j ≡ length rows = omega (arith, h, g) in let gone : (row_at (rows ++ r ∷ []) j).attached ≡ false = ap (λ (s : Row). s.attached) (ap (row_at (rows ++ r ∷ [])) last ∙ at_end_of rows r) ∙ out in absurd (cc)
-              | inr g ↦ let past : row_at (rows ++ r ∷ []) j ≡ blank = get_or_past (rows ++ r ∷ []) j blank (omega (arith, length-append rows (r ∷ []), g)) in let gone : (row_at (rows ++ r ∷ []) j).attached ≡ false = ap (λ (s : Row). s.attached) past in absurd (cc)
-            ]
+            | inl g ↦ let last : j ≡ length rows = omega (arith, h, g) in let gone : (row_at (rows ++ r ∷ []) j).attached ≡ false = ap (λ (s : Row). s.attached) (ap (row_at (rows ++ r ∷ [])) last ∙ at_end_of rows r) ∙ out in absurd (cc)
+            | inr g ↦ let past : row_at (rows ++ r ∷ []) j ≡ blank = get_or_past (rows ++ r ∷ []) j blank (omega (arith, length-append rows (r ∷ []), g)) in let gone : (row_at (rows ++ r ∷ []) j).attached ≡ false = ap (λ (s : Row). s.attached) past in absurd (cc)
+          ]
         ]
+
+pub with_row-end : (rows : List Row) (r : Row) → with_row rows (length rows) r ≡ rows ++ r ∷ []
+with_row-end rows r = let past : nat_lt (length rows) (length rows) ≡ false = grind (arith, nat_tests) in rw past refl

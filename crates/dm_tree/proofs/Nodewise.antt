@@ -49,15 +49,15 @@ pub nodes_changed : (rows rows' : List Row) → IsShaped rows → IsAlike rows r
     → ((j : ℕ) → j ≢ k → (row_at rows' j).node ≡ (row_at rows j).node) → (nodes rows') ≡ insert (nodes rows) p (row_at rows' k).node
 nodes_changed rows rows' shape same k p at others =
     same_map tree_total tree_exact _ _ (λ q.
-      get_nodes rows' q ∙ ap (λ m. option_map (λ j. (row_at rows' j).node) (get m q)) (same_ids rows rows' same)
-      ∙ (elim (eq_by_cmp tree_order q p) as (λ b. eq_by_cmp tree_order q p ≡ b → option_map (λ j. (row_at rows' j).node) (get (ids rows) q) ≡ cond b (Some (row_at rows' k).node) (get (nodes rows) q)) [
-          | true ↦ λ is. ap (option_map (λ j. (row_at rows' j).node)) (ap (get (ids rows)) (same_path q p is) ∙ at)
-          | false ↦ λ is. elim (get (ids rows) q) as (λ o. get (ids rows) q ≡ o → option_map (λ j. (row_at rows' j).node) o ≡ get (nodes rows) q) [
-              | None ↦ λ e. sym (get_nodes rows q ∙ ap (option_map (λ j. (row_at rows j).node)) e)
-              | Some j ↦ λ e. ap (λ n. Some n) (others j (λ jk. other_path q p is (some_path q p (sym (id_is rows q j e).0 ∙ ap (path_below rows 0) jk ∙ (id_is rows p k at).0)))) ∙ sym (get_nodes rows q ∙ ap (option_map (λ j. (row_at rows j).node)) e)
-            ] refl
-        ] refl)
-      ∙ sym (get-insert tree_total (nodes rows) p (row_at rows' k).node q))
+    get_nodes rows' q ∙ ap (λ m. option_map (λ j. (row_at rows' j).node) (get m q)) (same_ids rows rows' same)
+    ∙ (elim (eq_by_cmp tree_order q p) as (λ b. eq_by_cmp tree_order q p ≡ b → option_map (λ j. (row_at rows' j).node) (get (ids rows) q) ≡ cond b (Some (row_at rows' k).node) (get (nodes rows) q)) [
+      | true ↦ λ is. ap (option_map (λ j. (row_at rows' j).node)) (ap (get (ids rows)) (same_path q p is) ∙ at)
+      | false ↦ λ is. elim (get (ids rows) q) as (λ o. get (ids rows) q ≡ o → option_map (λ j. (row_at rows' j).node) o ≡ get (nodes rows) q) [
+        | None ↦ λ e. sym (get_nodes rows q ∙ ap (option_map (λ j. (row_at rows j).node)) e)
+        | Some j ↦ λ e. ap (λ n. Some n) (others j (λ jk. other_path q p is (some_path q p (sym (id_is rows q j e).0 ∙ ap (path_below rows 0) jk ∙ (id_is rows p k at).0)))) ∙ sym (get_nodes rows q ∙ ap (option_map (λ j. (row_at rows j).node)) e)
+      ] refl
+    ] refl)
+    ∙ sym (get-insert tree_total (nodes rows) p (row_at rows' k).node q))
 
 pub node_alike : (rows : List Row) (k : ℕ) (n : Node) → k < length rows → IsAlike rows (with_node rows k n)
 node_alike rows k n l = record {

@@ -1,22 +1,22 @@
 -- What is read of a row of the tree.
-use Rattle.std.proofs.Common.{◌≡◌, ◌≢◌, ℕ, zero, suc, ◌+◌, ◌<◌, ◌≤◌, Bool, true, false, cond, nat_eq, List, [], ◌∷◌, ◌++◌, length, Option, None, Some, refl, sym, ◌∙◌, ap, subst, arith, inl, inr, length-append}
-use Rattle.std.proofs.lemmas.Bool.Decides.{nat_tests}
+use Rattle.std.proofs.Common.{◌≡◌, ℕ, zero, suc, ◌+◌, ◌<◌, Bool, true, false, cond, nat_eq, List, [], ◌∷◌, ◌++◌, length, Option, None, Some, refl, sym, ◌∙◌, ap, subst, arith}
 use Rattle.std.proofs.Common.{get_or}
 use Rattle.std.proofs.lemmas.List.{get_or_default}
 use Rattle.std.proofs.lemmas.Bool.{and_from, and_parts}
-use Rattle.std.specs.Prelude.{unwrap_or, is_some, ◌&&◌, IfSome}
-use Rattle.std.specs.Option.{option_map, option_and_then}
+use Rattle.std.specs.Prelude.{unwrap_or, is_some, IfSome}
+use Rattle.std.specs.Option.{option_map}
+use Rattle.std.specs.Ordering.{eq_by_cmp}
 use Rattle.std.specs.List.{list_all}
-use Rattle.std.specs.FinMap.{get, len, contains_key, from_entries, len-insert, len-empty, get-from_entries, find}
+use Rattle.std.specs.FinMap.{insert, get-insert, get, len, contains_key, from_entries, len-insert, len-empty, get-from_entries}
 use Rattle.dm_uri.specs.Names.{is_name, IsPath, is_within_limits}
 use Rattle.dm_tree.specs.declared.nodes.Node.{Node}
 use Rattle.dm_tree.specs.declared.rows.Row.{Row}
-use Rattle.dm_tree.specs.Nodes.{Path, tree_order, above, last_name, IsRoot, IsChildOf, IsNode, IsWellFormed}
-use Rattle.dm_tree.specs.Rows.{blank, row_at, node_of, walk, path_below, placed, ids_below, with_nodes, ids, nodes, IsShaped, IsTree, IsLive, path_of}
+use Rattle.dm_tree.specs.Nodes.{Path, tree_order, above, last_name, IsChildOf, IsNode, IsWellFormed}
+use Rattle.dm_tree.specs.Rows.{blank, row_at, node_of, walk, path_below, placed, ids_below, with_nodes, ids, nodes, IsShaped, IsTree, IsLive, StayLive, path_of}
 use Rattle.dm_tree.specs.Walks.{path_up}
-use Rattle.dm_tree.proofs.Paths.{tree_total, same_ends, not_empty}
-use Rattle.dm_tree.proofs.Climbs.{Up, attached_row, walk_up, at_bottom, at_top, one_row, attached_falls, depth_is, not_zero, same_number}
-use Rattle.dm_tree.proofs.Maps.{get_nodes, id_is, id_of, find_id, found_in, find-with_nodes, root_live, within}
+use Rattle.dm_tree.proofs.Paths.{same_path, tree_total, same_ends, not_empty}
+use Rattle.dm_tree.proofs.Climbs.{attached_row, walk_up, at_bottom, at_top, one_row, attached_falls, depth_is, not_zero, same_number}
+use Rattle.dm_tree.proofs.Maps.{found_live, get_nodes, id_is, id_of, find_id, found_in, find-with_nodes, root_live}
 use Rattle.dm_tree.proofs.Nodewise.{live_row}
 
 -- ---- ends of paths
@@ -99,7 +99,7 @@ len-upto rows shape (suc n) = by_place (len-upto rows shape n) (path_below rows 
     by_place less (Some p) e =
         let before = with_nodes rows (ids_below rows 0 n) in
         let new : contains_key (from_entries {R = tree_order} before) p ≡ false =
-            ap is_some (get-from_entries tree_total before p ∙ find-with_nodes rows p (ids_below rows 0 n) ∙ ap (option_map (λ k. (row_at rows k).node)) (not_yet rows shape n p e)) in
+        ap is_some (get-from_entries tree_total before p ∙ find-with_nodes rows p (ids_below rows 0 n) ∙ ap (option_map (λ k. (row_at rows k).node)) (not_yet rows shape n p e)) in
         let one : len (from_entries {R = tree_order} before) + 1 ≡ suc (length (ids_below rows 0 n)) = omega (arith, less) in
         len-insert tree_total (from_entries before) p (node_of rows n) ∙ ap (λ b. cond b (len (from_entries {R = tree_order} before)) (len (from_entries {R = tree_order} before) + 1)) new ∙ one
 
@@ -123,7 +123,7 @@ all_named rows tree (suc d) k p deep e =
           let u = walk_up rows d 0 k p is e in
           let parents : (row_at rows (row_at rows k).parent).depth ≡ d = omega (arith, attached_falls rows tree.shape k u.attached, deep) in
           ap (list_all is_name) u.named ∙ named_last u.above (row_at rows k).name (all_named rows tree d (row_at rows k).parent u.above parents u.found)
-              (tree.each k (attached_row rows tree.shape k u.attached).1).name
+          (tree.each k (attached_row rows tree.shape k u.attached).1).name
     ] refl
 
 pub some_of : {X Y : Type 0} (f : X → Y) (o : Option X) (y : Y) → option_map f o ≡ Some y → (x : X) × (o ≡ Some x) × (f x ≡ y)
@@ -152,17 +152,19 @@ parent_there rows tree p name child r =
     let live = live_at rows r.row _ r.lies in
     let other : nat_eq r.row 0 ≡ false = not_zero r.row (λ z. not_empty p name (sym live.1 ∙ ap (path_of rows) z ∙ ap (λ o. unwrap_or o []) (root_live rows tree.shape))) in
     let up = has_parent rows tree.shape r.row live.0 other in
-    let same = same_ends (path_of rows (row_at rows r.row).parent) p (row_at rows r.row).name name (sym up.path ∙ live.1) in
-    (node_of rows (row_at rows r.row).parent,
-     ap (get (nodes rows)) (sym same.0) ∙ node_there rows tree.shape (row_at rows r.row).parent up.live,
-     subst (λ n. IsChildOf n (node_of rows (row_at rows r.row).parent)) r.node_is (tree.children r.row up.attached))
+    let same = same_ends (path_of rows (row_at rows r.row).parent) p (row_at rows r.row).name name (sym up.path ∙ live.1) in (
+      node_of rows (row_at rows r.row).parent,
+      ap (get (nodes rows)) (sym same.0) ∙ node_there rows tree.shape (row_at rows r.row).parent up.live,
+      subst (λ n. IsChildOf n (node_of rows (row_at rows r.row).parent)) r.node_is (tree.children r.row up.attached),
+    )
 
 path_there : (rows : List Row) → IsTree rows → (p : Path) (node : Node) → StandsInRow rows p node → IsPath p × (is_within_limits p ≡ true)
 path_there rows tree p node r =
     let live = live_at rows r.row p r.lies in
-    let deep = depth_is rows tree.shape (row_at rows r.row).depth r.row p refl r.lies in
-    (record { few = omega (arith, deep, tree.shape.shallow r.row); names = all_named rows tree (row_at rows r.row).depth r.row p refl r.lies },
-     ap is_within_limits (sym live.1) ∙ tree.within r.row live.0)
+    let deep = depth_is rows tree.shape (row_at rows r.row).depth r.row p refl r.lies in (
+      record { few = omega (arith, deep, tree.shape.shallow r.row); names = all_named rows tree (row_at rows r.row).depth r.row p refl r.lies },
+      ap is_within_limits (sym live.1) ∙ tree.within r.row live.0,
+    )
 
 pub well_formed : (rows : List Row) → IsTree rows → IsWellFormed (nodes rows)
 well_formed rows tree = record {
@@ -190,3 +192,15 @@ read_row now rows same k j inside jk r e =
 
 pub read_live : (now rows : List Row) → IsShaped now → rows ≡ now → (k j : ℕ) → IsLive now k → j ≡ k → (r : Row) → r ≡ get_or rows j r → r ≡ row_at now k
 read_live now rows shape same k j live jk r e = read_row now rows same k j (live_row now shape k live) jk r e
+
+-- ---- where the numbers are as they were
+
+pub stay_live : (rows new : List Row) → IsShaped rows → ids new ≡ ids rows → StayLive rows new
+stay_live rows new shape e k live = found_live new (path_of rows k) k (ap (λ m. get m (path_of rows k)) e ∙ id_of rows shape k (path_of rows k) live)
+
+pub stay_live-insert : (rows new : List Row) → IsShaped rows → (p : Path) (j : ℕ) → get (ids rows) p ≡ None → ids new ≡ insert (ids rows) p j → StayLive rows new
+stay_live-insert rows new shape p j free e k live = found_live new (path_of rows k) k (ap (λ m. get m (path_of rows k)) e ∙ get-insert tree_total (ids rows) p j (path_of rows k) ∙ by_test (eq_by_cmp tree_order (path_of rows k) p) refl)
+  where
+    by_test : (b : Bool) → eq_by_cmp tree_order (path_of rows k) p ≡ b → cond b (Some j) (get (ids rows) (path_of rows k)) ≡ Some k
+    by_test true is = absurd (let there = ap (get (ids rows)) (sym (same_path (path_of rows k) p is)) ∙ id_of rows shape k (path_of rows k) live in cc)
+    by_test false is = id_of rows shape k (path_of rows k) live

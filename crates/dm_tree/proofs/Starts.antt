@@ -1,13 +1,12 @@
 -- The tree that is its root.
-use Rattle.std.proofs.Common.{◌≡◌, ℕ, zero, suc, ◌<◌, ◌≤◌, ◌^◌, true, false, List, [], ◌∷◌, length, Option, None, Some, refl, sym, ◌∙◌, ap, arith}
-use Rattle.std.specs.Prelude.{IfSome, codes}
-use Rattle.std.specs.FinMap.{len, insert, empty, len-insert, len-empty}
+use Rattle.std.proofs.Common.{◌≡◌, ℕ, zero, suc, ◌<◌, ◌≤◌, true, false, List, [], ◌∷◌, refl, arith}
+use Rattle.std.specs.FinMap.{insert, empty}
 use Rattle.dm_acl.specs.declared.values.Entries.{Entries}
 use Rattle.dm_uri.specs.Names.{is_name, is_within_limits}
 use Rattle.dm_tree.specs.declared.nodes.Node.{Node}
 use Rattle.dm_tree.specs.declared.rows.Row.{Row}
-use Rattle.dm_tree.specs.Nodes.{Path, tree_order, root_node, IsShortAcl, IsNode, IsRoot, IsChildOf, Nodes}
-use Rattle.dm_tree.specs.Rows.{blank, row_at, IsShaped, IsRow, IsTree, IsLive, nodes, path_of}
+use Rattle.dm_tree.specs.Nodes.{tree_order, root_node, IsShortAcl}
+use Rattle.dm_tree.specs.Rows.{row_at, IsShaped, IsRow, IsTree, IsLive, nodes, path_of}
 use Rattle.dm_tree.proofs.Nodewise.{live_row}
 use Rattle.dm_tree.proofs.Seen.{len-nodes}
 
@@ -35,6 +34,7 @@ shaped name acl = record {
     one : (k : ℕ) → k < 1 → (row_at (root_row name acl ∷ []) k).parent < 1
     one zero l = omega arith
     one (suc k) l = absurd (omega (arith, l))
+
     flat : (k : ℕ) → (row_at (root_row name acl ∷ []) k).depth ≤ 16
     flat zero = omega arith
     flat (suc k) = omega arith
@@ -57,6 +57,7 @@ starts name acl n short = record {
     at_root : (k : ℕ) → IsLive (root_row name acl ∷ []) k → is_within_limits (path_of (root_row name acl ∷ []) k) ≡ true
     at_root zero live = refl
     at_root (suc k) live = absurd (omega (arith, live_row (root_row name acl ∷ []) (shaped name acl) (suc k) live))
+
     one : (k : ℕ) → k < 1 → IsRow (row_at (root_row name acl ∷ []) k)
     one zero l = record { name = n; node = record { value = record { format = refl; kind = refl; empty = λ _. refl; media = omega arith }; acl = short; title = omega arith }; attached = λ e. refl }
     one (suc k) l = absurd (omega (arith, l))

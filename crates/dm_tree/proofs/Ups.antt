@@ -1,5 +1,5 @@
 -- What the searches upwards find, one row further up.
-use Rattle.std.proofs.Common.{◌≡◌, ◌≢◌, ℕ, zero, suc, ◌+◌, ◌-◌, ◌<◌, ◌≤◌, ◌++◌, ◌∷◌, [], Bool, true, false, cond, nat_eq, List, length, length-append, Option, Some, None, arith, refl, sym, ap, ◌∙◌}
+use Rattle.std.proofs.Common.{◌≡◌, ℕ, zero, suc, ◌+◌, ◌-◌, ◌<◌, ◌≤◌, ◌++◌, ◌∷◌, [], Bool, true, false, cond, nat_eq, List, length, length-append, Option, Some, None, arith, refl}
 use Rattle.std.specs.Prelude.{is_some, if◌then◌else◌}
 use Rattle.std.specs.Option.{option_map}
 use Rattle.dm_acl.specs.declared.values.Right.{Right}
@@ -56,6 +56,7 @@ in_at_end rows zero k z = by_test (nat_eq k 0)
   where
     found : Bool → Option Path
     found b = cond b (Some []) None
+
     by_test : (b : Bool) → is_some (found b) ≡ b
     by_test true = refl
     by_test false = refl

@@ -1,12 +1,12 @@
 -- What edits do.
-use Rattle.std.specs.Prelude.{◌≡◌, ◌≤◌, ◌⊎◌, ℕ, suc, Bool, true, false, not, nat_le, if◌then◌else◌, IsTrue, List, [], ◌∷◌, ◌++◌, length, map, drop, set, Option, Some, None}
+use Rattle.std.specs.Prelude.{◌≡◌, ◌≤◌, ℕ, suc, Bool, true, false, not, nat_le, nat_lt, if◌then◌else◌, List, [], ◌∷◌, ◌++◌, length, map, drop, set, Some, None}
 use Rattle.std.specs.List.{list_all}
 use Rattle.std.specs.FinMap.{FinMap, from_entries, entries, keys, retain_keys}
 use Rattle.dm_uri.specs.Names.{printed_path}
 use Rattle.dm_tree.specs.declared.nodes.Node.{Node}
 use Rattle.dm_tree.specs.declared.rows.Row.{Row}
 use Rattle.dm_tree.specs.Nodes.{Path, Nodes, tree_order, above, is_below}
-use Rattle.dm_tree.specs.Rows.{row_at, node_of, nodes, ids, path_below, IsLive, IsParked, IsFree}
+use Rattle.dm_tree.specs.Rows.{row_at, node_of, path_below, IsLive, IsParked, IsFree}
 
 -- ---- one row
 
@@ -28,6 +28,10 @@ new_row rows k name node =
     record { parent = k; depth = suc (row_at rows k).depth; attached = true; given_up = false; name = name; node = node }
 
 -- ---- a new node
+
+-- the rows with a row under a number: in place of the one there, or behind the last
+abbrev pub with_row : List Row → ℕ → Row → List Row
+with_row rows k r = if nat_lt k (length rows) then set rows k r else rows ++ r ∷ []
 
 -- a row has come in under a free number; the rows that are live or parked are as they were
 pub record IsGrown (old new : List Row) (id : ℕ) : Type 0 where

@@ -1,5 +1,5 @@
 -- What a node may hold, and the tree as a map from paths to nodes.
-use Rattle.std.specs.Prelude.{◌≡◌, ◌≤◌, ◌==◌, ◌+◌, ◌%◌, ◌^◌, ℕ, Bool, true, false, IsTrue, IsSome, List, [], ◌∷◌, ◌++◌, length, codes, bytes_eq, Option, Some, None, IfSome}
+use Rattle.std.specs.Prelude.{◌≡◌, ◌≤◌, ◌+◌, ◌%◌, ◌^◌, ℕ, Bool, true, IsTrue, IsSome, List, [], ◌∷◌, ◌++◌, length, codes, bytes_eq, Option, Some, None, IfSome}
 use Rattle.std.specs.List.{list_any}
 use Rattle.std.specs.Ordering.{nat_cmp, eq_by_cmp}
 use Rattle.std.specs.Cmp.Lexicographic.{slice_cmp}
@@ -55,7 +55,7 @@ made clock new = record {
   verno = 0;
   stamp = clock;
   permanent = new.permanent;
-  role = new.role
+  role = new.role;
 }
 
 -- `00000000T000000Z`, the clock of a new tree
@@ -72,7 +72,7 @@ root_node acl = record {
   verno = 0;
   stamp = first_stamp;
   permanent = true;
-  role = Plain
+  role = Plain;
 }
 
 -- changed once more: VerNo is one more, modulo 65,536, and the stamp is the clock

@@ -1,5 +1,5 @@
 -- Whom a tree allows what. Each command is decided by itself, by the nearest node upwards whose access list names it.
-use Rattle.std.specs.Prelude.{ℕ, zero, suc, Bool, false, if◌then◌else◌, IsTrue, List, [], ◌∷◌, length, take, Option, Some, None}
+use Rattle.std.specs.Prelude.{ℕ, zero, suc, Bool, false, if◌then◌else◌, IsTrue, List, [], length, take, Option, Some, None}
 use Rattle.std.specs.Option.{option_and_then, option_map_or}
 use Rattle.std.specs.FinMap.{get}
 use Rattle.dm_acl.specs.declared.values.Right.{Right}

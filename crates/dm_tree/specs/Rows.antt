@@ -1,5 +1,5 @@
 -- What the rows stand for: the tree, and the subtrees that were taken out of it.
-use Rattle.std.specs.Prelude.{◌≡◌, ◌≤◌, ◌<◌, ◌^◌, ◌⊎◌, ℕ, zero, suc, Bool, true, false, cond, nat_eq, IsTrue, List, [], ◌∷◌, ◌++◌, length, Option, Some, None, get_or, unwrap_or, set}
+use Rattle.std.specs.Prelude.{◌≡◌, ◌≤◌, ◌<◌, ◌^◌, ℕ, zero, suc, true, false, cond, nat_eq, IsTrue, List, [], ◌∷◌, ◌++◌, length, Option, Some, None, get_or, unwrap_or}
 use Rattle.std.specs.Option.{option_map}
 use Rattle.std.specs.FinMap.{from_entries, len}
 use Rattle.dm_uri.specs.Names.{is_name, is_within_limits}
@@ -24,7 +24,7 @@ blank_node = record {
   verno = 0;
   stamp = record { bytes = [] };
   permanent = false;
-  role = Plain
+  role = Plain;
 }
 
 abbrev pub blank : Row
@@ -56,6 +56,10 @@ path_of rows k = unwrap_or (path_below rows 0 k) []
 -- a node of the tree has this number
 abbrev pub IsLive : List Row → ℕ → Type 0
 IsLive rows k = path_below rows 0 k ≡ Some (path_of rows k)
+
+-- each node of the tree is still there, under its number and at its path
+abbrev pub StayLive : List Row → List Row → Type 0
+StayLive old new = (k : ℕ) → IsLive old k → IsLive new k × (path_of new k ≡ path_of old k)
 
 -- the top of a subtree that was taken out, and that its Undo holds
 pub record IsParkedTop (rows : List Row) (top : ℕ) : Type 0 where

@@ -1,9 +1,5 @@
 -- What an Undo does.
-use Rattle.std.specs.Prelude.{◌≡◌, ◌<◌, ℕ, Bool, true, false, List, length, Option, ⊤}
-use Rattle.dm_acl.specs.declared.values.Entries.{Entries}
-use Rattle.dm_tree.specs.declared.nodes.Node.{Node}
-use Rattle.dm_tree.specs.declared.nodes.Stamp.{Stamp}
-use Rattle.dm_tree.specs.declared.nodes.Value.{Value as Held}
+use Rattle.std.specs.Prelude.{◌≡◌, ◌<◌, ℕ, true, false, List, length, ⊤}
 use Rattle.dm_tree.specs.declared.rows.Row.{Row}
 use Rattle.dm_tree.specs.declared.rows.Change.{Change}
 use Rattle.dm_tree.specs.declared.rows.Change.TheVariants as change

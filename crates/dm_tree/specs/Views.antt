@@ -13,5 +13,5 @@ shown view = record {
   verno = view.verno;
   stamp = view.stamp;
   permanent = view.permanent;
-  role = view.role
+  role = view.role;
 }

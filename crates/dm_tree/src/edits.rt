@@ -1,12 +1,12 @@
 // What changes the tree.
-ghost use Rattle.std.specs.Prelude.{◌≡◌, ◌<◌, ◌≤◌, ◌↔◌, ◌++◌, ◌∷◌, [], true, false, length, IsTrue, IsSome, Option, None, Err, IfOk, IfErr, IfSome, OnOk, OnErr};
+ghost use Rattle.std.specs.Prelude.{◌≡◌, ◌<◌, ◌≤◌, ◌+◌, ◌%◌, ◌^◌, ◌↔◌, ◌++◌, ◌∷◌, [], true, false, length, IsTrue, IsSome, Option, None, Err, IfOk, IfErr, IfSome, OnOk, OnErr};
 ghost use Rattle.std.specs.FinMap as map;
 ghost use Rattle.dm_uri.specs.Names.{is_within_limits};
 ghost use Rattle.dm_tree.specs.declared.rows.Change.TheVariants as change;
 ghost use Rattle.dm_tree.specs.declared.edits.TreeError.TheVariants as error;
 ghost use Rattle.dm_tree.specs.Nodes.{made as made_node, changed, with_value, with_acl, with_title, IsNode, IsValue, IsShortAcl, tree_order};
-ghost use Rattle.dm_tree.specs.Rows.{nodes, ids, node_of, path_of, IsLive, IsParkedTop, row_at};
-ghost use Rattle.dm_tree.specs.Edits.{with_node, attached_as, new_row, pruned, without_content, IsGrown};
+ghost use Rattle.dm_tree.specs.Rows.{nodes, ids, node_of, path_of, IsLive, IsParkedTop, StayLive};
+ghost use Rattle.dm_tree.specs.Edits.{with_node, with_row, attached_as, new_row, pruned, without_content, IsGrown};
 ghost use Rattle.dm_tree.specs.Undos.{Fits, TakesBack, TakesOut, IsHeld, IsDiscarded, row_of, flipped, turned};
 
 use crate::arena::Tree;
@@ -49,6 +49,13 @@ fn made(node: NewNode, clock: Stamp) -> Node
     }
 }
 
+// One more, modulo 65,536.
+fn raised(verno: u16) -> u16
+    ensures { result ≡ (verno + 1) % 2 ^ 16 }
+{
+    verno.wrapping_add(1)
+}
+
 fn put_value(rows: &mut Vec<Row>, id: u32, value: Value, clock: Stamp) -> Change
     requires { id < length rows.old.items }
     ensures rows { rows.new.items ≡ with_node rows.old.items id (changed clock (with_value (node_of rows.old.items id) value)) }
@@ -58,7 +65,7 @@ fn put_value(rows: &mut Vec<Row>, id: u32, value: Value, clock: Stamp) -> Change
     let row = &mut rows[id as usize];
     let verno = row.node.verno;
     let stamp = row.node.stamp;
-    row.node.verno = verno.wrapping_add(1);
+    row.node.verno = raised(verno);
     row.node.stamp = clock;
     Change::Value(id, mem::replace(&mut row.node.value, value), verno, stamp)
 }
@@ -72,7 +79,7 @@ fn put_acl(rows: &mut Vec<Row>, id: u32, acl: Option<Acl>, clock: Stamp) -> Chan
     let row = &mut rows[id as usize];
     let verno = row.node.verno;
     let stamp = row.node.stamp;
-    row.node.verno = verno.wrapping_add(1);
+    row.node.verno = raised(verno);
     row.node.stamp = clock;
     Change::Acl(id, mem::replace(&mut row.node.acl, acl), verno, stamp)
 }
@@ -86,7 +93,7 @@ fn put_title(rows: &mut Vec<Row>, id: u32, title: Bytes, clock: Stamp) -> Change
     let row = &mut rows[id as usize];
     let verno = row.node.verno;
     let stamp = row.node.stamp;
-    row.node.verno = verno.wrapping_add(1);
+    row.node.verno = raised(verno);
     row.node.stamp = clock;
     Change::Title(id, mem::replace(&mut row.node.title, title), verno, stamp)
 }
@@ -184,6 +191,11 @@ impl Tree {
             ≡ map.insert (nodes self.old.rows) (path_of self.old.rows parent ++ name ∷ []) (made_node self.old.clock node)) }
         ensures ids { IfOk result (λ r. ids self.new.rows
             ≡ map.insert (ids self.old.rows) (path_of self.old.rows parent ++ name ∷ []) r.0) }
+        ensures stays { IfOk result (λ r. StayLive self.old.rows self.new.rows) }
+
+        // The row is put under a free number, and no other row changes.
+        ensures row { IfOk result (λ r. self.new.rows
+            ≡ with_row self.old.rows r.0 (new_row self.old.rows parent name (made_node self.old.clock node))) }
         ensures grown { IfOk result (λ r. IsGrown self.old.rows self.new.rows r.0) }
         ensures undo { IfOk result (λ r. TakesOut r.1 r.0 self.old.rows self.new.rows) }
         ensures clock { self.new.clock ≡ self.old.clock }
@@ -234,8 +246,11 @@ impl Tree {
         ensures nodes { nodes self.new.rows ≡ map.insert (nodes self.old.rows) (path_of self.old.rows id)
             (changed self.old.clock (with_value (node_of self.old.rows id) value)) }
         ensures ids { ids self.new.rows ≡ ids self.old.rows }
-        ensures rows { self.new ≡ record self.old { rows = with_node self.old.rows id
-            (changed self.old.clock (with_value (node_of self.old.rows id) value)) } }
+        ensures stays { StayLive self.old.rows self.new.rows }
+        ensures rows { self.new ≡ record self.old {
+          rows = with_node self.old.rows id
+              (changed self.old.clock (with_value (node_of self.old.rows id) value));
+        } }
         ensures undo { TakesBack result self.old.rows self.new.rows }
     {
         let change = put_value(&mut self.rows, id.row(), value, self.clock);
@@ -250,8 +265,11 @@ impl Tree {
         ensures nodes { nodes self.new.rows ≡ map.insert (nodes self.old.rows) (path_of self.old.rows id)
             (changed self.old.clock (with_acl (node_of self.old.rows id) acl)) }
         ensures ids { ids self.new.rows ≡ ids self.old.rows }
-        ensures rows { self.new ≡ record self.old { rows = with_node self.old.rows id
-            (changed self.old.clock (with_acl (node_of self.old.rows id) acl)) } }
+        ensures stays { StayLive self.old.rows self.new.rows }
+        ensures rows { self.new ≡ record self.old {
+          rows = with_node self.old.rows id
+              (changed self.old.clock (with_acl (node_of self.old.rows id) acl));
+        } }
         ensures undo { TakesBack result self.old.rows self.new.rows }
     {
         let change = put_acl(&mut self.rows, id.row(), acl, self.clock);
@@ -265,8 +283,11 @@ impl Tree {
         ensures nodes { nodes self.new.rows ≡ map.insert (nodes self.old.rows) (path_of self.old.rows id)
             (changed self.old.clock (with_title (node_of self.old.rows id) title)) }
         ensures ids { ids self.new.rows ≡ ids self.old.rows }
-        ensures rows { self.new ≡ record self.old { rows = with_node self.old.rows id
-            (changed self.old.clock (with_title (node_of self.old.rows id) title)) } }
+        ensures stays { StayLive self.old.rows self.new.rows }
+        ensures rows { self.new ≡ record self.old {
+          rows = with_node self.old.rows id
+              (changed self.old.clock (with_title (node_of self.old.rows id) title));
+        } }
         ensures undo { TakesBack result self.old.rows self.new.rows }
     {
         let change = put_title(&mut self.rows, id.row(), title, self.clock);
@@ -290,6 +311,7 @@ impl Tree {
         requires { IsHeld self.old.rows undo }
         ensures nodes { nodes self.new.rows ≡ nodes self.old.rows }
         ensures ids { ids self.new.rows ≡ ids self.old.rows }
+        ensures stays { StayLive self.old.rows self.new.rows }
         ensures rows { IsDiscarded undo self.old.rows self.new.rows }
         ensures clock { self.new.clock ≡ self.old.clock }
     {

@@ -2,7 +2,7 @@
 ghost use Rattle.std.specs.Prelude.{◌≡◌, ◌<◌, ◌≤◌, [], true, length, Some, IfSome};
 ghost use Rattle.std.specs.FinMap as map;
 ghost use Rattle.dm_tree.specs.Nodes.{above, with_acl, with_title, with_mark, counted, IsShortAcl};
-ghost use Rattle.dm_tree.specs.Rows.{nodes, ids, node_of, path_of, IsLive};
+ghost use Rattle.dm_tree.specs.Rows.{nodes, ids, node_of, path_of, IsLive, StayLive};
 ghost use Rattle.dm_tree.specs.Edits.{with_node};
 
 use crate::arena::Tree;
@@ -52,6 +52,7 @@ impl Tree {
         ensures nodes { nodes self.new.rows ≡ map.insert (nodes self.old.rows) (path_of self.old.rows id)
             (with_acl (node_of self.old.rows id) (Some acl)) }
         ensures ids { ids self.new.rows ≡ ids self.old.rows }
+        ensures stays { StayLive self.old.rows self.new.rows }
         ensures clock { self.new.clock ≡ self.old.clock }
     {
         set_acl_alone(&mut self.rows, id.row(), acl);
@@ -64,6 +65,7 @@ impl Tree {
         ensures nodes { nodes self.new.rows ≡ map.insert (nodes self.old.rows) (path_of self.old.rows id)
             (with_title (node_of self.old.rows id) title) }
         ensures ids { ids self.new.rows ≡ ids self.old.rows }
+        ensures stays { StayLive self.old.rows self.new.rows }
         ensures clock { self.new.clock ≡ self.old.clock }
     {
         set_title_alone(&mut self.rows, id.row(), title);
@@ -77,6 +79,7 @@ impl Tree {
         ensures nodes { nodes self.new.rows ≡ map.insert (nodes self.old.rows) (path_of self.old.rows id)
             (with_mark (node_of self.old.rows id)) }
         ensures ids { ids self.new.rows ≡ ids self.old.rows }
+        ensures stays { StayLive self.old.rows self.new.rows }
         ensures clock { self.new.clock ≡ self.old.clock }
     {
         set_mark(&mut self.rows, id.row());
@@ -88,6 +91,7 @@ impl Tree {
         ensures nodes { nodes self.new.rows ≡ map.insert (nodes self.old.rows) (path_of self.old.rows id)
             (counted (node_of self.old.rows id) verno stamp) }
         ensures ids { ids self.new.rows ≡ ids self.old.rows }
+        ensures stays { StayLive self.old.rows self.new.rows }
         ensures clock { self.new.clock ≡ self.old.clock }
     {
         set_counts(&mut self.rows, id.row(), verno, stamp);

@@ -1,4 +1,4 @@
-//! The management tree. So far: the leaves of the first path and the tree text.
+//! The management tree: nodes in rows, edits that are taken back, and access lists; and the tree of the first path.
 #![tactic(auto)]
 
 pub mod arena;
@@ -6,6 +6,8 @@ pub mod edits;
 mod lays;
 pub mod nodes;
 pub mod rows;
+#[cfg(test)]
+mod tests;
 mod text;
 pub mod tree;
 mod walks;

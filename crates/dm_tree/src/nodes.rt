@@ -55,6 +55,7 @@ pub struct NewNode {
 }
 
 /// A node as it stands. It has no name exactly at the root.
+#[derive(Clone, Copy)]
 pub struct View<'a> {
     pub interior: bool,
     pub value: &'a Value,

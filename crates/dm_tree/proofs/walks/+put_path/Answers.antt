@@ -1,4 +1,4 @@
-use Rattle.std.proofs.Common.{◌≡◌, ◌∙◌, ◌++◌, ◌∷◌, [], ◌<◌, ◌≤◌, ◌+◌, ◌-◌, length, ap, sym, arith, length-append, append_assoc}
+use Rattle.std.proofs.Common.{◌≡◌, ◌∙◌, ◌++◌, ◌∷◌, [], ◌<◌, ◌-◌, length, ap, sym, arith, length-append, append_assoc}
 use Rattle.std.proofs.lemmas.List.{get_or_default}
 use Rattle.dm_tree.specs.declared.rows.Row.{Row}
 use Rattle.dm_tree.specs.Rows.{blank, row_at}
@@ -9,8 +9,14 @@ use Rattle.dm_tree.proofs.walks.+put_path.Goals as goal
 pub push-requires : goal.push-requires
 push-requires t c =
     let up = c.index-rows-id.result.parent in
-    omega (arith, ap length c.in_ok-put_path.ensures, length-append c.args.out.now (path_up c.args.rows.now (c.args.left - 1) up),
-      length-path_up c.args.rows.now (c.args.left - 1) up, c.requires.room, c.if-left-eq0.false)
+    omega (
+      arith,
+      ap length c.in_ok-put_path.ensures,
+      length-append c.args.out.now (path_up c.args.rows.now (c.args.left - 1) up),
+      length-path_up c.args.rows.now (c.args.left - 1) up,
+      c.requires.room,
+      c.if-left-eq0.false,
+    )
 
 pub returns-in-Ok : goal.returns-in-Ok
 returns-in-Ok t c =

@@ -1,4 +1,4 @@
-use Rattle.std.proofs.Common.{◌≡◌, ◌∙◌, ◌<◌, ◌≤◌, ◌+◌, ap, sym, arith, true, false, rules, length}
+use Rattle.std.proofs.Common.{◌∙◌, ◌+◌, ap, rules}
 use Rattle.dm_tree.proofs.Ups.{length-ids_below, one_more}
 use Rattle.dm_tree.proofs.walks.count_in.Goals as goal
 use Rattle.dm_tree.proofs.walks.count_in.Goals.{then-is_in, else-is_in}

@@ -1,8 +1,7 @@
-use Rattle.std.proofs.Common.{◌≡◌, ◌∙◌, ap, sym, arith, true, false, ◌<◌}
+use Rattle.std.proofs.Common.{◌∙◌, ap, sym, arith}
 use Rattle.std.proofs.lemmas.List.{get_or_default}
-use Rattle.dm_acl.specs.declared.values.Right.{Right}
 use Rattle.dm_tree.specs.declared.rows.Row.{Row}
-use Rattle.dm_tree.specs.Rows.{blank, row_at}
+use Rattle.dm_tree.specs.Rows.{blank}
 use Rattle.dm_tree.specs.Walks.{row_names}
 use Rattle.dm_tree.proofs.Ups.{decides_up, decides_here, decides_none}
 use Rattle.dm_tree.proofs.walks.deciding_row.Goals as goal
@@ -21,7 +20,7 @@ loop-left-preserved c =
     rw (get_or_default c.args.rows.now c.loop-left.at c.index-rows-at-in-loop-left.result blank inside)
     (record {
       inside = c.requires.shaped.inside c.loop-left.at inside;
-      same = sym (decides_up c.args.rows.now c.args.right c.loop-left.left c.loop-left.at c.loop-left-test.true bare) ∙ c.loop-left.invariant.same
+      same = sym (decides_up c.args.rows.now c.args.right c.loop-left.left c.loop-left.at c.loop-left-test.true bare) ∙ c.loop-left.invariant.same;
     })
 
 pub returns-then-row_names-2 : goal.returns-then-row_names-2

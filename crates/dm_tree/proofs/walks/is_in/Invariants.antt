@@ -1,6 +1,6 @@
 use Rattle.std.proofs.Common.{◌≡◌, ◌<◌, length}
 use Rattle.std.specs.Prelude.{is_some}
-use Rattle.dm_tree.specs.Rows.{row_at, walk, path_below}
+use Rattle.dm_tree.specs.Rows.{walk, path_below}
 use Rattle.dm_tree.proofs.walks.is_in.Given as goal
 
 abbrev pub invariant-loop-left : goal.invariant-loop-left

@@ -1,5 +1,4 @@
-use Rattle.std.proofs.Common.{◌≡◌, ◌∙◌, sym, subst, length, ap}
-use Rattle.dm_tree.specs.declared.rows.Row.{Row}
+use Rattle.std.proofs.Common.{◌∙◌, sym, subst, length, ap}
 use Rattle.dm_tree.specs.Rows.{Tree, IsTree, ids_below}
 use Rattle.dm_tree.proofs.Seen.{len-nodes}
 use Rattle.dm_tree.proofs.arena.Tree.count.Goals as goal

@@ -1,4 +1,4 @@
-use Rattle.std.proofs.Common.{◌≡◌, ◌∙◌, sym, subst, ap, refl, arith, ◌<◌, ℕ, true, false, nat_eq}
+use Rattle.std.proofs.Common.{◌≡◌, ◌∙◌, sym, subst, ap, arith, ◌<◌, true, false}
 use Rattle.dm_tree.specs.declared.rows.Change.TheVariants as change
 use Rattle.dm_tree.specs.Rows.{Tree, IsTree, IsParkedTop, node_of, nodes, ids}
 use Rattle.dm_tree.specs.Edits.{attached_as}

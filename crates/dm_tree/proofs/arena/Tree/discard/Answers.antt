@@ -1,3 +1,4 @@
+use Rattle.dm_tree.proofs.Seen.{stay_live}
 use Rattle.std.proofs.Common.{◌≡◌, ◌∙◌, sym, subst, ap}
 use Rattle.dm_tree.specs.declared.rows.Change.TheVariants as change
 use Rattle.dm_tree.specs.Rows.{Tree, IsTree, IsParkedTop, nodes, ids}
@@ -28,3 +29,6 @@ pub returns-in-PutIn-clause-rows : goal.returns-in-PutIn-clause-rows
 returns-in-PutIn-clause-rows c =
     subst (λ u. IsDiscarded u c.args.self.now.rows c.give_up.new.rows.items) c.in-PutIn.ensures
     (subst (λ r. IsDiscarded (change.PutIn c.in-PutIn.id) c.args.self.now.rows r) (sym (rows_are c)) (given_up c.args.self.now.rows (tree c) c.in-PutIn.id (top c)))
+
+pub returns-in-PutIn-clause-stays : goal.returns-in-PutIn-clause-stays
+returns-in-PutIn-clause-stays c = stay_live c.args.self.now.rows c.give_up.new.rows.items (tree c).shape (returns-in-PutIn-clause-ids c)

@@ -1,13 +1,8 @@
-use Rattle.std.proofs.Common.{◌≡◌, ◌∙◌, sym, subst, ap, Option, Some, None, ℕ, true, false, nat_eq, arith, ◌<◌, length, refl, [], ◌∷◌, ◌++◌, List}
-use Rattle.std.proofs.lemmas.Bool.Decides.{nat_tests}
-use Rattle.std.proofs.lemmas.List.{get_or_default}
-use Rattle.dm_tree.specs.declared.rows.Row.{Row}
-use Rattle.dm_tree.specs.Rows.{Tree, IsTree, IsShaped, IsLive, blank, row_at, node_of, path_of, ids, nodes}
-use Rattle.dm_tree.specs.Walks.{find_from, child_of, path_up, deciding_row, row_allows}
-use Rattle.dm_tree.proofs.Finds.{find-root, child-ids}
-use Rattle.dm_tree.proofs.Nodewise.{live_row}
-use Rattle.dm_tree.proofs.Seen.{found_is_live, found_node, has_parent, above-append, last_name-append, root_path, path_up-is, node_there}
-use Rattle.dm_tree.proofs.Decides.{decides-ids, decided_live, allows-none, allows-some}
+use Rattle.std.proofs.Common.{◌∙◌, subst, ap}
+use Rattle.dm_tree.specs.Rows.{Tree, IsTree}
+use Rattle.dm_tree.specs.Walks.{find_from}
+use Rattle.dm_tree.proofs.Finds.{find-root}
+use Rattle.dm_tree.proofs.Seen.{found_is_live, found_node}
 use Rattle.dm_tree.proofs.arena.Tree.find.Goals as goal
 
 found : goal.returns-clause-found

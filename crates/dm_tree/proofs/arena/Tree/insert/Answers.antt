@@ -1,16 +1,16 @@
-use Rattle.std.proofs.Common.{◌≡◌, ◌∙◌, sym, subst, ap, refl, arith, ◌<◌, ◌+◌, suc, List, ℕ, true, false, ◌∷◌, ◌++◌, [], length, None, Option, Some}
-use Rattle.std.specs.FinMap.{get, len, insert}
+use Rattle.std.proofs.Common.{◌≡◌, ◌∙◌, sym, subst, ap, refl, arith, ◌+◌, suc, ℕ, true, false, ◌∷◌, ◌++◌, [], length, None, Option, Some}
+use Rattle.std.specs.FinMap.{insert}
 use Rattle.std.specs.Option.{option_map}
 use Rattle.dm_tree.specs.declared.nodes.Node.{Node}
 use Rattle.dm_tree.specs.declared.rows.Row.{Row}
 use Rattle.dm_tree.specs.declared.rows.Change.TheVariants as change
 use Rattle.dm_tree.specs.Nodes.{made}
-use Rattle.dm_tree.specs.Rows.{Tree, IsTree, node_of, nodes, ids, row_at, path_of}
-use Rattle.dm_tree.specs.Edits.{new_row, IsGrown}
+use Rattle.dm_tree.specs.Rows.{Tree, IsTree, nodes, ids, row_at, path_of}
+use Rattle.dm_tree.specs.Edits.{with_row, new_row, IsGrown}
 use Rattle.dm_tree.specs.Undos.{TakesOut}
-use Rattle.dm_tree.proofs.Grows.{nodes-append, ids-append}
+use Rattle.dm_tree.proofs.Grows.{with_row-end, nodes-append, ids-append}
 use Rattle.dm_tree.proofs.Maps.{get_nodes}
-use Rattle.dm_tree.proofs.Seen.{read_live}
+use Rattle.dm_tree.proofs.Seen.{read_live, stay_live-insert}
 use Rattle.dm_tree.proofs.Trees.{MayCome, tree-append, takes_out, grown}
 use Rattle.dm_tree.proofs.arena.Tree.insert.Goals as goal
 
@@ -72,11 +72,21 @@ pub returns-clause-grown : goal.returns-clause-grown
 returns-clause-grown c =
     subst (λ rows. IsGrown c.args.self.now.rows rows c.of.result) (sym (rows_are c))
     (subst (λ k. IsGrown c.args.self.now.rows (c.args.self.now.rows ++ new_row c.args.self.now.rows c.args.parent c.args.name (node c) ∷ []) k) (sym (c.of.ensures ∙ id_is c))
-        (grown c.args.self.now.rows (tree c).shape (new_row c.args.self.now.rows c.args.parent c.args.name (node c))))
+    (grown c.args.self.now.rows (tree c).shape (new_row c.args.self.now.rows c.args.parent c.args.name (node c))))
 
 pub returns-clause-undo : goal.returns-clause-undo
 returns-clause-undo c =
     subst (λ rows. TakesOut c.of-2.result c.of.result c.args.self.now.rows rows) (sym (rows_are c))
     (subst (λ u. TakesOut u c.of.result c.args.self.now.rows (c.args.self.now.rows ++ new_row c.args.self.now.rows c.args.parent c.args.name (node c) ∷ [])) (sym (c.of-2.ensures ∙ ap (λ k. change.TakeOut k) (id_is c)))
-        (subst (λ k. TakesOut (change.TakeOut (length c.args.self.now.rows)) k c.args.self.now.rows (c.args.self.now.rows ++ new_row c.args.self.now.rows c.args.parent c.args.name (node c) ∷ [])) (sym (c.of.ensures ∙ id_is c))
-          (takes_out c.args.self.now.rows (tree c) c.args.parent c.args.name (node c) (may c))))
+    (subst (λ k. TakesOut (change.TakeOut (length c.args.self.now.rows)) k c.args.self.now.rows (c.args.self.now.rows ++ new_row c.args.self.now.rows c.args.parent c.args.name (node c) ∷ [])) (sym (c.of.ensures ∙ id_is c))
+    (takes_out c.args.self.now.rows (tree c) c.args.parent c.args.name (node c) (may c))))
+
+pub returns-clause-stays : goal.returns-clause-stays
+returns-clause-stays c =
+    stay_live-insert c.args.self.now.rows c.push_row.new.rows.items (tree c).shape (path_of c.args.self.now.rows c.args.parent ++ c.args.name ∷ []) c.of.result (may c).free (returns-clause-ids c)
+
+pub returns-clause-row : goal.returns-clause-row
+unfolding node
+returns-clause-row c =
+    rows_are c ∙ sym (with_row-end c.args.self.now.rows (new_row c.args.self.now.rows c.args.parent c.args.name (node c)))
+    ∙ ap (λ k. with_row c.args.self.now.rows k (new_row c.args.self.now.rows c.args.parent c.args.name (node c))) (sym (c.of.ensures ∙ id_is c))

@@ -1,13 +1,10 @@
-use Rattle.std.proofs.Common.{◌≡◌, ◌∙◌, sym, subst, ap, refl, ◌<◌, List, ℕ, true, false, length, Some, nat_eq}
-use Rattle.std.specs.Prelude.{IfSome}
-use Rattle.std.specs.FinMap.{get}
-use Rattle.dm_tree.specs.declared.nodes.Node.{Node}
-use Rattle.dm_tree.specs.Nodes.{IsNode, IsRoot, above, with_acl, with_title, with_mark, counted}
-use Rattle.dm_tree.specs.Rows.{Tree, IsTree, IsLive, node_of, nodes, ids, row_at, path_of}
+use Rattle.dm_tree.proofs.Seen.{stay_live}
+use Rattle.std.proofs.Common.{◌≡◌, ◌∙◌, sym, subst, ap, refl, Some}
+use Rattle.dm_tree.specs.Nodes.{IsRoot, with_acl}
+use Rattle.dm_tree.specs.Rows.{Tree, IsTree, node_of, nodes, ids}
 use Rattle.dm_tree.specs.Edits.{with_node}
 use Rattle.dm_tree.proofs.Nodewise.{live_row, nodes-with_node, ids-with_node}
-use Rattle.dm_tree.proofs.Seen.{has_parent, above-append, node_there}
-use Rattle.dm_tree.proofs.Trees.{tree-with_node, tree-with_mark}
+use Rattle.dm_tree.proofs.Trees.{tree-with_node}
 use Rattle.dm_tree.proofs.arena.Tree.lay_acl.Goals as goal
 
 -- the rows that the code left
@@ -32,3 +29,8 @@ pub returns-clause-ids : goal.returns-clause-ids
 returns-clause-ids c =
     let tree : IsTree c.args.self.now.rows = subst (λ (t : Tree). IsTree t.rows) c.self.view_is c.self.invariant in
     ap ids (rows_are c) ∙ ids-with_node c.args.self.now.rows tree.shape c.args.id c.requires.live _
+
+pub returns-clause-stays : goal.returns-clause-stays
+returns-clause-stays c =
+    let tree : IsTree c.args.self.now.rows = subst (λ (t : Tree). IsTree t.rows) c.self.view_is c.self.invariant in
+    stay_live c.args.self.now.rows c.set_acl_alone.new.rows.items tree.shape (returns-clause-ids c)

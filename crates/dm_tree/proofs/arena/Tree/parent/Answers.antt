@@ -4,16 +4,10 @@ use Rattle.dm_tree.specs.Nodes.{above, last_name}
 use Rattle.dm_tree.proofs.Climbs.{not_zero}
 use Rattle.dm_tree.proofs.Maps.{id_of}
 use Rattle.dm_tree.proofs.Seen.{HasParent}
-use Rattle.std.proofs.Common.{◌≡◌, ◌∙◌, sym, subst, ap, Option, Some, None, ℕ, true, false, nat_eq, arith, ◌<◌, length, refl, [], ◌∷◌, ◌++◌, List}
-use Rattle.std.proofs.lemmas.Bool.Decides.{nat_tests}
-use Rattle.std.proofs.lemmas.List.{get_or_default}
+use Rattle.std.proofs.Common.{◌≡◌, ◌∙◌, sym, subst, ap, Some}
 use Rattle.dm_tree.specs.declared.rows.Row.{Row}
-use Rattle.dm_tree.specs.Rows.{Tree, IsTree, IsShaped, IsLive, blank, row_at, node_of, path_of, ids, nodes}
-use Rattle.dm_tree.specs.Walks.{find_from, child_of, path_up, deciding_row, row_allows}
-use Rattle.dm_tree.proofs.Finds.{find-root, child-ids}
-use Rattle.dm_tree.proofs.Nodewise.{live_row}
-use Rattle.dm_tree.proofs.Seen.{found_is_live, found_node, has_parent, above-append, last_name-append, root_path, path_up-is, node_there, read_live, read_row}
-use Rattle.dm_tree.proofs.Decides.{decides-ids, decided_live, allows-none, allows-some}
+use Rattle.dm_tree.specs.Rows.{Tree, IsTree, row_at, path_of, ids}
+use Rattle.dm_tree.proofs.Seen.{has_parent, above-append, last_name-append, read_live}
 use Rattle.dm_tree.proofs.arena.Tree.parent.Goals as goal
 
 up : (c : goal.After-of) → HasParent c.args.self.now.rows c.args.id
@@ -35,7 +29,7 @@ returns-clause-found c =
     ∙ sym (id_of c.args.self.now.rows tree.shape (row_at c.args.self.now.rows c.args.id).parent (path_of c.args.self.now.rows (row_at c.args.self.now.rows c.args.id).parent) (up c).live)
     ∙ ap (λ p. get (ids c.args.self.now.rows) p) (sym (above-append (path_of c.args.self.now.rows (row_at c.args.self.now.rows c.args.id).parent) (row_at c.args.self.now.rows c.args.id).name) ∙ ap above (sym (up c).path))
     ∙ ap (option_and_then (λ _. get (ids c.args.self.now.rows) (above (path_of c.args.self.now.rows c.args.id))))
-        (sym (last_name-append (path_of c.args.self.now.rows (row_at c.args.self.now.rows c.args.id).parent) (row_at c.args.self.now.rows c.args.id).name) ∙ ap last_name (sym (up c).path))
+    (sym (last_name-append (path_of c.args.self.now.rows (row_at c.args.self.now.rows c.args.id).parent) (row_at c.args.self.now.rows c.args.id).name) ∙ ap last_name (sym (up c).path))
 
 pub returns-clause-live : goal.returns-clause-live
 returns-clause-live c =

@@ -1,4 +1,4 @@
-use Rattle.std.proofs.Common.{◌≡◌, ◌∙◌, [], Some, sym, ap, subst}
+use Rattle.std.proofs.Common.{◌∙◌, [], Some, sym, ap, subst}
 use Rattle.dm_tree.specs.Rows.{Tree, IsTree}
 use Rattle.dm_tree.proofs.Maps.{id_of, root_live}
 use Rattle.dm_tree.proofs.Seen.{well_formed}

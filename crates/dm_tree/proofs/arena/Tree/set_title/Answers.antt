@@ -1,10 +1,8 @@
-use Rattle.std.proofs.Common.{◌≡◌, ◌∙◌, sym, subst, ap, refl, arith, ◌<◌, List, ℕ, true, false, [], length}
-use Rattle.dm_acl.specs.declared.values.Entries.{Entries}
-use Rattle.dm_tree.specs.declared.nodes.Node.{Node}
-use Rattle.dm_tree.specs.declared.rows.Row.{Row}
+use Rattle.dm_tree.proofs.Seen.{stay_live}
+use Rattle.std.proofs.Common.{◌≡◌, ◌∙◌, sym, subst, ap, refl, arith}
 use Rattle.dm_tree.specs.declared.rows.Change.TheVariants as change
-use Rattle.dm_tree.specs.Nodes.{IsNode, IsRoot, IsValue, changed, with_value, with_acl, with_title}
-use Rattle.dm_tree.specs.Rows.{Tree, IsTree, IsLive, node_of, nodes, ids, row_at}
+use Rattle.dm_tree.specs.Nodes.{IsRoot, changed, with_title}
+use Rattle.dm_tree.specs.Rows.{Tree, IsTree, node_of, nodes, ids, row_at}
 use Rattle.dm_tree.specs.Edits.{with_node}
 use Rattle.dm_tree.specs.Undos.{TakesBack}
 use Rattle.dm_tree.specs.Nodes.{counted}
@@ -44,8 +42,13 @@ returns-clause-undo c =
     let tree : IsTree c.args.self.now.rows = subst (λ (t : Tree). IsTree t.rows) c.self.view_is c.self.invariant in
     let inside = live_row c.args.self.now.rows tree.shape c.args.id c.requires.live in
     let undo : c.of.result ≡ change.Title c.args.id (node_of c.args.self.now.rows c.args.id).title (node_of c.args.self.now.rows c.args.id).verno (node_of c.args.self.now.rows c.args.id).stamp =
-        c.of.ensures ∙ c.put_title-change.ensures.change ∙ ap (λ (t : Tree). change.Title c.row.result (node_of t.rows c.row.result).title (node_of t.rows c.row.result).verno (node_of t.rows c.row.result).stamp) c.self.view_is ∙ ap (λ k. change.Title k (node_of c.args.self.now.rows k).title (node_of c.args.self.now.rows k).verno (node_of c.args.self.now.rows k).stamp) c.row.ensures in
+    c.of.ensures ∙ c.put_title-change.ensures.change ∙ ap (λ (t : Tree). change.Title c.row.result (node_of t.rows c.row.result).title (node_of t.rows c.row.result).verno (node_of t.rows c.row.result).stamp) c.self.view_is ∙ ap (λ k. change.Title k (node_of c.args.self.now.rows k).title (node_of c.args.self.now.rows k).verno (node_of c.args.self.now.rows k).stamp) c.row.ensures in
     subst (λ u. TakesBack u c.args.self.now.rows c.put_title-change.new.rows.items) (sym undo)
     (subst (λ r. TakesBack (change.Title c.args.id (node_of c.args.self.now.rows c.args.id).title (node_of c.args.self.now.rows c.args.id).verno (node_of c.args.self.now.rows c.args.id).stamp) c.args.self.now.rows r) (sym (rows_are c))
-        (takes_back c.args.self.now.rows _ _ tree (omega (arith, inside, length-set c.args.self.now.rows c.args.id (record (row_at c.args.self.now.rows c.args.id) { node = changed c.args.self.now.clock (with_title (node_of c.args.self.now.rows c.args.id) c.args.title) }))) tt
-          (back-node c.args.self.now.rows c.args.id _ inside (λ n. counted (with_title n (node_of c.args.self.now.rows c.args.id).title) (node_of c.args.self.now.rows c.args.id).verno (node_of c.args.self.now.rows c.args.id).stamp) refl)))
+    (takes_back c.args.self.now.rows _ _ tree (omega (arith, inside, length-set c.args.self.now.rows c.args.id (record (row_at c.args.self.now.rows c.args.id) { node = changed c.args.self.now.clock (with_title (node_of c.args.self.now.rows c.args.id) c.args.title) }))) tt
+    (back-node c.args.self.now.rows c.args.id _ inside (λ n. counted (with_title n (node_of c.args.self.now.rows c.args.id).title) (node_of c.args.self.now.rows c.args.id).verno (node_of c.args.self.now.rows c.args.id).stamp) refl)))
+
+pub returns-clause-stays : goal.returns-clause-stays
+returns-clause-stays c =
+    let tree : IsTree c.args.self.now.rows = subst (λ (t : Tree). IsTree t.rows) c.self.view_is c.self.invariant in
+    stay_live c.args.self.now.rows c.put_title-change.new.rows.items tree.shape (returns-clause-ids c)

@@ -1,16 +1,11 @@
 use Rattle.std.specs.Option.{option_copied}
 use Rattle.dm_tree.specs.Nodes.{last_name}
 use Rattle.dm_tree.proofs.Climbs.{not_zero}
-use Rattle.std.proofs.Common.{◌≡◌, ◌∙◌, sym, subst, ap, Option, Some, None, ℕ, true, false, nat_eq, arith, ◌<◌, length, refl, [], ◌∷◌, ◌++◌, List}
+use Rattle.std.proofs.Common.{◌≡◌, ◌∙◌, sym, subst, ap, Some, None, true, false, nat_eq, arith}
 use Rattle.std.proofs.lemmas.Bool.Decides.{nat_tests}
-use Rattle.std.proofs.lemmas.List.{get_or_default}
 use Rattle.dm_tree.specs.declared.rows.Row.{Row}
-use Rattle.dm_tree.specs.Rows.{Tree, IsTree, IsShaped, IsLive, blank, row_at, node_of, path_of, ids, nodes}
-use Rattle.dm_tree.specs.Walks.{find_from, child_of, path_up, deciding_row, row_allows}
-use Rattle.dm_tree.proofs.Finds.{find-root, child-ids}
-use Rattle.dm_tree.proofs.Nodewise.{live_row}
-use Rattle.dm_tree.proofs.Seen.{found_is_live, found_node, has_parent, above-append, last_name-append, root_path, path_up-is, node_there, read_live, read_row}
-use Rattle.dm_tree.proofs.Decides.{decides-ids, decided_live, allows-none, allows-some}
+use Rattle.dm_tree.specs.Rows.{Tree, IsTree, IsShaped, row_at, path_of}
+use Rattle.dm_tree.proofs.Seen.{has_parent, last_name-append, root_path, node_there, read_live}
 use Rattle.dm_tree.proofs.arena.Tree.view.Goals.{then-row-eq0, else-row-eq0}
 use Rattle.dm_tree.proofs.arena.Tree.view.Goals as goal
 
