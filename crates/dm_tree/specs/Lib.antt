@@ -1,1 +1,10 @@
 pub mod FirstTree
+pub mod Nodes
+pub mod Rows
+pub mod Edits
+pub mod Undos
+pub mod Rights
+pub mod Order
+pub mod Devices
+pub mod Views
+pub mod Walks

@@ -1,0 +1,48 @@
+use Rattle.std.proofs.Common.{◌≡◌, ◌∙◌, sym, subst, ap, arith, ◌<◌, true, false}
+use Rattle.dm_tree.specs.declared.rows.Change.TheVariants as change
+use Rattle.dm_tree.specs.Rows.{Tree, IsTree, IsParkedTop, node_of, nodes, ids}
+use Rattle.dm_tree.specs.Edits.{attached_as}
+use Rattle.dm_tree.specs.Undos.{TakesBack}
+use Rattle.dm_tree.proofs.Paths.{below_or_not}
+use Rattle.std.proofs.Common.{inl, inr}
+use Rattle.dm_tree.proofs.Cuts.{nodes-detached, ids-detached}
+use Rattle.dm_tree.proofs.CutTrees.{tree-cut, takes_back-cut, parked-cut}
+use Rattle.dm_tree.proofs.arena.Tree.detach.Goals as goal
+
+rows_are : (c : goal.After-of) → c.set_attached.new.rows.items ≡ attached_as c.args.self.now.rows c.args.id false
+rows_are c =
+    c.set_attached.ensures ∙ ap (λ (t : Tree). attached_as t.rows c.row.result false) c.self.view_is ∙ ap (λ k. attached_as c.args.self.now.rows k false) c.row.ensures
+
+tree : (c : goal.After-of) → IsTree c.args.self.now.rows
+tree c = subst (λ (t : Tree). IsTree t.rows) c.self.view_is c.self.invariant
+
+-- the root is permanent
+no_root : (c : goal.After-of) → 0 < c.args.id
+no_root c =
+    elim (below_or_not 0 c.args.id) [
+      | inl h ↦ h
+      | inr h ↦
+          let z : c.args.id ≡ 0 = omega (arith, h) in
+          absurd (let top : (node_of c.args.self.now.rows 0).permanent ≡ true = (tree c).root.permanent in let here : (node_of c.args.self.now.rows 0).permanent ≡ false = ap (λ k. (node_of c.args.self.now.rows k).permanent) (sym z) ∙ c.requires.removable in cc)
+    ]
+
+pub invariant_of-self : goal.invariant_of-self
+invariant_of-self c = subst IsTree (sym (rows_are c)) (tree-cut c.args.self.now.rows (tree c) c.args.id (no_root c) c.requires.live)
+
+pub returns-clause-nodes : goal.returns-clause-nodes
+returns-clause-nodes c = ap nodes (rows_are c) ∙ nodes-detached c.args.self.now.rows (tree c).shape c.args.id (no_root c) c.requires.live
+
+pub returns-clause-ids : goal.returns-clause-ids
+returns-clause-ids c = ap ids (rows_are c) ∙ ids-detached c.args.self.now.rows (tree c).shape c.args.id (no_root c) c.requires.live
+
+undo_is : (c : goal.After-of) → c.of.result ≡ change.PutIn c.args.id
+undo_is c = c.of.ensures ∙ ap (λ k. change.PutIn k) c.row-2.ensures
+
+pub returns-clause-undo : goal.returns-clause-undo
+returns-clause-undo c =
+    subst (λ u. TakesBack u c.args.self.now.rows c.set_attached.new.rows.items) (sym (undo_is c))
+    (subst (λ r. TakesBack (change.PutIn c.args.id) c.args.self.now.rows r) (sym (rows_are c)) (takes_back-cut c.args.self.now.rows (tree c) c.args.id (no_root c) c.requires.live))
+
+pub returns-clause-parked : goal.returns-clause-parked
+returns-clause-parked c =
+    (undo_is c, subst (λ r. IsParkedTop r c.args.id) (sym (rows_are c)) (parked-cut c.args.self.now.rows (tree c) c.args.id (no_root c) c.requires.live))

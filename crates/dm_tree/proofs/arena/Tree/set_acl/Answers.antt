@@ -1,0 +1,57 @@
+use Rattle.dm_tree.proofs.Seen.{stay_live}
+use Rattle.std.proofs.Common.{◌≡◌, ◌∙◌, sym, subst, ap, refl, arith, []}
+use Rattle.dm_tree.specs.declared.rows.Change.TheVariants as change
+use Rattle.dm_tree.specs.Nodes.{IsRoot, changed, with_acl}
+use Rattle.dm_tree.specs.Rows.{Tree, IsTree, node_of, nodes, ids, row_at}
+use Rattle.dm_tree.specs.Edits.{with_node}
+use Rattle.dm_tree.specs.Undos.{TakesBack}
+use Rattle.dm_tree.specs.Nodes.{counted}
+use Rattle.std.proofs.Math.ListN.{length-set}
+use Rattle.std.specs.Prelude.{unwrap_or}
+use Rattle.dm_tree.specs.Rows.{path_of}
+use Rattle.dm_tree.proofs.Maps.{root_live}
+use Rattle.dm_tree.proofs.Nodewise.{live_row, nodes-with_node, ids-with_node}
+use Rattle.dm_tree.proofs.Trees.{tree-with_node, takes_back, back-node}
+use Rattle.dm_tree.proofs.arena.Tree.set_acl.Goals as goal
+
+-- the rows that the code left
+rows_are : (c : goal.After-of) → c.put_acl-change.new.rows.items ≡ with_node c.args.self.now.rows c.args.id (changed c.args.self.now.clock (with_acl (node_of c.args.self.now.rows c.args.id) c.args.acl))
+rows_are c =
+    c.put_acl-change.ensures.rows ∙ ap (λ (t : Tree). with_node t.rows c.row.result (changed t.clock (with_acl (node_of t.rows c.row.result) c.args.acl))) c.self.view_is
+    ∙ ap (λ k. with_node c.args.self.now.rows k (changed c.args.self.now.clock (with_acl (node_of c.args.self.now.rows k) c.args.acl))) c.row.ensures
+
+kept : (c : goal.After-of) → IsTree (with_node c.args.self.now.rows c.args.id (changed c.args.self.now.clock (with_acl (node_of c.args.self.now.rows c.args.id) c.args.acl)))
+kept c =
+    let tree : IsTree c.args.self.now.rows = subst (λ (t : Tree). IsTree t.rows) c.self.view_is c.self.invariant in
+    let inside = live_row c.args.self.now.rows tree.shape c.args.id c.requires.live in
+    let held = (tree.each c.args.id inside).node in
+    tree-with_node c.args.self.now.rows tree c.args.id inside _ (record { value = held.value; acl = c.requires.short; title = held.title }) (record { interior = refl; permanent = refl }) (λ z. let top = subst (λ k. IsRoot (node_of c.args.self.now.rows k)) (sym z) tree.root in record { interior = top.interior; permanent = top.permanent; acl = c.requires.root (ap (path_of c.args.self.now.rows) z ∙ ap (λ o. unwrap_or o []) (root_live c.args.self.now.rows tree.shape)); media = top.media; role = top.role })
+
+pub invariant_of-self : goal.invariant_of-self
+invariant_of-self c = subst IsTree (sym (rows_are c)) (kept c)
+
+pub returns-clause-nodes : goal.returns-clause-nodes
+returns-clause-nodes c =
+    let tree : IsTree c.args.self.now.rows = subst (λ (t : Tree). IsTree t.rows) c.self.view_is c.self.invariant in
+    ap nodes (rows_are c) ∙ nodes-with_node c.args.self.now.rows tree.shape c.args.id c.requires.live _
+
+pub returns-clause-ids : goal.returns-clause-ids
+returns-clause-ids c =
+    let tree : IsTree c.args.self.now.rows = subst (λ (t : Tree). IsTree t.rows) c.self.view_is c.self.invariant in
+    ap ids (rows_are c) ∙ ids-with_node c.args.self.now.rows tree.shape c.args.id c.requires.live _
+
+pub returns-clause-undo : goal.returns-clause-undo
+returns-clause-undo c =
+    let tree : IsTree c.args.self.now.rows = subst (λ (t : Tree). IsTree t.rows) c.self.view_is c.self.invariant in
+    let inside = live_row c.args.self.now.rows tree.shape c.args.id c.requires.live in
+    let undo : c.of.result ≡ change.Acl c.args.id (node_of c.args.self.now.rows c.args.id).acl (node_of c.args.self.now.rows c.args.id).verno (node_of c.args.self.now.rows c.args.id).stamp =
+    c.of.ensures ∙ c.put_acl-change.ensures.change ∙ ap (λ (t : Tree). change.Acl c.row.result (node_of t.rows c.row.result).acl (node_of t.rows c.row.result).verno (node_of t.rows c.row.result).stamp) c.self.view_is ∙ ap (λ k. change.Acl k (node_of c.args.self.now.rows k).acl (node_of c.args.self.now.rows k).verno (node_of c.args.self.now.rows k).stamp) c.row.ensures in
+    subst (λ u. TakesBack u c.args.self.now.rows c.put_acl-change.new.rows.items) (sym undo)
+    (subst (λ r. TakesBack (change.Acl c.args.id (node_of c.args.self.now.rows c.args.id).acl (node_of c.args.self.now.rows c.args.id).verno (node_of c.args.self.now.rows c.args.id).stamp) c.args.self.now.rows r) (sym (rows_are c))
+    (takes_back c.args.self.now.rows _ _ tree (omega (arith, inside, length-set c.args.self.now.rows c.args.id (record (row_at c.args.self.now.rows c.args.id) { node = changed c.args.self.now.clock (with_acl (node_of c.args.self.now.rows c.args.id) c.args.acl) }))) tt
+    (back-node c.args.self.now.rows c.args.id _ inside (λ n. counted (with_acl n (node_of c.args.self.now.rows c.args.id).acl) (node_of c.args.self.now.rows c.args.id).verno (node_of c.args.self.now.rows c.args.id).stamp) refl)))
+
+pub returns-clause-stays : goal.returns-clause-stays
+returns-clause-stays c =
+    let tree : IsTree c.args.self.now.rows = subst (λ (t : Tree). IsTree t.rows) c.self.view_is c.self.invariant in
+    stay_live c.args.self.now.rows c.put_acl-change.new.rows.items tree.shape (returns-clause-ids c)

@@ -1,0 +1,54 @@
+use Rattle.dm_tree.proofs.Seen.{stay_live}
+use Rattle.std.proofs.Common.{◌≡◌, ◌∙◌, sym, subst, ap, refl, arith, true, false}
+use Rattle.dm_tree.specs.declared.rows.Change.TheVariants as change
+use Rattle.dm_tree.specs.Nodes.{IsValue, changed, with_value}
+use Rattle.dm_tree.specs.Rows.{Tree, IsTree, node_of, nodes, ids, row_at}
+use Rattle.dm_tree.specs.Edits.{with_node}
+use Rattle.dm_tree.specs.Undos.{TakesBack}
+use Rattle.dm_tree.specs.Nodes.{counted}
+use Rattle.std.proofs.Math.ListN.{length-set}
+use Rattle.dm_tree.proofs.Nodewise.{live_row, nodes-with_node, ids-with_node}
+use Rattle.dm_tree.proofs.Trees.{tree-with_node, takes_back, back-node}
+use Rattle.dm_tree.proofs.arena.Tree.set_value.Goals as goal
+
+-- the rows that the code left
+rows_are : (c : goal.After-of) → c.put_value-change.new.rows.items ≡ with_node c.args.self.now.rows c.args.id (changed c.args.self.now.clock (with_value (node_of c.args.self.now.rows c.args.id) c.args.value))
+rows_are c =
+    c.put_value-change.ensures.rows ∙ ap (λ (t : Tree). with_node t.rows c.row.result (changed t.clock (with_value (node_of t.rows c.row.result) c.args.value))) c.self.view_is
+    ∙ ap (λ k. with_node c.args.self.now.rows k (changed c.args.self.now.clock (with_value (node_of c.args.self.now.rows k) c.args.value))) c.row.ensures
+
+kept : (c : goal.After-of) → IsTree (with_node c.args.self.now.rows c.args.id (changed c.args.self.now.clock (with_value (node_of c.args.self.now.rows c.args.id) c.args.value)))
+kept c =
+    let tree : IsTree c.args.self.now.rows = subst (λ (t : Tree). IsTree t.rows) c.self.view_is c.self.invariant in
+    let inside = live_row c.args.self.now.rows tree.shape c.args.id c.requires.live in
+    let held = (tree.each c.args.id inside).node in
+    tree-with_node c.args.self.now.rows tree c.args.id inside _ (record { value = subst (λ b. IsValue b c.args.value) (sym c.requires.leaf) c.requires.value; acl = held.acl; title = held.title }) (record { interior = refl; permanent = refl }) (λ z. absurd (let top : (node_of c.args.self.now.rows 0).interior ≡ true = tree.root.interior in let leaf : (node_of c.args.self.now.rows 0).interior ≡ false = ap (λ k. (node_of c.args.self.now.rows k).interior) (sym z) ∙ c.requires.leaf in cc))
+
+pub invariant_of-self : goal.invariant_of-self
+invariant_of-self c = subst IsTree (sym (rows_are c)) (kept c)
+
+pub returns-clause-nodes : goal.returns-clause-nodes
+returns-clause-nodes c =
+    let tree : IsTree c.args.self.now.rows = subst (λ (t : Tree). IsTree t.rows) c.self.view_is c.self.invariant in
+    ap nodes (rows_are c) ∙ nodes-with_node c.args.self.now.rows tree.shape c.args.id c.requires.live _
+
+pub returns-clause-ids : goal.returns-clause-ids
+returns-clause-ids c =
+    let tree : IsTree c.args.self.now.rows = subst (λ (t : Tree). IsTree t.rows) c.self.view_is c.self.invariant in
+    ap ids (rows_are c) ∙ ids-with_node c.args.self.now.rows tree.shape c.args.id c.requires.live _
+
+pub returns-clause-undo : goal.returns-clause-undo
+returns-clause-undo c =
+    let tree : IsTree c.args.self.now.rows = subst (λ (t : Tree). IsTree t.rows) c.self.view_is c.self.invariant in
+    let inside = live_row c.args.self.now.rows tree.shape c.args.id c.requires.live in
+    let undo : c.of.result ≡ change.Value c.args.id (node_of c.args.self.now.rows c.args.id).value (node_of c.args.self.now.rows c.args.id).verno (node_of c.args.self.now.rows c.args.id).stamp =
+    c.of.ensures ∙ c.put_value-change.ensures.change ∙ ap (λ (t : Tree). change.Value c.row.result (node_of t.rows c.row.result).value (node_of t.rows c.row.result).verno (node_of t.rows c.row.result).stamp) c.self.view_is ∙ ap (λ k. change.Value k (node_of c.args.self.now.rows k).value (node_of c.args.self.now.rows k).verno (node_of c.args.self.now.rows k).stamp) c.row.ensures in
+    subst (λ u. TakesBack u c.args.self.now.rows c.put_value-change.new.rows.items) (sym undo)
+    (subst (λ r. TakesBack (change.Value c.args.id (node_of c.args.self.now.rows c.args.id).value (node_of c.args.self.now.rows c.args.id).verno (node_of c.args.self.now.rows c.args.id).stamp) c.args.self.now.rows r) (sym (rows_are c))
+    (takes_back c.args.self.now.rows _ _ tree (omega (arith, inside, length-set c.args.self.now.rows c.args.id (record (row_at c.args.self.now.rows c.args.id) { node = changed c.args.self.now.clock (with_value (node_of c.args.self.now.rows c.args.id) c.args.value) }))) tt
+    (back-node c.args.self.now.rows c.args.id _ inside (λ n. counted (with_value n (node_of c.args.self.now.rows c.args.id).value) (node_of c.args.self.now.rows c.args.id).verno (node_of c.args.self.now.rows c.args.id).stamp) refl)))
+
+pub returns-clause-stays : goal.returns-clause-stays
+returns-clause-stays c =
+    let tree : IsTree c.args.self.now.rows = subst (λ (t : Tree). IsTree t.rows) c.self.view_is c.self.invariant in
+    stay_live c.args.self.now.rows c.put_value-change.new.rows.items tree.shape (returns-clause-ids c)

@@ -1,0 +1,98 @@
+-- The parts of a tree that have a role: the device's information and its update.
+use Rattle.std.specs.Prelude.{◌≡◌, ◌⊎◌, ◌==◌, ℕ, Bool, true, false, not, IsTrue, List, [], ◌∷◌, ◌++◌, map, codes, bytes_eq, Option, Some, unwrap_or, option_map, find}
+use Rattle.std.specs.List.{list_any, list_all}
+use Rattle.std.specs.Str.{IsUtf8}
+use Rattle.std.specs.FinMap.{get, entries}
+use Rattle.dm_base.specs.Fields.{is_short}
+use Rattle.dm_tree.specs.declared.nodes.Node.{Node}
+use Rattle.dm_tree.specs.declared.nodes.Role.{Role}
+use Rattle.dm_tree.specs.declared.nodes.Role.TheVariants as role
+use Rattle.dm_tree.specs.Nodes.{Path, Nodes}
+
+-- ---- the update
+
+abbrev pub is_update_node : Role → Bool
+is_update_node role.UpdateNode = true
+is_update_node role.Plain = false
+is_update_node role.ReadOnly = false
+is_update_node role.PkgData = false
+is_update_node role.State = false
+
+-- a role that belongs to the update
+abbrev pub is_of_update : Role → Bool
+is_of_update role.UpdateNode = true
+is_of_update role.PkgData = true
+is_of_update role.State = true
+is_of_update role.Plain = false
+is_of_update role.ReadOnly = false
+
+-- the path of the first node whose role is that of an update node
+abbrev pub update_node : Nodes → Option Path
+update_node m = option_map (λ e. e.0) (find (λ e. is_update_node e.1.role) (entries m))
+
+-- idle, ready to update, update progressing, update failed, update successful
+abbrev pub is_update_state : List ℕ → Bool
+is_update_state text = list_any (bytes_eq text) (codes "10" ∷ codes "50" ∷ codes "60" ∷ codes "70" ∷ codes "100" ∷ [])
+
+-- a permanent node of this kind and role stands at the path
+pub record Stands (m : Nodes) (p : Path) (interior : Bool) (role : Role) (node : Node) : Type 0 where
+  pub there : get m p ≡ Some node
+  pub kind : node.interior ≡ interior
+  pub permanent : node.permanent ≡ true
+  pub role_is : node.role ≡ role
+
+-- the update part below p: Update, Update/PkgData and State, and no other node with a role of theirs
+pub record HasUpdate (m : Nodes) (p : Path) : Type 0 where
+  pub update : Node
+  pub data_node : Node
+  pub state : Node
+  pub update_stands : Stands m (p ++ codes "Update" ∷ []) true role.UpdateNode update
+  pub data_stands : Stands m (p ++ codes "Update" ∷ codes "PkgData" ∷ []) false role.PkgData data_node
+  pub state_stands : Stands m (p ++ codes "State" ∷ []) false role.State state
+  pub state_is : IsTrue (is_update_state state.value.bytes)
+  pub alone : (q : Path) (node : Node) → get m q ≡ Some node → is_of_update node.role ≡ true
+      → (q ≡ p ++ codes "Update" ∷ []) ⊎ ((q ≡ p ++ codes "Update" ∷ codes "PkgData" ∷ []) ⊎ (q ≡ p ++ codes "State" ∷ []))
+
+-- no node has a role of the update
+abbrev pub HasNoUpdate : Nodes → Type 0
+HasNoUpdate m = (q : Path) (node : Node) → get m q ≡ Some node → is_of_update node.role ≡ false
+
+abbrev pub IsUpdateInOrder : Nodes → Type 0
+IsUpdateInOrder m = HasNoUpdate m ⊎ ((p : Path) × HasUpdate m p)
+
+-- ---- the device
+
+-- the five leaves of `./DevInfo`, in the order in which a device tells them
+abbrev pub device_leaves : List (List ℕ)
+device_leaves = codes "DevId" ∷ codes "Man" ∷ codes "Mod" ∷ codes "DmV" ∷ codes "Lang" ∷ []
+
+abbrev pub device_path : List ℕ → Path
+device_path name = codes "DevInfo" ∷ name ∷ []
+
+abbrev pub value_at : Nodes → Path → List ℕ
+value_at m p = unwrap_or (option_map (λ (n : Node). n.value.bytes) (get m p)) []
+
+-- what they hold
+abbrev pub device_values : Nodes → List (List ℕ)
+device_values m = map (λ name. value_at m (device_path name)) device_leaves
+
+-- such a leaf is permanent and only read, a text of 1 to 64 bytes of 21 to 7E
+pub record IsDeviceLeaf (m : Nodes) (name : List ℕ) : Type 0 where
+  pub node : Node
+  pub stands : Stands m (device_path name) false role.ReadOnly node
+  pub format : node.value.format ≡ codes "chr"
+  pub media : node.value.media ≡ codes "text/plain"
+  pub short : IsTrue (is_short node.value.bytes)
+
+-- a text without byte 00
+abbrev pub IsText : List ℕ → Type 0
+IsText bytes = IsUtf8 bytes × IsTrue (list_all (λ b. not (b == 0)) bytes)
+
+pub record IsDeviceTree (m : Nodes) : Type 0 where
+  pub update : IsUpdateInOrder m
+  pub texts : (p : Path) (node : Node) → get m p ≡ Some node → IsText node.value.media
+  pub dev_id : IsDeviceLeaf m (codes "DevId")
+  pub man : IsDeviceLeaf m (codes "Man")
+  pub model : IsDeviceLeaf m (codes "Mod")
+  pub dm_v : IsDeviceLeaf m (codes "DmV")
+  pub lang : IsDeviceLeaf m (codes "Lang")

@@ -1,0 +1,25 @@
+-- The order of the tree text, and how one goes through it.
+use Rattle.std.specs.Prelude.{◌==◌, ◌&&◌, ◌+◌, Bool, not, length, Option, find}
+use Rattle.std.specs.Ordering.{is_lt}
+use Rattle.std.specs.FinMap.{keys}
+use Rattle.dm_tree.specs.Nodes.{Path, Nodes, tree_order, above, is_below}
+
+-- q is one name longer than p, and goes through it
+abbrev pub is_child_of : Path → Path → Bool
+is_child_of p q = length q == length p + 1 && is_below p q
+
+-- p stands before q
+abbrev pub is_before : Path → Path → Bool
+is_before p q = is_lt (tree_order p q)
+
+-- the first of the children of p; none where it has none
+abbrev pub first_child : Nodes → Path → Option Path
+first_child m p = find (λ q. is_child_of p q) (keys m)
+
+-- the next of the nodes beside p; none at the last, and at the root
+abbrev pub next_sibling : Nodes → Path → Option Path
+next_sibling m p = find (λ q. not (length p == 0) && is_child_of (above p) q && is_before p q) (keys m)
+
+-- the node behind p among those at and below `top`; with `past`, the one behind all that stand below p
+abbrev pub next_below : Nodes → Path → Path → Bool → Option Path
+next_below m top p past = find (λ q. is_below top q && is_before p q && not (past && is_below p q)) (keys m)

@@ -1,0 +1,80 @@
+-- What an Undo does.
+use Rattle.std.specs.Prelude.{◌≡◌, ◌<◌, ℕ, true, false, List, length, ⊤}
+use Rattle.dm_tree.specs.declared.rows.Row.{Row}
+use Rattle.dm_tree.specs.declared.rows.Change.{Change}
+use Rattle.dm_tree.specs.declared.rows.Change.TheVariants as change
+use Rattle.dm_tree.specs.Nodes.{counted, with_value, with_acl, with_title}
+use Rattle.dm_tree.specs.Rows.{row_at, node_of, nodes, ids, IsTree, IsParkedTop}
+use Rattle.dm_tree.specs.Edits.{with_node, with_name, attached_as, IsGivenUp}
+
+-- the row of which it speaks
+abbrev pub row_of : Change → ℕ
+row_of (change.Value k value verno stamp) = k
+row_of (change.Acl k acl verno stamp) = k
+row_of (change.Title k title verno stamp) = k
+row_of (change.Name k name verno stamp) = k
+row_of (change.TakeOut k) = k
+row_of (change.PutIn k) = k
+
+-- the rows after a flip
+abbrev pub flipped : List Row → Change → List Row
+flipped rows (change.Value k value verno stamp) = with_node rows k (counted (with_value (node_of rows k) value) verno stamp)
+flipped rows (change.Acl k acl verno stamp) = with_node rows k (counted (with_acl (node_of rows k) acl) verno stamp)
+flipped rows (change.Title k title verno stamp) = with_node rows k (counted (with_title (node_of rows k) title) verno stamp)
+flipped rows (change.Name k name verno stamp) = with_name rows k name (counted (node_of rows k) verno stamp)
+flipped rows (change.TakeOut k) = attached_as rows k false
+flipped rows (change.PutIn k) = attached_as rows k true
+
+-- what the Undo has become: what stood in the row before the flip
+abbrev pub turned : List Row → Change → Change
+turned rows (change.Value k value verno stamp) = change.Value k (node_of rows k).value (node_of rows k).verno (node_of rows k).stamp
+turned rows (change.Acl k acl verno stamp) = change.Acl k (node_of rows k).acl (node_of rows k).verno (node_of rows k).stamp
+turned rows (change.Title k title verno stamp) = change.Title k (node_of rows k).title (node_of rows k).verno (node_of rows k).stamp
+turned rows (change.Name k name verno stamp) = change.Name k (row_at rows k).name (node_of rows k).verno (node_of rows k).stamp
+turned rows (change.TakeOut k) = change.PutIn k
+turned rows (change.PutIn k) = change.TakeOut k
+
+-- a subtree that is to be taken out is in, and one that is to be put in is out
+abbrev pub IsReady : List Row → Change → Type 0
+IsReady rows (change.Value k value verno stamp) = ⊤
+IsReady rows (change.Acl k acl verno stamp) = ⊤
+IsReady rows (change.Title k title verno stamp) = ⊤
+IsReady rows (change.Name k name verno stamp) = ⊤
+IsReady rows (change.TakeOut k) = (row_at rows k).attached ≡ true
+IsReady rows (change.PutIn k) = (row_at rows k).attached ≡ false
+
+-- it may be flipped here: what it speaks of is there, and what it gives is a tree
+pub record Fits (rows : List Row) (undo : Change) : Type 0 where
+  pub inside : row_of undo < length rows
+  pub ready : IsReady rows undo
+  pub sound : IsTree (flipped rows undo)
+
+-- the subtree that it holds, where it holds one, is parked
+abbrev pub IsHeld : List Row → Change → Type 0
+IsHeld rows (change.PutIn k) = IsParkedTop rows k
+IsHeld rows (change.TakeOut k) = ⊤
+IsHeld rows (change.Value k value verno stamp) = ⊤
+IsHeld rows (change.Acl k acl verno stamp) = ⊤
+IsHeld rows (change.Title k title verno stamp) = ⊤
+IsHeld rows (change.Name k name verno stamp) = ⊤
+
+-- its subtree, where it holds one, is given up
+abbrev pub IsDiscarded : Change → List Row → List Row → Type 0
+IsDiscarded (change.PutIn k) old new = IsGivenUp old new k
+IsDiscarded (change.TakeOut k) old new = new ≡ old
+IsDiscarded (change.Value k value verno stamp) old new = new ≡ old
+IsDiscarded (change.Acl k acl verno stamp) old new = new ≡ old
+IsDiscarded (change.Title k title verno stamp) old new = new ≡ old
+IsDiscarded (change.Name k name verno stamp) old new = new ≡ old
+
+-- an edit's Undo: flipped after the edit, it gives the rows before it
+pub record TakesBack (undo : Change) (old new : List Row) : Type 0 where
+  pub fits : Fits new undo
+  pub rows : flipped new undo ≡ old
+
+-- an insert's Undo: flipped after it, it gives the tree before it; the new row is parked then
+pub record TakesOut (undo : Change) (id : ℕ) (old new : List Row) : Type 0 where
+  pub change : undo ≡ change.TakeOut id
+  pub fits : Fits new undo
+  pub nodes : nodes (flipped new undo) ≡ nodes old
+  pub ids : ids (flipped new undo) ≡ ids old

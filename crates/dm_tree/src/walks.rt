@@ -1,0 +1,143 @@
+// Searches through the rows. They look at each row, so their time grows with the number of rows.
+ghost use Rattle.std.specs.Prelude.{◌≡◌, ◌<◌, ◌≤◌, ◌+◌, ◌^◌, ◌++◌, length, OnOk, OnErr, IfOk, is_some};
+ghost use Rattle.dm_tree.specs.Rows.{IsShaped, row_at, path_below, ids_below};
+ghost use Rattle.dm_tree.specs.Walks.{is_child as is_child_row, child_of, find_from, path_up, row_names as names_right, row_allows as row_allows_it, deciding_row};
+
+use crate::rows::Row;
+use dm_acl::Right;
+use dm_base::Memory;
+use dm_uri::{Name, Path};
+use std::alloc::Global;
+
+fn is_child(id: u32, name: &Name, row: &Row) -> bool
+    ensures { result ≡ is_child_row id name.now row.now }
+{
+    row.attached && (row.parent == id && row.name.is_same(name))
+}
+
+pub(crate) fn child_row(rows: &[Row], id: u32, name: &Name) -> Option<u32>
+    requires { length rows.now < 2 ^ 32 }
+    ensures { result ≡ child_of rows.now id name.now }
+{
+    for (k, row) in rows.iter().enumerate() {
+        if is_child(id, name, row) {
+            return Some(k as u32);
+        }
+    }
+    None
+}
+
+pub(crate) fn found_row(rows: &[Row], path: &[Name]) -> Option<u32>
+    requires { length rows.now < 2 ^ 32 }
+    ensures { result ≡ find_from rows.now 0 path.now }
+{
+    let mut at = 0;
+    for name in path {
+        match child_row(rows, at, name) {
+            Some(child) => at = child,
+            None => return None,
+        }
+    }
+    Some(at)
+}
+
+// Whether a row lies below the root.
+fn is_in(rows: &[Row], id: u32) -> bool
+    requires shaped { IsShaped rows.now }
+    requires inside { id < length rows.now }
+    ensures { result ≡ is_some (path_below rows.now 0 id) }
+{
+    let mut at = id;
+    let mut left = rows[id as usize].depth;
+    while left > 0 {
+        if at == 0 {
+            return true;
+        }
+        if !rows[at as usize].attached {
+            return false;
+        }
+        at = rows[at as usize].parent;
+        left -= 1;
+    }
+    at == 0
+}
+
+// How many rows lie below the root.
+pub(crate) fn count_in(rows: &[Row]) -> u32
+    requires { IsShaped rows.now }
+    ensures { result ≡ length (ids_below rows.now 0 (length rows.now)) }
+{
+    let mut count = 0;
+    for id in 0..rows.len() {
+        if is_in(rows, id as u32) {
+            count += 1;
+        }
+    }
+    count
+}
+
+// Appends the names of the rows from this one upwards, the topmost first.
+pub(crate) fn put_path(
+    alloc: Global,
+    rows: &[Row],
+    id: u32,
+    left: u32,
+    out: &mut Path,
+) -> Result<(), Memory>
+    requires shaped { IsShaped rows.now }
+    requires inside { id < length rows.now }
+    requires room { length out.old + left ≤ 16 }
+    ensures { OnOk result (out.new ≡ out.old ++ path_up rows.now left id) }
+{
+    if left == 0 {
+        return Ok(());
+    }
+    let row = &rows[id as usize];
+    put_path(alloc, rows, row.parent, left - 1, out)?;
+    let name = row.name.copy(alloc)?;
+    match out.push(name) {
+        Ok(()) => Ok(()),
+        Err(_) => Err(Memory),
+    }
+}
+
+fn row_names(row: &Row, right: Right) -> bool
+    ensures { result ≡ names_right row.now right }
+{
+    match &row.node.acl {
+        None => false,
+        Some(acl) => acl.names(right),
+    }
+}
+
+// The nearest row upwards whose access list names the right.
+pub(crate) fn deciding_row(rows: &[Row], id: u32, right: Right) -> Option<u32>
+    requires shaped { IsShaped rows.now }
+    requires inside { id < length rows.now }
+    ensures { result ≡ deciding_row rows.now right (row_at rows.now id).depth id }
+{
+    let mut at = id;
+    let mut left = rows[id as usize].depth;
+    while left > 0 {
+        if row_names(&rows[at as usize], right) {
+            return Some(at);
+        }
+        at = rows[at as usize].parent;
+        left -= 1;
+    }
+    if row_names(&rows[at as usize], right) {
+        Some(at)
+    } else {
+        None
+    }
+}
+
+// Whether the row's own access list allows the right to the server.
+pub(crate) fn row_allows(row: &Row, server: &[u8], right: Right) -> bool
+    ensures { result ≡ row_allows_it row.now server.now right }
+{
+    match &row.node.acl {
+        None => false,
+        Some(acl) => acl.allows(server, right),
+    }
+}
