@@ -1,0 +1,11 @@
+//! The message grammar: from the tokens of a body to the message that they spell, or the first refusal.
+#![tactic(auto)]
+
+mod builder;
+pub mod digits;
+pub mod draft;
+pub mod leaf;
+pub mod open;
+mod put_node;
+mod put_simple;
+mod stack;
