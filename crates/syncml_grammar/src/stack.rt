@@ -1,9 +1,9 @@
 // The open elements, and the tokens that they take.
 ghost use Rattle.std.specs.Prelude.{◌≡◌, ◌+◌, ◌∷◌, [], None, Ok, Err, Bool, false, length, OnOk, List as ListOf};
 ghost use Rattle.wbxml_tokens.specs.declared.token.Token.TheVariants.{Tag, End, Text, Opaque};
-ghost use Rattle.syncml_grammar.specs.Machine.{Frame, root, step, on_kind};
+ghost use Rattle.syncml_grammar.specs.Machine.{Frame, root, step, on_kind, on_text};
 ghost use Rattle.syncml_grammar.specs.Values.{holds_leaf};
-ghost use Rattle.syncml_grammar.specs.Opens.{frame_of, leaf_frame, with_leaf, GivesFrames};
+ghost use Rattle.syncml_grammar.specs.Opens.{frame_of, frames_of, leaf_frame, with_leaf, GivesFrame, GivesFrames};
 
 use crate::draft::Draft;
 use crate::open::{Open, OpenLeaf, Stop, has_leaf};
@@ -34,6 +34,17 @@ ghost use Rattle.syncml_grammar.specs.Opens.{frames_of};
     ghost view = { λ n. frames_of n.top n.below };
 }
 
+// Opens a child of the innermost element.
+fn push(top: &mut Open, below: &mut List<Open>, child: Open) -> Result<(), Stop>
+    ensures { GivesFrames result (frames_of top.new below.new) (Ok (frame_of child ∷ frames_of top.old below.old)) }
+{
+    let parent = mem::replace(top, child);
+    match below.push(parent) {
+        Ok(()) => Ok(()),
+        Err(_) => Err(Stop::Memory),
+    }
+}
+
 impl Nest {
     fn new(alloc: Global) -> Nest
         ensures { result ≡ root ∷ [] }
@@ -52,17 +63,6 @@ impl Nest {
         }
     }
 
-    // Opens a child of the innermost element.
-    fn push(&mut self, child: Open) -> Result<(), Stop>
-        ensures { GivesFrames result self.new (Ok (frame_of child ∷ self.old)) }
-    {
-        let parent = mem::replace(&mut self.top, child);
-        match self.below.push(parent) {
-            Ok(()) => Ok(()),
-            Err(_) => Err(Stop::Memory),
-        }
-    }
-
     // The tag of a child with children.
     fn draft(&mut self, alloc: Global, element: Element, kind: Kind, content: bool) -> Result<(), Stop>
         requires { holds_leaf kind ≡ false }
@@ -72,7 +72,7 @@ impl Nest {
             return Err(Stop::Memory);
         };
         if content {
-            self.push(child)
+            push(&mut self.top, &mut self.below, child)
         } else {
             child.end_into(&mut self.top)
         }
@@ -136,12 +136,26 @@ impl Nest {
 }
 
 // Why a tag in an element without children is refused.
-fn tag_in_leaf(open: &OpenLeaf, element: Element) -> Reason
-    ensures { (frames : ListOf Frame) (content : Bool) → step (leaf_frame open.now ∷ frames) (Tag element content) ≡ Err result }
+fn tag_in_leaf(leaf: &OpenLeaf, element: Element) -> Reason
+    ensures { (frames : ListOf Frame) (content : Bool) → step (leaf_frame leaf.now ∷ frames) (Tag element content) ≡ Err result }
 {
-    match tag_fault(Some(open.element), element) {
+    match tag_fault(Some(leaf.element), element) {
         Some(reason) => reason,
         None => Reason::Misplaced,
+    }
+}
+
+// A piece of text in an element without children, of at most so many bytes as there is room for.
+fn take_piece(leaf: &mut OpenLeaf, room: &mut usize, bytes: &[u8]) -> Result<(), Stop>
+    ensures frame { GivesFrame result (leaf_frame leaf.new) (on_text (leaf_frame leaf.old) bytes.now) }
+    ensures room { OnOk result (room.new + length bytes.now ≡ room.old) }
+{
+    match room.checked_sub(bytes.len()) {
+        None => Err(Stop::Memory),
+        Some(left) => {
+            *room = left;
+            leaf.push(bytes)
+        }
     }
 }
 
@@ -179,7 +193,7 @@ impl Stack {
         ensures { GivesFrames result self.new (step self.old (Tag element content)) }
     {
         match &self.leaf {
-            Some(open) => Err(Stop::Refused(tag_in_leaf(open, element))),
+            Some(leaf) => Err(Stop::Refused(tag_in_leaf(leaf, element))),
             None => self.nest.tag(self.alloc, &mut self.leaf, element, content),
         }
     }
@@ -188,7 +202,7 @@ impl Stack {
         ensures { GivesFrames result self.new (step self.old End) }
     {
         match self.leaf.take() {
-            Some(open) => open.end_into(&mut self.nest.top),
+            Some(leaf) => leaf.end_into(&mut self.nest.top),
             None => self.nest.end(),
         }
     }
@@ -199,15 +213,9 @@ impl Stack {
         ensures opaque { GivesFrames result self.new (step self.old (Opaque bytes.now)) }
         ensures room { OnOk result (room.new + length bytes.now ≡ room.old) }
     {
-        let Some(open) = &mut self.leaf else {
-            return Err(Stop::Refused(Reason::Misplaced));
-        };
-        match room.checked_sub(bytes.len()) {
-            None => Err(Stop::Memory),
-            Some(left) => {
-                *room = left;
-                open.push(bytes)
-            }
+        match &mut self.leaf {
+            None => Err(Stop::Refused(Reason::Misplaced)),
+            Some(leaf) => take_piece(leaf, room, bytes),
         }
     }
 }
