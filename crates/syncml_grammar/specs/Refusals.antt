@@ -1,9 +1,11 @@
 -- Which token is refused and why, and what is answered of a whole list.
-use Rattle.std.specs.Prelude.{◌≡◌, ◌↔◌, ◌⊎◌, ℕ, ◌+◌, ◌≤◌, List, [], ◌∷◌, ◌++◌, length, Option, Some, None, Result, Ok, Err}
+use Rattle.std.specs.Prelude.{◌≡◌, ◌↔◌, ◌⊎◌, ℕ, ◌+◌, ◌≤◌, List, [], ◌∷◌, ◌++◌, length, Option, Some, None, Result, Ok, Err, IsTrue}
 use Rattle.wbxml_tokens.specs.declared.reason.Reason.{Reason}
+use Rattle.wbxml_tokens.specs.declared.reason.Reason.TheVariants as reasons
 use Rattle.wbxml_tokens.specs.declared.token.Token.{Token}
 use Rattle.syncml_shape.specs.Forest.{Forest}
-use Rattle.syncml_shape.specs.Shape.{HasShape, IsViable}
+use Rattle.syncml_shape.specs.Rows.{document}
+use Rattle.syncml_shape.specs.Shape.{fits, HasShape, IsViable}
 use Rattle.syncml_shape.specs.Faults.{IsRefused as IsMisshapen}
 use Rattle.syncml_types.specs.Message.{Parts}
 use Rattle.syncml_grammar.specs.Reads.{Unread, read_document, SpellsParts}
@@ -83,3 +85,9 @@ FinishedIsSpelled =
 abbrev pub TakenIsRead : Type 0
 TakenIsRead =
     (tokens : List Token) → ((frames : List Frame) × HasTaken frames tokens) ↔ (IsViable tokens × AllRead tokens)
+
+-- what doesn't read is a text or a number
+abbrev pub UnreadIsText : Type 0
+UnreadIsText =
+    (tree : Forest) (unread : Unread)
+    → IsTrue (fits document tree) → read_document tree ≡ Err unread → (unread.reason ≡ reasons.Text) ⊎ (unread.reason ≡ reasons.Number)

@@ -1,5 +1,5 @@
 // What tokens, messages and refusals have to do with each other, for whatever tokens.
-ghost use Rattle.syncml_grammar.specs.Refusals.{JudgedIsComputed, StepIsRefused, FinishedIsSpelled, TakenIsRead};
+ghost use Rattle.syncml_grammar.specs.Refusals.{JudgedIsComputed, StepIsRefused, FinishedIsSpelled, TakenIsRead, UnreadIsText};
 
 /// A law: of each list of tokens exactly one thing is judged, and it is the computed one.
 pub fn judged_is_computed()
@@ -19,4 +19,9 @@ pub fn finished_is_spelled()
 /// A law: tokens are all taken exactly where they begin a document and no text that they close is unread.
 pub fn taken_is_read()
     ensures { TakenIsRead }
+{}
+
+/// A law: what doesn't read in a document is a text or a number.
+pub fn unread_is_text()
+    ensures { UnreadIsText }
 {}
