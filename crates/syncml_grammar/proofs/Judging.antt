@@ -44,10 +44,10 @@ err_only (Err v) tree u h = let is : v ≡ u = cc in ap Err is
 pub closes_unread : (before : List Token) (s : List Frame) (t : Token) (reason : Reason) → HasTaken s before → step s t ≡ Err reason → ClosesUnread before t reason
 closes_unread before s t reason h w more tree shape =
     let stopped : run_at 0 (root ∷ []) ((before ++ t ∷ []) ++ more) ≡ Err (record { at = length before; reason = reason }) =
-        ap (run_at 0 (root ∷ [])) (cut-append before t more)
-        ∙ run_on before (t ∷ more) 0 (root ∷ []) s h
-        ∙ ap (λ r. at_place (0 + length before) r then (λ m. run_at (0 + length before + 1) m more)) w
-        ∙ ap (λ n. Err (record { at = n; reason = reason })) (omega arith) in
+    ap (run_at 0 (root ∷ [])) (cut-append before t more)
+    ∙ run_on before (t ∷ more) 0 (root ∷ []) s h
+    ∙ ap (λ r. at_place (0 + length before) r then (λ m. run_at (0 + length before + 1) m more)) w
+    ∙ ap (λ n. Err (record { at = n; reason = reason })) (omega arith) in
     err_only (read_document tree) tree (record { at = length before; reason = reason }) (sym (run_document ((before ++ t ∷ []) ++ more) tree shape) ∙ stopped)
 
 pub refused_here : (before : List Token) (s : List Frame) (t : Token) (reason : Reason) → HasTaken s before → step s t ≡ Err reason → IsRefused before t reason
@@ -76,7 +76,7 @@ not_unread : (before : List Token) (t : Token) (tokens : List Token) (reason : R
     → IsViable (before ++ t ∷ tokens) → AllRead (before ++ t ∷ tokens) → ⊥
 not_unread before t tokens reason closes v all =
     longer before t tokens
-      (all v.0 v.1 (record { at = length before; reason = reason }) v.2 (closes (tokens ++ v.0) v.1 (subst (λ l. HasShape l v.1) (regroup before t tokens v.0) v.2)))
+    (all v.0 v.1 (record { at = length before; reason = reason }) v.2 (closes (tokens ++ v.0) v.1 (subst (λ l. HasShape l v.1) (regroup before t tokens v.0) v.2)))
 
 not_both : (before : List Token) (t : Token) (tokens : List Token) (reason : Reason) → IsRefused before t reason
     → IsViable (before ++ t ∷ tokens) → AllRead (before ++ t ∷ tokens) → ⊥
@@ -98,7 +98,7 @@ one_reason before t a b x y = by x.1 y.1
     by (inr closes) (inr other) =
         let v = closes.0 in
         let same : ◌≡◌ {A = Result (Value × ℕ) Unread} (Err (record { at = length before; reason = a })) (Err (record { at = length before; reason = b })) =
-            sym (closes.1 v.0 v.1 v.2) ∙ other.1 v.0 v.1 v.2 in
+        sym (closes.1 v.0 v.1 v.2) ∙ other.1 v.0 v.1 v.2 in
         let unread : ◌≡◌ {A = Unread} (record { at = length before; reason = a }) (record { at = length before; reason = b }) = cc in
         ap (λ (u : Unread). u.reason) unread
 
@@ -134,7 +134,7 @@ finished_top : (s : List Frame) (parts : Parts) → finished s ≡ Some parts
 finished_top [] parts h = cc
 finished_top (top ∷ []) parts h =
     (elim (is_complete top.content) as (λ (b : Bool). is_complete top.content ≡ b → (if b then parts_in top.value else None) ≡ Some parts
-      → (top' : Frame) × (top ∷ [] ≡ top' ∷ []) × IsTrue (is_complete top'.content) × (parts_in top'.value ≡ Some parts)) [
+    → (top' : Frame) × (top ∷ [] ≡ top' ∷ []) × IsTrue (is_complete top'.content) × (parts_in top'.value ≡ Some parts)) [
       | true ↦ λ done w. (top, refl, done, w)
       | false ↦ λ done w. cc
     ]) refl h
@@ -149,7 +149,7 @@ finished_spelled tokens s parts h w =
     let top = finished_top s parts w in
     let shaped = whole_shaped tokens (outline_of s) (taken_outline tokens s h) (subst (λ m. IsTrue (is_whole (outline_of m))) (sym top.1) top.2) in
     let ran : (read_document shaped.0 then (λ p. Ok (behind shaped.0 p.0))) ≡ Ok (top.0 ∷ []) =
-        sym (run_document tokens shaped.0 shaped.1) ∙ run_of tokens 0 (root ∷ []) s h ∙ ap Ok top.1 in
+    sym (run_document tokens shaped.0 shaped.1) ∙ run_of tokens 0 (root ∷ []) s h ∙ ap Ok top.1 in
     (elim (read_document shaped.0) as (λ r. read_document shaped.0 ≡ r → (r then (λ p. Ok (behind shaped.0 p.0))) ≡ Ok (top.0 ∷ []) → SpellsParts tokens parts) [
       | Ok p ↦ λ is r. (shaped.0, shaped.1, (p.0, p.1, is, ap parts_in (same_value shaped.0 p.0 top.0 r) ∙ top.3))
       | Err unread ↦ λ is r. cc

@@ -1,5 +1,5 @@
 -- The step over the open elements with what they hold is the step over their outline.
-use Rattle.std.specs.Prelude.{◌≡◌, ◌⊎◌, Bool, true, false, if◌then◌else◌, ℕ, List, [], ◌∷◌, ◌++◌, Option, Some, None, Result, Ok, Err, refl}
+use Rattle.std.specs.Prelude.{◌≡◌, ◌⊎◌, Bool, true, false, if◌then◌else◌, ℕ, List, [], ◌∷◌, Option, Some, None, Result, Ok, Err, refl}
 use Rattle.std.proofs.Common.{sym, ap, subst, ◌∙◌, inl, inr}
 use Rattle.wbxml_tokens.specs.declared.reason.Reason.{Reason}
 use Rattle.wbxml_tokens.specs.declared.reason.Reason.TheVariants.{Misplaced}
@@ -14,9 +14,9 @@ use Rattle.syncml_shape.specs.Machine.{Frame as Outlined, with_tag as shape_tag,
 use Rattle.syncml_shape.specs.Outline.{then_outline, outline_from}
 use Rattle.syncml_shape.specs.Outline.{HasTaken as HasOutline}
 use Rattle.syncml_shape.proofs.Judging.{taken_viable as outline_viable}
-use Rattle.syncml_grammar.specs.Values.{Value, fresh, closed, with_text, with_child}
+use Rattle.syncml_grammar.specs.Values.{closed, with_text, with_child}
 use Rattle.syncml_grammar.specs.Reads.{◌then◌}
-use Rattle.syncml_grammar.specs.Machine.{Frame, root, began, named_end, on_end, with_tag, on_tag, on_next, on_text, step}
+use Rattle.syncml_grammar.specs.Machine.{Frame, root, began, named_end, on_tag, on_next, step}
 use Rattle.syncml_grammar.specs.Building.{frames_behind, HasTaken}
 
 abbrev pub outlined : Frame → Outlined
@@ -57,7 +57,7 @@ follows_child top below e false None (Some x) is = subst (λ y. Follows (on_next
 
 follows_text : (takes : Bool) (top : Frame) (below : List Frame) (bytes : List ℕ)
     → Follows ((if takes then Ok (record top { value = with_text top.value bytes }) else Err Misplaced) then (λ after. Ok (after ∷ below)))
-      (if takes then Ok (outlined top ∷ outline_of below) else Err Misplaced)
+    (if takes then Ok (outlined top ∷ outline_of below) else Err Misplaced)
 follows_text true top below bytes = refl
 follows_text false top below bytes = inl refl
 

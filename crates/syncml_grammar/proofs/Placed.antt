@@ -1,23 +1,22 @@
 -- The steps over the tokens of a tree read the tree, and stop where it is unread.
-use Rattle.std.specs.Prelude.{◌≡◌, ℕ, ◌+◌, ◌≤◌, length, Bool, true, false, ◌&&◌, if◌then◌else◌, List, [], ◌∷◌, ◌++◌, Option, Some, None, Result, Ok, Err, IsTrue, refl}
-use Rattle.std.proofs.Common.{sym, ◌∙◌, ap, subst, append_assoc, append-nil, arith}
-use Rattle.wbxml_tokens.specs.declared.reason.Reason.{Reason}
+use Rattle.std.specs.Prelude.{◌≡◌, ℕ, ◌+◌, ◌≤◌, length, Bool, true, false, ◌&&◌, if◌then◌else◌, List, [], ◌∷◌, ◌++◌, Some, None, Result, Ok, Err, IsTrue, refl}
+use Rattle.std.proofs.Common.{sym, ◌∙◌, ap, append_assoc, append-nil, arith}
 use Rattle.wbxml_tokens.specs.declared.reason.Reason.TheVariants.{Misplaced}
 use Rattle.wbxml_tables.specs.declared.Element.{Element}
 use Rattle.wbxml_tokens.specs.declared.token.Token.{Token}
-use Rattle.wbxml_tokens.specs.declared.token.Token.TheVariants.{Tag, End, Text, Opaque}
+use Rattle.wbxml_tokens.specs.declared.token.Token.TheVariants.{Tag, End}
 use Rattle.syncml_shape.specs.declared.rows.Kind.{Kind}
 use Rattle.syncml_shape.specs.Forest.{Forest, nothing, text, opaque, bare, full, spelling}
 use Rattle.syncml_shape.specs.Rows.{Content, document, start, next, is_complete, takes_text}
 use Rattle.syncml_shape.specs.Shape.{fits, HasShape}
 use Rattle.syncml_shape.specs.Faults.{tag_fault}
 use Rattle.syncml_shape.proofs.Accepts.{and_true}
-use Rattle.syncml_shape.proofs.Names.{IsNamed, IsNamedNext, next_named}
+use Rattle.syncml_shape.proofs.Names.{IsNamed, next_named}
 use Rattle.syncml_grammar.specs.Values.{Value, fresh, closed, with_text, with_child, of_draft}
 use Rattle.syncml_grammar.specs.declared.draft.Draft.TheVariants as draft
 use Rattle.syncml_grammar.specs.Reads.{Unread, at_place, read, read_document, ◌then◌}
 use Rattle.syncml_grammar.specs.Machine.{Frame, root, began, on_end, with_tag, on_tag, on_next, on_piece, step}
-use Rattle.syncml_grammar.specs.Building.{frames_behind, HasTaken}
+use Rattle.syncml_grammar.specs.Building.{frames_behind}
 
 -- the open elements behind tokens, or the place and the reason of the first that is refused, where they begin at a place
 abbrev pub run_at : ℕ → List Frame → List Token → Result (List Frame) Unread
@@ -76,13 +75,13 @@ Reads f n fr c value s l = run_at n (at fr c value ∷ s) (spelling f ++ l) ≡ 
 reads_bare : (e : Element) (f : Forest) (n : ℕ) (fr : Frame) (c : Content) (value : Value) (s : List Frame) (l : List Token) (x : Kind × Content)
     → ((child : Value) → Reads f (n + 1) fr x.1 child s l) → tag_fault fr.element e ≡ None → next c e ≡ Some x → IsTrue (is_complete (start x.0))
     → (at_place n (step (at fr c value ∷ s) (Tag e false)) then (λ m. run_at (n + 1) m (spelling f ++ l)))
-      ≡ ((at_place n (closed x.0 (fresh x.0 e)) then (λ child. read (n + 1) (with_child value e child) x.1 f)) then (λ p. run_at p.1 (at fr (rest_of x.1 f) p.0 ∷ s) l))
+    ≡ ((at_place n (closed x.0 (fresh x.0 e)) then (λ child. read (n + 1) (with_child value e child) x.1 f)) then (λ p. run_at p.1 (at fr (rest_of x.1 f) p.0 ∷ s) l))
 reads_bare e f n fr c value s l x rest fault is done =
     ap (λ r. at_place n r then (λ m. run_at (n + 1) m (spelling f ++ l))) (tag_taken (at fr c value) s e false x fault is)
     ∙ ap (λ r. at_place n (r then (λ p. Ok (p ∷ s))) then (λ m. run_at (n + 1) m (spelling f ++ l))) (end_taken e x.0 (start x.0) (fresh x.0 e) (at fr x.1 value) done)
     ∙ (elim (closed x.0 (fresh x.0 e)) as (λ r.
-        (at_place n ((r then (λ whole. Ok (at fr x.1 (with_child value e whole)))) then (λ p. Ok (p ∷ s))) then (λ m. run_at (n + 1) m (spelling f ++ l)))
-        ≡ ((at_place n r then (λ child. read (n + 1) (with_child value e child) x.1 f)) then (λ p. run_at p.1 (at fr (rest_of x.1 f) p.0 ∷ s) l))) [
+    (at_place n ((r then (λ whole. Ok (at fr x.1 (with_child value e whole)))) then (λ p. Ok (p ∷ s))) then (λ m. run_at (n + 1) m (spelling f ++ l)))
+    ≡ ((at_place n r then (λ child. read (n + 1) (with_child value e child) x.1 f)) then (λ p. run_at p.1 (at fr (rest_of x.1 f) p.0 ∷ s) l))) [
       | Ok child ↦ rest (with_child value e child)
       | Err reason ↦ refl
     ])
@@ -91,12 +90,12 @@ reads_bare e f n fr c value s l x rest fault is done =
 reads_end : (e : Element) (f : Forest) (n : ℕ) (fr : Frame) (c : Content) (value : Value) (s : List Frame) (l : List Token) (x : Kind × Content) (inner : Content) (child : Value)
     → ((whole : Value) → Reads f (n + 1) fr x.1 whole s l) → IsTrue (is_complete inner)
     → run_at n (at (began e x.0) inner child ∷ at fr x.1 value ∷ s) (End ∷ (spelling f ++ l))
-      ≡ ((at_place n (closed x.0 child) then (λ whole. read (n + 1) (with_child value e whole) x.1 f)) then (λ p. run_at p.1 (at fr (rest_of x.1 f) p.0 ∷ s) l))
+    ≡ ((at_place n (closed x.0 child) then (λ whole. read (n + 1) (with_child value e whole) x.1 f)) then (λ p. run_at p.1 (at fr (rest_of x.1 f) p.0 ∷ s) l))
 reads_end e f n fr c value s l x inner child rest done =
     ap (λ r. at_place n (r then (λ p. Ok (p ∷ s))) then (λ m. run_at (n + 1) m (spelling f ++ l))) (end_taken e x.0 inner child (at fr x.1 value) done)
     ∙ (elim (closed x.0 child) as (λ r.
-        (at_place n ((r then (λ whole. Ok (at fr x.1 (with_child value e whole)))) then (λ p. Ok (p ∷ s))) then (λ m. run_at (n + 1) m (spelling f ++ l)))
-        ≡ ((at_place n r then (λ whole. read (n + 1) (with_child value e whole) x.1 f)) then (λ p. run_at p.1 (at fr (rest_of x.1 f) p.0 ∷ s) l))) [
+    (at_place n ((r then (λ whole. Ok (at fr x.1 (with_child value e whole)))) then (λ p. Ok (p ∷ s))) then (λ m. run_at (n + 1) m (spelling f ++ l)))
+    ≡ ((at_place n r then (λ whole. read (n + 1) (with_child value e whole) x.1 f)) then (λ p. run_at p.1 (at fr (rest_of x.1 f) p.0 ∷ s) l))) [
       | Ok whole ↦ rest (with_child value e whole)
       | Err reason ↦ refl
     ])
@@ -106,15 +105,15 @@ reads_full : (e : Element) (i f : Forest) (n : ℕ) (fr : Frame) (c : Content) (
     → ((place : ℕ) (whole : Value) → Reads f (place + 1) fr x.1 whole s l)
     → tag_fault fr.element e ≡ None → next c e ≡ Some x → IsTrue (fits (start x.0) i)
     → (at_place n (step (at fr c value ∷ s) (Tag e true)) then (λ m. run_at (n + 1) m ((spelling i ++ End ∷ spelling f) ++ l)))
-      ≡ ((read (n + 1) (fresh x.0 e) (start x.0) i then (λ p. at_place p.1 (closed x.0 p.0) then (λ child. read (p.1 + 1) (with_child value e child) x.1 f)))
-        then (λ p. run_at p.1 (at fr (rest_of x.1 f) p.0 ∷ s) l))
+    ≡ ((read (n + 1) (fresh x.0 e) (start x.0) i then (λ p. at_place p.1 (closed x.0 p.0) then (λ child. read (p.1 + 1) (with_child value e child) x.1 f)))
+    then (λ p. run_at p.1 (at fr (rest_of x.1 f) p.0 ∷ s) l))
 reads_full e i f n fr c value s l x inner rest fault is fit =
     ap (λ r. at_place n r then (λ m. run_at (n + 1) m ((spelling i ++ End ∷ spelling f) ++ l))) (tag_taken (at fr c value) s e true x fault is)
     ∙ ap (run_at (n + 1) (began e x.0 ∷ at fr x.1 value ∷ s)) (append_assoc (spelling i) (End ∷ spelling f) l)
     ∙ inner
     ∙ (elim (read (n + 1) (fresh x.0 e) (start x.0) i) as (λ r.
-        (r then (λ p. run_at p.1 (at (began e x.0) (rest_of (start x.0) i) p.0 ∷ at fr x.1 value ∷ s) (End ∷ (spelling f ++ l))))
-        ≡ ((r then (λ p. at_place p.1 (closed x.0 p.0) then (λ child. read (p.1 + 1) (with_child value e child) x.1 f))) then (λ p. run_at p.1 (at fr (rest_of x.1 f) p.0 ∷ s) l))) [
+    (r then (λ p. run_at p.1 (at (began e x.0) (rest_of (start x.0) i) p.0 ∷ at fr x.1 value ∷ s) (End ∷ (spelling f ++ l))))
+    ≡ ((r then (λ p. at_place p.1 (closed x.0 p.0) then (λ child. read (p.1 + 1) (with_child value e child) x.1 f))) then (λ p. run_at p.1 (at fr (rest_of x.1 f) p.0 ∷ s) l))) [
       | Ok p ↦ reads_end e f p.1 fr c value s l x (rest_of (start x.0) i) p.0 (rest p.1) (rest_complete i (start x.0) fit)
       | Err unread ↦ refl
     ])
@@ -129,12 +128,12 @@ reads (opaque b f) n fr c value s l named h =
     ap (λ r. at_place n r then (λ m. run_at (n + 1) m (spelling f ++ l))) (piece_taken (at fr c value) s b both.0) ∙ reads f (n + 1) fr c (with_text value b) s l named both.1
 reads (bare e f) n fr c value s l named h =
     (elim (next c e) as (λ o. next c e ≡ o
-      → IsTrue (elim o as (λ _. Bool) [ None ↦ false | Some x ↦ is_complete (start x.0) && fits x.1 f ])
-      → (at_place n (step (at fr c value ∷ s) (Tag e false)) then (λ m. run_at (n + 1) m (spelling f ++ l)))
-        ≡ ((elim o as (λ _. Result (Value × ℕ) Unread) [
-          | None ↦ Err (record { at = n; reason = Misplaced })
-          | Some x ↦ at_place n (closed x.0 (fresh x.0 e)) then (λ child. read (n + 1) (with_child value e child) x.1 f)
-        ]) then (λ p. run_at p.1 (at fr (elim o as (λ _. Content) [ None ↦ c | Some x ↦ rest_of x.1 f ]) p.0 ∷ s) l))) [
+    → IsTrue (elim o as (λ _. Bool) [ None ↦ false | Some x ↦ is_complete (start x.0) && fits x.1 f ])
+    → (at_place n (step (at fr c value ∷ s) (Tag e false)) then (λ m. run_at (n + 1) m (spelling f ++ l)))
+    ≡ ((elim o as (λ _. Result (Value × ℕ) Unread) [
+      | None ↦ Err (record { at = n; reason = Misplaced })
+      | Some x ↦ at_place n (closed x.0 (fresh x.0 e)) then (λ child. read (n + 1) (with_child value e child) x.1 f)
+    ]) then (λ p. run_at p.1 (at fr (elim o as (λ _. Content) [ None ↦ c | Some x ↦ rest_of x.1 f ]) p.0 ∷ s) l))) [
       | None ↦ λ is w. cc
       | Some x ↦ λ is w.
           let both = and_true (is_complete (start x.0)) (fits x.1 f) w in
@@ -143,19 +142,19 @@ reads (bare e f) n fr c value s l named h =
     ]) refl h
 reads (full e i f) n fr c value s l named h =
     (elim (next c e) as (λ o. next c e ≡ o
-      → IsTrue (elim o as (λ _. Bool) [ None ↦ false | Some x ↦ fits (start x.0) i && fits x.1 f ])
-      → (at_place n (step (at fr c value ∷ s) (Tag e true)) then (λ m. run_at (n + 1) m ((spelling i ++ End ∷ spelling f) ++ l)))
-        ≡ ((elim o as (λ _. Result (Value × ℕ) Unread) [
-          | None ↦ Err (record { at = n; reason = Misplaced })
-          | Some x ↦ read (n + 1) (fresh x.0 e) (start x.0) i then (λ p. at_place p.1 (closed x.0 p.0) then (λ child. read (p.1 + 1) (with_child value e child) x.1 f))
-        ]) then (λ p. run_at p.1 (at fr (elim o as (λ _. Content) [ None ↦ c | Some x ↦ rest_of x.1 f ]) p.0 ∷ s) l))) [
+    → IsTrue (elim o as (λ _. Bool) [ None ↦ false | Some x ↦ fits (start x.0) i && fits x.1 f ])
+    → (at_place n (step (at fr c value ∷ s) (Tag e true)) then (λ m. run_at (n + 1) m ((spelling i ++ End ∷ spelling f) ++ l)))
+    ≡ ((elim o as (λ _. Result (Value × ℕ) Unread) [
+      | None ↦ Err (record { at = n; reason = Misplaced })
+      | Some x ↦ read (n + 1) (fresh x.0 e) (start x.0) i then (λ p. at_place p.1 (closed x.0 p.0) then (λ child. read (p.1 + 1) (with_child value e child) x.1 f))
+    ]) then (λ p. run_at p.1 (at fr (elim o as (λ _. Content) [ None ↦ c | Some x ↦ rest_of x.1 f ]) p.0 ∷ s) l))) [
       | None ↦ λ is w. cc
       | Some x ↦ λ is w.
           let both = and_true (fits (start x.0) i) (fits x.1 f) w in
           let names = next_named c fr.element e x named is in
           reads_full e i f n fr c value s l x
-            (reads i (n + 1) (began e x.0) (start x.0) (fresh x.0 e) (at fr x.1 value ∷ s) (End ∷ (spelling f ++ l)) names.child both.0)
-            (λ place whole. reads f (place + 1) fr x.1 whole s l names.rest both.1) names.faultless is both.0
+          (reads i (n + 1) (began e x.0) (start x.0) (fresh x.0 e) (at fr x.1 value ∷ s) (End ∷ (spelling f ++ l)) names.child both.0)
+          (λ place whole. reads f (place + 1) fr x.1 whole s l names.rest both.1) names.faultless is both.0
     ]) refl h
 
 -- ---- a whole document

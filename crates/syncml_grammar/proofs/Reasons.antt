@@ -1,6 +1,6 @@
 -- What doesn't read in a tree that fits is a text or a number.
 use Rattle.std.specs.Prelude.{◌≡◌, ◌⊎◌, ◌&&◌, ℕ, ◌+◌, nat_le, Bool, true, false, if◌then◌else◌, List, Option, Some, None, Result, Ok, Err, IsTrue, refl}
-use Rattle.std.proofs.Common.{sym, subst, inl, inr}
+use Rattle.std.proofs.Common.{subst, inl, inr}
 use Rattle.wbxml_tokens.specs.declared.reason.Reason.{Reason}
 use Rattle.wbxml_tokens.specs.declared.reason.Reason.TheVariants as reasons
 use Rattle.syncml_shape.specs.declared.rows.Kind.{Kind}
@@ -16,7 +16,7 @@ use Rattle.syncml_grammar.specs.declared.leaf.Leaf.TheVariants as leaf
 use Rattle.syncml_grammar.specs.declared.leaf.Simple.{Simple}
 use Rattle.syncml_grammar.specs.declared.leaf.Simple.TheVariants as simple
 use Rattle.syncml_grammar.specs.Numbers.{number_in}
-use Rattle.syncml_grammar.specs.Leaves.{closed_text, short_number, closed_number, closed_leaf}
+use Rattle.syncml_grammar.specs.Leaves.{closed_text, closed_number, closed_leaf}
 use Rattle.syncml_grammar.specs.Values.{Value, of_leaf, of_draft, simply, fresh, closed, with_text, with_child}
 use Rattle.syncml_grammar.specs.Reads.{Unread, at_place, read, ◌then◌}
 use Rattle.syncml_grammar.specs.Refusals.{UnreadIsText}
@@ -68,31 +68,31 @@ read_reason (text b f) n value c u fit h = read_reason f (n + 1) (with_text valu
 read_reason (opaque b f) n value c u fit h = read_reason f (n + 1) (with_text value b) c u (and_true (takes_text c) (fits c f) fit).1 h
 read_reason (bare e f) n value c u fit h =
     (elim (next c e) as (λ o. IsTrue (elim o as (λ _. Bool) [ None ↦ false | Some x ↦ is_complete (start x.0) && fits x.1 f ])
-      → (elim o as (λ _. Result (Value × ℕ) Unread) [
-          | None ↦ Err (record { at = n; reason = reasons.Misplaced })
-          | Some x ↦ at_place n (closed x.0 (fresh x.0 e)) then (λ child. read (n + 1) (with_child value e child) x.1 f)
-        ]) ≡ Err u → IsOfText u.reason) [
+    → (elim o as (λ _. Result (Value × ℕ) Unread) [
+      | None ↦ Err (record { at = n; reason = reasons.Misplaced })
+      | Some x ↦ at_place n (closed x.0 (fresh x.0 e)) then (λ child. read (n + 1) (with_child value e child) x.1 f)
+    ]) ≡ Err u → IsOfText u.reason) [
       | None ↦ λ w r. cc
       | Some x ↦ λ w r.
           end_reason n (λ child. read (n + 1) (with_child value e child) x.1 f) (closed x.0 (fresh x.0 e)) u
-            (closed_reason x.0 (fresh x.0 e))
-            (λ child q. read_reason f (n + 1) (with_child value e child) x.1 u (and_true (is_complete (start x.0)) (fits x.1 f) w).1 q) r
+          (closed_reason x.0 (fresh x.0 e))
+          (λ child q. read_reason f (n + 1) (with_child value e child) x.1 u (and_true (is_complete (start x.0)) (fits x.1 f) w).1 q) r
     ]) fit h
 read_reason (full e i f) n value c u fit h =
     (elim (next c e) as (λ o. IsTrue (elim o as (λ _. Bool) [ None ↦ false | Some x ↦ fits (start x.0) i && fits x.1 f ])
-      → (elim o as (λ _. Result (Value × ℕ) Unread) [
-          | None ↦ Err (record { at = n; reason = reasons.Misplaced })
-          | Some x ↦ read (n + 1) (fresh x.0 e) (start x.0) i then (λ p. at_place p.1 (closed x.0 p.0) then (λ child. read (p.1 + 1) (with_child value e child) x.1 f))
-        ]) ≡ Err u → IsOfText u.reason) [
+    → (elim o as (λ _. Result (Value × ℕ) Unread) [
+      | None ↦ Err (record { at = n; reason = reasons.Misplaced })
+      | Some x ↦ read (n + 1) (fresh x.0 e) (start x.0) i then (λ p. at_place p.1 (closed x.0 p.0) then (λ child. read (p.1 + 1) (with_child value e child) x.1 f))
+    ]) ≡ Err u → IsOfText u.reason) [
       | None ↦ λ w r. cc
       | Some x ↦ λ w r.
           let both = and_true (fits (start x.0) i) (fits x.1 f) w in
           (elim (read (n + 1) (fresh x.0 e) (start x.0) i) as (λ q. read (n + 1) (fresh x.0 e) (start x.0) i ≡ q
-            → (q then (λ p. at_place p.1 (closed x.0 p.0) then (λ child. read (p.1 + 1) (with_child value e child) x.1 f))) ≡ Err u → IsOfText u.reason) [
+          → (q then (λ p. at_place p.1 (closed x.0 p.0) then (λ child. read (p.1 + 1) (with_child value e child) x.1 f))) ≡ Err u → IsOfText u.reason) [
             | Ok p ↦ λ is r'.
                 end_reason p.1 (λ child. read (p.1 + 1) (with_child value e child) x.1 f) (closed x.0 p.0) u
-                  (closed_reason x.0 p.0)
-                  (λ child q. read_reason f (p.1 + 1) (with_child value e child) x.1 u both.1 q) r'
+                (closed_reason x.0 p.0)
+                (λ child q. read_reason f (p.1 + 1) (with_child value e child) x.1 u both.1 q) r'
             | Err v ↦ λ is r'. let same : v ≡ u = cc in
                 subst (λ (k : Unread). IsOfText k.reason) same (read_reason i (n + 1) (fresh x.0 e) (start x.0) v both.0 is)
           ]) refl r
