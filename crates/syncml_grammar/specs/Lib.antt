@@ -9,3 +9,4 @@ pub mod Machine
 pub mod Opens
 pub mod Building
 pub mod Laws
+pub mod Refusals

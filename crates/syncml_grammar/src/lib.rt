@@ -4,6 +4,7 @@
 mod builder;
 pub mod digits;
 pub mod draft;
+pub mod laws;
 pub mod leaf;
 pub mod open;
 mod put_node;

@@ -1,0 +1,27 @@
+// What tokens, messages and refusals have to do with each other, for whatever tokens.
+ghost use Rattle.syncml_grammar.specs.Refusals.{JudgedIsComputed, StepIsRefused, FinishedIsSpelled, TakenIsRead, UnreadIsText};
+
+/// A law: of each list of tokens exactly one thing is judged, and it is the computed one.
+pub fn judged_is_computed()
+    ensures { JudgedIsComputed }
+{}
+
+/// A law: behind tokens that were taken, a step refuses a token exactly where it is refused, and for its reason.
+pub fn step_is_refused()
+    ensures { StepIsRefused }
+{}
+
+/// A law: the parts behind tokens that were taken are those that they spell.
+pub fn finished_is_spelled()
+    ensures { FinishedIsSpelled }
+{}
+
+/// A law: tokens are all taken exactly where they begin a document and no text that they close is unread.
+pub fn taken_is_read()
+    ensures { TakenIsRead }
+{}
+
+/// A law: what doesn't read in a document is a text or a number.
+pub fn unread_is_text()
+    ensures { UnreadIsText }
+{}
