@@ -30,7 +30,7 @@ taken_more before token frames after h x =
 
 -- a building that took one token more
 pub building_more : (b : Building) (token : Token) (after : List Frame) (left : ℕ) → IsBuilding b → b.stopped ≡ None → step b.frames token ≡ Ok after
-    → left + text_in token ≡ b.room → IsBuilding (record { frames = after; room = left; stopped = None })
+    → left + text_in token ≡ b.room → IsBuilding (record b { frames = after; room = left })
 building_more b token after left is_building going x room = λ still.
     let was = is_building going in
     let e = length-append was.0 token in

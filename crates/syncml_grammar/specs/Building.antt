@@ -3,10 +3,11 @@ use Rattle.std.specs.Prelude.{◌≡◌, ◌+◌, ◌-◌, ℕ, List, [], ◌∷
 use Rattle.wbxml_tokens.specs.declared.reason.Reason.{Reason}
 use Rattle.wbxml_tokens.specs.declared.token.Token.{Token}
 use Rattle.wbxml_tokens.specs.declared.token.Token.TheVariants.{Tag, End, Text, Opaque}
+use Rattle.syncml_types.specs.Message.{Parts}
 use Rattle.syncml_grammar.specs.declared.open.Stop.{Stop}
 use Rattle.syncml_grammar.specs.declared.open.Stop.TheVariants as stops
 use Rattle.syncml_grammar.specs.Reads.{◌then◌}
-use Rattle.syncml_grammar.specs.Machine.{Frame, root, step}
+use Rattle.syncml_grammar.specs.Machine.{Frame, root, step, finished}
 
 -- the open elements behind tokens, or why one of these is refused
 abbrev pub frames_behind : List Frame → List Token → Result (List Frame) Reason
@@ -69,3 +70,15 @@ told (stops.Refused reason) = Some reason
 -- after want of memory it takes no more
 abbrev pub IsLacking : Building → Building → Type 0
 IsLacking old new = new.stopped ≡ Some stops.Memory
+
+-- it has taken these tokens, and none of them was refused
+abbrev pub HasBuilt : Building → List Token → Type 0
+HasBuilt b tokens = (b.stopped ≡ None) × HasTaken b.frames tokens
+
+abbrev pub unless_stopped : Option Stop → Option Parts → Option Parts
+unless_stopped None parts = parts
+unless_stopped (Some stop) parts = None
+
+-- the parts of the message, where the document is whole
+abbrev pub built_by : Building → Option Parts
+built_by b = unless_stopped b.stopped (finished b.frames)

@@ -10,3 +10,4 @@ pub mod Opens
 pub mod Building
 pub mod Laws
 pub mod Refusals
+pub mod Verdicts

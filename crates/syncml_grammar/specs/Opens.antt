@@ -7,6 +7,8 @@ use Rattle.syncml_shape.specs.declared.rows.Kind.{Kind}
 use Rattle.syncml_shape.specs.declared.rows.Kind.TheVariants as kinds
 use Rattle.syncml_shape.specs.Rows.{Content, in_order, pieces}
 use Rattle.syncml_shape.specs.Progress.{content_of}
+use Rattle.syncml_types.specs.Message.{Parts}
+use Rattle.syncml_grammar.specs.declared.draft.WholeParts.{WholeParts}
 use Rattle.syncml_grammar.specs.declared.open.Open.{Open}
 use Rattle.syncml_grammar.specs.declared.open.OpenLeaf.{OpenLeaf}
 use Rattle.syncml_grammar.specs.declared.open.Stop.{Stop}
@@ -46,3 +48,6 @@ GivesFrame (Err stop) after x = Stops stop x
 abbrev pub GivesFrames : Result Unit Stop → List Frame → Result (List Frame) Reason → Type 0
 GivesFrames (Ok u) after x = x ≡ Ok after
 GivesFrames (Err stop) after x = Stops stop x
+
+abbrev pub parts_of : WholeParts → Parts
+parts_of p = record { header = p.header; body = p.body; last = p.last }

@@ -1,13 +1,15 @@
 // The builder: it takes the tokens of a body one after the other, and has the message at the end.
-ghost use Rattle.std.specs.Prelude.{◌≡◌, Some, Ok, Err};
-ghost use Rattle.wbxml_tokens.specs.declared.token.Token.TheVariants.{Tag, End, Text, Opaque};
-ghost use Rattle.wbxml_tokens.specs.Taking.{Takes};
-ghost use Rattle.syncml_grammar.specs.Building.{no_building, building_after, refusal_of, told as told_by, IsLacking};
+ghost use Rattle.std.specs.Prelude.{◌≡◌, ◌↔◌, Some, List as ListOf};
+ghost use Rattle.wbxml_tokens.specs.declared.token.Token.{Token as Piece};
+ghost use Rattle.syncml_types.specs.Message.{Parts};
+ghost use Rattle.syncml_grammar.specs.Reads.{SpellsParts};
+ghost use Rattle.syncml_grammar.specs.Building.{no_building, built_by, HasBuilt};
 
 use crate::open::Stop;
 use crate::stack::Stack;
 use std::alloc::Global;
 use std::marker::Model;
+use syncml_types::Message;
 use wbxml_tables::Element;
 use wbxml_tokens::{Reason, Taker, Writer};
 
@@ -41,6 +43,21 @@ impl Builder {
             stack: Stack::new(alloc),
             room: MOST_TEXT,
             stopped: None,
+        }
+    }
+
+    /// The message of the tokens that were taken. None comes exactly where they spell none, and after an error.
+    pub fn finish(self) -> Option<Message>
+        ensures value { result ≡ built_by self }
+        ensures message { (tokens : ListOf Piece) (parts : Parts) → HasBuilt self tokens
+            → (result ≡ Some parts) ↔ SpellsParts tokens parts }
+    {
+        if self.stopped.is_some() {
+            return None;
+        }
+        match self.stack.into_parts() {
+            None => None,
+            Some(parts) => Some(Message::of_parts(parts.header, parts.body, parts.last)),
         }
     }
 }

@@ -1,6 +1,9 @@
 // What elements with children hold, as their children come.
-ghost use Rattle.std.specs.Prelude.{◌≡◌, IfOk};
+ghost use Rattle.std.specs.Prelude.{◌≡◌, IfOk, option_map};
 ghost use Rattle.syncml_grammar.specs.declared.draft.Draft.TheVariants as draft;
+ghost use Rattle.syncml_grammar.specs.Values.{of_draft};
+ghost use Rattle.syncml_grammar.specs.Reads.{parts_from, parts_in};
+ghost use Rattle.syncml_grammar.specs.Opens.{parts_of};
 ghost use Rattle.syncml_grammar.specs.Drafts.{no_meta, no_item, no_loc, no_header, no_message, no_body, no_cred, no_plain, no_alert, no_block, no_sequence, no_status, no_results, verb_of, fresh_draft};
 
 use dm_base::{Bytes, List, Memory};
@@ -43,6 +46,31 @@ pub struct MessageDraft {
     pub last: bool,
 }
 
+/// The parts of a whole message.
+#[derive(Drop)]
+pub struct WholeParts {
+    pub header: Header,
+    pub body: List<Command>,
+    pub last: bool,
+}
+
+impl MessageDraft {
+    /// The parts, where there is a header.
+    pub(crate) fn into_parts(self) -> Option<WholeParts>
+        ensures { option_map parts_of result ≡ parts_from self self.header }
+    {
+        let MessageDraft { header, body, last } = self;
+        match header {
+            None => None,
+            Some(draft) => Some(WholeParts {
+                header: Box::into_inner(draft.header),
+                body,
+                last,
+            }),
+        }
+    }
+}
+
 /// What has been read of an element with children.
 #[derive(Drop)]
 pub enum Draft {
@@ -62,6 +90,18 @@ pub enum Draft {
     Cred(Cred),
     Chal(Meta),
     Meta(Meta),
+}
+
+impl Draft {
+    /// The parts of a message that has ended.
+    pub(crate) fn into_parts(self) -> Option<WholeParts>
+        ensures { option_map parts_of result ≡ parts_in (of_draft self) }
+    {
+        match self {
+            Draft::Message(message) => message.into_parts(),
+            _ => None,
+        }
+    }
 }
 
 fn new_loc(alloc: Global) -> Loc

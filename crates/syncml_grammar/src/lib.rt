@@ -1,7 +1,7 @@
 //! The message grammar: from the tokens of a body to the message that they spell, or the first refusal.
 #![tactic(auto)]
 
-mod builder;
+pub mod builder;
 pub mod digits;
 pub mod draft;
 pub mod laws;
@@ -10,3 +10,8 @@ pub mod open;
 mod put_node;
 mod put_simple;
 mod stack;
+pub mod verdict;
+
+pub use builder::Builder;
+pub use verdict::{Verdict, judge};
+pub use open::Stop;

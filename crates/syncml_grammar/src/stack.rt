@@ -1,11 +1,11 @@
 // The open elements, and the tokens that they take.
-ghost use Rattle.std.specs.Prelude.{◌≡◌, ◌+◌, ◌∷◌, [], None, Ok, Err, Bool, false, length, OnOk, List as ListOf};
+ghost use Rattle.std.specs.Prelude.{◌≡◌, ◌+◌, ◌∷◌, [], None, Ok, Err, Bool, false, ℕ, length, OnOk, option_map, List as ListOf};
 ghost use Rattle.wbxml_tokens.specs.declared.token.Token.TheVariants.{Tag, End, Text, Opaque};
-ghost use Rattle.syncml_grammar.specs.Machine.{Frame, root, step, on_kind, on_text};
+ghost use Rattle.syncml_grammar.specs.Machine.{Frame, root, step, on_kind, finished};
 ghost use Rattle.syncml_grammar.specs.Values.{holds_leaf};
-ghost use Rattle.syncml_grammar.specs.Opens.{frame_of, frames_of, leaf_frame, with_leaf, GivesFrame, GivesFrames};
+ghost use Rattle.syncml_grammar.specs.Opens.{frame_of, frames_of, leaf_frame, with_leaf, GivesFrames, parts_of};
 
-use crate::draft::Draft;
+use crate::draft::{Draft, WholeParts};
 use crate::open::{Open, OpenLeaf, Stop, has_leaf};
 use dm_base::List;
 use std::alloc::Global;
@@ -122,6 +122,28 @@ impl Nest {
         }
     }
 
+    // A piece of text in the innermost element.
+    fn piece(&self) -> Result<(), Stop>
+        ensures text { (bytes : ListOf ℕ) → GivesFrames result self.now (step self.now (Text bytes)) }
+        ensures opaque { (bytes : ListOf ℕ) → GivesFrames result self.now (step self.now (Opaque bytes)) }
+    {
+        if self.top.progress.takes_text() {
+            Ok(())
+        } else {
+            Err(Stop::Refused(Reason::Misplaced))
+        }
+    }
+
+    fn into_parts(self) -> Option<WholeParts>
+        ensures { option_map parts_of result ≡ finished self }
+    {
+        if !self.below.is_empty() || !self.top.progress.is_complete() {
+            return None;
+        }
+        let top = self.top;
+        top.draft.into_parts()
+    }
+
     fn end(&mut self) -> Result<(), Stop>
         ensures { GivesFrames result self.new (step self.old End) }
     {
@@ -142,20 +164,6 @@ fn tag_in_leaf(leaf: &OpenLeaf, element: Element) -> Reason
     match tag_fault(Some(leaf.element), element) {
         Some(reason) => reason,
         None => Reason::Misplaced,
-    }
-}
-
-// A piece of text in an element without children, of at most so many bytes as there is room for.
-fn take_piece(leaf: &mut OpenLeaf, room: &mut usize, bytes: &[u8]) -> Result<(), Stop>
-    ensures frame { GivesFrame result (leaf_frame leaf.new) (on_text (leaf_frame leaf.old) bytes.now) }
-    ensures room { OnOk result (room.new + length bytes.now ≡ room.old) }
-{
-    match room.checked_sub(bytes.len()) {
-        None => Err(Stop::Memory),
-        Some(left) => {
-            *room = left;
-            leaf.push(bytes)
-        }
     }
 }
 
@@ -207,15 +215,38 @@ impl Stack {
         }
     }
 
-    // A piece of text, of at most so many bytes as there is room for.
+    fn take_piece(&mut self, bytes: &[u8]) -> Result<(), Stop>
+        ensures text { GivesFrames result self.new (step self.old (Text bytes.now)) }
+        ensures opaque { GivesFrames result self.new (step self.old (Opaque bytes.now)) }
+    {
+        match &mut self.leaf {
+            None => self.nest.piece(),
+            Some(leaf) => leaf.push(bytes),
+        }
+    }
+
+    /// A piece of text, of at most so many bytes as there is room for.
     pub fn piece(&mut self, room: &mut usize, bytes: &[u8]) -> Result<(), Stop>
         ensures text { GivesFrames result self.new (step self.old (Text bytes.now)) }
         ensures opaque { GivesFrames result self.new (step self.old (Opaque bytes.now)) }
         ensures room { OnOk result (room.new + length bytes.now ≡ room.old) }
     {
-        match &mut self.leaf {
-            None => Err(Stop::Refused(Reason::Misplaced)),
-            Some(leaf) => take_piece(leaf, room, bytes),
+        match room.checked_sub(bytes.len()) {
+            None => Err(Stop::Memory),
+            Some(left) => {
+                *room = left;
+                self.take_piece(bytes)
+            }
+        }
+    }
+
+    /// The parts of the message, where the document is whole.
+    pub fn into_parts(self) -> Option<WholeParts>
+        ensures { option_map parts_of result ≡ finished self }
+    {
+        match self.leaf {
+            Some(_) => None,
+            None => self.nest.into_parts(),
         }
     }
 }
