@@ -19,7 +19,7 @@ use Rattle.wbxml_tokens.proofs.Spells.{spelled_front, front_spelt, switch_there,
 abbrev pub body_at : List ℕ → ℕ → ℕ → Extent → Reader
 body_at table page at extent = record { place = at; held = []; is_in_body = true; table = table; page = page; extent = extent }
 
-switch_front : (page other : ℕ) (table bytes : List ℕ) → other < 2 → front page table (0x00 ∷ other ∷ bytes) ≡ switch other
+pub switch_front : (page other : ℕ) (table bytes : List ℕ) → other < 2 → front page table (0x00 ∷ other ∷ bytes) ≡ switch other
 unfolding front
 switch_front page other table bytes low =
     let below : nat_lt other 2 ≡ true = grind arith in ap (λ (c : Bool). if c then switch other else wrong 0 reasons.Tag) below

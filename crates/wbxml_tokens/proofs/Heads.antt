@@ -15,13 +15,13 @@ use Rattle.wbxml_tokens.proofs.Spells.{integer_front, bytes_behind}
 
 -- ---- a spelled prologue stands at the front
 
-then_front : (place at n : ℕ) (number rest : List ℕ) (next : ℕ → ℕ → List ℕ → Front) → IsMultibyte n number
+pub then_front : (place at n : ℕ) (number rest : List ℕ) (next : ℕ → ℕ → List ℕ → Front) → IsMultibyte n number
     → integer_then place at (integer_at (number ++ rest)) (number ++ rest) next ≡ next n (at + length number) rest
 then_front place at n number rest next h =
     ap (λ r. integer_then place at r (number ++ rest) next) (integer_front number rest n h)
     ∙ ap (next n (at + length number)) (drop_at number rest (length number) refl)
 
-same_bytes : (a b : List ℕ) → a ≡ b → bytes_eq a b ≡ true
+pub same_bytes : (a b : List ℕ) → a ≡ b → bytes_eq a b ≡ true
 same_bytes a b e = search rules
 
 table_front : (index : Option ℕ) (at : ℕ) (table rest : List ℕ) → is_identified index table ≡ true
@@ -152,7 +152,7 @@ behind_there index at bytes t u fit is =
     tail_of index at r.used bytes t u fit r.few (subst (λ n. IsMultibyte n (take r.used bytes)) c.0 r.spells)
     (then_there (at + r.used) (at + r.used) (drop r.used bytes) (table_in index) t u (integer_at (drop r.used bytes)) refl (bytes_behind r.used bytes fit) c.1)
 
-same_text : (a b : List ℕ) → bytes_eq a b ≡ true → a ≡ b
+pub same_text : (a b : List ℕ) → bytes_eq a b ≡ true → a ≡ b
 same_text a b e = search rules
 
 -- an identifier, and what follows it

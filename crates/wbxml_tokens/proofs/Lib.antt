@@ -12,4 +12,7 @@ pub mod Bodies
 pub mod Heads
 pub mod Documents
 pub mod Wrongs
+pub mod Prologues
+pub mod Unfinished
 pub mod Refusals
+pub mod Elements

@@ -22,6 +22,8 @@ use Rattle.wbxml_tokens.proofs.Bodies.{body_at, refused_none}
 use Rattle.wbxml_tokens.proofs.Documents.{spelled_reading, entered_body, known, Known}
 use Rattle.wbxml_tokens.proofs.Heads.{prologue_there, OfPrologue, of_prologue}
 use Rattle.wbxml_tokens.proofs.Wrongs.{wrong_there, wrong_refused}
+use Rattle.wbxml_tokens.proofs.Unfinished.{unfinished_prologue_is, prologue_waits, unfinished_part_is, part_waits}
+use Rattle.wbxml_tokens.proofs.Prologues.{wrong_prologue_refused, wrong_prologue_there}
 
 -- ---- the body, where it is refused
 
@@ -238,26 +240,34 @@ begun_sound bytes room is =
     subst (Walks (begun_by at_start) bytes bytes) is (walks_first at_start bytes (refl, refl, omega (arith, room))) in
     (ap (λ x. x.refused) walked, ap (λ x. is_whole x.reader.extent) walked)
 
+bytes_left : (a b : List ℕ) → AreBytes (a ++ b) → AreBytes b
+bytes_left [] b h = h
+bytes_left (x ∷ a) b h = bytes_left a b h.1
+
 -- what the relation refuses is refused
-told_refused : (bytes : List ℕ) (at : ℕ) (reason : Reason) → RefusedAt bytes at reason → (reading bytes).refused ≡ Some (record { at = at; reason = reason })
-told_refused bytes at reason (in_prologue is) =
+told_refused : (bytes : List ℕ) (at : ℕ) (reason : Reason) → AreBytes bytes → RefusedAt bytes at reason → (reading bytes).refused ≡ Some (record { at = at; reason = reason })
+told_refused bytes at reason fit (in_prologue h) =
     let first : List ℕ = take most_bytes bytes in
     let walked : Walks (begun_by at_start) first first (wrong at reason) =
-    subst (Walks (begun_by at_start) first first) is (walks_first at_start first (refl, refl, omega (arith, front_room bytes))) in
+    subst (Walks (begun_by at_start) first first) (wrong_prologue_refused first at reason h) (walks_first at_start first (refl, refl, omega (arith, front_room bytes))) in
     let same : 0 + at ≡ at = omega arith in
     refused_front bytes (record { at = at; reason = reason }) (walked.0 ∙ ap (λ n. Some (record { at = n; reason = reason })) same)
-told_refused bytes at reason (in_body {table} {page} {extent = extent} {rest = rest} s open_ h) =
+told_refused bytes at reason fit (in_body {table} {page} {extent = extent} {rest = rest} s open_ h) =
     let size = place_within (take most_bytes bytes) table rest page at extent s in
     refused_front bytes (record { at = at; reason = reason })
     (ap (λ x. x.refused) (up_to (take most_bytes bytes) table rest page at extent s (omega (arith, size, front_room bytes)))
     ∙ wrong_stops table rest page at extent reason open_ (omega (arith, size, front_room bytes)) h)
-told_refused bytes at reason (trailing {table} {page} {extent = extent} {rest = rest} s whole some room) =
+told_refused bytes at reason fit (trailing {table} {page} {extent = extent} {rest = rest} s whole some room) =
     ap (λ x. x.refused) (up_to bytes table rest page at extent s room) ∙ whole_refuses table rest page at extent whole some
-told_refused bytes at reason (unfinished_prologue is long) =
-    let sound = begun_sound (take most_bytes bytes) (front_room bytes) is in long_refused bytes sound.0 sound.1 long
-told_refused bytes at reason (unfinished_body {table} {page} {at = at2} {extent} {rest} s open_ begun long) =
-    let size = place_within (take most_bytes bytes) table rest page at2 extent s in
-    let sound = told_sound (take most_bytes bytes) table rest page at2 extent s (omega (arith, size, front_room bytes)) open_ begun in
+told_refused bytes at reason fit (unfinished_prologue is long) =
+    let first : List ℕ = take most_bytes bytes in
+    let sound = begun_sound first (front_room bytes) (prologue_waits first (prologue_at first) (bytes_front most_bytes bytes fit) is refl) in long_refused bytes sound.0 sound.1 long
+told_refused bytes at reason fit (unfinished_body {table} {page} {at = at2} {extent} {rest} s open_ begun long) =
+    let first : List ℕ = take most_bytes bytes in
+    let size = place_within first table rest page at2 extent s in
+    let fit_rest = bytes_left s.body rest (bytes_left s.prologue (s.body ++ rest) (subst AreBytes s.whole (bytes_front most_bytes bytes fit))) in
+    let sound = told_sound first table rest page at2 extent s (omega (arith, size, front_room bytes)) open_
+    (part_waits page table rest (front page table rest) fit_rest begun refl) in
     long_refused bytes sound.0 sound.1 long
 
 -- ---- what is refused, the relation refuses
@@ -304,7 +314,8 @@ front_by bytes f (wrong at reason) fit h is =
     subst (Walks (begun_by at_start) first first) is (walks_first at_start first (refl, refl, omega (arith, front_room bytes))) in
     let same : f ≡ record { at = 0 + at; reason = reason } = same_refusal f (record { at = 0 + at; reason = reason }) (sym h ∙ walked.0) in
     let place : at ≡ f.at = omega (arith, ap (λ x. x.at) same) in
-    in_prologue (is ∙ ap (λ n. wrong n reason) place ∙ ap (wrong f.at) (sym (ap (λ x. x.reason) same)))
+    in_prologue (wrong_prologue_there first f.at f.reason (bytes_front most_bytes bytes fit)
+    (is ∙ ap (λ n. wrong n reason) place ∙ ap (wrong f.at) (sym (ap (λ x. x.reason) same))))
 front_by bytes f (head table used) fit h is =
     let first : List ℕ = take most_bytes bytes in
     let there = prologue_there first table used (bytes_front most_bytes bytes fit) is in
@@ -324,7 +335,7 @@ beyond_by bytes f true fit sound h e long (inr (none_read, is, before)) = absurd
     true_false h = cc
 beyond_by bytes f false fit sound h e long (inr (none_read, is, before)) =
     let same : f ≡ record { at = most_bytes; reason = reasons.Toolong } = same_refusal f (record { at = most_bytes; reason = reasons.Toolong }) (sym h ∙ long_refused bytes sound e long) in
-    subst (λ g. RefusedAt bytes g.at g.reason) (sym same) (unfinished_prologue is long)
+    subst (λ g. RefusedAt bytes g.at g.reason) (sym same) (unfinished_prologue (unfinished_prologue_is (take most_bytes bytes) is) long)
 beyond_by bytes f false fit sound h e long (inl (s, extent)) =
     let same : f ≡ record { at = most_bytes; reason = reasons.Toolong } = same_refusal f (record { at = most_bytes; reason = reasons.Toolong }) (sym h ∙ long_refused bytes sound e long) in
     subst (λ g. RefusedAt bytes g.at g.reason) (sym same)
@@ -336,7 +347,7 @@ beyond_by bytes f false fit sound h e long (inl (s, extent)) =
       is_prologue = s.is_prologue;
       spells = s.spells;
       place = refl;
-    }) (ap is_whole (sym extent) ∙ e) s.begun long)
+    }) (ap is_whole (sym extent) ∙ e) (unfinished_part_is s.page s.table s.rest s.begun) long)
 beyond_by bytes f true fit sound h e long (inl (s, extent)) =
     let later : List ℕ = drop most_bytes bytes in
     let whole : is_whole s.extent ≡ true = ap is_whole (sym extent) ∙ e in
@@ -377,4 +388,4 @@ refused_by bytes f None fit e h =
 
 pub refused_is_told : RefusedIsTold
 refused_is_told bytes at reason fit =
-    (λ h. refused_by bytes (record { at = at; reason = reason }) (reading (take most_bytes bytes)).refused fit refl h, told_refused bytes at reason)
+    (λ h. refused_by bytes (record { at = at; reason = reason }) (reading (take most_bytes bytes)).refused fit refl h, told_refused bytes at reason fit)

@@ -54,7 +54,7 @@ unfolding front
 page_refused page other table rest large =
     let above : nat_lt other 2 ≡ false = grind arith in ap (λ (c : Bool). if c then switch other else wrong 0 reasons.Tag) above
 
-too_big : (rest : List ℕ) → IsTooBig rest → integer_at rest ≡ mb.TooBig
+pub too_big : (rest : List ℕ) → IsTooBig rest → integer_at rest ≡ mb.TooBig
 too_big rest h = sym (found_is_at rest mb.TooBig h)
 
 pub wrong_refused : (page : ℕ) (table bytes : List ℕ) (reason : Reason) → IsWrong page table bytes reason → front page table bytes ≡ wrong 0 reason

@@ -6,3 +6,4 @@ pub mod Taking
 pub mod Parts
 pub mod Waiting
 pub mod Spelled
+pub mod Whole

@@ -1,5 +1,5 @@
 -- What bytes spell, as WBXML 1.3 has it (sections 5.1 to 5.8), with the choices of this profile; the reader is held to it.
-use Rattle.std.specs.Prelude.{◌≡◌, ◌↔◌, ◌+◌, ◌%◌, ◌<◌, ◌≤◌, ◌⊎◌, take, ℕ, true, false, ⊤, List, [], ◌∷◌, ◌++◌, length, None, Some}
+use Rattle.std.specs.Prelude.{◌≡◌, ◌↔◌, ◌+◌, ◌%◌, ◌<◌, ◌≤◌, ◌⊎◌, take, ℕ, true, false, ⊤, List, [], ◌∷◌, ◌++◌, length, Option, None, Some}
 use Rattle.wbxml_ints.specs.Multibyte.{IsMultibyte, IsTooBig, AreBytes}
 use Rattle.wbxml_tables.specs.declared.Element.{Element}
 use Rattle.wbxml_tables.specs.Tables.{page_of, IsAt}
@@ -128,6 +128,87 @@ WrongIsRefused =
     (page : ℕ) (table bytes : List ℕ) (at : ℕ) (reason : Reason) → AreBytes bytes
     → (front page table bytes ≡ wrong at reason) ↔ ((at ≡ 0) × IsWrong page table bytes reason)
 
+-- a version from 1.1 to 1.3
+abbrev pub IsVersion : ℕ → Type 0
+IsVersion version = (1 ≤ version) × (version ≤ 3)
+
+-- a public identifier by the number of SyncML 1.2, or by the number 0 and an index, which isn't judged
+abbrev pub IsIdentifierBy : Option ℕ → List ℕ → Type 0
+IsIdentifierBy None bytes = IsMultibyte identifier_number bytes
+IsIdentifierBy (Some index) bytes = (zero : List ℕ) × (number : List ℕ) × (bytes ≡ zero ++ number) × IsMultibyte 0 zero × IsMultibyte index number
+
+-- the index of the identifier's text in the string table
+abbrev pub IsIndexOfText : List ℕ → ℕ → Type 0
+IsIndexOfText table index = (index < length table) × (table_string table index ≡ identifier_text)
+
+-- the first bytes of a prologue, all before its identifier
+abbrev pub UpToIdentifier : List ℕ → Type 0
+UpToIdentifier bytes = (version : ℕ) × (bytes ≡ version ∷ []) × IsVersion version
+
+-- all before the index of an identifier
+abbrev pub UpToIndex : List ℕ → Type 0
+UpToIndex bytes = (version : ℕ) × (zero : List ℕ) × (bytes ≡ version ∷ zero) × IsVersion version × IsMultibyte 0 zero
+
+-- all before the charset, with the identifier's index
+abbrev pub UpToCharset : Option ℕ → List ℕ → Type 0
+UpToCharset index bytes = (version : ℕ) × (identifier : List ℕ) × (bytes ≡ version ∷ identifier) × IsVersion version × IsIdentifierBy index identifier
+
+-- all before the length of the string table
+abbrev pub UpToCount : Option ℕ → List ℕ → Type 0
+UpToCount index bytes = (before : List ℕ) × (charset : List ℕ) × (bytes ≡ before ++ charset) × UpToCharset index before × IsMultibyte utf_8 charset
+
+-- all before an integer of the prologue
+abbrev pub UpToInteger : List ℕ → Type 0
+UpToInteger bytes = UpToIdentifier bytes ⊎ (UpToIndex bytes ⊎ ((index : Option ℕ) × (UpToCharset index bytes ⊎ UpToCount index bytes)))
+
+-- an identifier by another number
+abbrev pub HasOtherNumber : List ℕ → Type 0
+HasOtherNumber bytes =
+    (before identifier rest : List ℕ) × (number : ℕ) × (bytes ≡ before ++ (identifier ++ rest)) × UpToIdentifier before × IsMultibyte number identifier
+    × (number ≡ 0 → ⊥) × (number ≡ identifier_number → ⊥)
+
+-- an identifier by an index that isn't that of its text, once the string table is whole
+abbrev pub HasOtherText : List ℕ → Type 0
+HasOtherText bytes =
+    (before count table rest : List ℕ) × (index : ℕ) × (bytes ≡ before ++ (count ++ (table ++ rest))) × UpToCount (Some index) before
+    × IsMultibyte (length table) count × (IsIndexOfText table index → ⊥)
+
+-- why the prologue at the front of bytes is refused, and at which byte
+abbrev pub IsWrongPrologue : List ℕ → ℕ → Reason → Type 0
+IsWrongPrologue bytes at reasons.Version = (at ≡ 0) × (version : ℕ) × (rest : List ℕ) × (bytes ≡ version ∷ rest) × (IsVersion version → ⊥)
+IsWrongPrologue bytes at reasons.Publicid = (at ≡ 1) × (HasOtherNumber bytes ⊎ HasOtherText bytes)
+IsWrongPrologue bytes at reasons.Charset =
+    (before charset rest : List ℕ) × (index : Option ℕ) × (number : ℕ) × (bytes ≡ before ++ (charset ++ rest)) × (at ≡ length before)
+    × UpToCharset index before × IsMultibyte number charset × (number ≡ utf_8 → ⊥)
+IsWrongPrologue bytes at reasons.Integer =
+    (before rest : List ℕ) × (bytes ≡ before ++ rest) × (at ≡ length before) × UpToInteger before × IsTooBig rest
+IsWrongPrologue bytes at other = ⊥
+
+-- The prologue at the front of bytes is refused exactly where it is wrong, at this byte and for this reason.
+abbrev pub WrongPrologueIsRefused : Type 0
+WrongPrologueIsRefused =
+    (bytes : List ℕ) (at : ℕ) (reason : Reason) → AreBytes bytes → (prologue_at bytes ≡ wrong at reason) ↔ IsWrongPrologue bytes at reason
+
+-- a prologue that isn't whole: none stands at the front of the bytes, and it isn't wrong
+pub record IsUnfinishedPrologue (bytes : List ℕ) : Type 0 where
+  pub no_prologue : (table prologue rest : List ℕ) → bytes ≡ prologue ++ rest → IsPrologue table prologue → ⊥
+  pub not_wrong : (at : ℕ) (reason : Reason) → IsWrongPrologue bytes at reason → ⊥
+
+-- a part of the body that isn't whole: no token and no page switch stands at the front of the bytes, and it isn't wrong
+pub record IsUnfinishedPart (page : ℕ) (table bytes : List ℕ) : Type 0 where
+  pub no_token : (t : Token) (first rest : List ℕ) → bytes ≡ first ++ rest → IsSpelled page table t first → ⊥
+  pub no_switch : (other : ℕ) (rest : List ℕ) → bytes ≡ 0x00 ∷ other ∷ rest → other < 2 → ⊥
+  pub not_wrong : (reason : Reason) → IsWrong page table bytes reason → ⊥
+
+-- The reader waits for more bytes of a prologue exactly where it is unfinished.
+abbrev pub UnfinishedPrologueWaits : Type 0
+UnfinishedPrologueWaits = (bytes : List ℕ) → AreBytes bytes → (prologue_at bytes ≡ more) ↔ IsUnfinishedPrologue bytes
+
+-- It waits for more bytes of a part of the body exactly where that is unfinished.
+abbrev pub UnfinishedPartWaits : Type 0
+UnfinishedPartWaits =
+    (page : ℕ) (table bytes : List ℕ) → AreBytes bytes → (front page table bytes ≡ more) ↔ IsUnfinishedPart page table bytes
+
 -- The bytes are a prologue with this string table, bytes that spell tokens up to a page and an extent, and then the rest, which
 -- begins at a place.
 pub record ReadsUpTo (bytes table : List ℕ) (page at : ℕ) (extent : Extent) (rest : List ℕ) : Type 0 where
@@ -139,17 +220,17 @@ pub record ReadsUpTo (bytes table : List ℕ) (page at : ℕ) (extent : Extent) 
   pub spells : SpellsTokens table 0 (length prologue) extents.Before tokens body page extent
   pub place : at ≡ length prologue + length body
 
--- Where bytes are refused, and why: the first 65,536 have a prologue that is refused, or a part of the body that is wrong, or a
+-- Where bytes are refused, and why: the first 65,536 have a prologue that is wrong, or a part of the body that is wrong, or a
 -- byte behind the whole element; or they are no whole document, and another byte comes.
 pub data RefusedAt (bytes : List ℕ) : ℕ → Reason → Type 0 where
-  in_prologue : {at : ℕ} {reason : Reason} → prologue_at (take most_bytes bytes) ≡ wrong at reason → RefusedAt bytes at reason
+  in_prologue : {at : ℕ} {reason : Reason} → IsWrongPrologue (take most_bytes bytes) at reason → RefusedAt bytes at reason
   in_body : {table : List ℕ} {page at : ℕ} {extent : Extent} {rest : List ℕ} {reason : Reason} → ReadsUpTo (take most_bytes bytes) table page at extent rest
       → is_whole extent ≡ false → IsWrong page table rest reason → RefusedAt bytes at reason
   trailing : {table : List ℕ} {page at : ℕ} {extent : Extent} {rest : List ℕ} → ReadsUpTo bytes table page at extent rest
       → is_whole extent ≡ true → 0 < length rest → at ≤ most_bytes → RefusedAt bytes at reasons.Trailing
-  unfinished_prologue : prologue_at (take most_bytes bytes) ≡ more → most_bytes < length bytes → RefusedAt bytes most_bytes reasons.Toolong
+  unfinished_prologue : IsUnfinishedPrologue (take most_bytes bytes) → most_bytes < length bytes → RefusedAt bytes most_bytes reasons.Toolong
   unfinished_body : {table : List ℕ} {page at : ℕ} {extent : Extent} {rest : List ℕ} → ReadsUpTo (take most_bytes bytes) table page at extent rest
-      → is_whole extent ≡ false → front page table rest ≡ more → most_bytes < length bytes → RefusedAt bytes most_bytes reasons.Toolong
+      → is_whole extent ≡ false → IsUnfinishedPart page table rest → most_bytes < length bytes → RefusedAt bytes most_bytes reasons.Toolong
 
 -- Bytes are refused exactly there and for this reason, so at one place and for one reason at most.
 abbrev pub RefusedIsTold : Type 0

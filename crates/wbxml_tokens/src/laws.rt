@@ -1,5 +1,6 @@
 // What is read of bytes, and what they spell.
-ghost use Rattle.wbxml_tokens.specs.Spelled.{SpelledIsRead, ReadIsSpelled, WrongIsRefused, RefusedIsTold};
+ghost use Rattle.wbxml_tokens.specs.Spelled.{SpelledIsRead, ReadIsSpelled, WrongIsRefused, WrongPrologueIsRefused, UnfinishedPrologueWaits, UnfinishedPartWaits, RefusedIsTold};
+ghost use Rattle.wbxml_tokens.specs.Whole.{ElementIsWhole, DocumentIsElement, CutIsTruncated};
 
 /// A law: of a document that has at most 65,536 bytes, and whose prologue and body spell tokens with their places, exactly
 /// these are read, and nothing is refused.
@@ -21,7 +22,42 @@ pub fn wrong_is_refused()
     ensures { WrongIsRefused }
 {}
 
+/// A law: the prologue at the front of bytes is refused exactly where its version is another than 1.1 to 1.3, an integer of it is
+/// too big, its identifier is neither the number of SyncML 1.2 nor, once the string table is whole, the index of its text, or
+/// its charset is another than UTF-8.
+pub fn wrong_prologue_is_refused()
+    ensures { WrongPrologueIsRefused }
+{}
+
+/// A law: more bytes of a prologue are waited for exactly where no prologue stands at the front of the bytes, and none that is
+/// wrong.
+pub fn unfinished_prologue_waits()
+    ensures { UnfinishedPrologueWaits }
+{}
+
+/// A law: more bytes of a part of the body are waited for exactly where no token and no page switch stands at the front of the
+/// bytes, and nothing that is wrong.
+pub fn unfinished_part_waits()
+    ensures { UnfinishedPartWaits }
+{}
+
 /// A law: bytes are refused exactly at the place and for the reason of `RefusedAt`, so at one place and for one reason at most.
 pub fn refused_is_told()
     ensures { RefusedIsTold }
+{}
+
+/// A law: tokens are one element exactly where the extent is Whole behind all of them, and behind no fewer.
+pub fn element_is_whole()
+    ensures { ElementIsWhole }
+{}
+
+/// A law: bytes are a whole document exactly where none is refused, and the tokens that are read are one element.
+pub fn document_is_element()
+    ensures { DocumentIsElement }
+{}
+
+/// A law: bytes are refused as truncated exactly where none is refused and the tokens that are read are no element, and then at
+/// their length.
+pub fn cut_is_truncated()
+    ensures { CutIsTruncated }
 {}

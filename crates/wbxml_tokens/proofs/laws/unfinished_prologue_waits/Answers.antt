@@ -1,0 +1,5 @@
+use Rattle.wbxml_tokens.proofs.Unfinished as lemmas
+use Rattle.wbxml_tokens.proofs.laws.unfinished_prologue_waits.Goals as goal
+
+pub returns : goal.returns
+returns c = lemmas.unfinished_prologue_waits
