@@ -1,6 +1,6 @@
 -- What is known of the parts of a message so far, given what may still come in them, and that they are fit once nothing must.
-use Rattle.std.specs.Prelude.{◌≡◌, ◌⊎◌, ◌≤◌, ◌==◌, ◌&&◌, ◌||◌, ℕ, Bool, true, false, not, nat_le, if◌then◌else◌, List, [], ◌∷◌, length, Option, Some, None, IfSome, IsTrue, refl}
-use Rattle.std.proofs.Common.{sym, ap, subst, ◌∙◌, inl, inr}
+use Rattle.std.specs.Prelude.{◌≡◌, ◌⊎◌, ◌==◌, ◌&&◌, ◌||◌, ℕ, Bool, true, false, if◌then◌else◌, List, [], ◌∷◌, length, Option, Some, None, IfSome, IsTrue, refl}
+use Rattle.std.proofs.Common.{ap, subst, inl, inr}
 use Rattle.std.specs.List.{list_all, AllByRecursion}
 use Rattle.std.specs.Option.{is_none}
 use Rattle.wbxml_tables.specs.declared.Element.{Element}
@@ -27,7 +27,6 @@ use Rattle.syncml_types.specs.declared.command.Command.{Command}
 use Rattle.syncml_types.specs.declared.command.Command.TheVariants as command
 use Rattle.syncml_types.specs.Canonical.{is_text}
 use Rattle.syncml_types.specs.Fitness.{all_of, is_short, is_number, is_filled, is_exec, loc_texts, meta_texts, item_texts, cred_texts, header_texts, plain_texts, alert_texts, member_texts, atomic_texts, seq_member_texts, sequence_texts, status_texts, results_texts, command_texts, item_data, header_data, member_data, seq_member_data, command_data, member_numbers, atomic_numbers, seq_member_numbers, command_numbers, plain_filled, member_filled, atomic_filled, seq_member_filled, command_filled, plain_correlates, member_correlates, seq_member_correlates, command_correlates, IsFit}
-use Rattle.syncml_grammar.specs.declared.draft.BodyDraft.{BodyDraft}
 use Rattle.syncml_grammar.specs.declared.draft.MessageDraft.{MessageDraft}
 use Rattle.syncml_grammar.proofs.FitRows.{sort, needs, is_item, ends_in_item, has_ended, complete_needs}
 

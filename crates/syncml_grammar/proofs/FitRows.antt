@@ -1,6 +1,6 @@
 -- What an element's rows say of the child that comes, of what must still come, and of what may not come again.
 use Rattle.std.specs.Prelude.{◌≡◌, ◌⊎◌, ℕ, ◌+◌, ◌==◌, set, Bool, true, false, not, ◌&&◌, ◌||◌, if◌then◌else◌, List, [], ◌∷◌, Option, Some, None, IsTrue, ⊤, refl}
-use Rattle.std.proofs.Common.{sym, ap, subst, ◌∙◌, inl, inr}
+use Rattle.std.proofs.Common.{sym, subst, inl, inr}
 use Rattle.wbxml_tables.specs.declared.Element.{Element}
 use Rattle.wbxml_tables.specs.declared.Element.TheVariants.{EAdd, EAlert, EAtomic, ECopy, EDelete, EExec, EGet, EMetInf, EReplace, EResults, ESequence, EStatus}
 use Rattle.syncml_shape.specs.declared.rows.Kind.{Kind}
@@ -12,7 +12,6 @@ use Rattle.syncml_shape.specs.declared.rows.MetaRow.{MetaRow}
 use Rattle.syncml_shape.specs.declared.rows.TheConstants as table
 use Rattle.syncml_shape.specs.Rows.{same, atomic_member, sequence_member, command, kind_in, Content, in_order, in_any_order, pieces, in_row, next_row, after_row, meta_place, after_meta, next, all_optional, is_complete}
 use Rattle.syncml_shape.proofs.Accepts.{and_true}
-use Rattle.syncml_shape.proofs.Completes.{and_both}
 use Rattle.syncml_shape.proofs.Names.{same_only, of_same}
 
 -- ---- kinds by what is held
@@ -263,7 +262,7 @@ rows_ended (row ∷ rows) came e h =
     later true o r = tt
     later false o r = r
 
-not_so : {A : Type 0} → false ≡ true → A
+pub not_so : {A : Type 0} → false ≡ true → A
 not_so h = cc
 
 no_more : (came : Bool) (rows : List Row) (e : Element) (x : Kind × List Row) → has_ended (in_order came rows) ≡ true → next_row came rows e ≡ Some x → ⊥
@@ -283,7 +282,6 @@ no_more came (row ∷ []) e x h is =
 no_more came (row ∷ other ∷ rows) e x h is = not_so (and_true _ _ (and_true came (not row.many && false) h).1).1
 
 -- the children of a Meta
-
 
 abbrev MetaPassed : (Element → Kind → Bool) → Element → Option (Kind × ℕ) → Type 0
 MetaPassed q e None = ⊤

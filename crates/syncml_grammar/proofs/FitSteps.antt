@@ -1,10 +1,9 @@
 -- What is known of an element's parts stays known with one more child.
-use Rattle.std.specs.Prelude.{◌≡◌, ◌⊎◌, ◌==◌, ◌&&◌, ◌||◌, ℕ, Bool, true, false, not, List, [], ◌∷◌, ◌++◌, length, Option, Some, None, IfSome, IsTrue, refl}
+use Rattle.std.specs.Prelude.{◌≡◌, ◌⊎◌, ◌==◌, ◌&&◌, ◌||◌, ℕ, Bool, true, false, not, List, [], ◌∷◌, ◌++◌, length, IsTrue, refl}
 use Rattle.std.proofs.Common.{sym, ap, subst, ◌∙◌, inl, inr, arith}
-use Rattle.std.proofs.lemmas.Bool.{eqb-true}
+use Rattle.std.proofs.lemmas.Bool.{eqb-true, or_left}
 use Rattle.std.proofs.lemmas.List.{length-append}
 use Rattle.std.specs.List.{AllByRecursion}
-use Rattle.std.specs.Option.{is_none}
 use Rattle.wbxml_tables.specs.declared.Element.{Element}
 use Rattle.wbxml_tables.specs.declared.Element.TheVariants.{ECmd, ECmdID, ECmdRef, EData, EFormat, ELocName, ELocURI, EMark, EMsgID, EMsgRef, ENextNonce, ERespURI, ESessionID, ESourceRef, ESize, EMaxMsgSize, ETarget, ETargetRef, EType, EVerDTD, EVerProto, EVersion}
 use Rattle.syncml_shape.specs.declared.rows.Kind.{Kind}
@@ -26,10 +25,9 @@ use Rattle.syncml_types.specs.declared.command.SeqMember.TheVariants as seq_memb
 use Rattle.syncml_types.specs.declared.command.SeqBlock.{SeqBlock}
 use Rattle.syncml_types.specs.declared.command.StatusCmd.{StatusCmd}
 use Rattle.syncml_types.specs.declared.command.ResultsCmd.{ResultsCmd}
-use Rattle.syncml_types.specs.declared.command.Command.{Command}
 use Rattle.syncml_types.specs.declared.command.Command.TheVariants as command
 use Rattle.syncml_types.specs.Canonical.{is_text}
-use Rattle.syncml_types.specs.Fitness.{is_short, is_number, is_filled, is_exec, all_of}
+use Rattle.syncml_types.specs.Fitness.{is_short, is_number, is_filled, is_exec}
 use Rattle.syncml_grammar.specs.declared.leaf.Simple.{Simple}
 use Rattle.syncml_grammar.specs.declared.leaf.Simple.TheVariants as simples
 use Rattle.syncml_grammar.specs.declared.draft.BodyDraft.{BodyDraft}
@@ -40,7 +38,7 @@ use Rattle.syncml_grammar.specs.Simples.{loc_with_text, meta_with_text, meta_wit
 use Rattle.syncml_grammar.specs.Nodes.{header_with_loc, item_with_loc}
 use Rattle.syncml_grammar.specs.Values.{Whole, simple, node, draft_with}
 use Rattle.syncml_grammar.proofs.FitRows.{sort, needs, is_item, ends_in_item, has_ended, Came}
-use Rattle.syncml_grammar.proofs.FitParts.{number_of, is_header, is_member, is_seq_member, FitText, FitLoc, FitMeta, FitItem, FitCred, FitHeader, FitPlain, FitAlert, Ended, FitMember, FitAtomic, FitSeqMember, FitSequence, FitStatus, FitResults, FitCommand, FitMessage}
+use Rattle.syncml_grammar.proofs.FitParts.{number_of, is_header, is_member, is_seq_member, FitText, FitLoc, FitMeta, FitItem, FitCred, FitHeader, FitPlain, FitAlert, FitMember, FitAtomic, FitSeqMember, FitSequence, FitStatus, FitResults, FitCommand, FitMessage}
 
 -- ---- what an element that has ended holds
 
@@ -137,16 +135,12 @@ not_true : (b : Bool) → not b ≡ true → b ≡ false
 not_true true h = cc
 not_true false h = refl
 
-or_here : (a b : Bool) → a ≡ true → (a || b) ≡ true
-or_here true b h = refl
-or_here false b h = cc
-
 or_false : (a : Bool) → (a || false) ≡ true → a ≡ true
 or_false true h = refl
 or_false false h = cc
 
 refuted : {P : Type 0} (test : ℕ → Bool) (k : Kind) (s : ℕ) → sort k ≡ s → test s ≡ false → test (sort k) ≡ true → P
-refuted test k s is un is_so = let never : false ≡ true = sym un ∙ (ap test (sym is) ∙ is_so) in cc
+refuted test k s is other passed = let never : false ≡ true = sym other ∙ (ap test (sym is) ∙ passed) in cc
 
 kept : {P : Type 0} {content after : Content} {e : Element} {k : Kind} (p : Element → Kind → Bool) → Came content e (k, after)
     → (p e k ≡ true → P) → (needs p content ≡ false → P) → needs p after ≡ false → P
@@ -155,20 +149,23 @@ kept {P} p g now before none = elim (g.met p none) as (λ _. P) [ inl h ↦ befo
 -- what stays known where the child is no number
 same_number : {P : Type 0} {content after : Content} {e : Element} {k : Kind} (one : Element) (s : ℕ) → Came content e (k, after)
     → sort k ≡ s → (s == 21) ≡ false → (needs (number_of one) content ≡ false → P) → needs (number_of one) after ≡ false → P
-same_number {P} {content} {after} {e} {k} one s g is un before =
-    kept (number_of one) g (λ is_so. refuted (λ n. n == 21) k s is un (and_true (same one e) (sort k == 21) is_so).1) before
+same_number {P} {content} {after} {e} {k} one s g is other before =
+    kept (number_of one) g (λ passed. refuted (λ n. n == 21) k s is other (and_true (same one e) (sort k == 21) passed).1) before
 
 same_items : {P : Type 0} {content after : Content} {e : Element} {k : Kind} (s : ℕ) → Came content e (k, after)
     → sort k ≡ s → (s == 10) ≡ false → (needs is_item content ≡ false → P) → needs is_item after ≡ false → P
-same_items {P} {content} {after} {e} {k} s g is un before = kept is_item g (λ is_so. refuted (λ n. n == 10) k s is un is_so) before
+same_items {P} {content} {after} {e} {k} s g is other before = kept is_item g (λ passed. refuted (λ n. n == 10) k s is other passed) before
 
 same_members : {P : Type 0} {content after : Content} {e : Element} {k : Kind} (s : ℕ) → Came content e (k, after)
     → sort k ≡ s → ((s == 4) || (s == 5)) ≡ false → (needs is_member content ≡ false → P) → needs is_member after ≡ false → P
-same_members {P} {content} {after} {e} {k} s g is un before = kept is_member g (λ is_so. refuted (λ n. (n == 4) || (n == 5)) k s is un is_so) before
+same_members {P} {content} {after} {e} {k} s g is other before = kept is_member g (λ passed. refuted (λ n. (n == 4) || (n == 5)) k s is other passed) before
 
 same_seq_members : {P : Type 0} {content after : Content} {e : Element} {k : Kind} (s : ℕ) → Came content e (k, after)
     → sort k ≡ s → (((s == 4) || (s == 5)) || (s == 6)) ≡ false → (needs is_seq_member content ≡ false → P) → needs is_seq_member after ≡ false → P
-same_seq_members {P} {content} {after} {e} {k} s g is un before = kept is_seq_member g (λ is_so. refuted (λ n. ((n == 4) || (n == 5)) || (n == 6)) k s is un is_so) before
+same_seq_members {P} {content} {after} {e} {k} s g is other before = kept is_seq_member g (λ passed. refuted (λ n. ((n == 4) || (n == 5)) || (n == 6)) k s is other passed) before
+
+other_element : {P : Type 0} (one e : Element) (k : Kind) → same one e ≡ false → number_of one e k ≡ true → P
+other_element one e k other passed = let never : false ≡ true = sym other ∙ (and_true (same one e) (sort k == 21) passed).0 in cc
 
 one_more : {A : Type 0} (P : A → Type 0) (xs : List A) (x : A) → AllByRecursion P xs → P x → AllByRecursion P (xs ++ x ∷ [])
 one_more P [] x all h = (h, tt)
@@ -182,10 +179,10 @@ is_filled_more xs x =
     ] refl
 
 fit_text : (k : Kind) (text : List ℕ) → not (is_bytes k) ≡ true → FitSimple k (simples.Text text) → FitText text
-fit_text k text un h = record { plain = h.2 (not_true (is_bytes k) un); short = h.1 }
+fit_text k text other h = record { plain = h.2 (not_true (is_bytes k) other); short = h.1 }
 
 fit_number : (k : Kind) (n : ℕ) → not (is_code k) ≡ true → FitSimple k (simples.Short n) → is_number n ≡ true
-fit_number k n un h = h.1 (not_true (is_code k) un)
+fit_number k n other h = h.1 (not_true (is_code k) other)
 
 -- ---- Loc, Meta, Item, Cred
 
@@ -256,32 +253,87 @@ item_step content after e k item (node _) h f = f
 -- ---- a header
 
 header_moved : {content after : Content} {e : Element} {k : Kind} (h : Header) (s : ℕ) → Came content e (k, after) → sort k ≡ s → (s == 21) ≡ false → FitHeader content h → FitHeader after h
-header_moved h s g is un f = record {
-  dtd = f.dtd; proto = f.proto; session = f.session; target = f.target; source = f.source; resp_uri = f.resp_uri; cred = f.cred; meta = f.meta;
-  msg = same_number EMsgID s g is un f.msg;
+header_moved h s g is other f = record {
+  dtd = f.dtd;
+  proto = f.proto;
+  session = f.session;
+  target = f.target;
+  source = f.source;
+  resp_uri = f.resp_uri;
+  cred = f.cred;
+  meta = f.meta;
+  msg = same_number EMsgID s g is other f.msg;
 }
 
 header_text : {after : Content} (h : Header) (e : Element) (text : List ℕ) → FitText text → FitHeader after h → FitHeader after (header_with_text h e text)
 header_text h EVerDTD text t f = record {
-  dtd = t; proto = f.proto; session = f.session; target = f.target; source = f.source; resp_uri = f.resp_uri; cred = f.cred; meta = f.meta; msg = f.msg;
+  dtd = t;
+  proto = f.proto;
+  session = f.session;
+  target = f.target;
+  source = f.source;
+  resp_uri = f.resp_uri;
+  cred = f.cred;
+  meta = f.meta;
+  msg = f.msg;
 }
 header_text h EVerProto text t f = record {
-  dtd = f.dtd; proto = t; session = f.session; target = f.target; source = f.source; resp_uri = f.resp_uri; cred = f.cred; meta = f.meta; msg = f.msg;
+  dtd = f.dtd;
+  proto = t;
+  session = f.session;
+  target = f.target;
+  source = f.source;
+  resp_uri = f.resp_uri;
+  cred = f.cred;
+  meta = f.meta;
+  msg = f.msg;
 }
 header_text h ESessionID text t f = record {
-  dtd = f.dtd; proto = f.proto; session = t; target = f.target; source = f.source; resp_uri = f.resp_uri; cred = f.cred; meta = f.meta; msg = f.msg;
+  dtd = f.dtd;
+  proto = f.proto;
+  session = t;
+  target = f.target;
+  source = f.source;
+  resp_uri = f.resp_uri;
+  cred = f.cred;
+  meta = f.meta;
+  msg = f.msg;
 }
 header_text h ERespURI text t f = record {
-  dtd = f.dtd; proto = f.proto; session = f.session; target = f.target; source = f.source; resp_uri = t; cred = f.cred; meta = f.meta; msg = f.msg;
+  dtd = f.dtd;
+  proto = f.proto;
+  session = f.session;
+  target = f.target;
+  source = f.source;
+  resp_uri = t;
+  cred = f.cred;
+  meta = f.meta;
+  msg = f.msg;
 }
 header_text h _ text t f = f
 
 header_loc : {after : Content} (h : Header) (e : Element) (loc : Loc) → FitLoc loc → FitHeader after h → FitHeader after (header_with_loc h e loc)
 header_loc h ETarget loc l f = record {
-  dtd = f.dtd; proto = f.proto; session = f.session; target = l; source = f.source; resp_uri = f.resp_uri; cred = f.cred; meta = f.meta; msg = f.msg;
+  dtd = f.dtd;
+  proto = f.proto;
+  session = f.session;
+  target = l;
+  source = f.source;
+  resp_uri = f.resp_uri;
+  cred = f.cred;
+  meta = f.meta;
+  msg = f.msg;
 }
 header_loc h _ loc l f = record {
-  dtd = f.dtd; proto = f.proto; session = f.session; target = f.target; source = l; resp_uri = f.resp_uri; cred = f.cred; meta = f.meta; msg = f.msg;
+  dtd = f.dtd;
+  proto = f.proto;
+  session = f.session;
+  target = f.target;
+  source = l;
+  resp_uri = f.resp_uri;
+  cred = f.cred;
+  meta = f.meta;
+  msg = f.msg;
 }
 
 pub header_step : (content after : Content) (e : Element) (k : Kind) (h : Header) (w : Whole) → Came content e (k, after) → header_child e k ≡ true → FitWhole k w
@@ -289,21 +341,49 @@ pub header_step : (content after : Content) (e : Element) (k : Kind) (h : Header
 header_step content after e k h (simple (simples.Text text)) g ok fit f =
     header_text h e text (fit_text k text (and_true _ _ ok).0 fit) (header_moved h 20 g fit.0 refl f)
 header_step content after e k h (simple (simples.Short n)) g ok fit f = record {
-  dtd = f.dtd; proto = f.proto; session = f.session; target = f.target; source = f.source; resp_uri = f.resp_uri; cred = f.cred; meta = f.meta;
+  dtd = f.dtd;
+  proto = f.proto;
+  session = f.session;
+  target = f.target;
+  source = f.source;
+  resp_uri = f.resp_uri;
+  cred = f.cred;
+  meta = f.meta;
   msg = λ _. fit_number k n (and_true _ _ ok).1 fit;
 }
 header_step content after e k h (simple (simples.Long n)) g ok fit f = header_moved h 22 g fit refl f
 header_step content after e k h (simple simples.Flag) g ok fit f = record {
-  dtd = f.dtd; proto = f.proto; session = f.session; target = f.target; source = f.source; resp_uri = f.resp_uri; cred = f.cred; meta = f.meta;
+  dtd = f.dtd;
+  proto = f.proto;
+  session = f.session;
+  target = f.target;
+  source = f.source;
+  resp_uri = f.resp_uri;
+  cred = f.cred;
+  meta = f.meta;
   msg = same_number EMsgID 23 g fit refl f.msg;
 }
 header_step content after e k h (node (draft.Loc loc)) g ok fit f = header_loc h e loc fit.3 (header_moved h 11 g fit.0 refl f)
 header_step content after e k h (node (draft.Cred cred)) g ok fit f = record {
-  dtd = f.dtd; proto = f.proto; session = f.session; target = f.target; source = f.source; resp_uri = f.resp_uri; cred = fit.3; meta = f.meta;
+  dtd = f.dtd;
+  proto = f.proto;
+  session = f.session;
+  target = f.target;
+  source = f.source;
+  resp_uri = f.resp_uri;
+  cred = fit.3;
+  meta = f.meta;
   msg = same_number EMsgID 12 g fit.0 refl f.msg;
 }
 header_step content after e k h (node (draft.Meta m)) g ok fit f = record {
-  dtd = f.dtd; proto = f.proto; session = f.session; target = f.target; source = f.source; resp_uri = f.resp_uri; cred = f.cred; meta = fit.3;
+  dtd = f.dtd;
+  proto = f.proto;
+  session = f.session;
+  target = f.target;
+  source = f.source;
+  resp_uri = f.resp_uri;
+  cred = f.cred;
+  meta = fit.3;
   msg = same_number EMsgID 14 g fit.0 refl f.msg;
 }
 header_step content after e k h (node d) g ok fit f = header_moved h (draft_sort d) g fit.0 refl f
@@ -320,43 +400,73 @@ same_single {content} {after} c g f exec =
 one_single : {content after : Content} {e : Element} {k : Kind} (c : Plain) (item : Item) → Came content e (k, after) → is_item e k ≡ true
     → (ends_in_item content ≡ true) × ((c.items ≡ []) ⊎ ((length c.items ≡ 1) × (has_ended content ≡ true)))
     → (ends_in_item after ≡ true) × ((c.items ++ item ∷ [] ≡ []) ⊎ ((length (c.items ++ item ∷ []) ≡ 1) × (has_ended after ≡ true)))
-one_single {content} {after} c item g is known =
-    ((g.item known.0).0, elim known.1 as (λ _. (c.items ++ item ∷ [] ≡ []) ⊎ ((length (c.items ++ item ∷ []) ≡ 1) × (has_ended after ≡ true))) [
-      | inl none ↦ inr (ap (λ l. length (l ++ item ∷ [])) none, (g.item known.0).1 is)
-      | inr one ↦ absurd (g.open_still one.1)
-    ])
+one_single {content} {after} c item g is known = (
+  (g.item known.0).0,
+  elim known.1 as (λ _. (c.items ++ item ∷ [] ≡ []) ⊎ ((length (c.items ++ item ∷ []) ≡ 1) × (has_ended after ≡ true))) [
+    | inl none ↦ inr (ap (λ l. length (l ++ item ∷ [])) none, (g.item known.0).1 is)
+    | inr one ↦ absurd (g.open_still one.1)
+  ],
+)
 
 plain_moved : {content after : Content} {e : Element} {k : Kind} (c : Plain) (s : ℕ) → Came content e (k, after) → sort k ≡ s → (s == 21) ≡ false → (s == 10) ≡ false
     → FitPlain content c → FitPlain after c
-plain_moved c s g is un an f = record {
-  meta = f.meta; correlator = f.correlator; items = f.items;
-  id = same_number ECmdID s g is un f.id; filled = same_items s g is an f.filled; single = same_single c g f; correlates = f.correlates;
+plain_moved c s g is other unlike f = record {
+  meta = f.meta;
+  correlator = f.correlator;
+  items = f.items;
+  id = same_number ECmdID s g is other f.id;
+  filled = same_items s g is unlike f.filled;
+  single = same_single c g f;
+  correlates = f.correlates;
 }
 
 plain_step : (content after : Content) (e : Element) (k : Kind) (c : Plain) (w : Whole) → Came content e (k, after) → plain_child (is_exec c.verb) e k ≡ true → FitWhole k w
     → FitPlain content c → FitDraft after (draft_with (draft.Plain c) e w)
 plain_step content after e k c (simple (simples.Text text)) g ok h f = record {
-  meta = f.meta; correlator = fit_text k text (and_true _ _ (and_true _ _ ok).0).0 h; items = f.items;
-  id = same_number ECmdID 20 g h.0 refl f.id; filled = same_items 20 g h.0 refl f.filled; single = same_single c g f;
-  correlates = or_here (is_exec c.verb) false (subst (λ n. (not (n == 20) || is_exec c.verb) ≡ true) h.0 (and_true _ _ ok).1);
+  meta = f.meta;
+  correlator = fit_text k text (and_true _ _ (and_true _ _ ok).0).0 h;
+  items = f.items;
+  id = same_number ECmdID 20 g h.0 refl f.id;
+  filled = same_items 20 g h.0 refl f.filled;
+  single = same_single c g f;
+  correlates = or_left (is_exec c.verb) false (subst (λ n. (not (n == 20) || is_exec c.verb) ≡ true) h.0 (and_true _ _ ok).1);
 }
 plain_step content after e k c (simple (simples.Short n)) g ok h f = record {
-  meta = f.meta; correlator = f.correlator; items = f.items;
-  id = λ _. fit_number k n (and_true _ _ (and_true _ _ ok).0).1 h; filled = same_items 21 g h.0 refl f.filled; single = same_single c g f; correlates = f.correlates;
+  meta = f.meta;
+  correlator = f.correlator;
+  items = f.items;
+  id = λ _. fit_number k n (and_true _ _ (and_true _ _ ok).0).1 h;
+  filled = same_items 21 g h.0 refl f.filled;
+  single = same_single c g f;
+  correlates = f.correlates;
 }
 plain_step content after e k c (simple (simples.Long n)) g ok h f = plain_moved c 22 g h refl refl f
 plain_step content after e k c (simple simples.Flag) g ok h f = record {
-  meta = f.meta; correlator = f.correlator; items = f.items;
-  id = same_number ECmdID 23 g h refl f.id; filled = same_items 23 g h refl f.filled; single = same_single c g f; correlates = f.correlates;
+  meta = f.meta;
+  correlator = f.correlator;
+  items = f.items;
+  id = same_number ECmdID 23 g h refl f.id;
+  filled = same_items 23 g h refl f.filled;
+  single = same_single c g f;
+  correlates = f.correlates;
 }
 plain_step content after e k c (node (draft.Meta m)) g ok h f = record {
-  meta = h.3; correlator = f.correlator; items = f.items;
-  id = same_number ECmdID 14 g h.0 refl f.id; filled = same_items 14 g h.0 refl f.filled; single = same_single c g f; correlates = f.correlates;
+  meta = h.3;
+  correlator = f.correlator;
+  items = f.items;
+  id = same_number ECmdID 14 g h.0 refl f.id;
+  filled = same_items 14 g h.0 refl f.filled;
+  single = same_single c g f;
+  correlates = f.correlates;
 }
 plain_step content after e k c (node (draft.Item item)) g ok h f = record {
-  meta = f.meta; correlator = f.correlator; items = one_more FitItem c.items item f.items h.3;
-  id = same_number ECmdID 10 g h.0 refl f.id; filled = λ _. is_filled_more c.items item;
-  single = λ exec. one_single c item g (ap (λ n. n == 10) h.0) (f.single exec); correlates = f.correlates;
+  meta = f.meta;
+  correlator = f.correlator;
+  items = one_more FitItem c.items item f.items h.3;
+  id = same_number ECmdID 10 g h.0 refl f.id;
+  filled = λ _. is_filled_more c.items item;
+  single = λ exec. one_single c item g (ap (λ n. n == 10) h.0) (f.single exec);
+  correlates = f.correlates;
 }
 plain_step content after e k c (node d) g ok h f = plain_moved c (draft_sort d) g h.0 refl refl f
 
@@ -364,12 +474,14 @@ plain_step content after e k c (node d) g ok h f = plain_moved c (draft_sort d) 
 
 alert_moved : {content after : Content} {e : Element} {k : Kind} (c : AlertCmd) (s : ℕ) → Came content e (k, after) → sort k ≡ s → (s == 21) ≡ false
     → FitAlert content c → FitAlert after c
-alert_moved c s g is un f = record { correlator = f.correlator; items = f.items; id = same_number ECmdID s g is un f.id }
+alert_moved c s g is other f = record { correlator = f.correlator; items = f.items; id = same_number ECmdID s g is other f.id }
 
 alert_number : {content after : Content} (e : Element) {k : Kind} (c : AlertCmd) (n : ℕ) → Came content e (k, after) → (not (is_code k) || same EData e) ≡ true
     → FitSimple k (simples.Short n) → FitAlert content c → FitAlert after (alert_with_number c e n)
 alert_number EData {k} c n g ok h f = record {
-  correlator = f.correlator; items = f.items; id = kept (number_of ECmdID) g (λ is_so. let never : false ≡ true = (and_true (same ECmdID EData) (sort k == 21) is_so).0 in cc) f.id;
+  correlator = f.correlator;
+  items = f.items;
+  id = kept (number_of ECmdID) g (other_element ECmdID EData k refl) f.id;
 }
 alert_number _ {k} c n g ok h f = record { correlator = f.correlator; items = f.items; id = λ _. fit_number k n (or_false (not (is_code k)) ok) h }
 
@@ -388,12 +500,15 @@ alert_step content after e k c (node d) g ok h f = alert_moved c (draft_sort d) 
 
 atomic_moved : {content after : Content} {e : Element} {k : Kind} (b : Block) (s : ℕ) → Came content e (k, after) → sort k ≡ s → (s == 21) ≡ false → ((s == 4) || (s == 5)) ≡ false
     → FitAtomic content b → FitAtomic after b
-atomic_moved b s g is un an f = record { meta = f.meta; members = f.members; id = same_number ECmdID s g is un f.id; filled = same_members s g is an f.filled }
+atomic_moved b s g is other unlike f = record { meta = f.meta; members = f.members; id = same_number ECmdID s g is other f.id; filled = same_members s g is unlike f.filled }
 
 atomic_member : {content after : Content} {e : Element} {k : Kind} (b : Block) (m : Member) (s : ℕ) → Came content e (k, after) → sort k ≡ s → (s == 21) ≡ false
     → FitMember m → FitAtomic content b → FitAtomic after (record b { members = b.members ++ m ∷ [] })
-atomic_member b m s g is un h f = record {
-  meta = f.meta; members = one_more FitMember b.members m f.members h; id = same_number ECmdID s g is un f.id; filled = λ _. is_filled_more b.members m;
+atomic_member b m s g is other h f = record {
+  meta = f.meta;
+  members = one_more FitMember b.members m f.members h;
+  id = same_number ECmdID s g is other f.id;
+  filled = λ _. is_filled_more b.members m;
 }
 
 atomic_step : (content after : Content) (e : Element) (k : Kind) (b : Block) (w : Whole) → Came content e (k, after) → id_alone e k ≡ true → FitWhole k w
@@ -414,12 +529,15 @@ atomic_step content after e k b (node d) g ok h f = atomic_moved b (draft_sort d
 
 sequence_moved : {content after : Content} {e : Element} {k : Kind} (b : SeqBlock) (s : ℕ) → Came content e (k, after) → sort k ≡ s → (s == 21) ≡ false → (((s == 4) || (s == 5)) || (s == 6)) ≡ false
     → FitSequence content b → FitSequence after b
-sequence_moved b s g is un an f = record { meta = f.meta; members = f.members; id = same_number ECmdID s g is un f.id; filled = same_seq_members s g is an f.filled }
+sequence_moved b s g is other unlike f = record { meta = f.meta; members = f.members; id = same_number ECmdID s g is other f.id; filled = same_seq_members s g is unlike f.filled }
 
 sequence_member : {content after : Content} {e : Element} {k : Kind} (b : SeqBlock) (m : SeqMember) (s : ℕ) → Came content e (k, after) → sort k ≡ s → (s == 21) ≡ false
     → FitSeqMember m → FitSequence content b → FitSequence after (record b { members = b.members ++ m ∷ [] })
-sequence_member b m s g is un h f = record {
-  meta = f.meta; members = one_more FitSeqMember b.members m f.members h; id = same_number ECmdID s g is un f.id; filled = λ _. is_filled_more b.members m;
+sequence_member b m s g is other h f = record {
+  meta = f.meta;
+  members = one_more FitSeqMember b.members m f.members h;
+  id = same_number ECmdID s g is other f.id;
+  filled = λ _. is_filled_more b.members m;
 }
 
 sequence_step : (content after : Content) (e : Element) (k : Kind) (b : SeqBlock) (w : Whole) → Came content e (k, after) → id_alone e k ≡ true → FitWhole k w
@@ -441,43 +559,83 @@ sequence_step content after e k b (node d) g ok h f = sequence_moved b (draft_so
 
 status_moved : {content after : Content} {e : Element} {k : Kind} (c : StatusCmd) (s : ℕ) → Came content e (k, after) → sort k ≡ s → (s == 21) ≡ false
     → FitStatus content c → FitStatus after c
-status_moved c s g is un f = record {
-  cmd = f.cmd; target_refs = f.target_refs; source_refs = f.source_refs; chal = f.chal; items = f.items;
-  id = same_number ECmdID s g is un f.id; msg_ref = same_number EMsgRef s g is un f.msg_ref;
+status_moved c s g is other f = record {
+  cmd = f.cmd;
+  target_refs = f.target_refs;
+  source_refs = f.source_refs;
+  chal = f.chal;
+  items = f.items;
+  id = same_number ECmdID s g is other f.id;
+  msg_ref = same_number EMsgRef s g is other f.msg_ref;
 }
 
 status_text : {after : Content} (c : StatusCmd) (e : Element) (text : List ℕ) → FitText text → FitStatus after c → FitStatus after (status_with_text c e text)
 status_text c ECmd text t f = record {
-  cmd = t; target_refs = f.target_refs; source_refs = f.source_refs; chal = f.chal; items = f.items; id = f.id; msg_ref = f.msg_ref;
+  cmd = t;
+  target_refs = f.target_refs;
+  source_refs = f.source_refs;
+  chal = f.chal;
+  items = f.items;
+  id = f.id;
+  msg_ref = f.msg_ref;
 }
 status_text c ETargetRef text t f = record {
-  cmd = f.cmd; target_refs = one_more FitText c.target_refs text f.target_refs t; source_refs = f.source_refs; chal = f.chal; items = f.items; id = f.id; msg_ref = f.msg_ref;
+  cmd = f.cmd;
+  target_refs = one_more FitText c.target_refs text f.target_refs t;
+  source_refs = f.source_refs;
+  chal = f.chal;
+  items = f.items;
+  id = f.id;
+  msg_ref = f.msg_ref;
 }
 status_text c ESourceRef text t f = record {
-  cmd = f.cmd; target_refs = f.target_refs; source_refs = one_more FitText c.source_refs text f.source_refs t; chal = f.chal; items = f.items; id = f.id; msg_ref = f.msg_ref;
+  cmd = f.cmd;
+  target_refs = f.target_refs;
+  source_refs = one_more FitText c.source_refs text f.source_refs t;
+  chal = f.chal;
+  items = f.items;
+  id = f.id;
+  msg_ref = f.msg_ref;
 }
 status_text c _ text t f = f
-
-other_element : {P : Type 0} (one e : Element) (k : Kind) → same one e ≡ false → number_of one e k ≡ true → P
-other_element one e k un is_so = let never : false ≡ true = sym un ∙ (and_true (same one e) (sort k == 21) is_so).0 in cc
 
 status_number : {content after : Content} (e : Element) {k : Kind} (c : StatusCmd) (n : ℕ) → Came content e (k, after) → (not (is_code k) || (same ECmdRef e || same EData e)) ≡ true
     → FitSimple k (simples.Short n) → FitStatus content c → FitStatus after (status_with_number c e n)
 status_number ECmdID {k} c n g ok h f = record {
-  cmd = f.cmd; target_refs = f.target_refs; source_refs = f.source_refs; chal = f.chal; items = f.items;
-  id = λ _. fit_number k n (or_false (not (is_code k)) ok) h; msg_ref = kept (number_of EMsgRef) g (other_element EMsgRef ECmdID k refl) f.msg_ref;
+  cmd = f.cmd;
+  target_refs = f.target_refs;
+  source_refs = f.source_refs;
+  chal = f.chal;
+  items = f.items;
+  id = λ _. fit_number k n (or_false (not (is_code k)) ok) h;
+  msg_ref = kept (number_of EMsgRef) g (other_element EMsgRef ECmdID k refl) f.msg_ref;
 }
 status_number EMsgRef {k} c n g ok h f = record {
-  cmd = f.cmd; target_refs = f.target_refs; source_refs = f.source_refs; chal = f.chal; items = f.items;
-  id = kept (number_of ECmdID) g (other_element ECmdID EMsgRef k refl) f.id; msg_ref = λ _. fit_number k n (or_false (not (is_code k)) ok) h;
+  cmd = f.cmd;
+  target_refs = f.target_refs;
+  source_refs = f.source_refs;
+  chal = f.chal;
+  items = f.items;
+  id = kept (number_of ECmdID) g (other_element ECmdID EMsgRef k refl) f.id;
+  msg_ref = λ _. fit_number k n (or_false (not (is_code k)) ok) h;
 }
 status_number ECmdRef {k} c n g ok h f = record {
-  cmd = f.cmd; target_refs = f.target_refs; source_refs = f.source_refs; chal = f.chal; items = f.items;
-  id = kept (number_of ECmdID) g (other_element ECmdID ECmdRef k refl) f.id; msg_ref = kept (number_of EMsgRef) g (other_element EMsgRef ECmdRef k refl) f.msg_ref;
+  cmd = f.cmd;
+  target_refs = f.target_refs;
+  source_refs = f.source_refs;
+  chal = f.chal;
+  items = f.items;
+  id = kept (number_of ECmdID) g (other_element ECmdID ECmdRef k refl) f.id;
+  msg_ref = kept (number_of EMsgRef) g (other_element EMsgRef ECmdRef k refl) f.msg_ref;
 }
 status_number e {k} c n g ok h f = record {
-  cmd = f.cmd; target_refs = f.target_refs; source_refs = f.source_refs; chal = f.chal; items = f.items;
-  id = kept (number_of ECmdID) g (other_element ECmdID e k refl) f.id; msg_ref = kept (number_of EMsgRef) g (other_element EMsgRef e k refl) f.msg_ref;
+  cmd = f.cmd;
+  target_refs = f.target_refs;
+  source_refs = f.source_refs;
+  chal = f.chal;
+  items = f.items;
+  id = kept (number_of ECmdID) g (other_element ECmdID e k refl) f.id;
+  msg_ref = kept (number_of EMsgRef) g (other_element EMsgRef e k refl) f.msg_ref;
 }
 
 status_step : (content after : Content) (e : Element) (k : Kind) (c : StatusCmd) (w : Whole) → Came content e (k, after) → status_child e k ≡ true → FitWhole k w
@@ -487,12 +645,22 @@ status_step content after e k c (simple (simples.Short n)) g ok h f = status_num
 status_step content after e k c (simple (simples.Long n)) g ok h f = status_moved c 22 g h refl f
 status_step content after e k c (simple simples.Flag) g ok h f = status_moved c 23 g h refl f
 status_step content after e k c (node (draft.Chal m)) g ok h f = record {
-  cmd = f.cmd; target_refs = f.target_refs; source_refs = f.source_refs; chal = h.3; items = f.items;
-  id = same_number ECmdID 13 g h.0 refl f.id; msg_ref = same_number EMsgRef 13 g h.0 refl f.msg_ref;
+  cmd = f.cmd;
+  target_refs = f.target_refs;
+  source_refs = f.source_refs;
+  chal = h.3;
+  items = f.items;
+  id = same_number ECmdID 13 g h.0 refl f.id;
+  msg_ref = same_number EMsgRef 13 g h.0 refl f.msg_ref;
 }
 status_step content after e k c (node (draft.Item item)) g ok h f = record {
-  cmd = f.cmd; target_refs = f.target_refs; source_refs = f.source_refs; chal = f.chal; items = one_more FitItem c.items item f.items h.3;
-  id = same_number ECmdID 10 g h.0 refl f.id; msg_ref = same_number EMsgRef 10 g h.0 refl f.msg_ref;
+  cmd = f.cmd;
+  target_refs = f.target_refs;
+  source_refs = f.source_refs;
+  chal = f.chal;
+  items = one_more FitItem c.items item f.items h.3;
+  id = same_number ECmdID 10 g h.0 refl f.id;
+  msg_ref = same_number EMsgRef 10 g h.0 refl f.msg_ref;
 }
 status_step content after e k c (node d) g ok h f = status_moved c (draft_sort d) g h.0 refl f
 
@@ -500,33 +668,65 @@ status_step content after e k c (node d) g ok h f = status_moved c (draft_sort d
 
 results_moved : {content after : Content} {e : Element} {k : Kind} (c : ResultsCmd) (s : ℕ) → Came content e (k, after) → sort k ≡ s → (s == 21) ≡ false → (s == 10) ≡ false
     → FitResults content c → FitResults after c
-results_moved c s g is un an f = record {
-  meta = f.meta; target_ref = f.target_ref; source_ref = f.source_ref; items = f.items;
-  id = same_number ECmdID s g is un f.id; msg_ref = f.msg_ref; filled = same_items s g is an f.filled;
+results_moved c s g is other unlike f = record {
+  meta = f.meta;
+  target_ref = f.target_ref;
+  source_ref = f.source_ref;
+  items = f.items;
+  id = same_number ECmdID s g is other f.id;
+  msg_ref = f.msg_ref;
+  filled = same_items s g is unlike f.filled;
 }
 
 results_text : {after : Content} (c : ResultsCmd) (e : Element) (text : List ℕ) → FitText text → FitResults after c → FitResults after (results_with_text c e text)
 results_text c ETargetRef text t f = record {
-  meta = f.meta; target_ref = t; source_ref = f.source_ref; items = f.items; id = f.id; msg_ref = f.msg_ref; filled = f.filled;
+  meta = f.meta;
+  target_ref = t;
+  source_ref = f.source_ref;
+  items = f.items;
+  id = f.id;
+  msg_ref = f.msg_ref;
+  filled = f.filled;
 }
 results_text c ESourceRef text t f = record {
-  meta = f.meta; target_ref = f.target_ref; source_ref = t; items = f.items; id = f.id; msg_ref = f.msg_ref; filled = f.filled;
+  meta = f.meta;
+  target_ref = f.target_ref;
+  source_ref = t;
+  items = f.items;
+  id = f.id;
+  msg_ref = f.msg_ref;
+  filled = f.filled;
 }
 results_text c _ text t f = f
 
 results_number : {content after : Content} (e : Element) {k : Kind} (c : ResultsCmd) (n : ℕ) → Came content e (k, after) → (not (is_code k) || (same ECmdRef e || same EData e)) ≡ true
     → FitSimple k (simples.Short n) → FitResults content c → FitResults after (results_with_number c e n)
 results_number ECmdID {k} c n g ok h f = record {
-  meta = f.meta; target_ref = f.target_ref; source_ref = f.source_ref; items = f.items;
-  id = λ _. fit_number k n (or_false (not (is_code k)) ok) h; msg_ref = f.msg_ref; filled = same_items 21 g h.0 refl f.filled;
+  meta = f.meta;
+  target_ref = f.target_ref;
+  source_ref = f.source_ref;
+  items = f.items;
+  id = λ _. fit_number k n (or_false (not (is_code k)) ok) h;
+  msg_ref = f.msg_ref;
+  filled = same_items 21 g h.0 refl f.filled;
 }
 results_number EMsgRef {k} c n g ok h f = record {
-  meta = f.meta; target_ref = f.target_ref; source_ref = f.source_ref; items = f.items;
-  id = kept (number_of ECmdID) g (other_element ECmdID EMsgRef k refl) f.id; msg_ref = fit_number k n (or_false (not (is_code k)) ok) h; filled = same_items 21 g h.0 refl f.filled;
+  meta = f.meta;
+  target_ref = f.target_ref;
+  source_ref = f.source_ref;
+  items = f.items;
+  id = kept (number_of ECmdID) g (other_element ECmdID EMsgRef k refl) f.id;
+  msg_ref = fit_number k n (or_false (not (is_code k)) ok) h;
+  filled = same_items 21 g h.0 refl f.filled;
 }
 results_number e {k} c n g ok h f = record {
-  meta = f.meta; target_ref = f.target_ref; source_ref = f.source_ref; items = f.items;
-  id = kept (number_of ECmdID) g (other_element ECmdID e k refl) f.id; msg_ref = f.msg_ref; filled = same_items 21 g h.0 refl f.filled;
+  meta = f.meta;
+  target_ref = f.target_ref;
+  source_ref = f.source_ref;
+  items = f.items;
+  id = kept (number_of ECmdID) g (other_element ECmdID e k refl) f.id;
+  msg_ref = f.msg_ref;
+  filled = same_items 21 g h.0 refl f.filled;
 }
 
 results_step : (content after : Content) (e : Element) (k : Kind) (c : ResultsCmd) (w : Whole) → Came content e (k, after) → status_child e k ≡ true → FitWhole k w
@@ -536,12 +736,22 @@ results_step content after e k c (simple (simples.Short n)) g ok h f = results_n
 results_step content after e k c (simple (simples.Long n)) g ok h f = results_moved c 22 g h refl refl f
 results_step content after e k c (simple simples.Flag) g ok h f = results_moved c 23 g h refl refl f
 results_step content after e k c (node (draft.Meta m)) g ok h f = record {
-  meta = h.3; target_ref = f.target_ref; source_ref = f.source_ref; items = f.items;
-  id = same_number ECmdID 14 g h.0 refl f.id; msg_ref = f.msg_ref; filled = same_items 14 g h.0 refl f.filled;
+  meta = h.3;
+  target_ref = f.target_ref;
+  source_ref = f.source_ref;
+  items = f.items;
+  id = same_number ECmdID 14 g h.0 refl f.id;
+  msg_ref = f.msg_ref;
+  filled = same_items 14 g h.0 refl f.filled;
 }
 results_step content after e k c (node (draft.Item item)) g ok h f = record {
-  meta = f.meta; target_ref = f.target_ref; source_ref = f.source_ref; items = one_more FitItem c.items item f.items h.3;
-  id = same_number ECmdID 10 g h.0 refl f.id; msg_ref = f.msg_ref; filled = λ _. is_filled_more c.items item;
+  meta = f.meta;
+  target_ref = f.target_ref;
+  source_ref = f.source_ref;
+  items = one_more FitItem c.items item f.items h.3;
+  id = same_number ECmdID 10 g h.0 refl f.id;
+  msg_ref = f.msg_ref;
+  filled = λ _. is_filled_more c.items item;
 }
 results_step content after e k c (node d) g ok h f = results_moved c (draft_sort d) g h.0 refl refl f
 
@@ -562,8 +772,8 @@ body_step content after e k b (node _) h f = f
 
 message_moved : {content after : Content} {e : Element} {k : Kind} (m : MessageDraft) (s : ℕ) → Came content e (k, after) → sort k ≡ s → (s == 2) ≡ false
     → FitMessage content m → FitMessage after m
-message_moved {content} {after} {e} {k} m s g is un f =
-    record { header = f.header; present = kept is_header g (λ is_so. refuted (λ n. n == 2) k s is un is_so) f.present; body = f.body }
+message_moved {content} {after} {e} {k} m s g is other f =
+    record { header = f.header; present = kept is_header g (λ passed. refuted (λ n. n == 2) k s is other passed) f.present; body = f.body }
 
 message_step : (content after : Content) (e : Element) (k : Kind) (m : MessageDraft) (w : Whole) → Came content e (k, after) → FitWhole k w
     → FitMessage content m → FitDraft after (draft_with (draft.Message m) e w)
@@ -573,7 +783,7 @@ message_step content after e k m (simple (simples.Long n)) g h f = message_moved
 message_step content after e k m (simple simples.Flag) g h f = message_moved m 23 g h refl f
 message_step content after e k m (node (draft.Header head)) g h f = record { header = (h.1, h.2, h.3); present = λ _. refl; body = f.body }
 message_step content after e k m (node (draft.Body b)) g h f =
-    record { header = f.header; present = kept is_header g (λ is_so. refuted (λ n. n == 2) k 3 h.0 refl is_so) f.present; body = h.3 }
+    record { header = f.header; present = kept is_header g (λ passed. refuted (λ n. n == 2) k 3 h.0 refl passed) f.present; body = h.3 }
 message_step content after e k m (node d) g h f = message_moved m (draft_sort d) g h.0 refl f
 
 -- ---- any
