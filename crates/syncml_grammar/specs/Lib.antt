@@ -11,3 +11,4 @@ pub mod Building
 pub mod Laws
 pub mod Refusals
 pub mod Verdicts
+pub mod Decimals

@@ -1,5 +1,6 @@
 // What tokens, messages and refusals have to do with each other, for whatever tokens.
 ghost use Rattle.syncml_grammar.specs.Refusals.{JudgedIsComputed, StepIsRefused, FinishedIsSpelled, TakenIsRead, UnreadIsText};
+ghost use Rattle.syncml_grammar.specs.Decimals.{NumbersAreDecimal, PiecesAreText, WrittenIsRead};
 
 /// A law: of each list of tokens exactly one thing is judged, and it is the computed one.
 pub fn judged_is_computed()
@@ -24,4 +25,19 @@ pub fn taken_is_read()
 /// A law: what doesn't read in a document is a text or a number.
 pub fn unread_is_text()
     ensures { UnreadIsText }
+{}
+
+/// A law: the number of bytes that came is that of their text in decimal, of 64 bits.
+pub fn numbers_are_decimal()
+    ensures { NumbersAreDecimal }
+{}
+
+/// A law: pieces of a number that come one after the other are one text.
+pub fn pieces_are_text()
+    ensures { PiecesAreText }
+{}
+
+/// A law: what is written of a number of 64 bits in decimal is read as that number.
+pub fn written_is_read()
+    ensures { WrittenIsRead }
 {}
