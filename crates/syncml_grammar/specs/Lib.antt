@@ -12,3 +12,4 @@ pub mod Laws
 pub mod Refusals
 pub mod Verdicts
 pub mod Decimals
+pub mod Taken

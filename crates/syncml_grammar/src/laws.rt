@@ -1,6 +1,7 @@
 // What tokens, messages and refusals have to do with each other, for whatever tokens.
 ghost use Rattle.syncml_grammar.specs.Refusals.{JudgedIsComputed, StepIsRefused, FinishedIsSpelled, TakenIsRead, UnreadIsText};
 ghost use Rattle.syncml_grammar.specs.Decimals.{NumbersAreDecimal, PiecesAreText, WrittenIsRead};
+ghost use Rattle.syncml_grammar.specs.Taken.{BuiltIsTaken};
 
 /// A law: of each list of tokens exactly one thing is judged, and it is the computed one.
 pub fn judged_is_computed()
@@ -40,4 +41,9 @@ pub fn pieces_are_text()
 /// A law: what is written of a number of 64 bits in decimal is read as that number.
 pub fn written_is_read()
     ensures { WrittenIsRead }
+{}
+
+/// A law: a builder takes the tokens that the grammar takes, and else has the first refusal, at the place of its token.
+pub fn built_is_taken()
+    ensures { BuiltIsTaken }
 {}
