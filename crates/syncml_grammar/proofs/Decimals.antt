@@ -1,5 +1,5 @@
 -- What is read digit by digit is decimal text.
-use Rattle.std.specs.Prelude.{◌≡◌, ◌==◌, ◌&&◌, ◌||◌, ℕ, ◌+◌, ◌*◌, ◌-◌, ◌^◌, ◌<◌, ◌≤◌, ◌≢◌, ◌⊎◌, zero, suc, nat_lt, nat_le, slice_index, length, Bool, true, false, not, if◌then◌else◌, List, [], ◌∷◌, ◌++◌, Option, Some, None, refl}
+use Rattle.std.specs.Prelude.{◌≡◌, ◌==◌, ◌&&◌, ◌||◌, ℕ, ◌+◌, ◌*◌, ◌-◌, ◌^◌, ◌<◌, ◌≤◌, ◌≢◌, ◌⊎◌, zero, suc, nat_lt, nat_le, slice_index, length, Bool, true, false, not, if◌then◌else◌, List, [], ◌∷◌, Option, Some, None, refl}
 use Rattle.std.specs.Char.{digit_value}
 use Rattle.std.specs.Fmt.{decimal}
 use Rattle.std.specs.Str.{all_ascii_digits}
@@ -9,10 +9,9 @@ use Rattle.std.proofs.lemmas.Bool.{and_parts, or_right, cases_eq, cases_lt, lt-l
 use Rattle.std.proofs.lemmas.Fmt.{digits_decimal, digits_value-decimal, decimal_nonempty, decimal_digit, first_decimal}
 use Rattle.std.proofs.lemmas.Str.{digit_value_digit}
 use Rattle.std.proofs.lemmas.Str.Parse.{IsNumeralModel, numerals_by_value, tells_all_ascii_digits}
-use Rattle.dm_base.specs.Fields.{is_num, num_of}
-use Rattle.syncml_grammar.specs.declared.digits.Digits.{Digits}
-use Rattle.syncml_grammar.specs.declared.digits.Digits.TheVariants.{Start, Number, Bad}
-use Rattle.syncml_grammar.specs.Numbers.{is_digit, longer, with_digit, digit_after, digits_after, number_in}
+use Rattle.dm_base.specs.Fields.{num_of}
+use Rattle.syncml_grammar.specs.declared.digits.Digits.TheVariants.{Number, Bad}
+use Rattle.syncml_grammar.specs.Numbers.{is_digit, longer, digit_after, digits_after, number_in}
 use Rattle.syncml_grammar.specs.Decimals.{NumbersAreDecimal, PiecesAreText, WrittenIsRead}
 
 -- the number of digits, where it has 64 bits

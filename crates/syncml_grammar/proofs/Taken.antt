@@ -1,15 +1,13 @@
 -- A builder takes placed tokens exactly as the grammar takes the tokens.
-use Rattle.std.specs.Prelude.{◌≡◌, ◌↔◌, List, [], ◌∷◌, ◌++◌, map, Option, Some, None, Result, Ok, Err, refl}
+use Rattle.std.specs.Prelude.{◌≡◌, ◌↔◌, List, [], ◌∷◌, ◌++◌, None, Result, Ok, Err, refl}
 use Rattle.std.proofs.Common.{sym, ◌∙◌, ap, subst, append_assoc}
 use Rattle.wbxml_tokens.specs.declared.reason.Reason.{Reason}
 use Rattle.wbxml_tokens.specs.declared.reason.Refusal.{Refusal}
-use Rattle.wbxml_tokens.specs.declared.token.Token.{Token}
 use Rattle.wbxml_tokens.specs.declared.token.Placed.{Placed}
 use Rattle.wbxml_tokens.specs.Taking.{taken, taken_one, ◌>>=◌}
 use Rattle.wbxml_tokens.proofs.Turns.{taken-append}
-use Rattle.syncml_grammar.specs.declared.open.Stop.{Stop}
 use Rattle.syncml_grammar.specs.Reads.{◌then◌}
-use Rattle.syncml_grammar.specs.Machine.{Frame, root, step}
+use Rattle.syncml_grammar.specs.Machine.{Frame, step}
 use Rattle.syncml_grammar.specs.Building.{Building, no_building, building_after, refusal_of, refused_by, frames_or, frames_behind, HasTaken, HasBuilt}
 use Rattle.syncml_grammar.specs.Refusals.{IsRefused}
 use Rattle.syncml_grammar.specs.Taken.{building, tokens, HasRefused, BuiltIsTaken}
@@ -88,10 +86,14 @@ refused_from (p ∷ placed) before b f going took_all h =
           (sym (behind_one b p placed (Ok after) going x) ∙ h))
       | Err reason ↦ λ x.
           let told : ◌≡◌ {A = Result Building Refusal} (Err (record { at = p.at; reason = reason })) (Err f) = sym (behind_one b p placed (Err reason) going x) ∙ h in
-          let is : record { at = p.at; reason = reason } ≡ f = cc in
-          (before, p, placed, refl,
-          subst (λ (g : Refusal). IsRefused (tokens before) p.token g.reason) is (refused_here (tokens before) b.frames p.token reason took_all x),
-          sym (ap (λ (g : Refusal). g.at) is))
+          let is : record { at = p.at; reason = reason } ≡ f = cc in (
+            before,
+            p,
+            placed,
+            refl,
+            subst (λ (g : Refusal). IsRefused (tokens before) p.token g.reason) is (refused_here (tokens before) b.frames p.token reason took_all x),
+            sym (ap (λ (g : Refusal). g.at) is),
+          )
     ]) refl
 
 refused_where : (placed : List Placed) (f : Refusal) → HasRefused placed f → taken building no_building placed ≡ Err f

@@ -6,7 +6,7 @@ use Rattle.syncml_grammar.specs.declared.digits.Digits.{Digits}
 use Rattle.syncml_grammar.specs.declared.digits.Digits.TheVariants.{Start}
 use Rattle.syncml_grammar.specs.Numbers.{digits_after, number_in}
 
--- the number of bytes that came is that of the text: digits without a sign or a leading zero, of a number that has 64 bits
+-- the number of bytes that came is that of their text: digits without a sign or a leading zero, of 64 bits
 abbrev pub NumbersAreDecimal : Type 0
 NumbersAreDecimal = (text : List ℕ) → number_in (digits_after Start text) ≡ num_of text
 

@@ -14,13 +14,13 @@ building = taking (λ b _. b) building_after refusal_of
 abbrev pub tokens : List Placed → List Token
 tokens placed = map (λ p. p.token) placed
 
--- What is before a token is read, and the token is refused, for the reason and at the place that are told.
+-- a token is refused behind those before it, for the reason and at the place that are told
 abbrev pub HasRefused : List Placed → Refusal → Type 0
 HasRefused placed f =
     (before : List Placed) × (p : Placed) × (rest : List Placed)
     × (placed ≡ before ++ p ∷ rest) × IsRefused (tokens before) p.token f.reason × (f.at ≡ p.at)
 
--- A builder takes tokens exactly as they are taken by the grammar, and else has the first refusal, at the place of its token.
+-- A builder takes all tokens exactly where the grammar does, and else tells the first refusal, at its token's place.
 pub record BuiltIsTaken : Type 0 where
   pub built : (placed : List Placed) (b : Building) → taken building no_building placed ≡ Ok b → HasBuilt b (tokens placed)
   pub taken_whole : (placed : List Placed) (frames : List Frame) → HasTaken frames (tokens placed)
