@@ -10,7 +10,7 @@ use Rattle.syncml_types.specs.Fitness.{IsFit}
 use Rattle.syncml_grammar.specs.declared.open.Stop.{Stop}
 use Rattle.syncml_grammar.specs.declared.open.Stop.TheVariants as stops
 use Rattle.syncml_grammar.specs.declared.verdict.Verdict.{Verdict}
-use Rattle.syncml_grammar.specs.Reads.{SpellsParts}
+use Rattle.syncml_grammar.specs.Reads.{SpellsParts, parts_in}
 use Rattle.syncml_grammar.specs.Machine.{Frame, step, finished}
 use Rattle.syncml_grammar.specs.Building.{Building, IsBuilding, HasBuilt, built_by, unless_stopped, building_after, frames_or, refused_by, refusal_of, told, IsLacking, text_length, most_text}
 use Rattle.syncml_grammar.specs.Refusals.{Judges, verdict_of}
@@ -28,12 +28,12 @@ pub fit_behind : ReadIsFit → (b : Building) (parts : Parts) → IsBuilding b �
     → IsFit parts.header parts.body
 fit_behind law b parts is_building going fin =
     let was = is_building going in
-    let spells = finished_spelled was.0 b.frames parts was.1.0 fin in
-    let shape = spells.1.0 in
-    let read = spells.1.1 in
-    let short : text_length (spelling spells.0) ≤ most_text = subst (λ tokens. text_length tokens ≤ most_text) shape.spelled (omega (arith, was.1.1)) in
-    let fit = law spells.0 read.0 read.1.0 shape.fitting read.1.1.0 short in
-    subst (λ p. IsFit p.header p.body) (same_parts fit.1.0 read.1.1.1) fit.1.1
+    let spells = finished_spelled was.0 b.frames parts was.1 fin in
+    let shape = spells.1 in
+    let read = spells.2 in
+    let short : text_length (spelling spells.0) ≤ most_text = subst (λ tokens. text_length tokens ≤ most_text) shape.spelled (omega (arith, was.2)) in
+    let fit = law spells.0 read.0 read.1 shape.fitting read.2 short in
+    subst (λ (p : Parts). IsFit p.header p.body) (same_parts (parts_in read.0) fit.1 read.3) fit.2
 
 pub finish_spelled : (r : Option Parts) (b : Building) (tokens : List Token) (parts : Parts) → r ≡ built_by b → HasBuilt b tokens
     → (r ≡ Some parts) ↔ SpellsParts tokens parts

@@ -207,7 +207,7 @@ verdict-append (t ∷ a) b s frames at h =
 verdict-taken : (tokens : List Token) (s : List Frame) → HasTaken s tokens → verdict_of tokens ≡ message_or_not (finished s)
 verdict-taken tokens s h = ap verdict_of (sym (append-nil tokens)) ∙ verdict-append tokens [] (root ∷ []) s 0 h
 
-refused_viable : (before : List Token) (t : Token) (reason : Reason) → IsRefused before t reason → IsViable before
+pub refused_viable : (before : List Token) (t : Token) (reason : Reason) → IsRefused before t reason → IsViable before
 refused_viable before t reason x = by x.1
   where
     by : IsMisshapen before t reason ⊎ (IsViable (before ++ t ∷ []) × ClosesUnread before t reason) → IsViable before

@@ -34,5 +34,5 @@ pub building_more : (b : Building) (token : Token) (after : List Frame) (left : 
 building_more b token after left is_building going x room = λ still.
     let was = is_building going in
     let e = length-append was.0 token in
-    let whole : text_length was.0 + b.room ≡ most_text = was.1.1 in
-    (was.0 ++ token ∷ [], taken_more was.0 token b.frames after was.1.0 x, search rules)
+    let whole : text_length was.0 + b.room ≡ most_text = was.2 in
+    (was.0 ++ token ∷ [], taken_more was.0 token b.frames after was.1 x, search rules)

@@ -11,3 +11,5 @@ pub mod Building
 pub mod Laws
 pub mod Refusals
 pub mod Verdicts
+pub mod Decimals
+pub mod Taken

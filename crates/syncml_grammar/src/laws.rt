@@ -1,5 +1,7 @@
 // What tokens, messages and refusals have to do with each other, for whatever tokens.
 ghost use Rattle.syncml_grammar.specs.Refusals.{JudgedIsComputed, StepIsRefused, FinishedIsSpelled, TakenIsRead, UnreadIsText};
+ghost use Rattle.syncml_grammar.specs.Decimals.{NumbersAreDecimal, PiecesAreText, WrittenIsRead};
+ghost use Rattle.syncml_grammar.specs.Taken.{BuiltIsTaken};
 
 /// A law: of each list of tokens exactly one thing is judged, and it is the computed one.
 pub fn judged_is_computed()
@@ -24,4 +26,24 @@ pub fn taken_is_read()
 /// A law: what doesn't read in a document is a text or a number.
 pub fn unread_is_text()
     ensures { UnreadIsText }
+{}
+
+/// A law: the number of bytes that came is that of their text in decimal, of 64 bits.
+pub fn numbers_are_decimal()
+    ensures { NumbersAreDecimal }
+{}
+
+/// A law: pieces of a number that come one after the other are one text.
+pub fn pieces_are_text()
+    ensures { PiecesAreText }
+{}
+
+/// A law: what is written of a number of 64 bits in decimal is read as that number.
+pub fn written_is_read()
+    ensures { WrittenIsRead }
+{}
+
+/// A law: a builder takes the tokens that the grammar takes, and else has the first refusal, at the place of its token.
+pub fn built_is_taken()
+    ensures { BuiltIsTaken }
 {}
