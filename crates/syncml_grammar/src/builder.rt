@@ -46,19 +46,25 @@ impl Builder {
         }
     }
 
-    /// The message of the tokens that were taken. None comes exactly where they spell none, and after an error.
-    pub fn finish(self) -> Option<Message>
-        ensures value { result ≡ built_by self }
-        ensures message { (tokens : ListOf Piece) (parts : Parts) → HasBuilt self tokens
-            → (result ≡ Some parts) ↔ SpellsParts tokens parts }
+    fn message(self) -> Option<Message>
+        ensures { result ≡ built_by self }
     {
-        if self.stopped.is_some() {
+        if let Some(_) = self.stopped {
             return None;
         }
         match self.stack.into_parts() {
             None => None,
             Some(parts) => Some(Message::of_parts(parts.header, parts.body, parts.last)),
         }
+    }
+
+    /// The message of the tokens that were taken. None comes exactly where they spell none, and after an error.
+    pub fn finish(self) -> Option<Message>
+        ensures value { result ≡ built_by self }
+        ensures message { (tokens : ListOf Piece) (parts : Parts) → HasBuilt self tokens
+            → (result ≡ Some parts) ↔ SpellsParts tokens parts }
+    {
+        self.message()
     }
 }
 

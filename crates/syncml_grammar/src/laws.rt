@@ -1,4 +1,5 @@
 // What tokens, messages and refusals have to do with each other, for whatever tokens.
+ghost use Rattle.syncml_grammar.specs.Laws.{ReadIsFit};
 ghost use Rattle.syncml_grammar.specs.Refusals.{JudgedIsComputed, StepIsRefused, FinishedIsSpelled, TakenIsRead, UnreadIsText};
 ghost use Rattle.syncml_grammar.specs.Decimals.{NumbersAreDecimal, PiecesAreText, WrittenIsRead};
 ghost use Rattle.syncml_grammar.specs.Taken.{BuiltIsTaken};
@@ -46,4 +47,9 @@ pub fn written_is_read()
 /// A law: a builder takes the tokens that the grammar takes, and else has the first refusal, at the place of its token.
 pub fn built_is_taken()
     ensures { BuiltIsTaken }
+{}
+
+/// A law: a document whose texts read, and aren't too long together, gives a message, and that is fit.
+pub fn read_is_fit()
+    ensures { ReadIsFit }
 {}
