@@ -50,12 +50,7 @@ fn is_spelled(alloc: Global, verdict: &Verdict, want: &Bytes) -> Result<bool, Me
     }
 }
 
-fn is_read(
-    alloc: Global,
-    head: &[Piece],
-    front: &[u8],
-    reading: &Reading,
-) -> Result<bool, Memory> {
+fn is_read(alloc: Global, head: &[Piece], front: &[u8], reading: &Reading) -> Result<bool, Memory> {
     let mut tokens = Vec::new(alloc);
     push_all(alloc, &mut tokens, head)?;
     push_all(alloc, &mut tokens, reading.pieces)?;
@@ -120,12 +115,13 @@ const FRONT: &[u8] =
     b"\x03\xa4\x01\x6a\x00\x6d\x6c\x31\x32\x25\x5b\x031\x00\x01\x6e\x17\x01\x67\x17\x01\x01";
 
 // A command of each kind, and what stands in it.
-const BODIES: [Reading; 9] = readings! {
+const BODIES: [Reading; 10] = readings! {
     [Open(EStatus), Leaf(ECmdID, b"1"), Leaf(EMsgRef, b"2"), Leaf(ECmdRef, b"0"), Leaf(ECmd, b"Get"),
          Leaf(ETargetRef, b"a"), Leaf(ETargetRef, b"b"), Bare(ESourceRef), Open(EChal), Open(EMeta),
          Leaf(ENextNonce, b"n"), Leaf(EFormat, b"b64"), End, End, Leaf(EData, b"401"), Bare(EItem), End, End, End] =>
-        b"\x6b\x69\x4b\x031\x00\x01\x5c\x032\x00\x01\x4c\x030\x00\x01\x4a\x03Get\x00\x01\x6f\x03a\x00\x01\x6f\x03b\x00\x01"
-        b"\x28\x49\x5a\x00\x01\x47\x03b64\x00\x01\x50\x03n\x00\x01\x01\x01\x00\x00\x4f\x03401\x00\x01\x14\x01\x01\x01";
+        b"\x6b\x69\x4b\x031\x00\x01\x5c\x032\x00\x01\x4c\x030\x00\x01\x4a\x03Get\x00\x01\x6f\x03a\x00\x01"
+        b"\x6f\x03b\x00\x01\x28\x49\x5a\x00\x01\x47\x03b64\x00\x01\x50\x03n\x00\x01\x01\x01\x00\x00\x4f\x03401\x00\x01"
+        b"\x14\x01\x01\x01";
     [Open(EResults), Leaf(ECmdID, b"1"), Leaf(ECmdRef, b"3"), Bare(EMeta), Leaf(ESourceRef, b"s"), Open(EItem),
          Open(ESource), Leaf(ELocURI, b"./A"), End, Open(EMeta), Open(EMetInf), Leaf(EType, b"t"), End, End,
          Open(EData), Opaque(b"\xff\x00"), Text(b"x"), End, Open(EMoreData), End, End, Open(EItem), End, End,
@@ -163,6 +159,11 @@ const BODIES: [Reading; 9] = readings! {
          End, End, End] =>
         b"\x6b\x53\x4b\x0310\x00\x01\x5a\x00\x01\x47\x03f\x00\x01\x13\x52\x030\x00\x01\x50\x03n\x00\x01\x4c\x0310\x00\x01"
         b"\x55\x0318446744073709551615\x00\x01\x4b\x03m\x00\x01\x54\x03v\x00\x01\x01\x00\x00\x14\x01\x01\x01";
+    [Open(EDelete), Leaf(ECmdID, b"1"), Open(EItem), Leaf(EData, b"a"), End, Open(EItem), Leaf(EData, b"b"),
+         Bare(EMoreData), End, Open(EItem), Leaf(EData, b"c"), End, End, Open(EGet), Leaf(ECmdID, b"2"), Bare(EItem), End,
+         End, End] =>
+        b"\x6b\x50\x4b\x031\x00\x01\x54\x4f\x03a\x00\x01\x01\x54\x4f\x03b\x00\x01\x34\x01"
+        b"\x54\x4f\x03c\x00\x01\x01\x01\x53\x4b\x032\x00\x01\x14\x01\x01\x01";
 };
 
 #[test]

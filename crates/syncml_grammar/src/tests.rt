@@ -162,8 +162,10 @@ const DOCUMENTS: [Case; 22] = cases! {
     [Open(ESyncML), Open(ESyncHdr), Bare(EVerProto)] => at!(2, Misplaced);
     [Open(ESyncML), Open(ESyncHdr), Open(EVerDTD), Text(b"\x001.2"), End] => at!(4, Text);
     [Open(ESyncML), Open(ESyncHdr), Bare(EVerDTD), Bare(EVerProto), Bare(ESessionID), Bare(EMsgID)] => at!(5, Number);
-    [Open(ESyncML), Open(ESyncHdr), Bare(EVerDTD), Bare(EVerProto), Bare(ESessionID), Open(EMsgID), End] => at!(6, Number);
-    [Open(ESyncML), Open(ESyncHdr), Bare(EVerDTD), Bare(EVerProto), Bare(ESessionID), Leaf(EMsgID, b"0")] => at!(7, Number);
+    [Open(ESyncML), Open(ESyncHdr), Bare(EVerDTD), Bare(EVerProto), Bare(ESessionID), Open(EMsgID),
+         End] => at!(6, Number);
+    [Open(ESyncML), Open(ESyncHdr), Bare(EVerDTD), Bare(EVerProto), Bare(ESessionID),
+         Leaf(EMsgID, b"0")] => at!(7, Number);
     [Open(ESyncML), Open(ESyncHdr), Bare(EVerDTD), Bare(EVerProto), Bare(ESessionID), Leaf(EMsgID, b"1"),
          Bare(ETarget)] => at!(8, Misplaced);
     [Open(ESyncML), Open(ESyncHdr), Bare(EVerDTD), Bare(EVerProto), Bare(ESessionID), Leaf(EMsgID, b"1"),
