@@ -6,10 +6,16 @@ pub mod digits;
 pub mod draft;
 pub mod laws;
 pub mod leaf;
+#[cfg(test)]
+mod message_tests;
 pub mod open;
 mod put_node;
 mod put_simple;
 mod stack;
+#[cfg(test)]
+mod tests;
+#[cfg(test)]
+mod value_tests;
 pub mod verdict;
 
 pub use builder::Builder;
