@@ -1,0 +1,10 @@
+use Rattle.std.proofs.Common.{sym, ap, ◌∙◌, option_map}
+use Rattle.syncml_grammar.specs.Opens.{parts_of}
+use Rattle.syncml_grammar.proofs.FitReads.{read_is_fit}
+use Rattle.syncml_grammar.proofs.Answering.{fit_behind}
+use Rattle.syncml_grammar.proofs.builder.Builder.message.Goals as goal
+
+pub of_parts-requires : goal.of_parts-requires
+of_parts-requires c =
+    fit_behind read_is_fit (record { frames = c.self.inside.stack; room = c.self.inside.room; stopped = c.self.inside.stopped }) (parts_of c.in-Some.parts)
+    c.self.invariant c.in_default.is (sym c.into_parts.ensures ∙ ap (option_map parts_of) c.in-Some.is)

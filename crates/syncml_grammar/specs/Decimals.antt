@@ -1,0 +1,19 @@
+-- What is read digit by digit is decimal text, in whatever pieces it comes.
+use Rattle.std.specs.Prelude.{◌≡◌, ◌<◌, ◌^◌, ℕ, List, ◌++◌, Some}
+use Rattle.std.specs.Fmt.{decimal}
+use Rattle.dm_base.specs.Fields.{num_of}
+use Rattle.syncml_grammar.specs.declared.digits.Digits.{Digits}
+use Rattle.syncml_grammar.specs.declared.digits.Digits.TheVariants.{Start}
+use Rattle.syncml_grammar.specs.Numbers.{digits_after, number_in}
+
+-- the number of bytes that came is that of their text: digits without a sign or a leading zero, of 64 bits
+abbrev pub NumbersAreDecimal : Type 0
+NumbersAreDecimal = (text : List ℕ) → number_in (digits_after Start text) ≡ num_of text
+
+-- pieces that come one after the other are one text
+abbrev pub PiecesAreText : Type 0
+PiecesAreText = (digits : Digits) (a b : List ℕ) → digits_after (digits_after digits a) b ≡ digits_after digits (a ++ b)
+
+-- what is written of a number is read as that number
+abbrev pub WrittenIsRead : Type 0
+WrittenIsRead = (n : ℕ) → n < 2 ^ 64 → num_of (decimal n) ≡ Some n

@@ -1,0 +1,15 @@
+pub mod Numbers
+pub mod Leaves
+pub mod Drafts
+pub mod Simples
+pub mod Nodes
+pub mod Values
+pub mod Reads
+pub mod Machine
+pub mod Opens
+pub mod Building
+pub mod Laws
+pub mod Refusals
+pub mod Verdicts
+pub mod Decimals
+pub mod Taken

@@ -1,0 +1,148 @@
+// The builder: it takes the tokens of a body one after the other, and has the message at the end.
+ghost use Rattle.std.specs.Prelude.{◌≡◌, ◌↔◌, Some, List as ListOf};
+ghost use Rattle.wbxml_tokens.specs.declared.token.Token.{Token as Piece};
+ghost use Rattle.syncml_types.specs.Message.{Parts};
+ghost use Rattle.syncml_grammar.specs.Reads.{SpellsParts};
+ghost use Rattle.syncml_grammar.specs.Building.{no_building, built_by, HasBuilt};
+
+use crate::open::Stop;
+use crate::stack::Stack;
+use std::alloc::Global;
+use std::marker::Model;
+use syncml_types::Message;
+use wbxml_tables::Element;
+use wbxml_tokens::{Reason, Taker, Writer};
+
+/// The bytes of text that all tokens together may have. The tokens of a message have far fewer.
+pub const MOST_TEXT: usize = 2_147_483_648;
+
+/// What has been built of the tokens that were taken. After an error it answers the same error for good.
+#[derive(Drop)]
+pub struct Builder {
+    stack: Stack,
+    room: usize,
+    stopped: Option<Stop>,
+}
+
+impl Model for Builder {
+    ghost use Rattle.syncml_grammar.specs.Building.{Building, IsBuilding};
+
+    ghost Value = { Building };
+
+    ghost view = { λ b. record { frames = b.stack; room = b.room; stopped = b.stopped } };
+
+    ghost invariant = { λ b. IsBuilding (record { frames = b.stack; room = b.room; stopped = b.stopped }) };
+}
+
+impl Builder {
+    /// No token was taken.
+    pub fn new(alloc: Global) -> Builder
+        ensures { result ≡ no_building }
+    {
+        Builder {
+            stack: Stack::new(alloc),
+            room: MOST_TEXT,
+            stopped: None,
+        }
+    }
+
+    fn message(self) -> Option<Message>
+        ensures { result ≡ built_by self }
+    {
+        if let Some(_) = self.stopped {
+            return None;
+        }
+        match self.stack.into_parts() {
+            None => None,
+            Some(parts) => Some(Message::of_parts(parts.header, parts.body, parts.last)),
+        }
+    }
+
+    /// The message of the tokens that were taken. None comes exactly where they spell none, and after an error.
+    pub fn finish(self) -> Option<Message>
+        ensures value { result ≡ built_by self }
+        ensures message { (tokens : ListOf Piece) (parts : Parts) → HasBuilt self tokens
+            → (result ≡ Some parts) ↔ SpellsParts tokens parts }
+    {
+        self.message()
+    }
+}
+
+impl Writer for Builder {
+    type Error = Stop;
+
+    ghost use Rattle.syncml_grammar.specs.Building.{building_after, refusal_of, told as told_by, IsLacking};
+
+    ghost after = { building_after };
+
+    ghost refusal = { refusal_of };
+
+    ghost told = { told_by };
+
+    ghost left = { IsLacking };
+
+    fn tag(&mut self, element: Element, content: bool) -> Result<(), Stop> {
+        if let Some(stop) = self.stopped {
+            return Err(stop);
+        }
+        match self.stack.tag(element, content) {
+            Ok(()) => Ok(()),
+            Err(stop) => {
+                self.stopped = Some(stop);
+                Err(stop)
+            }
+        }
+    }
+
+    fn end(&mut self) -> Result<(), Stop> {
+        if let Some(stop) = self.stopped {
+            return Err(stop);
+        }
+        match self.stack.end() {
+            Ok(()) => Ok(()),
+            Err(stop) => {
+                self.stopped = Some(stop);
+                Err(stop)
+            }
+        }
+    }
+
+    fn text(&mut self, text: &[u8]) -> Result<(), Stop> {
+        if let Some(stop) = self.stopped {
+            return Err(stop);
+        }
+        match self.stack.piece(&mut self.room, text) {
+            Ok(()) => Ok(()),
+            Err(stop) => {
+                self.stopped = Some(stop);
+                Err(stop)
+            }
+        }
+    }
+
+    fn opaque(&mut self, bytes: &[u8]) -> Result<(), Stop> {
+        if let Some(stop) = self.stopped {
+            return Err(stop);
+        }
+        match self.stack.piece(&mut self.room, bytes) {
+            Ok(()) => Ok(()),
+            Err(stop) => {
+                self.stopped = Some(stop);
+                Err(stop)
+            }
+        }
+    }
+}
+
+impl Taker for Builder {
+    ghost placed = { λ b _. b };
+
+    fn place(&mut self, _at: u64) {}
+
+    fn reason(error: Stop) -> Option<Reason> {
+        match error {
+            Stop::Memory => None,
+            Stop::Refused(reason) => Some(reason),
+        }
+    }
+}

@@ -1,0 +1,314 @@
+// What elements with children hold, as their children come.
+ghost use Rattle.std.specs.Prelude.{◌≡◌, IfOk, option_map};
+ghost use Rattle.syncml_grammar.specs.declared.draft.Draft.TheVariants as draft;
+ghost use Rattle.syncml_grammar.specs.Values.{of_draft};
+ghost use Rattle.syncml_grammar.specs.Reads.{parts_from, parts_in};
+ghost use Rattle.syncml_grammar.specs.Opens.{parts_of};
+ghost use Rattle.syncml_grammar.specs.Drafts.{no_meta, no_item, no_loc, no_header, no_message, no_body, no_cred, no_plain, no_alert, no_block, no_sequence, no_status, no_results, verb_of, fresh_draft};
+
+use dm_base::{Bytes, List, Memory};
+use std::alloc::Global;
+use std::boxed::Box;
+use std::marker::Model;
+use syncml_shape::Kind;
+use syncml_types::{
+    AlertCmd, Block, Command, Cred, Header, Item, Loc, Meta, Plain, ResultsCmd, SeqBlock, StatusCmd,
+    Verb,
+};
+use wbxml_tables::Element;
+
+/// A header so far. It is boxed, since a draft is moved with each element that it holds, and a message has one header.
+#[derive(Drop)]
+pub struct HeaderDraft {
+    pub(crate) header: Box<Header>,
+}
+
+impl Model for HeaderDraft {
+    ghost use Rattle.syncml_types.specs.declared.values.Header.{Header};
+
+    ghost Value = { Header };
+
+    ghost view = { λ d. d.header.value };
+}
+
+/// The children of a SyncBody so far.
+#[derive(Drop)]
+pub struct BodyDraft {
+    pub commands: List<Command>,
+    pub last: bool,
+}
+
+/// The children of a SyncML so far.
+#[derive(Drop)]
+pub struct MessageDraft {
+    pub header: Option<HeaderDraft>,
+    pub body: List<Command>,
+    pub last: bool,
+}
+
+/// The parts of a whole message.
+#[derive(Drop)]
+pub struct WholeParts {
+    pub header: Header,
+    pub body: List<Command>,
+    pub last: bool,
+}
+
+impl MessageDraft {
+    /// The parts, where there is a header.
+    pub(crate) fn into_parts(self) -> Option<WholeParts>
+        ensures { option_map parts_of result ≡ parts_from self self.header }
+    {
+        let MessageDraft { header, body, last } = self;
+        match header {
+            None => None,
+            Some(draft) => Some(WholeParts {
+                header: Box::into_inner(draft.header),
+                body,
+                last,
+            }),
+        }
+    }
+}
+
+/// What has been read of an element with children.
+#[derive(Drop)]
+pub enum Draft {
+    /// A document before its SyncML.
+    Document,
+    Message(MessageDraft),
+    Header(HeaderDraft),
+    Body(BodyDraft),
+    Plain(Plain),
+    Alert(AlertCmd),
+    Atomic(Block),
+    Sequence(SeqBlock),
+    Status(StatusCmd),
+    Results(ResultsCmd),
+    Item(Item),
+    Loc(Loc),
+    Cred(Cred),
+    Chal(Meta),
+    Meta(Meta),
+}
+
+impl Draft {
+    /// The parts of a message that has ended.
+    pub(crate) fn into_parts(self) -> Option<WholeParts>
+        ensures { option_map parts_of result ≡ parts_in (of_draft self) }
+    {
+        match self {
+            Draft::Message(message) => message.into_parts(),
+            _ => None,
+        }
+    }
+}
+
+fn new_loc(alloc: Global) -> Loc
+    ensures { result ≡ no_loc }
+{
+    Loc {
+        uri: Bytes::new(alloc),
+        name: None,
+    }
+}
+
+fn new_meta() -> Meta
+    ensures { result ≡ no_meta }
+{
+    Meta {
+        format: None,
+        media: None,
+        size: None,
+        next_nonce: None,
+        max_msg: None,
+        max_obj: None,
+        mark: None,
+        version: None,
+    }
+}
+
+fn new_item() -> Item
+    ensures { result ≡ no_item }
+{
+    Item {
+        target: None,
+        source: None,
+        meta: None,
+        value: None,
+        more: false,
+    }
+}
+
+fn blank_header(alloc: Global) -> Header
+    ensures { result ≡ no_header }
+{
+    Header {
+        dtd: Bytes::new(alloc),
+        proto: Bytes::new(alloc),
+        session: Bytes::new(alloc),
+        msg: 0,
+        target: new_loc(alloc),
+        source: new_loc(alloc),
+        resp_uri: None,
+        no_resp: false,
+        cred: None,
+        meta: None,
+    }
+}
+
+fn new_header(alloc: Global) -> Result<HeaderDraft, Memory>
+    ensures { IfOk result (λ d. d ≡ no_header) }
+{
+    match Box::new(alloc, blank_header(alloc)) {
+        Ok(header) => Ok(HeaderDraft { header }),
+        Err(_) => Err(Memory),
+    }
+}
+
+fn new_message(alloc: Global) -> MessageDraft
+    ensures { result ≡ no_message }
+{
+    MessageDraft {
+        header: None,
+        body: List::new(alloc),
+        last: false,
+    }
+}
+
+fn new_body(alloc: Global) -> BodyDraft
+    ensures { result ≡ no_body }
+{
+    BodyDraft {
+        commands: List::new(alloc),
+        last: false,
+    }
+}
+
+fn new_cred(alloc: Global) -> Cred
+    ensures { result ≡ no_cred }
+{
+    Cred {
+        meta: None,
+        value: Bytes::new(alloc),
+    }
+}
+
+// The verb of a command's element. Other elements than these aren't asked for.
+fn verb_named(element: Element) -> Verb
+    ensures { result ≡ verb_of element }
+{
+    match element {
+        Element::EAdd => Verb::Add,
+        Element::ECopy => Verb::Copy,
+        Element::EDelete => Verb::Delete,
+        Element::EExec => Verb::Exec,
+        Element::EGet => Verb::Get,
+        _ => Verb::Replace,
+    }
+}
+
+fn new_plain(alloc: Global, element: Element) -> Plain
+    ensures { result ≡ no_plain (verb_of element) }
+{
+    Plain {
+        verb: verb_named(element),
+        id: 0,
+        no_resp: false,
+        meta: None,
+        correlator: None,
+        items: List::new(alloc),
+    }
+}
+
+fn new_alert(alloc: Global) -> AlertCmd
+    ensures { result ≡ no_alert }
+{
+    AlertCmd {
+        id: 0,
+        no_resp: false,
+        code: 0,
+        correlator: None,
+        items: List::new(alloc),
+    }
+}
+
+fn new_block(alloc: Global) -> Block
+    ensures { result ≡ no_block }
+{
+    Block {
+        id: 0,
+        no_resp: false,
+        meta: None,
+        members: List::new(alloc),
+    }
+}
+
+fn new_sequence(alloc: Global) -> SeqBlock
+    ensures { result ≡ no_sequence }
+{
+    SeqBlock {
+        id: 0,
+        no_resp: false,
+        meta: None,
+        members: List::new(alloc),
+    }
+}
+
+fn new_status(alloc: Global) -> StatusCmd
+    ensures { result ≡ no_status }
+{
+    StatusCmd {
+        id: 0,
+        msg_ref: 0,
+        cmd_ref: 0,
+        cmd: Bytes::new(alloc),
+        target_refs: List::new(alloc),
+        source_refs: List::new(alloc),
+        chal: None,
+        code: 0,
+        items: List::new(alloc),
+    }
+}
+
+fn new_results(alloc: Global) -> ResultsCmd
+    ensures { result ≡ no_results }
+{
+    ResultsCmd {
+        id: 0,
+        msg_ref: None,
+        cmd_ref: 0,
+        meta: None,
+        target_ref: None,
+        source_ref: None,
+        items: List::new(alloc),
+    }
+}
+
+fn new_header_draft(alloc: Global) -> Result<Draft, Memory>
+    ensures { IfOk result (λ d. d ≡ draft.Header no_header) }
+{
+    Ok(Draft::Header(new_header(alloc)?))
+}
+
+/// What an element with children holds before the first of them. Only a header takes memory.
+pub(crate) fn new_draft(alloc: Global, kind: Kind, element: Element) -> Result<Draft, Memory>
+    ensures { IfOk result (λ d. d ≡ fresh_draft kind element) }
+{
+    Ok(match kind {
+        Kind::Message => Draft::Message(new_message(alloc)),
+        Kind::Header => return new_header_draft(alloc),
+        Kind::Body => Draft::Body(new_body(alloc)),
+        Kind::Plain | Kind::Exec => Draft::Plain(new_plain(alloc, element)),
+        Kind::Alert => Draft::Alert(new_alert(alloc)),
+        Kind::Atomic => Draft::Atomic(new_block(alloc)),
+        Kind::Sequence => Draft::Sequence(new_sequence(alloc)),
+        Kind::Status => Draft::Status(new_status(alloc)),
+        Kind::Results => Draft::Results(new_results(alloc)),
+        Kind::Item => Draft::Item(new_item()),
+        Kind::Loc => Draft::Loc(new_loc(alloc)),
+        Kind::Cred => Draft::Cred(new_cred(alloc)),
+        Kind::Chal => Draft::Chal(new_meta()),
+        _ => Draft::Meta(new_meta()),
+    })
+}

@@ -1,0 +1,23 @@
+//! The message grammar: from the tokens of a body to the message that they spell, or the first refusal.
+#![tactic(auto)]
+
+pub mod builder;
+pub mod digits;
+pub mod draft;
+pub mod laws;
+pub mod leaf;
+#[cfg(test)]
+mod message_tests;
+pub mod open;
+mod put_node;
+mod put_simple;
+mod stack;
+#[cfg(test)]
+mod tests;
+#[cfg(test)]
+mod value_tests;
+pub mod verdict;
+
+pub use builder::Builder;
+pub use verdict::{Verdict, judge};
+pub use open::Stop;

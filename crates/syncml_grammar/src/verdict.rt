@@ -1,0 +1,61 @@
+// What tokens are: a message, the beginning of one, or refused.
+ghost use Rattle.std.specs.Prelude.{◌≡◌, None, IfOk};
+ghost use Rattle.syncml_grammar.specs.Refusals.{Verdict as Judgement, Judges, verdict_of};
+ghost use Rattle.syncml_grammar.specs.Verdicts.{judgement, GivesOne};
+
+use crate::builder::Builder;
+use crate::open::Stop;
+use dm_base::Memory;
+use std::alloc::Global;
+use syncml_types::Message;
+use wbxml_tokens::{Reason, Token, Writer};
+
+/// What tokens are.
+#[derive(Drop)]
+pub enum Verdict {
+    /// They spell this message.
+    Message(Message),
+    /// They begin a message.
+    Unfinished,
+    /// The token at this place, counted from 0, is the first that is refused.
+    Refused { at: usize, reason: Reason },
+}
+
+fn put(builder: &mut Builder, token: &Token) -> Result<(), Stop>
+    requires { builder.old.stopped ≡ None }
+    ensures { GivesOne result builder.old builder.new token.now }
+{
+    match token {
+        Token::Tag { element, content } => builder.tag(*element, *content),
+        Token::End => builder.end(),
+        Token::Text(text) => builder.text(text.as_slice()),
+        Token::Opaque(bytes) => builder.text(bytes.as_slice()),
+    }
+}
+
+fn judged(alloc: Global, tokens: &[Token]) -> Result<Verdict, Memory>
+    ensures { IfOk result (λ verdict. judgement verdict ≡ verdict_of tokens.now) }
+{
+    let mut builder = Builder::new(alloc);
+    for (at, token) in tokens.iter().enumerate() {
+        match put(&mut builder, token) {
+            Ok(()) => {}
+            Err(Stop::Memory) => return Err(Memory),
+            Err(Stop::Refused(reason)) => return Ok(Verdict::Refused { at, reason }),
+        }
+    }
+    match builder.finish() {
+        Some(message) => Ok(Verdict::Message(message)),
+        None => Ok(Verdict::Unfinished),
+    }
+}
+
+/// Says of tokens which message they spell, or that they begin one, or which is refused first and why: Leftout, Nested or
+/// Misplaced where no document goes on with it, and Text or Number where it closes what doesn't read. Exactly one of these is
+/// so. The work is linear in the tokens and their texts.
+pub fn judge(alloc: Global, tokens: &[Token]) -> Result<Verdict, Memory>
+    ensures exact { IfOk result (λ verdict. Judges tokens.now (judgement verdict)) }
+    ensures only { (other : Judgement) → Judges tokens.now other → IfOk result (λ verdict. judgement verdict ≡ other) }
+{
+    judged(alloc, tokens)
+}
