@@ -4,7 +4,7 @@ ghost use Rattle.std.specs.FinMap as map;
 ghost use Rattle.dm_uri.specs.Names.{is_within_limits};
 ghost use Rattle.dm_tree.specs.declared.rows.Change.TheVariants as change;
 ghost use Rattle.dm_tree.specs.declared.edits.TreeError.TheVariants as error;
-ghost use Rattle.dm_tree.specs.Nodes.{made as made_node, changed, with_value, with_acl, with_title, IsNode, IsValue, IsShortAcl, tree_order};
+ghost use Rattle.dm_tree.specs.Nodes.{made as made_node, changed, counted, with_value, with_acl, with_title, IsNode, IsValue, IsShortAcl, tree_order};
 ghost use Rattle.dm_tree.specs.Rows.{nodes, ids, node_of, path_of, IsLive, IsParkedTop, StayLive};
 ghost use Rattle.dm_tree.specs.Edits.{with_node, with_row, attached_as, new_row, pruned, without_content, IsGrown};
 ghost use Rattle.dm_tree.specs.Undos.{Fits, TakesBack, TakesOut, IsHeld, IsDiscarded, row_of, flipped, turned};
@@ -117,6 +117,34 @@ fn set_attached(rows: &mut Vec<Row>, id: u32, attached: bool)
     row.attached = attached;
 }
 
+fn take_out(rows: &mut Vec<Row>, id: u32) -> Change
+    requires { id < length rows.old.items }
+    ensures rows { rows.new.items ≡ attached_as rows.old.items id false }
+    ensures change { result ≡ change.PutIn id }
+{
+    set_attached(rows, id, false);
+    Change::PutIn(id)
+}
+
+fn put_in(rows: &mut Vec<Row>, id: u32) -> Change
+    requires { id < length rows.old.items }
+    ensures rows { rows.new.items ≡ attached_as rows.old.items id true }
+    ensures change { result ≡ change.TakeOut id }
+{
+    set_attached(rows, id, true);
+    Change::TakeOut(id)
+}
+
+// Exchanges a node's VerNo and stamp with those that an Undo keeps.
+fn swap_counts(node: &mut Node, verno: &mut u16, stamp: &mut Stamp)
+    ensures node { node.new ≡ counted node.old verno.old stamp.old }
+    ensures verno { verno.new ≡ node.old.verno }
+    ensures stamp { stamp.new ≡ node.old.stamp }
+{
+    mem::swap(&mut node.verno, verno);
+    mem::swap(&mut node.stamp, stamp);
+}
+
 fn flip_row(rows: &mut Vec<Row>, change: &mut Change)
     requires { row_of change.old < length rows.old.items }
     ensures rows { rows.new.items ≡ flipped rows.old.items change.old }
@@ -126,37 +154,25 @@ fn flip_row(rows: &mut Vec<Row>, change: &mut Change)
         Change::Value(id, value, verno, stamp) => {
             let row = &mut rows[*id as usize];
             mem::swap(&mut row.node.value, value);
-            mem::swap(&mut row.node.verno, verno);
-            mem::swap(&mut row.node.stamp, stamp);
+            swap_counts(&mut row.node, verno, stamp);
         }
         Change::Acl(id, acl, verno, stamp) => {
             let row = &mut rows[*id as usize];
             mem::swap(&mut row.node.acl, acl);
-            mem::swap(&mut row.node.verno, verno);
-            mem::swap(&mut row.node.stamp, stamp);
+            swap_counts(&mut row.node, verno, stamp);
         }
         Change::Title(id, title, verno, stamp) => {
             let row = &mut rows[*id as usize];
             mem::swap(&mut row.node.title, title);
-            mem::swap(&mut row.node.verno, verno);
-            mem::swap(&mut row.node.stamp, stamp);
+            swap_counts(&mut row.node, verno, stamp);
         }
         Change::Name(id, name, verno, stamp) => {
             let row = &mut rows[*id as usize];
             mem::swap(&mut row.name, name);
-            mem::swap(&mut row.node.verno, verno);
-            mem::swap(&mut row.node.stamp, stamp);
+            swap_counts(&mut row.node, verno, stamp);
         }
-        Change::TakeOut(id) => {
-            let id = *id;
-            set_attached(rows, id, false);
-            *change = Change::PutIn(id);
-        }
-        Change::PutIn(id) => {
-            let id = *id;
-            set_attached(rows, id, true);
-            *change = Change::TakeOut(id);
-        }
+        Change::TakeOut(id) => *change = take_out(rows, *id),
+        Change::PutIn(id) => *change = put_in(rows, *id),
     }
 }
 
