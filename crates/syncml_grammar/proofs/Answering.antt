@@ -1,10 +1,10 @@
 -- What the public calls answer, from the steps that the builder takes.
-use Rattle.std.proofs.Common.{rules, arith, ◌≡◌, ◌↔◌, ◌≤◌, ◌+◌, ℕ, List, Option, Some, None, Result, Ok, Err, OnOk, IfOk, refl, sym, ap, subst, ◌∙◌}
+use Rattle.std.proofs.Common.{arith, ◌≡◌, ◌↔◌, ◌≤◌, List, Option, Some, None, Result, Ok, Err, OnOk, IfOk, refl, sym, ap, subst, ◌∙◌}
 use Rattle.dm_base.specs.declared.bytes.Memory.{Memory}
 use Rattle.wbxml_tokens.specs.declared.reason.Reason.{Reason}
 use Rattle.wbxml_tokens.specs.declared.token.Token.{Token}
 use Rattle.wbxml_tokens.specs.Taking.{Takes}
-use Rattle.syncml_shape.specs.Forest.{Forest, spelling}
+use Rattle.syncml_shape.specs.Forest.{spelling}
 use Rattle.syncml_types.specs.Message.{Parts}
 use Rattle.syncml_types.specs.Fitness.{IsFit}
 use Rattle.syncml_grammar.specs.declared.open.Stop.{Stop}

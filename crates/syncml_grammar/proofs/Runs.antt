@@ -1,7 +1,6 @@
 -- What the open elements are behind tokens that come one after the other.
-use Rattle.std.specs.Prelude.{◌≡◌, ℕ, ◌+◌, List, [], ◌∷◌, ◌++◌, None, Result, Ok, Err, refl}
-use Rattle.std.proofs.Common.{rules, sym, ap, ◌∙◌}
-use Rattle.wbxml_tokens.specs.declared.reason.Reason.{Reason}
+use Rattle.std.specs.Prelude.{◌≡◌, ℕ, ◌+◌, List, [], ◌∷◌, ◌++◌, None, Ok, Err, refl}
+use Rattle.std.proofs.Common.{rules}
 use Rattle.wbxml_tokens.specs.declared.token.Token.{Token}
 use Rattle.syncml_grammar.specs.Reads.{◌then◌}
 use Rattle.syncml_grammar.specs.Machine.{Frame, root, step}
@@ -13,7 +12,7 @@ pub behind-append : (before later : List Token) (from : List Frame)
 behind-append [] later from = refl
 behind-append (token ∷ before) later from =
     elim (step from token) as (λ o. (o then (λ after. frames_behind after (before ++ later)))
-        ≡ ((o then (λ after. frames_behind after before)) then (λ frames. frames_behind frames later))) [
+    ≡ ((o then (λ after. frames_behind after before)) then (λ frames. frames_behind frames later))) [
       | Ok after ↦ behind-append before later after
       | Err reason ↦ refl
     ]

@@ -1,5 +1,5 @@
 -- What elements with children hold before the first of them.
-use Rattle.std.specs.Prelude.{false, List, [], None}
+use Rattle.std.specs.Prelude.{false, [], None}
 use Rattle.wbxml_tables.specs.declared.Element.{Element}
 use Rattle.wbxml_tables.specs.declared.Element.TheVariants.{EAdd, ECopy, EDelete, EExec, EGet}
 use Rattle.syncml_shape.specs.declared.rows.Kind.{Kind}
@@ -27,8 +27,14 @@ no_loc = record { uri = []; name = None }
 
 abbrev pub no_meta : Meta
 no_meta = record {
-  format = None; media = None; size = None; next_nonce = None;
-  max_msg = None; max_obj = None; mark = None; version = None;
+  format = None;
+  media = None;
+  size = None;
+  next_nonce = None;
+  max_msg = None;
+  max_obj = None;
+  mark = None;
+  version = None;
 }
 
 abbrev pub no_item : Item
@@ -39,8 +45,16 @@ no_cred = record { meta = None; value = [] }
 
 abbrev pub no_header : Header
 no_header = record {
-  dtd = []; proto = []; session = []; msg = 0; target = no_loc; source = no_loc;
-  resp_uri = None; no_resp = false; cred = None; meta = None;
+  dtd = [];
+  proto = [];
+  session = [];
+  msg = 0;
+  target = no_loc;
+  source = no_loc;
+  resp_uri = None;
+  no_resp = false;
+  cred = None;
+  meta = None;
 }
 
 abbrev pub no_message : MessageDraft
@@ -63,13 +77,26 @@ no_sequence = record { id = 0; no_resp = false; meta = None; members = [] }
 
 abbrev pub no_status : StatusCmd
 no_status = record {
-  id = 0; msg_ref = 0; cmd_ref = 0; cmd = []; target_refs = []; source_refs = [];
-  chal = None; code = 0; items = [];
+  id = 0;
+  msg_ref = 0;
+  cmd_ref = 0;
+  cmd = [];
+  target_refs = [];
+  source_refs = [];
+  chal = None;
+  code = 0;
+  items = [];
 }
 
 abbrev pub no_results : ResultsCmd
 no_results = record {
-  id = 0; msg_ref = None; cmd_ref = 0; meta = None; target_ref = None; source_ref = None; items = [];
+  id = 0;
+  msg_ref = None;
+  cmd_ref = 0;
+  meta = None;
+  target_ref = None;
+  source_ref = None;
+  items = [];
 }
 
 -- the verb of a command with items

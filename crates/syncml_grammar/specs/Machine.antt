@@ -11,7 +11,7 @@ use Rattle.syncml_shape.specs.Rows.{Content, document, start, next, is_complete,
 use Rattle.syncml_shape.specs.Faults.{tag_fault}
 use Rattle.syncml_types.specs.Message.{Parts}
 use Rattle.syncml_grammar.specs.declared.draft.Draft.TheVariants as draft
-use Rattle.syncml_grammar.specs.Values.{Value, of_leaf, of_draft, fresh, with_text, closed, with_child}
+use Rattle.syncml_grammar.specs.Values.{Value, of_draft, fresh, with_text, closed, with_child}
 use Rattle.syncml_grammar.specs.Reads.{◌then◌, parts_in}
 
 -- an open element: its name, what it may still have, and what it holds so far; the document has no name

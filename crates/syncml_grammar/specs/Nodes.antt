@@ -19,7 +19,6 @@ use Rattle.syncml_types.specs.declared.command.StatusCmd.{StatusCmd}
 use Rattle.syncml_types.specs.declared.command.ResultsCmd.{ResultsCmd}
 use Rattle.syncml_types.specs.declared.command.Command.{Command}
 use Rattle.syncml_types.specs.declared.command.Command.TheVariants as command
-use Rattle.syncml_grammar.specs.declared.draft.BodyDraft.{BodyDraft}
 use Rattle.syncml_grammar.specs.declared.draft.MessageDraft.{MessageDraft}
 use Rattle.syncml_grammar.specs.declared.draft.Draft.{Draft}
 use Rattle.syncml_grammar.specs.declared.draft.Draft.TheVariants as draft

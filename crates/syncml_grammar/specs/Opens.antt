@@ -1,8 +1,6 @@
 -- The open elements as the builder keeps them, and what its calls answer.
-use Rattle.std.specs.Prelude.{◌≡◌, ◌+◌, ◌≤◌, ℕ, List, [], ◌∷◌, map, reverse, length, Option, Some, None, Result, Ok, Err, Bool, false, true, ⊤}
+use Rattle.std.specs.Prelude.{◌≡◌, List, [], ◌∷◌, map, reverse, Option, Some, None, Result, Ok, Err, false, ⊤}
 use Rattle.wbxml_tokens.specs.declared.reason.Reason.{Reason}
-use Rattle.wbxml_tokens.specs.declared.token.Token.{Token}
-use Rattle.wbxml_tokens.specs.declared.token.Token.TheVariants.{Tag, End, Text, Opaque}
 use Rattle.syncml_shape.specs.declared.rows.Kind.{Kind}
 use Rattle.syncml_shape.specs.declared.rows.Kind.TheVariants as kinds
 use Rattle.syncml_shape.specs.Rows.{Content, in_order, pieces}
@@ -14,7 +12,7 @@ use Rattle.syncml_grammar.specs.declared.open.OpenLeaf.{OpenLeaf}
 use Rattle.syncml_grammar.specs.declared.open.Stop.{Stop}
 use Rattle.syncml_grammar.specs.declared.open.Stop.TheVariants as stops
 use Rattle.syncml_grammar.specs.Values.{of_leaf, of_draft}
-use Rattle.syncml_grammar.specs.Machine.{Frame, step}
+use Rattle.syncml_grammar.specs.Machine.{Frame}
 
 abbrev pub frame_of : Open → Frame
 frame_of o = record { element = o.element; kind = o.kind; content = content_of o.progress; value = of_draft o.draft }

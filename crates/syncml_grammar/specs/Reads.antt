@@ -1,19 +1,16 @@
 -- What the texts of a tree read as: the message, or the first text or number that doesn't read.
 use Rattle.std.specs.Prelude.{◌≡◌, ℕ, ◌+◌, List, Option, Some, None, Result, Ok, Err}
-use Rattle.wbxml_tables.specs.declared.Element.{Element}
 use Rattle.wbxml_tokens.specs.declared.reason.Reason.{Reason}
 use Rattle.wbxml_tokens.specs.declared.reason.Reason.TheVariants.{Misplaced}
 use Rattle.wbxml_tokens.specs.declared.token.Token.{Token}
-use Rattle.syncml_shape.specs.declared.rows.Kind.{Kind}
 use Rattle.syncml_shape.specs.Forest.{Forest, nothing, text, opaque, bare, full}
 use Rattle.syncml_shape.specs.Rows.{Content, document, start, next}
 use Rattle.syncml_shape.specs.Shape.{HasShape}
 use Rattle.syncml_types.specs.Message.{Parts}
 use Rattle.syncml_types.specs.declared.values.Header.{Header}
-use Rattle.syncml_grammar.specs.declared.draft.Draft.{Draft}
 use Rattle.syncml_grammar.specs.declared.draft.Draft.TheVariants as draft
 use Rattle.syncml_grammar.specs.declared.draft.MessageDraft.{MessageDraft}
-use Rattle.syncml_grammar.specs.Values.{Value, of_leaf, of_draft, Whole, fresh, with_text, closed, with_child}
+use Rattle.syncml_grammar.specs.Values.{Value, of_draft, fresh, with_text, closed, with_child}
 
 -- a reason, and the place of the token that closes what doesn't read; tokens are counted from 0
 pub record Unread : Type 0 where

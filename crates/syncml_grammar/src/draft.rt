@@ -12,8 +12,8 @@ use std::boxed::Box;
 use std::marker::Model;
 use syncml_shape::Kind;
 use syncml_types::{
-    AlertCmd, Block, Command, Cred, Header, Item, Loc, Meta, Plain, ResultsCmd, SeqBlock, StatusCmd,
-    Verb,
+    AlertCmd, Block, Command, Cred, Header, Item, Loc, Meta, Plain, ResultsCmd, SeqBlock,
+    StatusCmd, Verb,
 };
 use wbxml_tables::Element;
 

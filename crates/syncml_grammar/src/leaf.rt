@@ -7,8 +7,8 @@ ghost use Rattle.syncml_grammar.specs.Numbers.{number_in};
 use crate::digits::Digits;
 use dm_base::{Bytes, Memory};
 use std::alloc::Global;
-use syncml_types::put_value::is_plain_text;
 use syncml_shape::Kind;
+use syncml_types::put_value::is_plain_text;
 use wbxml_tokens::Reason;
 
 /// What has been read of an element without children.

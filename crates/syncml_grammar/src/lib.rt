@@ -19,5 +19,5 @@ mod value_tests;
 pub mod verdict;
 
 pub use builder::Builder;
-pub use verdict::{Verdict, judge};
 pub use open::Stop;
+pub use verdict::{Verdict, judge};

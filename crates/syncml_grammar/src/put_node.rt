@@ -194,11 +194,7 @@ fn put_in_meta(meta: &mut Meta, child: Draft)
 }
 
 /// Puts what a child with children holds into its parent.
-pub(crate) fn put_node(
-    draft: &mut Draft,
-    element: Element,
-    child: Draft,
-) -> Result<(), Memory>
+pub(crate) fn put_node(draft: &mut Draft, element: Element, child: Draft) -> Result<(), Memory>
     ensures { OnOk result (draft.new ≡ with_node draft.old element child) }
 {
     match draft {

@@ -177,11 +177,7 @@ fn put_flag(draft: &mut Draft)
 }
 
 /// Puts what a child without children holds into its parent.
-pub(crate) fn put_simple(
-    draft: &mut Draft,
-    element: Element,
-    simple: Simple,
-) -> Result<(), Memory>
+pub(crate) fn put_simple(draft: &mut Draft, element: Element, simple: Simple) -> Result<(), Memory>
     ensures { OnOk result (draft.new ≡ with_simple draft.old element simple) }
 {
     match simple {

@@ -26,8 +26,7 @@ pub(crate) struct Nest {
 impl Model for Nest {
     ghost use Rattle.std.specs.Prelude.{List};
     ghost use Rattle.syncml_grammar.specs.Machine.{Frame};
-    ghost use Rattle.syncml_grammar.specs.Values.{holds_leaf};
-ghost use Rattle.syncml_grammar.specs.Opens.{frames_of};
+    ghost use Rattle.syncml_grammar.specs.Opens.{frames_of};
 
     ghost Value = { List Frame };
 
@@ -64,7 +63,13 @@ impl Nest {
     }
 
     // The tag of a child with children.
-    fn draft(&mut self, alloc: Global, element: Element, kind: Kind, content: bool) -> Result<(), Stop>
+    fn draft(
+        &mut self,
+        alloc: Global,
+        element: Element,
+        kind: Kind,
+        content: bool,
+    ) -> Result<(), Stop>
         requires { holds_leaf kind ≡ false }
         ensures { GivesFrames result self.new (on_kind self.old element content kind) }
     {
@@ -178,8 +183,7 @@ pub(crate) struct Stack {
 impl Model for Stack {
     ghost use Rattle.std.specs.Prelude.{List};
     ghost use Rattle.syncml_grammar.specs.Machine.{Frame};
-    ghost use Rattle.syncml_grammar.specs.Values.{holds_leaf};
-ghost use Rattle.syncml_grammar.specs.Opens.{with_leaf};
+    ghost use Rattle.syncml_grammar.specs.Opens.{with_leaf};
 
     ghost Value = { List Frame };
 

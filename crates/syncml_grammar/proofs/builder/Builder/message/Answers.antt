@@ -6,5 +6,5 @@ use Rattle.syncml_grammar.proofs.builder.Builder.message.Goals as goal
 
 pub of_parts-requires : goal.of_parts-requires
 of_parts-requires c =
-    fit_behind read_is_fit (record { frames = c.self.inside.stack; room = c.self.inside.room; stopped = c.self.inside.stopped }) (parts_of c.in-Some.parts)
-    c.self.invariant c.in_default.is (sym c.into_parts.ensures ∙ ap (option_map parts_of) c.in-Some.is)
+    fit_behind read_is_fit (record { frames = c.self.inside.stack; room = c.self.inside.room; stopped = c.self.inside.stopped }) (parts_of c.in-Some-into_parts.parts)
+    c.self.invariant c.in_default.is (sym c.into_parts.ensures ∙ ap (option_map parts_of) c.in-Some-into_parts.is)

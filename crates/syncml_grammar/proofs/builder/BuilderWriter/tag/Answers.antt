@@ -1,5 +1,5 @@
 use Rattle.std.proofs.Common.{rules}
-use Rattle.wbxml_tokens.specs.declared.token.Token.TheVariants.{Tag, End, Text, Opaque}
+use Rattle.wbxml_tokens.specs.declared.token.Token.TheVariants.{Tag}
 use Rattle.syncml_grammar.proofs.Runs.{building_more}
 use Rattle.syncml_grammar.proofs.builder.BuilderWriter.tag.Goals as goal
 

@@ -1,5 +1,4 @@
-use Rattle.std.proofs.Common.{rules}
-use Rattle.wbxml_tokens.specs.declared.token.Token.TheVariants.{Tag, End, Text, Opaque}
+use Rattle.wbxml_tokens.specs.declared.token.Token.TheVariants.{Text}
 use Rattle.syncml_grammar.proofs.Runs.{building_more}
 use Rattle.syncml_grammar.proofs.builder.BuilderWriter.text.Goals as goal
 
