@@ -1,6 +1,7 @@
 //! Messages to bytes and back. So far: every message is written, and those of the first path are read.
 #![tactic(auto)]
 
+pub mod decoder;
 pub mod encoder;
 pub mod first;
 pub mod first_get;
@@ -13,6 +14,7 @@ mod parts;
 #[cfg(test)]
 mod tests;
 
+pub use decoder::{DecodeError, Decoder};
 pub use encoder::encode;
 pub use first::{FirstEnds, FirstGet};
 pub use first_get::read_first;
