@@ -8,6 +8,7 @@ use Rattle.wbxml_tokens.specs.Taking.{taken}
 use Rattle.syncml_types.specs.Message.{Parts}
 use Rattle.syncml_grammar.specs.Building.{Building, no_building, built_by}
 use Rattle.syncml_grammar.specs.Taken.{building}
+use Rattle.syncml_codec.specs.Messages.{Spells, MessageRefusedAt}
 use Rattle.syncml_codec.specs.declared.decoder.DecodeError.{DecodeError}
 use Rattle.syncml_codec.specs.declared.decoder.DecodeError.TheVariants as errors
 
@@ -44,6 +45,12 @@ IsRead (Ok parts) read = read ≡ Ok parts
 IsRead (Err (errors.Refused refusal)) read = read ≡ Err refusal
 IsRead (Err errors.Memory) read = ⊤
 
+-- an answer to bytes is the message that they spell, or why they are refused, or want of memory
+abbrev pub Decodes : Result Parts DecodeError → List ℕ → Type 0
+Decodes (Ok parts) bytes = Spells bytes parts
+Decodes (Err (errors.Refused refusal)) bytes = MessageRefusedAt bytes refusal.at refusal.reason
+Decodes (Err errors.Memory) bytes = ⊤
+
 -- a refusal is told exactly where it is settled
 abbrev pub TellsSettled : Result Unit DecodeError → Option Refusal → Type 0
 TellsSettled (Ok u) refused = refused ≡ None
@@ -73,3 +80,7 @@ HasDecoded d bytes = StandsBehind d.stopped d bytes
 -- want of memory stopped it
 abbrev pub Lacks : Decoding → Type 0
 Lacks d = d.stopped ≡ Some errors.Memory
+
+-- it lacks memory where that was answered, and for good
+abbrev pub LacksAfter : Result Unit DecodeError → Decoding → Decoding → Type 0
+LacksAfter answer old new = (answer ≡ Err errors.Memory → Lacks new) × (Lacks old → answer ≡ Err errors.Memory)

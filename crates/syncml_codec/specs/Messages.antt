@@ -1,5 +1,5 @@
 -- Which bytes spell a message, and where and why all others are refused.
-use Rattle.std.specs.Prelude.{◌≡◌, ◌≤◌, ℕ, List, [], ◌∷◌, ◌++◌, length, take, ⊥}
+use Rattle.std.specs.Prelude.{◌≡◌, ◌≤◌, ℕ, List, [], ◌∷◌, ◌++◌, length, take}
 use Rattle.wbxml_tokens.specs.declared.reason.Reason.{Reason}
 use Rattle.wbxml_tokens.specs.declared.reason.Reason.TheVariants as reasons
 use Rattle.wbxml_tokens.specs.declared.token.Token.{Token}

@@ -12,9 +12,11 @@ pub mod lister;
 pub mod names;
 mod parts;
 #[cfg(test)]
+mod decode_tests;
+#[cfg(test)]
 mod tests;
 
-pub use decoder::{DecodeError, Decoder};
+pub use decoder::{DecodeError, Decoder, decode};
 pub use encoder::encode;
 pub use first::{FirstEnds, FirstGet};
 pub use first_get::read_first;
