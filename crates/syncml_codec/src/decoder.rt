@@ -113,10 +113,9 @@ fn decoded(alloc: Global, bytes: &[u8]) -> Result<Message, DecodeError>
     ensures { IsRead result (read_of bytes.now) }
 {
     let mut decoder = Decoder::new(alloc);
-    match decoder.feed(bytes) {
-        Ok(()) => decoder.finish(),
-        Err(error) => Err(error),
-    }
+    // What a feed refuses, `finish` refuses too.
+    let _ = decoder.feed(bytes);
+    decoder.finish()
 }
 
 /// Reads a message: Ok exactly where the bytes spell it, and Refused exactly at the place and for the reason of the first
