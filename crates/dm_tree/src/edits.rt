@@ -50,7 +50,7 @@ fn made(node: NewNode, clock: Stamp) -> Node
 }
 
 // One more, modulo 65,536.
-fn raised(verno: u16) -> u16
+pub(crate) fn raised(verno: u16) -> u16
     ensures { result ≡ (verno + 1) % 2 ^ 16 }
 {
     verno.wrapping_add(1)

@@ -5,6 +5,7 @@ pub mod arena;
 pub mod edits;
 mod lays;
 pub mod nodes;
+mod renames;
 pub mod rows;
 #[cfg(test)]
 mod tests;
