@@ -20,3 +20,7 @@ pub mod GivenUps
 pub mod Rekeyed
 pub mod RenamedTrees
 pub mod Rooms
+pub mod Forks
+pub mod Firsts
+pub mod Leasts
+pub mod Steps

@@ -76,13 +76,14 @@ abbrev pub is_better : List Row → Option ℕ → Row → Bool
 is_better rows None r = true
 is_better rows (Some best) r = is_lt (slice_cmp nat_cmp r.name (row_at rows best).name)
 
+abbrev pub is_next : List Row → ℕ → Option ℕ → Option ℕ → Row → Bool
+is_next rows id after best r = is_later_child rows id after r && is_better rows best r
+
 -- among the first n rows, the child of `id` behind a row whose name comes first
 abbrev pub least_child : List Row → ℕ → Option ℕ → ℕ → Option ℕ
 least_child rows id after zero = None
 least_child rows id after (suc n) =
-    if is_later_child rows id after (row_at rows n) && is_better rows (least_child rows id after n) (row_at rows n)
-    then Some n
-    else least_child rows id after n
+    if is_next rows id after (least_child rows id after n) (row_at rows n) then Some n else least_child rows id after n
 
 -- the first sibling behind the row k or behind one of the d rows above it, up to `top`
 abbrev pub next_past : List Row → ℕ → ℕ → ℕ → Option ℕ

@@ -7,6 +7,7 @@ mod lays;
 pub mod nodes;
 mod renames;
 pub mod rows;
+mod siblings;
 #[cfg(test)]
 mod tests;
 mod text;

@@ -1,0 +1,102 @@
+-- The first of the keys that pass a test.
+use Rattle.std.proofs.Common.{◌≡◌, Bool, true, false, cond, List, [], ◌∷◌, map, Option, None, Some, refl, sym, ◌∙◌, ap, subst, T}
+use Rattle.std.specs.Prelude.{◌&&◌}
+use Rattle.std.specs.List.{find}
+use Rattle.std.specs.Ordering.{eq_by_cmp, is_lt}
+use Rattle.std.proofs.lemmas.Bool.{and_parts}
+use Rattle.std.specs.FinMap.{FinMap, get, keys, entries, is_sorted, entries_sorted, get-entries}
+use Rattle.std.specs.FinMap as map
+use Rattle.std.specs.FinMap.Entries.{below_all}
+use Rattle.dm_tree.specs.Nodes.{Path, tree_order}
+use Rattle.dm_tree.specs.Order.{is_before}
+use Rattle.dm_tree.proofs.Paths.{same_path, other_path}
+use Rattle.dm_tree.proofs.Keys.{tied}
+
+abbrev pub value_of : {X : Type 0} → Path → List (Path × X) → Option X
+value_of q es = map.find tree_order q es
+
+abbrev pub names_of : {X : Type 0} → List (Path × X) → List Path
+names_of es = map (λ e. e.0) es
+
+is_true : (b : Bool) → T b → b ≡ true
+is_true true t = refl
+is_true false t = absurd t
+
+-- the keys rise from the first on
+rises : {X : Type 0} (p : Path) (es : List (Path × X)) → below_all tree_order p es ≡ true → (q : Path) (y : X) → value_of q es ≡ Some y → is_before p q ≡ true
+rises p [] s q y h = absurd (cc)
+rises p (d ∷ ds) s q y h =
+    let both = and_parts (is_lt (tree_order p d.0)) (below_all tree_order p ds) s in
+    elim (eq_by_cmp tree_order q d.0) as (λ b. eq_by_cmp tree_order q d.0 ≡ b → cond b (Some d.1) (value_of q ds) ≡ Some y → is_before p q ≡ true) [
+      | true ↦ λ is _. ap (is_before p) (same_path q d.0 is) ∙ both.0
+      | false ↦ λ is g. rises p ds both.1 q y g
+    ] refl h
+
+first_of : {X : Type 0} (es : List (Path × X)) → is_sorted tree_order es ≡ true → (f : Path → Bool) (p : Path) (x : X) → value_of p es ≡ Some x → f p ≡ true
+    → ((q : Path) (y : X) → value_of q es ≡ Some y → f q ≡ true → is_before q p ≡ false) → find f (names_of es) ≡ Some p
+first_of [] s f p x there passes least = absurd (cc)
+first_of {X} (e ∷ es) s f p x there passes least =
+    elim (f e.0) as (λ b. f e.0 ≡ b → cond b (Some e.0) (find f (names_of es)) ≡ Some p) [
+      | true ↦ λ fe. elim (eq_by_cmp tree_order p e.0) as (λ b. eq_by_cmp tree_order p e.0 ≡ b → cond b (Some e.1) (value_of p es) ≡ Some x → Some e.0 ≡ Some p) [
+        | true ↦ λ is _. ap (λ q. Some q) (sym (same_path p e.0 is))
+        | false ↦ λ is g. let early = rises e.0 es (and_parts (below_all tree_order e.0 es) (is_sorted tree_order es) s).0 p x g in let late = least e.0 e.1 (rw (tied e.0 e.0 refl) refl) fe in absurd (cc)
+      ] refl there
+      | false ↦ λ fe. elim (eq_by_cmp tree_order p e.0) as (λ b. eq_by_cmp tree_order p e.0 ≡ b → cond b (Some e.1) (value_of p es) ≡ Some x → find f (names_of es) ≡ Some p) [
+        | true ↦ λ is _. let passed = ap f (sym (same_path p e.0 is)) ∙ passes in absurd (cc)
+        | false ↦ λ is g. first_of es (and_parts (below_all tree_order e.0 es) (is_sorted tree_order es) s).1 f p x g passes (later fe)
+      ] refl there
+    ] refl
+  where
+    later : f e.0 ≡ false → (q : Path) (y : X) → value_of q es ≡ Some y → f q ≡ true → is_before q p ≡ false
+    later fe q y g fq =
+        elim (eq_by_cmp tree_order q e.0) as (λ b. eq_by_cmp tree_order q e.0 ≡ b → is_before q p ≡ false) [
+          | true ↦ λ is. let no_pass = ap f (same_path q e.0 is) ∙ fe in absurd (cc)
+          | false ↦ λ is. least q y (rw is g) fq
+        ] refl
+
+none_of : {X : Type 0} (es : List (Path × X)) (f : Path → Bool) → ((q : Path) (y : X) → value_of q es ≡ Some y → f q ≡ false) → find f (names_of es) ≡ None
+none_of [] f all = refl
+none_of {X} (e ∷ es) f all = rw first (none_of es f later)
+  where
+    first : f e.0 ≡ false
+    first = all e.0 e.1 (rw (tied e.0 e.0 refl) refl)
+
+    later : (q : Path) (y : X) → value_of q es ≡ Some y → f q ≡ false
+    later q y g =
+        elim (eq_by_cmp tree_order q e.0) as (λ b. eq_by_cmp tree_order q e.0 ≡ b → f q ≡ false) [
+          | true ↦ λ is. ap f (same_path q e.0 is) ∙ first
+          | false ↦ λ is. all q y (rw is g)
+        ] refl
+
+same_of : {X : Type 0} (es : List (Path × X)) (f g : Path → Bool) → ((q : Path) (y : X) → value_of q es ≡ Some y → f q ≡ g q) → find f (names_of es) ≡ find g (names_of es)
+same_of [] f g all = refl
+same_of {X} (e ∷ es) f g all = rw (first, same_of es f g later) refl
+  where
+    first : f e.0 ≡ g e.0
+    first = all e.0 e.1 (rw (tied e.0 e.0 refl) refl)
+
+    later : (q : Path) (y : X) → value_of q es ≡ Some y → f q ≡ g q
+    later q y h =
+        elim (eq_by_cmp tree_order q e.0) as (λ b. eq_by_cmp tree_order q e.0 ≡ b → f q ≡ g q) [
+          | true ↦ λ is. ap f (same_path q e.0 is) ∙ first ∙ sym (ap g (same_path q e.0 is))
+          | false ↦ λ is. all q y (rw is h)
+        ] refl
+
+module _ {X : Type 0} (m : FinMap tree_order X) (f : Path → Bool) where
+  -- p is there and passes, and nothing that passes stands before it
+  pub record IsFirst (p : Path) : Type 0 where
+    pub value : X
+    pub there : get m p ≡ Some value
+    pub passes : f p ≡ true
+    pub least : (q : Path) (y : X) → get m q ≡ Some y → f q ≡ true → is_before q p ≡ false
+
+  pub first_key : (p : Path) → IsFirst p → find f (keys m) ≡ Some p
+  first_key p is =
+      first_of (entries m) (is_true _ (entries_sorted m)) f p is.value (sym (get-entries m p) ∙ is.there) is.passes
+      (λ q y h. is.least q y (get-entries m q ∙ h))
+
+  pub no_key : ((q : Path) (y : X) → get m q ≡ Some y → f q ≡ false) → find f (keys m) ≡ None
+  no_key all = none_of (entries m) f (λ q y h. all q y (get-entries m q ∙ h))
+
+  pub same_key : (g : Path → Bool) → ((q : Path) (y : X) → get m q ≡ Some y → f q ≡ g q) → find f (keys m) ≡ find g (keys m)
+  same_key g all = same_of (entries m) f g (λ q y h. all q y (get-entries m q ∙ h))
