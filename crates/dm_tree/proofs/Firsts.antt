@@ -11,6 +11,7 @@ use Rattle.dm_tree.specs.Nodes.{Path, tree_order}
 use Rattle.dm_tree.specs.Order.{is_before}
 use Rattle.dm_tree.proofs.Paths.{same_path, other_path}
 use Rattle.dm_tree.proofs.Keys.{tied}
+use Rattle.dm_tree.proofs.Forks.{not_before_itself}
 
 abbrev pub value_of : {X : Type 0} → Path → List (Path × X) → Option X
 value_of q es = map.find tree_order q es
@@ -100,3 +101,42 @@ module _ {X : Type 0} (m : FinMap tree_order X) (f : Path → Bool) where
 
   pub same_key : (g : Path → Bool) → ((q : Path) (y : X) → get m q ≡ Some y → f q ≡ g q) → find f (keys m) ≡ find g (keys m)
   same_key g all = same_of (entries m) f g (λ q y h. all q y (get-entries m q ∙ h))
+
+-- ---- the first entry that passes
+
+entry_of : {X : Type 0} (es : List (Path × X)) → is_sorted tree_order es ≡ true → (f : Path × X → Bool) (d : Path × X) → find f es ≡ Some d → (value_of d.0 es ≡ Some d.1) × (f d ≡ true)
+entry_of [] s f d h = absurd (cc)
+entry_of {X} (e ∷ es) s f d h =
+    elim (f e) as (λ b. f e ≡ b → cond b (Some e) (find f es) ≡ Some d → (value_of d.0 (e ∷ es) ≡ Some d.1) × (f d ≡ true)) [
+      | true ↦ λ fe g. let same : e ≡ d = cc in (subst (λ c. value_of c.0 (e ∷ es) ≡ Some c.1) same (rw (tied e.0 e.0 refl) refl), ap f (sym same) ∙ fe)
+      | false ↦ λ fe g.
+          let behind = entry_of es both.1 f d g in
+          let late = rises e.0 es both.0 d.0 d.1 behind.0 in
+          (rw (not_tied d.0 e.0 late) behind.0, behind.1)
+    ] refl h
+  where
+    both : (below_all tree_order e.0 es ≡ true) × (is_sorted tree_order es ≡ true)
+    both = and_parts (below_all tree_order e.0 es) (is_sorted tree_order es) s
+
+    not_tied : (q p : Path) → is_before p q ≡ true → eq_by_cmp tree_order q p ≡ false
+    not_tied q p late = elim (eq_by_cmp tree_order q p) as (λ b. eq_by_cmp tree_order q p ≡ b → b ≡ false) [
+      | true ↦ λ is. let no_more = ap (is_before p) (same_path q p is) ∙ not_before_itself p in absurd (cc)
+      | false ↦ λ _. refl
+    ] refl
+
+no_entry_of : {X : Type 0} (es : List (Path × X)) (f : Path × X → Bool) → find f es ≡ None → (q : Path) (x : X) → value_of q es ≡ Some x → f (q, x) ≡ false
+no_entry_of [] f h q x there = absurd (cc)
+no_entry_of {X} (e ∷ es) f h q x there =
+    elim (f e) as (λ b. f e ≡ b → cond b (Some e) (find f es) ≡ None → f (q, x) ≡ false) [
+      | true ↦ λ fe g. absurd (cc)
+      | false ↦ λ fe g. elim (eq_by_cmp tree_order q e.0) as (λ b. eq_by_cmp tree_order q e.0 ≡ b → cond b (Some e.1) (value_of q es) ≡ Some x → f (q, x) ≡ false) [
+        | true ↦ λ is v. let value : e.1 ≡ x = cc in ap (λ p. f (p, x)) (same_path q e.0 is) ∙ ap (λ y. f (e.0, y)) (sym value) ∙ fe
+        | false ↦ λ is v. no_entry_of es f g q x v
+      ] refl there
+    ] refl h
+
+pub entry_there : {X : Type 0} (m : FinMap tree_order X) (f : Path × X → Bool) (d : Path × X) → find f (entries m) ≡ Some d → (get m d.0 ≡ Some d.1) × (f d ≡ true)
+entry_there m f d h = let there = entry_of (entries m) (is_true _ (entries_sorted m)) f d h in (get-entries m d.0 ∙ there.0, there.1)
+
+pub no_entry : {X : Type 0} (m : FinMap tree_order X) (f : Path × X → Bool) → find f (entries m) ≡ None → (q : Path) (x : X) → get m q ≡ Some x → f (q, x) ≡ false
+no_entry m f h q x there = no_entry_of (entries m) f h q x (sym (get-entries m q) ∙ there)

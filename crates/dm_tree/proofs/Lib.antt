@@ -24,3 +24,4 @@ pub mod Forks
 pub mod Firsts
 pub mod Leasts
 pub mod Steps
+pub mod Devices

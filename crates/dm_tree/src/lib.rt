@@ -12,6 +12,7 @@ mod siblings;
 mod tests;
 mod text;
 pub mod tree;
+mod update;
 mod walks;
 
 pub use arena::Tree;
