@@ -1,7 +1,7 @@
 -- The first of the keys that pass a test.
 use Rattle.std.proofs.Common.{◌≡◌, Bool, true, false, cond, List, [], ◌∷◌, map, Option, None, Some, refl, sym, ◌∙◌, ap, subst, T}
 use Rattle.std.specs.Prelude.{◌&&◌}
-use Rattle.std.specs.List.{find}
+use Rattle.std.specs.List.{find, filter}
 use Rattle.std.specs.Ordering.{eq_by_cmp, is_lt}
 use Rattle.std.proofs.lemmas.Bool.{and_parts}
 use Rattle.std.specs.FinMap.{FinMap, get, keys, entries, is_sorted, entries_sorted, get-entries}
@@ -11,7 +11,7 @@ use Rattle.dm_tree.specs.Nodes.{Path, tree_order}
 use Rattle.dm_tree.specs.Order.{is_before}
 use Rattle.dm_tree.proofs.Paths.{same_path, other_path}
 use Rattle.dm_tree.proofs.Keys.{tied}
-use Rattle.dm_tree.proofs.Forks.{not_before_itself}
+use Rattle.dm_tree.proofs.Forks.{not_before_itself, not_back}
 
 abbrev pub value_of : {X : Type 0} → Path → List (Path × X) → Option X
 value_of q es = map.find tree_order q es
@@ -102,6 +102,17 @@ module _ {X : Type 0} (m : FinMap tree_order X) (f : Path → Bool) where
   pub same_key : (g : Path → Bool) → ((q : Path) (y : X) → get m q ≡ Some y → f q ≡ g q) → find f (keys m) ≡ find g (keys m)
   same_key g all = same_of (entries m) f g (λ q y h. all q y (get-entries m q ∙ h))
 
+passing : {X : Type 0} (f : X → Bool) (xs : List X) (x : X) → find f xs ≡ Some x → f x ≡ true
+passing f [] x h = absurd (cc)
+passing {X} f (y ∷ ys) x h =
+    elim (f y) as (λ b. f y ≡ b → cond b (Some y) (find f ys) ≡ Some x → f x ≡ true) [
+      | true ↦ λ is g. let same : y ≡ x = cc in ap f (sym same) ∙ is
+      | false ↦ λ is g. passing f ys x g
+    ] refl h
+
+pub key_passes : {X : Type 0} (m : FinMap tree_order X) (f : Path → Bool) (p : Path) → find f (keys m) ≡ Some p → f p ≡ true
+key_passes m f p h = passing f (keys m) p h
+
 -- ---- the first entry that passes
 
 entry_of : {X : Type 0} (es : List (Path × X)) → is_sorted tree_order es ≡ true → (f : Path × X → Bool) (d : Path × X) → find f es ≡ Some d → (value_of d.0 es ≡ Some d.1) × (f d ≡ true)
@@ -140,3 +151,68 @@ entry_there m f d h = let there = entry_of (entries m) (is_true _ (entries_sorte
 
 pub no_entry : {X : Type 0} (m : FinMap tree_order X) (f : Path × X → Bool) → find f (entries m) ≡ None → (q : Path) (x : X) → get m q ≡ Some x → f (q, x) ≡ false
 no_entry m f h q x there = no_entry_of (entries m) f h q x (sym (get-entries m q) ∙ there)
+
+-- ---- all that pass
+
+key_there : {X : Type 0} (es : List (Path × X)) (f : Path → Bool) (q : Path) → find f (names_of es) ≡ Some q → (y : X) × (value_of q es ≡ Some y)
+key_there [] f q h = absurd (cc)
+key_there {X} (e ∷ es) f q h =
+    elim (f e.0) as (λ b. f e.0 ≡ b → cond b (Some e.0) (find f (names_of es)) ≡ Some q → (y : X) × (value_of q (e ∷ es) ≡ Some y)) [
+      | true ↦ λ fe g. let same : e.0 ≡ q = cc in (e.1, rw (tied q e.0 (sym same)) refl)
+      | false ↦ λ fe g. let there = key_there es f q g in elim (eq_by_cmp tree_order q e.0) as (λ b. eq_by_cmp tree_order q e.0 ≡ b → (y : X) × (value_of q (e ∷ es) ≡ Some y)) [
+        | true ↦ λ is. (e.1, rw is refl)
+        | false ↦ λ is. (there.0, rw is there.1)
+      ] refl
+    ] refl h
+
+-- what stands behind the first key stands there with it
+behind_first : {X : Type 0} (e : Path × X) (es : List (Path × X)) → below_all tree_order e.0 es ≡ true → (r : Path) (y : X) → value_of r es ≡ Some y → value_of r (e ∷ es) ≡ Some y
+behind_first e es low r y h = rw (not_tied (rises e.0 es low r y h)) h
+  where
+    not_tied : is_before e.0 r ≡ true → eq_by_cmp tree_order r e.0 ≡ false
+    not_tied late = elim (eq_by_cmp tree_order r e.0) as (λ b. eq_by_cmp tree_order r e.0 ≡ b → b ≡ false) [
+      | true ↦ λ is. let no_more = ap (is_before e.0) (same_path r e.0 is) ∙ not_before_itself e.0 in absurd (cc)
+      | false ↦ λ _. refl
+    ] refl
+
+same_filter : {X : Type 0} (es : List (Path × X)) → is_sorted tree_order es ≡ true → (f g : Path → Bool) → ((r : Path) (y : X) → value_of r es ≡ Some y → f r ≡ g r) → filter f (names_of es) ≡ filter g (names_of es)
+same_filter [] s f g all = refl
+same_filter (e ∷ es) s f g all =
+    let both = and_parts (below_all tree_order e.0 es) (is_sorted tree_order es) s in
+    let first : f e.0 ≡ g e.0 = all e.0 e.1 (rw (tied e.0 e.0 refl) refl) in
+    rw (first, same_filter es both.1 f g (λ r y h. all r y (behind_first e es both.0 r y h))) refl
+
+filter_from : {X : Type 0} (es : List (Path × X)) → is_sorted tree_order es ≡ true → (f g : Path → Bool) (q : Path) → find f (names_of es) ≡ Some q
+    → ((r : Path) → is_before q r ≡ false → g r ≡ false) → ((r : Path) (y : X) → value_of r es ≡ Some y → is_before q r ≡ true → f r ≡ g r)
+    → filter f (names_of es) ≡ q ∷ filter g (names_of es)
+filter_from [] s f g q h early later = absurd (cc)
+filter_from (e ∷ es) s f g q h early later =
+    let both = and_parts (below_all tree_order e.0 es) (is_sorted tree_order es) s in
+    elim (f e.0) as (λ b. f e.0 ≡ b → cond b (Some e.0) (find f (names_of es)) ≡ Some q → cond b (e.0 ∷ filter f (names_of es)) (filter f (names_of es)) ≡ q ∷ cond (g e.0) (e.0 ∷ filter g (names_of es)) (filter g (names_of es))) [
+      | true ↦ λ fe i.
+          let same : e.0 ≡ q = cc in
+          let no_more : g e.0 ≡ false = early e.0 (ap (is_before q) same ∙ not_before_itself q) in
+          let rest = same_filter es both.1 f g (λ r y v. later r y (behind_first e es both.0 r y v) (ap (λ p. is_before p r) (sym same) ∙ rises e.0 es both.0 r y v)) in
+          rw (no_more) (ap (λ p. p ∷ filter f (names_of es)) same ∙ ap (λ l. q ∷ l) rest)
+      | false ↦ λ fe i.
+          let there = key_there es f q i in
+          let no_more : g e.0 ≡ false = early e.0 (not_back e.0 q (rises e.0 es both.0 q there.0 there.1)) in
+          rw no_more (filter_from es both.1 f g q i early (λ r y v. later r y (behind_first e es both.0 r y v)))
+    ] refl h
+
+none_pass : {X : Type 0} (f : X → Bool) (xs : List X) → find f xs ≡ None → filter f xs ≡ []
+none_pass f [] h = refl
+none_pass f (x ∷ xs) h =
+    elim (f x) as (λ b. f x ≡ b → cond b (Some x) (find f xs) ≡ None → cond b (x ∷ filter f xs) (filter f xs) ≡ []) [
+      | true ↦ λ fx g. absurd (cc)
+      | false ↦ λ fx g. none_pass f xs g
+    ] refl h
+
+module _ {X : Type 0} (m : FinMap tree_order X) (f : Path → Bool) where
+  -- the keys that pass are the first and those behind it, where g tells these
+  pub keys_from : (g : Path → Bool) (q : Path) → find f (keys m) ≡ Some q → ((r : Path) → is_before q r ≡ false → g r ≡ false)
+      → ((r : Path) (y : X) → get m r ≡ Some y → is_before q r ≡ true → f r ≡ g r) → filter f (keys m) ≡ q ∷ filter g (keys m)
+  keys_from g q h early later = filter_from (entries m) (is_true _ (entries_sorted m)) f g q h early (λ r y v. later r y (get-entries m r ∙ v))
+
+  pub keys_none : find f (keys m) ≡ None → filter f (keys m) ≡ []
+  keys_none h = none_pass f (keys m) h

@@ -25,3 +25,4 @@ pub mod Firsts
 pub mod Leasts
 pub mod Steps
 pub mod Devices
+pub mod Behinds

@@ -23,7 +23,7 @@ use Rattle.dm_tree.proofs.Maps.{id_of, root_live}
 use Rattle.dm_tree.proofs.Nodewise.{live_row}
 use Rattle.dm_tree.proofs.Seen.{HasParent, has_parent, root_path, above-append, live_at, node_there, StandsInRow, row_there}
 use Rattle.dm_tree.proofs.Forks.{name_order, name_exact, is_less, rest_below, below_append, below_below, fork, before_longer, before_before, not_before_itself, not_back, behind_all, not_below_shorter}
-use Rattle.dm_tree.proofs.Firsts.{IsFirst, first_key, no_key, same_key}
+use Rattle.dm_tree.proofs.Firsts.{IsFirst, first_key, no_key, same_key, key_passes}
 use Rattle.dm_tree.proofs.Leasts.{HasNoChild, IsLeast, IsLeastChild, least-is}
 
 -- ---- tests of paths
@@ -405,3 +405,10 @@ module _ (rows : List Row) (shape : IsShaped rows) where
       by_least : (o : Option ℕ) → IsLeastChild rows k None (length rows) o → Shows rows (option_or o (next_past rows top (row_at rows k).depth k)) (next_below (nodes rows) (path_of rows top) (path_of rows k) false)
       by_least (Some c) h = into_child (path_of rows top) k kl b c h
       by_least None h = subst (Shows rows (next_past rows top (row_at rows k).depth k)) (sym (no_child (path_of rows top) k kl h)) (past-is top tl (row_at rows k).depth k kl refl b)
+
+-- the next node stands below the top too
+pub shown_within : (rows : List Row) (t p : Path) (past : Bool) (o : Option ℕ) → Shows rows o (next_below (nodes rows) t p past) → IfSome o (λ c. is_below t (path_of rows c) ≡ true)
+shown_within rows t p past None h = tt
+shown_within rows t p past (Some c) h =
+    let passes = key_passes (nodes rows) (λ q. is_below t q && is_before p q && not (past && is_below p q)) (path_of rows c) h.1 in
+    (and_parts (is_below t (path_of rows c)) (is_before p (path_of rows c)) (and_parts (is_below t (path_of rows c) && is_before p (path_of rows c)) (not (past && is_below p (path_of rows c))) passes).0).0

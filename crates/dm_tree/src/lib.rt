@@ -3,6 +3,7 @@
 
 pub mod arena;
 pub mod edits;
+pub mod laws;
 mod lays;
 pub mod nodes;
 mod renames;
@@ -10,6 +11,8 @@ pub mod rows;
 mod siblings;
 #[cfg(test)]
 mod tests;
+#[cfg(test)]
+mod walk_tests;
 mod text;
 pub mod tree;
 mod update;

@@ -1,9 +1,10 @@
 // The order of the tree text: siblings by the bytes of their names, each node before all that stands below it.
-ghost use Rattle.std.specs.Prelude.{◌≡◌, ◌<◌, ◌^◌, length, Some, None, IsTrue, IfSome, option_and_then};
+ghost use Rattle.std.specs.Prelude.{◌≡◌, ◌<◌, ◌^◌, ◌∷◌, [], length, false, Some, None, IsTrue, IfSome, option_and_then};
+ghost use Rattle.std.specs.Option.{option_map_or};
 ghost use Rattle.std.specs.FinMap as map;
 ghost use Rattle.dm_tree.specs.Nodes.{is_below};
 ghost use Rattle.dm_tree.specs.Rows.{nodes, ids, row_at, path_of, IsLive, IsShaped};
-ghost use Rattle.dm_tree.specs.Order.{first_child as first_child_of, next_sibling as next_sibling_of, next_below as next_path_below};
+ghost use Rattle.dm_tree.specs.Order.{first_child as first_child_of, next_sibling as next_sibling_of, next_below as next_path_below, behind};
 ghost use Rattle.dm_tree.specs.Walks.{comes_after as name_comes_after, is_later_child as is_child_after, is_better as is_better_row, is_next as is_next_row, least_child as least_child_of, next_past as next_row_past, next_row as next_row_of};
 
 use crate::arena::Tree;
@@ -132,6 +133,13 @@ impl Tree {
         ensures live { IfSome result (λ next. IsLive self.now.rows next
             × (next_path_below (nodes self.now.rows) (path_of self.now.rows top) (path_of self.now.rows id) past
                 ≡ Some (path_of self.now.rows next))) }
+
+        // So it may be gone on from there, and what stands behind becomes less with each step.
+        ensures within { IfSome result (λ next.
+            IsTrue (is_below (path_of self.now.rows top) (path_of self.now.rows next))) }
+        ensures behind { behind (nodes self.now.rows) (path_of self.now.rows top) (path_of self.now.rows id) past
+            ≡ option_map_or (λ next. path_of self.now.rows next
+                ∷ behind (nodes self.now.rows) (path_of self.now.rows top) (path_of self.now.rows next) false) result [] }
     {
         NodeId::of_row(next_row(&self.rows, top.row(), id.row(), past))
     }

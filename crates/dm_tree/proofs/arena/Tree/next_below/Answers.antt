@@ -2,7 +2,8 @@ use Rattle.std.proofs.Common.{◌≡◌, ◌∙◌, subst, sym, ap}
 use Rattle.dm_tree.specs.Order.{next_below}
 use Rattle.dm_tree.specs.Rows.{Tree, IsTree, nodes, path_of}
 use Rattle.dm_tree.specs.Walks.{next_row}
-use Rattle.dm_tree.proofs.Steps.{Shows, below-is, shown_ids, shown_live}
+use Rattle.dm_tree.proofs.Steps.{Shows, below-is, shown_ids, shown_live, shown_within}
+use Rattle.dm_tree.proofs.Behinds.{shown_behind}
 use Rattle.dm_tree.proofs.arena.Tree.next_below.Goals as goal
 
 tree : (c : goal.After-of_row) → IsTree c.args.self.now.rows
@@ -21,3 +22,11 @@ returns-clause-found c = shown_ids c.args.self.now.rows (tree c).shape c.of_row.
 
 pub returns-clause-live : goal.returns-clause-live
 returns-clause-live c = shown_live c.args.self.now.rows c.of_row.result _ (shows c)
+
+pub returns-clause-within : goal.returns-clause-within
+returns-clause-within c =
+    shown_within c.args.self.now.rows (path_of c.args.self.now.rows c.args.top) (path_of c.args.self.now.rows c.args.id) c.args.past c.of_row.result (shows c)
+
+pub returns-clause-behind : goal.returns-clause-behind
+returns-clause-behind c =
+    shown_behind c.args.self.now.rows (path_of c.args.self.now.rows c.args.top) (path_of c.args.self.now.rows c.args.id) c.args.past c.of_row.result (shows c)
