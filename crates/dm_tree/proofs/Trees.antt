@@ -15,13 +15,13 @@ use Rattle.dm_tree.specs.Rows.{blank, row_at, node_of, walk, path_below, ids_bel
 use Rattle.dm_tree.specs.Edits.{with_node, attached_as, new_row, IsGrown}
 use Rattle.dm_tree.specs.declared.rows.Change.{Change}
 use Rattle.dm_tree.specs.declared.rows.Change.TheVariants as change
-use Rattle.dm_tree.specs.Undos.{TakesBack, TakesOut, row_of, IsReady, flipped}
+use Rattle.dm_tree.specs.Undos.{TakesBack, TakesOut, IsInserted, row_of, IsReady, flipped}
 use Rattle.dm_tree.proofs.Paths.{below_or_not, same_or_not, tree_total}
 use Rattle.dm_tree.proofs.Climbs.{depth_is, not_zero, attached_row, same_number, at_bottom}
 use Rattle.dm_tree.proofs.Maps.{get_nodes}
 use Rattle.dm_tree.proofs.Nodewise.{IsAlike, walk_alike, ids_alike, of_both, node_alike, shaped_alike, live_row}
-use Rattle.dm_tree.proofs.Grows.{at_end_of, before_end, walk_grown, new_path, nodes-append, shaped-append, nodes-parked, ids-parked, shaped-parked, no_place, set_last, set_twice}
-use Rattle.dm_tree.proofs.Seen.{len-nodes, live_at}
+use Rattle.dm_tree.proofs.Grows.{at_end_of, before_end, walk_grown, new_path, nodes-append, ids-append, with_row-end, shaped-append, nodes-parked, ids-parked, shaped-parked, no_place, set_last, set_twice}
+use Rattle.dm_tree.proofs.Seen.{len-nodes, live_at, stay_live-insert}
 
 -- ---- another node in a row
 
@@ -184,6 +184,10 @@ shallow p name e =
     let few : length (p ++ name ∷ []) ≤ 16 = at_most _ _ inner.1 in
     omega (arith, few, length-append p (name ∷ []))
 
+pub parent_is_shallow : (rows : List Row) → IsShaped rows → (k : ℕ) → IsLive rows k → (name : List ℕ) → is_within_limits (path_of rows k ++ name ∷ []) ≡ true → (row_at rows k).depth < 16
+parent_is_shallow rows shape k live name within =
+    omega (arith, depth_is rows shape (row_at rows k).depth k (path_of rows k) refl live, shallow (path_of rows k) name within)
+
 pub tree-append : (rows : List Row) → IsTree rows → (k : ℕ) (name : List ℕ) (node : Node) → MayCome rows k name node → IsTree (rows ++ new_row rows k name node ∷ [])
 tree-append rows tree k name node may =
     let r = new_row rows k name node in
@@ -289,4 +293,15 @@ grown rows shape r = record {
     | inl h ↦ before_end rows r k h
     | inr h ↦ absurd (omega (arith, held.1.inside, past_end rows held.0 k held.2 h held.3))
   ];
+}
+
+pub inserted : (rows : List Row) → IsTree rows → (k : ℕ) (name : List ℕ) (node : Node) → MayCome rows k name node
+    → IsInserted rows (rows ++ new_row rows k name node ∷ []) k name node (length rows) (change.TakeOut (length rows))
+inserted rows tree k name node may = record {
+  nodes = nodes-append rows tree.shape k may.live name node;
+  ids = ids-append rows tree.shape k may.live name node;
+  stays = stay_live-insert rows (rows ++ new_row rows k name node ∷ []) tree.shape (path_of rows k ++ name ∷ []) (length rows) may.free (ids-append rows tree.shape k may.live name node);
+  row = sym (with_row-end rows (new_row rows k name node));
+  grown = grown rows tree.shape (new_row rows k name node);
+  undo = takes_out rows tree k name node may;
 }
