@@ -26,3 +26,4 @@ pub mod Leasts
 pub mod Steps
 pub mod Devices
 pub mod Behinds
+pub mod Spares

@@ -11,7 +11,8 @@ use Rattle.dm_tree.specs.Undos.{IsInserted}
 use Rattle.dm_tree.proofs.Grows.{with_row-end, nodes-append, ids-append}
 use Rattle.dm_tree.proofs.Maps.{get_nodes}
 use Rattle.dm_tree.proofs.Seen.{read_live, stay_live-insert}
-use Rattle.dm_tree.proofs.Trees.{MayCome, tree-append, inserted, parent_is_shallow}
+use Rattle.dm_tree.proofs.Trees.{MayCome, tree-append, parent_is_shallow}
+use Rattle.dm_tree.proofs.Spares.{inserted}
 use Rattle.dm_tree.proofs.arena.Tree.insert.Goals as goal
 
 tree : (c : goal.After-of-2) → IsTree c.args.self.now.rows
