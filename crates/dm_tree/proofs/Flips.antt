@@ -50,7 +50,7 @@ row_turned rows (change.Name k name verno stamp) = refl
 row_turned rows (change.TakeOut k) = refl
 row_turned rows (change.PutIn k) = refl
 
-length-flipped : (rows : List Row) (u : Change) → length (flipped rows u) ≡ length rows
+pub length-flipped : (rows : List Row) (u : Change) → length (flipped rows u) ≡ length rows
 length-flipped rows (change.Value k value verno stamp) = length-set rows k _
 length-flipped rows (change.Acl k acl verno stamp) = length-set rows k _
 length-flipped rows (change.Title k title verno stamp) = length-set rows k _

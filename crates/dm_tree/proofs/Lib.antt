@@ -2,6 +2,7 @@ pub mod Names
 pub mod Order
 pub mod Pieces
 pub mod Paths
+pub mod Keys
 pub mod Climbs
 pub mod Maps
 pub mod Nodewise
@@ -16,3 +17,13 @@ pub mod Trees
 pub mod CutTrees
 pub mod Flips
 pub mod GivenUps
+pub mod Rekeyed
+pub mod RenamedTrees
+pub mod Rooms
+pub mod Forks
+pub mod Firsts
+pub mod Leasts
+pub mod Steps
+pub mod Devices
+pub mod Behinds
+pub mod Spares

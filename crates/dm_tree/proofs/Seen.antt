@@ -114,16 +114,16 @@ named_last [] n ps h = and_from (is_name n) true h refl
 named_last (m ∷ ms) n ps h =
     let both = and_parts (is_name m) (list_all is_name ms) ps in and_from (is_name m) (list_all is_name (ms ++ n ∷ [])) both.0 (named_last ms n both.1 h)
 
-all_named : (rows : List Row) → IsTree rows → (d k : ℕ) (p : Path) → (row_at rows k).depth ≡ d → walk rows d 0 k ≡ Some p → list_all is_name p ≡ true
-all_named rows tree zero k p deep e = ap (list_all is_name) (at_top rows zero 0 k p (at_bottom rows 0 k p e) e)
-all_named rows tree (suc d) k p deep e =
+pub all_named : (rows : List Row) → IsShaped rows → ((j : ℕ) → j < length rows → is_name (row_at rows j).name ≡ true) → (d k : ℕ) (p : Path) → (row_at rows k).depth ≡ d → walk rows d 0 k ≡ Some p → list_all is_name p ≡ true
+all_named rows shape names zero k p deep e = ap (list_all is_name) (at_top rows zero 0 k p (at_bottom rows 0 k p e) e)
+all_named rows shape names (suc d) k p deep e =
     elim (nat_eq k 0) as (λ b. nat_eq k 0 ≡ b → list_all is_name p ≡ true) [
       | true ↦ λ is. ap (list_all is_name) (at_top rows (suc d) 0 k p is e)
       | false ↦ λ is.
           let u = walk_up rows d 0 k p is e in
-          let parents : (row_at rows (row_at rows k).parent).depth ≡ d = omega (arith, attached_falls rows tree.shape k u.attached, deep) in
-          ap (list_all is_name) u.named ∙ named_last u.above (row_at rows k).name (all_named rows tree d (row_at rows k).parent u.above parents u.found)
-          (tree.each k (attached_row rows tree.shape k u.attached).1).name
+          let parents : (row_at rows (row_at rows k).parent).depth ≡ d = omega (arith, attached_falls rows shape k u.attached, deep) in
+          ap (list_all is_name) u.named ∙ named_last u.above (row_at rows k).name (all_named rows shape names d (row_at rows k).parent u.above parents u.found)
+          (names k (attached_row rows shape k u.attached).1)
     ] refl
 
 pub some_of : {X Y : Type 0} (f : X → Y) (o : Option X) (y : Y) → option_map f o ≡ Some y → (x : X) × (o ≡ Some x) × (f x ≡ y)
@@ -162,7 +162,7 @@ path_there : (rows : List Row) → IsTree rows → (p : Path) (node : Node) → 
 path_there rows tree p node r =
     let live = live_at rows r.row p r.lies in
     let deep = depth_is rows tree.shape (row_at rows r.row).depth r.row p refl r.lies in (
-      record { few = omega (arith, deep, tree.shape.shallow r.row); names = all_named rows tree (row_at rows r.row).depth r.row p refl r.lies },
+      record { few = omega (arith, deep, tree.shape.shallow r.row); names = all_named rows tree.shape (λ j l. (tree.each j l).name) (row_at rows r.row).depth r.row p refl r.lies },
       ap is_within_limits (sym live.1) ∙ tree.within r.row live.0,
     )
 

@@ -15,13 +15,13 @@ use Rattle.dm_tree.specs.Rows.{blank, row_at, node_of, walk, path_below, ids_bel
 use Rattle.dm_tree.specs.Edits.{with_node, attached_as, new_row, IsGrown}
 use Rattle.dm_tree.specs.declared.rows.Change.{Change}
 use Rattle.dm_tree.specs.declared.rows.Change.TheVariants as change
-use Rattle.dm_tree.specs.Undos.{TakesBack, TakesOut, row_of, IsReady, flipped}
+use Rattle.dm_tree.specs.Undos.{TakesBack, TakesOut, IsInserted, row_of, IsReady, flipped}
 use Rattle.dm_tree.proofs.Paths.{below_or_not, same_or_not, tree_total}
 use Rattle.dm_tree.proofs.Climbs.{depth_is, not_zero, attached_row, same_number, at_bottom}
 use Rattle.dm_tree.proofs.Maps.{get_nodes}
 use Rattle.dm_tree.proofs.Nodewise.{IsAlike, walk_alike, ids_alike, of_both, node_alike, shaped_alike, live_row}
-use Rattle.dm_tree.proofs.Grows.{at_end_of, before_end, walk_grown, new_path, nodes-append, shaped-append, nodes-parked, ids-parked, shaped-parked, no_place, set_last, set_twice}
-use Rattle.dm_tree.proofs.Seen.{len-nodes, live_at}
+use Rattle.dm_tree.proofs.Grows.{at_end_of, before_end, walk_grown, new_path, nodes-append, ids-append, with_row-end, shaped-append, nodes-parked, ids-parked, shaped-parked, no_place, set_last, set_twice}
+use Rattle.dm_tree.proofs.Seen.{len-nodes, live_at, stay_live-insert}
 
 -- ---- another node in a row
 
@@ -184,6 +184,10 @@ shallow p name e =
     let few : length (p ++ name ∷ []) ≤ 16 = at_most _ _ inner.1 in
     omega (arith, few, length-append p (name ∷ []))
 
+pub parent_is_shallow : (rows : List Row) → IsShaped rows → (k : ℕ) → IsLive rows k → (name : List ℕ) → is_within_limits (path_of rows k ++ name ∷ []) ≡ true → (row_at rows k).depth < 16
+parent_is_shallow rows shape k live name within =
+    omega (arith, depth_is rows shape (row_at rows k).depth k (path_of rows k) refl live, shallow (path_of rows k) name within)
+
 pub tree-append : (rows : List Row) → IsTree rows → (k : ℕ) (name : List ℕ) (node : Node) → MayCome rows k name node → IsTree (rows ++ new_row rows k name node ∷ [])
 tree-append rows tree k name node may =
     let r = new_row rows k name node in
@@ -223,55 +227,33 @@ tree-append rows tree k name node may =
         ap (λ (s : Row). node_of (rows ++ new_row rows k name node ∷ []) s.parent) here ∙ ap (λ (s : Row). s.node) (before_end rows (new_row rows k name node) k (live_row rows tree.shape k may.live)) in
         subst (λ n. IsChildOf (node_of (rows ++ new_row rows k name node ∷ []) j) n) (sym above) (subst (λ (s : Row). IsChildOf s.node (node_of rows k)) (sym here) (record { interior = may.interior; permanent = may.permanent }))
 
--- the same row, out of the tree
-pub parked : List Row → ℕ → List ℕ → Node → Row
-parked rows k name node = record (new_row rows k name node) { attached = false }
+-- a row that may stand behind the others and is in no tree
+pub record IsSpare (rows : List Row) (r : Row) : Type 0 where
+  pub out : r.attached ≡ false
+  pub row : IsRow r
+  pub inside : r.parent < length rows
+  pub deep : r.depth ≡ suc (row_at rows r.parent).depth
+  pub shallow : r.depth ≤ 16
+  pub room : length rows + 1 < 2 ^ 32
 
-pub tree-parked : (rows : List Row) → IsTree rows → (k : ℕ) (name : List ℕ) (node : Node) → MayCome rows k name node → IsTree (rows ++ parked rows k name node ∷ [])
-unfolding parked
-tree-parked rows tree k name node may =
-    let r = parked rows k name node in
-    let deep : suc (row_at rows k).depth ≤ 16 = omega (arith, depth_is rows tree.shape (row_at rows k).depth k (path_of rows k) refl may.live, shallow (path_of rows k) name may.within) in
-    let shape : IsShaped (rows ++ r ∷ []) = shaped-parked rows tree.shape r refl (live_row rows tree.shape k may.live) refl deep may.room in
+pub tree-spare : (rows : List Row) → IsTree rows → (r : Row) → IsSpare rows r → IsTree (rows ++ r ∷ [])
+tree-spare rows tree r spare =
+    let shape : IsShaped (rows ++ r ∷ []) = shaped-parked rows tree.shape r spare.out spare.inside spare.deep spare.shallow spare.room in
     record {
       shape = shape;
-      each = each_of rows r IsRow tree.each (record { name = may.name; node = may.node; attached = λ _. refl });
+      each = each_of rows r IsRow tree.each spare.row;
       root = subst (λ (s : Row). IsRoot s.node) (sym (before_end rows r 0 tree.shape.rooted)) tree.root;
       children = λ j at. elim (end_or_before rows r j (attached_row (rows ++ r ∷ []) shape j at).1) [
         | inl h ↦ children_before rows tree r j h (ap (λ (s : Row). s.attached) (sym (before_end rows r j h)) ∙ at)
-        | inr h ↦ absurd (let out : (row_at (rows ++ r ∷ []) j).attached ≡ false = ap (λ (s : Row). s.attached) (ap (row_at (rows ++ r ∷ [])) h ∙ at_end_of rows r) in cc)
+        | inr h ↦ absurd (let out : (row_at (rows ++ r ∷ []) j).attached ≡ false = ap (λ (s : Row). s.attached) (ap (row_at (rows ++ r ∷ [])) h ∙ at_end_of rows r) ∙ spare.out in cc)
       ];
       within = λ j live. elim (end_or_before rows r j (live_row (rows ++ r ∷ []) shape j live)) [
         | inl h ↦
             let there = live_at rows j (path_of (rows ++ r ∷ []) j) (sym (live_before rows tree.shape r j h) ∙ live) in
             ap is_within_limits (sym there.1) ∙ tree.within j there.0
-        | inr h ↦ absurd (let out : path_below (rows ++ r ∷ []) 0 j ≡ None = ap (path_below (rows ++ r ∷ []) 0) h ∙ no_place rows r _ tree.shape.rooted refl in cc)
+        | inr h ↦ absurd (let out : path_below (rows ++ r ∷ []) 0 j ≡ None = ap (path_below (rows ++ r ∷ []) 0) h ∙ no_place rows r _ tree.shape.rooted spare.out in cc)
       ];
-      size = omega (arith, may.size, ap len (nodes-parked rows tree.shape r refl));
-    }
-
--- what an insert's Undo gives
-unparked : (rows : List Row) (k : ℕ) (name : List ℕ) (node : Node) → attached_as (rows ++ new_row rows k name node ∷ []) (length rows) false ≡ rows ++ parked rows k name node ∷ []
-unfolding parked
-unparked rows k name node =
-    ap (λ (r : Row). set (rows ++ new_row rows k name node ∷ []) (length rows) (record r { attached = false })) (at_end_of rows (new_row rows k name node))
-    ∙ set_last rows (new_row rows k name node) (record (new_row rows k name node) { attached = false })
-
-pub takes_out : (rows : List Row) → IsTree rows → (k : ℕ) (name : List ℕ) (node : Node) → MayCome rows k name node
-    → TakesOut (change.TakeOut (length rows)) (length rows) rows (rows ++ new_row rows k name node ∷ [])
-unfolding parked
-takes_out rows tree k name node may =
-    let r = new_row rows k name node in
-    let e = unparked rows k name node in
-    record {
-      change = refl;
-      fits = record {
-        inside = omega (arith, length-append rows (r ∷ []));
-        ready = ap (λ (s : Row). s.attached) (at_end_of rows r);
-        sound = subst IsTree (sym e) (tree-parked rows tree k name node may);
-      };
-      nodes = ap nodes e ∙ nodes-parked rows tree.shape (parked rows k name node) refl;
-      ids = ap ids e ∙ ids-parked rows tree.shape (parked rows k name node) refl;
+      size = omega (arith, tree.size, ap len (nodes-parked rows tree.shape r spare.out));
     }
 
 -- a row behind the last lies nowhere

@@ -6,7 +6,7 @@ use Rattle.dm_uri.specs.Names.{printed_path}
 use Rattle.dm_tree.specs.declared.nodes.Node.{Node}
 use Rattle.dm_tree.specs.declared.rows.Row.{Row}
 use Rattle.dm_tree.specs.Nodes.{Path, Nodes, tree_order, above, is_below}
-use Rattle.dm_tree.specs.Rows.{row_at, node_of, path_below, IsLive, IsParked, IsFree}
+use Rattle.dm_tree.specs.Rows.{row_at, node_of, path_below, path_of, IsLive, IsParked, IsFree}
 
 -- ---- one row
 
@@ -46,13 +46,20 @@ pub record IsGrown (old new : List Row) (id : ℕ) : Type 0 where
 abbrev pub pruned : {X : Type 0} → FinMap tree_order X → Path → FinMap tree_order X
 pruned m p = retain_keys m (λ q. not (is_below p q))
 
--- the path q, once the node at p bears the name
+-- the path q, once the node at p bears the name; the root bears none
 abbrev pub rekeyed : Path → List ℕ → Path → Path
-rekeyed p name q = if is_below p q then (above p ++ name ∷ []) ++ drop (length p) q else q
+rekeyed [] name q = q
+rekeyed (n ∷ ns) name q =
+    if is_below (n ∷ ns) q then (above (n ∷ ns) ++ name ∷ []) ++ drop (length (n ∷ ns)) q else q
 
 -- a map whose paths at and below p go through the new name
 abbrev pub renamed : {X : Type 0} → FinMap tree_order X → Path → List ℕ → FinMap tree_order X
 renamed m p name = from_entries (map (λ e. (rekeyed p name e.0, e.1)) (entries m))
+
+-- each node of the tree is still there, under its number; those at and below p are now below the new name
+pub record StayRenamed (old new : List Row) (p : Path) (name : List ℕ) : Type 0 where
+  pub live : (k : ℕ) → IsLive old k → IsLive new k
+  pub path : (k : ℕ) → IsLive old k → path_of new k ≡ rekeyed p name (path_of old k)
 
 -- every path then has at most 255 bytes in print
 abbrev pub fits : Nodes → Path → List ℕ → Bool

@@ -8,3 +8,4 @@ pub mod Order
 pub mod Devices
 pub mod Views
 pub mod Walks
+pub mod Laws

@@ -1,5 +1,5 @@
 -- The order of the tree text, and how one goes through it.
-use Rattle.std.specs.Prelude.{◌==◌, ◌&&◌, ◌+◌, Bool, not, length, Option, find}
+use Rattle.std.specs.Prelude.{◌==◌, ◌&&◌, ◌+◌, Bool, not, List, length, filter, Option, find}
 use Rattle.std.specs.Ordering.{is_lt}
 use Rattle.std.specs.FinMap.{keys}
 use Rattle.dm_tree.specs.Nodes.{Path, Nodes, tree_order, above, is_below}
@@ -23,3 +23,11 @@ next_sibling m p = find (λ q. not (length p == 0) && is_child_of (above p) q &&
 -- the node behind p among those at and below `top`; with `past`, the one behind all that stand below p
 abbrev pub next_below : Nodes → Path → Path → Bool → Option Path
 next_below m top p past = find (λ q. is_below top q && is_before p q && not (past && is_below p q)) (keys m)
+
+-- all of them: the nodes behind p among those at and below `top`; with `past`, without those below p
+abbrev pub behind : Nodes → Path → Path → Bool → List Path
+behind m top p past = filter (λ q. is_below top q && is_before p q && not (past && is_below p q)) (keys m)
+
+-- the nodes at and below `top`
+abbrev pub below : Nodes → Path → List Path
+below m top = filter (λ q. is_below top q) (keys m)

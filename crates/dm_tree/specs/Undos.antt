@@ -1,11 +1,13 @@
 -- What an Undo does.
-use Rattle.std.specs.Prelude.{◌≡◌, ◌<◌, ℕ, true, false, List, length, ⊤}
+use Rattle.std.specs.Prelude.{◌≡◌, ◌<◌, ℕ, true, false, List, [], ◌∷◌, ◌++◌, length, ⊤}
+use Rattle.std.specs.FinMap.{insert}
+use Rattle.dm_tree.specs.declared.nodes.Node.{Node}
 use Rattle.dm_tree.specs.declared.rows.Row.{Row}
 use Rattle.dm_tree.specs.declared.rows.Change.{Change}
 use Rattle.dm_tree.specs.declared.rows.Change.TheVariants as change
 use Rattle.dm_tree.specs.Nodes.{counted, with_value, with_acl, with_title}
-use Rattle.dm_tree.specs.Rows.{row_at, node_of, nodes, ids, IsTree, IsParkedTop}
-use Rattle.dm_tree.specs.Edits.{with_node, with_name, attached_as, IsGivenUp}
+use Rattle.dm_tree.specs.Rows.{row_at, node_of, nodes, ids, path_of, IsTree, IsParkedTop, StayLive}
+use Rattle.dm_tree.specs.Edits.{with_node, with_name, attached_as, with_row, new_row, IsGrown, IsGivenUp}
 
 -- the row of which it speaks
 abbrev pub row_of : Change → ℕ
@@ -72,9 +74,37 @@ pub record TakesBack (undo : Change) (old new : List Row) : Type 0 where
   pub fits : Fits new undo
   pub rows : flipped new undo ≡ old
 
--- an insert's Undo: flipped after it, it gives the tree before it; the new row is parked then
+-- Undos that may be flipped one after another, the first one first
+abbrev pub FitAll : List Row → List Change → Type 0
+FitAll rows [] = ⊤
+FitAll rows (u ∷ us) = Fits rows u × FitAll (flipped rows u) us
+
+-- the rows after these flips
+abbrev pub all_flipped : List Row → List Change → List Row
+all_flipped rows [] = rows
+all_flipped rows (u ∷ us) = all_flipped (flipped rows u) us
+
+-- whatever Undos may be flipped one after another in the old rows may be in the new ones, and give the same tree
+pub record GoesBackAlike (old new : List Row) : Type 0 where
+  pub fit : (us : List Change) → FitAll old us → FitAll new us
+  pub nodes : (us : List Change) → FitAll old us → nodes (all_flipped new us) ≡ nodes (all_flipped old us)
+  pub ids : (us : List Change) → FitAll old us → ids (all_flipped new us) ≡ ids (all_flipped old us)
+
+-- an insert's Undo: flipped after it, it gives the tree before it, and earlier Undos fit as they did then; the new row is
+-- parked
 pub record TakesOut (undo : Change) (id : ℕ) (old new : List Row) : Type 0 where
   pub change : undo ≡ change.TakeOut id
   pub fits : Fits new undo
   pub nodes : nodes (flipped new undo) ≡ nodes old
   pub ids : ids (flipped new undo) ≡ ids old
+  pub alike : GoesBackAlike old (flipped new undo)
+
+-- a node has come in below `parent`, under the number id: in both maps, in a row of its own, and with an Undo that takes
+-- it out
+pub record IsInserted (old new : List Row) (parent : ℕ) (name : List ℕ) (node : Node) (id : ℕ) (back : Change) : Type 0 where
+  pub nodes : nodes new ≡ insert (nodes old) (path_of old parent ++ name ∷ []) node
+  pub ids : ids new ≡ insert (ids old) (path_of old parent ++ name ∷ []) id
+  pub stays : StayLive old new
+  pub row : new ≡ with_row old id (new_row old parent name node)
+  pub grown : IsGrown old new id
+  pub undo : TakesOut back id old new

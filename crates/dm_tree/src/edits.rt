@@ -5,9 +5,9 @@ ghost use Rattle.dm_uri.specs.Names.{is_within_limits};
 ghost use Rattle.dm_tree.specs.declared.rows.Change.TheVariants as change;
 ghost use Rattle.dm_tree.specs.declared.edits.TreeError.TheVariants as error;
 ghost use Rattle.dm_tree.specs.Nodes.{made as made_node, changed, counted, with_value, with_acl, with_title, IsNode, IsValue, IsShortAcl, tree_order};
-ghost use Rattle.dm_tree.specs.Rows.{nodes, ids, node_of, path_of, IsLive, IsParkedTop, StayLive};
-ghost use Rattle.dm_tree.specs.Edits.{with_node, with_row, attached_as, new_row, pruned, without_content, IsGrown};
-ghost use Rattle.dm_tree.specs.Undos.{Fits, TakesBack, TakesOut, IsHeld, IsDiscarded, row_of, flipped, turned};
+ghost use Rattle.dm_tree.specs.Rows.{nodes, ids, row_at, node_of, path_of, IsLive, IsParkedTop, StayLive};
+ghost use Rattle.dm_tree.specs.Edits.{with_node, attached_as, new_row as new_row_below, pruned, without_content};
+ghost use Rattle.dm_tree.specs.Undos.{Fits, TakesBack, IsInserted, IsHeld, IsDiscarded, row_of, flipped, turned};
 
 use crate::arena::Tree;
 use crate::nodes::{NewNode, Node, Stamp, Value};
@@ -50,7 +50,7 @@ fn made(node: NewNode, clock: Stamp) -> Node
 }
 
 // One more, modulo 65,536.
-fn raised(verno: u16) -> u16
+pub(crate) fn raised(verno: u16) -> u16
     ensures { result ≡ (verno + 1) % 2 ^ 16 }
 {
     verno.wrapping_add(1)
@@ -96,6 +96,21 @@ fn put_title(rows: &mut Vec<Row>, id: u32, title: Bytes, clock: Stamp) -> Change
     row.node.verno = raised(verno);
     row.node.stamp = clock;
     Change::Title(id, mem::replace(&mut row.node.title, title), verno, stamp)
+}
+
+fn new_row(rows: &[Row], parent: u32, name: Name, node: Node) -> Row
+    requires inside { parent < length rows.now }
+    requires shallow { (row_at rows.now parent).depth < 16 }
+    ensures { result ≡ new_row_below rows.now parent name node }
+{
+    Row {
+        parent,
+        depth: rows[parent as usize].depth + 1,
+        attached: true,
+        given_up: false,
+        name,
+        node,
+    }
 }
 
 fn push_row(rows: &mut Vec<Row>, row: Row) -> Result<(), TreeError>
@@ -203,17 +218,8 @@ impl Tree {
         requires within { IsTrue (is_within_limits (path_of self.old.rows parent ++ name ∷ [])) }
         requires permanent { node.permanent ≡ true → (node_of self.old.rows parent).permanent ≡ true }
         requires node { IsNode (made_node self.old.clock node) }
-        ensures nodes { IfOk result (λ r. nodes self.new.rows
-            ≡ map.insert (nodes self.old.rows) (path_of self.old.rows parent ++ name ∷ []) (made_node self.old.clock node)) }
-        ensures ids { IfOk result (λ r. ids self.new.rows
-            ≡ map.insert (ids self.old.rows) (path_of self.old.rows parent ++ name ∷ []) r.0) }
-        ensures stays { IfOk result (λ r. StayLive self.old.rows self.new.rows) }
-
-        // The row is put under a free number, and no other row changes.
-        ensures row { IfOk result (λ r. self.new.rows
-            ≡ with_row self.old.rows r.0 (new_row self.old.rows parent name (made_node self.old.clock node))) }
-        ensures grown { IfOk result (λ r. IsGrown self.old.rows self.new.rows r.0) }
-        ensures undo { IfOk result (λ r. TakesOut r.1 r.0 self.old.rows self.new.rows) }
+        ensures ok { IfOk result (λ r.
+            IsInserted self.old.rows self.new.rows parent name (made_node self.old.clock node) r.0 r.1) }
         ensures clock { self.new.clock ≡ self.old.clock }
         ensures full { (result ≡ Err error.Full) ↔ (map.len (nodes self.old.rows) ≡ 65536) }
         ensures err { OnErr result (self.new ≡ self.old) }
@@ -227,14 +233,7 @@ impl Tree {
             return Err(TreeError::Memory);
         }
         let id = self.rows.len() as u32;
-        let row = Row {
-            parent: parent.row(),
-            depth: self.rows[parent.row() as usize].depth + 1,
-            attached: true,
-            given_up: false,
-            name,
-            node: made(node, self.clock),
-        };
+        let row = new_row(&self.rows, parent.row(), name, made(node, self.clock));
         push_row(&mut self.rows, row)?;
         Ok((NodeId::of(id), Undo::of(Change::TakeOut(id))))
     }

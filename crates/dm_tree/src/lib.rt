@@ -3,13 +3,19 @@
 
 pub mod arena;
 pub mod edits;
+pub mod laws;
 mod lays;
 pub mod nodes;
+mod renames;
 pub mod rows;
+mod siblings;
 #[cfg(test)]
 mod tests;
+#[cfg(test)]
+mod walk_tests;
 mod text;
 pub mod tree;
+mod update;
 mod walks;
 
 pub use arena::Tree;

@@ -15,11 +15,11 @@ use std::test::Fail;
 
 // Each of the helpers below answers None where memory runs out, or a text or a node isn't what it has to be.
 
-struct Start {
-    uri: &'static [u8],
+pub(crate) struct Start {
+    pub uri: &'static [u8],
     // The empty text for none.
-    acl: &'static [u8],
-    interior: bool,
+    pub acl: &'static [u8],
+    pub interior: bool,
 }
 
 const NODES: [Start; 8] = [
@@ -85,7 +85,7 @@ fn chr(alloc: Global, bytes: &[u8]) -> Option<Value>
     })
 }
 
-fn node(alloc: Global, row: &Start) -> Option<NewNode>
+pub(crate) fn node(alloc: Global, row: &Start) -> Option<NewNode>
     ensures may { IfSome result (λ new. (now : Time) → IsNode (made now new)) }
     ensures dynamic { IfSome result (λ new. new.permanent ≡ false) }
 {
@@ -113,7 +113,7 @@ fn node(alloc: Global, row: &Start) -> Option<NewNode>
     })
 }
 
-fn put_below(tree: &mut Tree, path: &Path, name: Name, new: NewNode) -> Option<Undo>
+pub(crate) fn put_below(tree: &mut Tree, path: &Path, name: Name, new: NewNode) -> Option<Undo>
     requires within { IsTrue (is_within_limits (path.now ++ name ∷ [])) }
     requires may { (now : Time) → IsNode (made now new) }
     requires dynamic { new.permanent ≡ false }
@@ -130,7 +130,7 @@ fn put_below(tree: &mut Tree, path: &Path, name: Name, new: NewNode) -> Option<U
     }
 }
 
-fn put(alloc: Global, tree: &mut Tree, row: &Start) -> Option<Undo>
+pub(crate) fn put(alloc: Global, tree: &mut Tree, row: &Start) -> Option<Undo>
     ensures fits { IfSome result (λ undo. Fits tree.new.rows undo) }
     ensures free { IfSome result (λ undo. IsHeld tree.new.rows undo) }
 {
@@ -147,7 +147,7 @@ fn put(alloc: Global, tree: &mut Tree, row: &Start) -> Option<Undo>
     }
 }
 
-fn grown(alloc: Global) -> Option<Tree> {
+pub(crate) fn grown(alloc: Global) -> Option<Tree> {
     let mut tree = Tree::new(alloc, acl(alloc, b"Add=*&Get=s1&Exec=*")?).ok()?;
     for row in &NODES {
         let undo = put(alloc, &mut tree, row)?;
@@ -226,7 +226,7 @@ const ALLOWED: [Allow; 10] = [
     },
 ];
 
-fn at(alloc: Global, tree: &Tree, uri: &[u8]) -> Option<NodeId>
+pub(crate) fn at(alloc: Global, tree: &Tree, uri: &[u8]) -> Option<NodeId>
     ensures { IfSome result (λ id. IsLive tree.now.rows id) }
 {
     let path = parse(alloc, uri).ok()?.path;
@@ -271,7 +271,7 @@ fn is_read(alloc: Global, tree: &Tree, row: &Start) -> Option<bool> {
     Some(again == id && found == id && view.interior == row.interior && view.verno == 0)
 }
 
-fn unread(alloc: Global, tree: &Tree) -> Option<&'static [u8]> {
+pub(crate) fn unread(alloc: Global, tree: &Tree) -> Option<&'static [u8]> {
     for row in &NODES {
         if is_read(alloc, tree, row) != Some(true) {
             return Some(row.uri);
@@ -294,15 +294,15 @@ fn what_is_there_is_read(rt: HostRuntime) -> Result<(), Fail> {
     Ok(())
 }
 
-const NOW: Stamp = Stamp {
+pub(crate) const NOW: Stamp = Stamp {
     bytes: *b"20240102T030405Z",
 };
 
-const FIRST: Stamp = Stamp {
+pub(crate) const FIRST: Stamp = Stamp {
     bytes: *b"00000000T000000Z",
 };
 
-const LATER: Stamp = Stamp {
+pub(crate) const LATER: Stamp = Stamp {
     bytes: *b"20250102T030405Z",
 };
 

@@ -42,7 +42,7 @@ pub(crate) fn found_row(rows: &[Row], path: &[Name]) -> Option<u32>
 }
 
 // Whether a row lies below the root.
-fn is_in(rows: &[Row], id: u32) -> bool
+pub(crate) fn is_in(rows: &[Row], id: u32) -> bool
     requires shaped { IsShaped rows.now }
     requires inside { id < length rows.now }
     ensures { result ≡ is_some (path_below rows.now 0 id) }

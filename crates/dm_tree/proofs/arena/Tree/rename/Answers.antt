@@ -1,0 +1,60 @@
+use Rattle.std.proofs.Common.{◌≡◌, ◌∙◌, sym, subst, ap}
+use Rattle.dm_tree.specs.declared.rows.Change.TheVariants as change
+use Rattle.dm_tree.specs.Nodes.{changed}
+use Rattle.dm_tree.specs.Rows.{Tree, IsTree, node_of, nodes, ids, row_at, path_of}
+use Rattle.dm_tree.specs.Edits.{with_name, StayRenamed}
+use Rattle.dm_tree.specs.Undos.{TakesBack}
+use Rattle.dm_tree.proofs.Rekeyed.{ids-renamed, nodes-renamed, stay_renamed}
+use Rattle.dm_tree.proofs.RenamedTrees.{MayRename, no_root, shaped-renamed, tree-renamed, takes_back-renamed}
+use Rattle.dm_tree.proofs.arena.Tree.rename.Goals as goal
+
+tree : (c : goal.After-of) → IsTree c.args.self.now.rows
+tree c = subst (λ (t : Tree). IsTree t.rows) c.self.view_is c.self.invariant
+
+-- the rows that the code left
+rows_are : (c : goal.After-of) → c.put_name-change.new.rows.items ≡ with_name c.args.self.now.rows c.args.id c.args.name (changed c.args.self.now.clock (node_of c.args.self.now.rows c.args.id))
+rows_are c =
+    c.put_name-change.ensures.rows ∙ ap (λ (t : Tree). with_name t.rows c.row.result c.args.name (changed t.clock (node_of t.rows c.row.result))) c.self.view_is
+    ∙ ap (λ k. with_name c.args.self.now.rows k c.args.name (changed c.args.self.now.clock (node_of c.args.self.now.rows k))) c.row.ensures
+
+may : (c : goal.After-of) → MayRename c.args.self.now.rows c.args.id c.args.name
+may c = record {
+  live = c.requires.live;
+  removable = c.requires.removable;
+  free = c.requires.free;
+  fits = c.requires.fits;
+  named = c.as_slice.ensures.name;
+}
+
+pub invariant_of-self : goal.invariant_of-self
+invariant_of-self c = subst IsTree (sym (rows_are c)) (tree-renamed c.args.self.now.rows (tree c) c.args.id c.args.name c.args.self.now.clock (may c))
+
+pub returns-clause-nodes : goal.returns-clause-nodes
+returns-clause-nodes c =
+    ap nodes (rows_are c)
+    ∙ nodes-renamed c.args.self.now.rows (tree c).shape c.args.id c.requires.live c.args.name (changed c.args.self.now.clock (node_of c.args.self.now.rows c.args.id))
+    (shaped-renamed c.args.self.now.rows (tree c) c.args.id c.args.name c.args.self.now.clock (may c))
+    (no_root c.args.self.now.rows (tree c) c.args.id c.args.name c.args.self.now.clock (may c))
+
+pub returns-clause-ids : goal.returns-clause-ids
+returns-clause-ids c =
+    ap ids (rows_are c)
+    ∙ ids-renamed c.args.self.now.rows (tree c).shape c.args.id c.requires.live c.args.name (changed c.args.self.now.clock (node_of c.args.self.now.rows c.args.id))
+    (shaped-renamed c.args.self.now.rows (tree c) c.args.id c.args.name c.args.self.now.clock (may c))
+
+pub returns-clause-stays : goal.returns-clause-stays
+returns-clause-stays c =
+    subst (λ r. StayRenamed c.args.self.now.rows r (path_of c.args.self.now.rows c.args.id) c.args.name) (sym (rows_are c))
+    (stay_renamed c.args.self.now.rows (tree c).shape c.args.id c.requires.live c.args.name (changed c.args.self.now.clock (node_of c.args.self.now.rows c.args.id)))
+
+undo_is : (c : goal.After-of) → c.of.result ≡ change.Name c.args.id (row_at c.args.self.now.rows c.args.id).name (node_of c.args.self.now.rows c.args.id).verno (node_of c.args.self.now.rows c.args.id).stamp
+undo_is c =
+    c.of.ensures ∙ c.put_name-change.ensures.change
+    ∙ ap (λ (t : Tree). change.Name c.row.result (row_at t.rows c.row.result).name (node_of t.rows c.row.result).verno (node_of t.rows c.row.result).stamp) c.self.view_is
+    ∙ ap (λ k. change.Name k (row_at c.args.self.now.rows k).name (node_of c.args.self.now.rows k).verno (node_of c.args.self.now.rows k).stamp) c.row.ensures
+
+pub returns-clause-undo : goal.returns-clause-undo
+returns-clause-undo c =
+    subst (λ u. TakesBack u c.args.self.now.rows c.put_name-change.new.rows.items) (sym (undo_is c))
+    (subst (λ r. TakesBack (change.Name c.args.id (row_at c.args.self.now.rows c.args.id).name (node_of c.args.self.now.rows c.args.id).verno (node_of c.args.self.now.rows c.args.id).stamp) c.args.self.now.rows r) (sym (rows_are c))
+    (takes_back-renamed c.args.self.now.rows (tree c) c.args.id c.args.name c.args.self.now.clock (may c)))

@@ -1,0 +1,115 @@
+// Another name for a node, and with it other paths for all that stand below it.
+ghost use Rattle.std.specs.Prelude.{◌≡◌, ◌<◌, ◌+◌, ◌++◌, ◌∷◌, [], false, length, IsTrue, IfSome};
+ghost use Rattle.std.specs.FinMap as map;
+ghost use Rattle.dm_tree.specs.declared.rows.Change.TheVariants as change;
+ghost use Rattle.dm_tree.specs.Nodes.{above, changed};
+ghost use Rattle.dm_tree.specs.Rows.{nodes, ids, row_at, node_of, path_of, IsLive, IsShaped};
+ghost use Rattle.dm_tree.specs.Edits.{with_name, renamed, fits as all_fit, StayRenamed};
+ghost use Rattle.dm_tree.specs.Undos.{TakesBack};
+ghost use Rattle.dm_tree.specs.Walks.{name_then, has_room as rows_have_room, row_fits as row_fits_then, rows_fit as first_rows_fit};
+
+use crate::arena::Tree;
+use crate::edits::raised;
+use crate::nodes::Stamp;
+use crate::rows::{Change, NodeId, Row, Undo};
+use crate::walks::is_in;
+use dm_uri::Name;
+use std::mem;
+
+// A path has at most 255 bytes in print, and the dot in front is one of them.
+const ROOM: usize = 254;
+
+// How many bytes a row's name has, once the row `id` bears the name.
+fn name_length(rows: &[Row], id: u32, name: &Name, at: u32) -> usize
+    requires { at < length rows.now }
+    ensures { result ≡ length (name_then rows.now id name.now at) }
+{
+    if at == id {
+        name.as_slice().len()
+    } else {
+        rows[at as usize].name.as_slice().len()
+    }
+}
+
+// Whether the names from a row upwards, each with a `/` in front, have no more bytes than there is room for.
+fn has_room(rows: &[Row], id: u32, name: &Name, at: u32, left: u32, room: usize) -> bool
+    requires shaped { IsShaped rows.now }
+    requires inside { at < length rows.now }
+    ensures { result ≡ rows_have_room rows.now id name.now left at room }
+{
+    if left == 0 {
+        return true;
+    }
+    let length = name_length(rows, id, name, at);
+    let parent = rows[at as usize].parent;
+    length < room && has_room(rows, id, name, parent, left - 1, room - length - 1)
+}
+
+// Whether a row doesn't lie below the root, or its path keeps to the limit.
+fn row_fits(rows: &[Row], id: u32, name: &Name, at: u32) -> bool
+    requires shaped { IsShaped rows.now }
+    requires inside { at < length rows.now }
+    ensures { result ≡ row_fits_then rows.now id name.now at }
+{
+    !is_in(rows, at) || has_room(rows, id, name, at, rows[at as usize].depth, ROOM)
+}
+
+fn rows_fit(rows: &[Row], id: u32, name: &Name) -> bool
+    requires { IsShaped rows.now }
+    ensures { result ≡ first_rows_fit rows.now id name.now (length rows.now) }
+{
+    for at in 0..rows.len() {
+        if !row_fits(rows, id, name, at as u32) {
+            return false;
+        }
+    }
+    true
+}
+
+fn put_name(rows: &mut Vec<Row>, id: u32, name: Name, clock: Stamp) -> Change
+    requires { id < length rows.old.items }
+    ensures rows { rows.new.items ≡ with_name rows.old.items id name (changed clock (node_of rows.old.items id)) }
+    ensures change { result ≡ change.Name id (row_at rows.old.items id).name
+        (node_of rows.old.items id).verno (node_of rows.old.items id).stamp }
+{
+    let row = &mut rows[id as usize];
+    let verno = row.node.verno;
+    let stamp = row.node.stamp;
+    row.node.verno = raised(verno);
+    row.node.stamp = clock;
+    Change::Name(id, mem::replace(&mut row.name, name), verno, stamp)
+}
+
+impl Tree {
+    /// Whether every path keeps to the limit of 255 bytes in print, once the node bears the name. Its time grows with the
+    /// number of all nodes.
+    pub fn fits(&self, id: NodeId, name: &Name) -> bool
+        requires { IsLive self.now.rows id }
+        ensures { result ≡ all_fit (nodes self.now.rows) (path_of self.now.rows id) name.now }
+    {
+        rows_fit(&self.rows, id.row(), name)
+    }
+
+    /// Gives a node another name, or the one that it has. All that stands below it goes with it. Every node keeps its
+    /// number. It takes no memory, and its time doesn't grow with the tree.
+    pub fn rename(&mut self, id: NodeId, name: Name) -> Undo
+        requires live { IsLive self.old.rows id }
+        requires removable { (node_of self.old.rows id).permanent ≡ false }
+        requires free { IfSome (map.get (ids self.old.rows) (above (path_of self.old.rows id) ++ name ∷ []))
+            (λ other. other ≡ id) }
+        requires fits { IsTrue (all_fit (nodes self.old.rows) (path_of self.old.rows id) name) }
+        ensures nodes { nodes self.new.rows ≡ map.insert (renamed (nodes self.old.rows) (path_of self.old.rows id) name)
+            (above (path_of self.old.rows id) ++ name ∷ []) (changed self.old.clock (node_of self.old.rows id)) }
+        ensures ids { ids self.new.rows ≡ renamed (ids self.old.rows) (path_of self.old.rows id) name }
+        ensures stays { StayRenamed self.old.rows self.new.rows (path_of self.old.rows id) name }
+        ensures rows { self.new ≡ record self.old {
+          rows = with_name self.old.rows id name (changed self.old.clock (node_of self.old.rows id));
+        } }
+        ensures undo { TakesBack result self.old.rows self.new.rows }
+    {
+        // Its contract says that the name keeps to the form and the limit.
+        let _ = name.as_slice();
+        let change = put_name(&mut self.rows, id.row(), name, self.clock);
+        Undo::of(change)
+    }
+}

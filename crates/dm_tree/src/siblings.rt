@@ -1,0 +1,146 @@
+// The order of the tree text: siblings by the bytes of their names, each node before all that stands below it.
+ghost use Rattle.std.specs.Prelude.{◌≡◌, ◌<◌, ◌^◌, ◌∷◌, [], length, false, Some, None, IsTrue, IfSome, option_and_then};
+ghost use Rattle.std.specs.Option.{option_map_or};
+ghost use Rattle.std.specs.FinMap as map;
+ghost use Rattle.dm_tree.specs.Nodes.{is_below};
+ghost use Rattle.dm_tree.specs.Rows.{nodes, ids, row_at, path_of, IsLive, IsShaped};
+ghost use Rattle.dm_tree.specs.Order.{first_child as first_child_of, next_sibling as next_sibling_of, next_below as next_path_below, behind};
+ghost use Rattle.dm_tree.specs.Walks.{comes_after as name_comes_after, is_later_child as is_child_after, is_better as is_better_row, is_next as is_next_row, least_child as least_child_of, next_past as next_row_past, next_row as next_row_of};
+
+use crate::arena::Tree;
+use crate::rows::{NodeId, Row};
+use dm_uri::Name;
+use std::cmp::Ordering;
+
+// Whether a name stands behind that of a row. All do where no row is given.
+fn comes_after(rows: &[Row], after: Option<u32>, name: &Name) -> bool
+    requires { IfSome after (λ row. row < length rows.now) }
+    ensures { result ≡ name_comes_after rows.now after name.now }
+{
+    match after {
+        None => true,
+        Some(row) => rows[row as usize].name.compare(name) == Ordering::Less,
+    }
+}
+
+// Whether a row is a child of `id` whose name stands behind that of a row.
+fn is_later_child(rows: &[Row], id: u32, after: Option<u32>, row: &Row) -> bool
+    requires { IfSome after (λ row. row < length rows.now) }
+    ensures { result ≡ is_child_after rows.now id after row.now }
+{
+    row.attached && (row.parent == id && comes_after(rows, after, &row.name))
+}
+
+// Whether a row's name stands before that of the best row so far.
+fn is_better(rows: &[Row], best: Option<u32>, row: &Row) -> bool
+    requires { IfSome best (λ best. best < length rows.now) }
+    ensures { result ≡ is_better_row rows.now best row.now }
+{
+    match best {
+        None => true,
+        Some(best) => row.name.compare(&rows[best as usize].name) == Ordering::Less,
+    }
+}
+
+fn is_next(rows: &[Row], id: u32, after: Option<u32>, best: Option<u32>, row: &Row) -> bool
+    requires after { IfSome after (λ row. row < length rows.now) }
+    requires best { IfSome best (λ best. best < length rows.now) }
+    ensures { result ≡ is_next_row rows.now id after best row.now }
+{
+    is_later_child(rows, id, after, row) && is_better(rows, best, row)
+}
+
+// Of the children of `id` behind a row, the first by name.
+fn least_child(rows: &[Row], id: u32, after: Option<u32>) -> Option<u32>
+    requires few { length rows.now < 2 ^ 32 }
+    requires inside { IfSome after (λ row. row < length rows.now) }
+    ensures { result ≡ least_child_of rows.now id after (length rows.now) }
+{
+    let mut best = None;
+    for (k, row) in rows.iter().enumerate() {
+        if is_next(rows, id, after, best, row) {
+            best = Some(k as u32);
+        }
+    }
+    best
+}
+
+// The first sibling behind a row or behind one of those above it, up to `top`.
+fn next_past(rows: &[Row], top: u32, at: u32, left: u32) -> Option<u32>
+    requires shaped { IsShaped rows.now }
+    requires inside { at < length rows.now }
+    ensures { result ≡ next_row_past rows.now top left at }
+{
+    if left == 0 || at == top {
+        return None;
+    }
+    let parent = rows[at as usize].parent;
+    match least_child(rows, parent, Some(at)) {
+        Some(next) => Some(next),
+        None => next_past(rows, top, parent, left - 1),
+    }
+}
+
+fn next_row(rows: &[Row], top: u32, id: u32, past: bool) -> Option<u32>
+    requires shaped { IsShaped rows.now }
+    requires inside { id < length rows.now }
+    ensures { result ≡ next_row_of rows.now top id past }
+{
+    if !past {
+        let child = least_child(rows, id, None);
+        if child.is_some() {
+            return child;
+        }
+    }
+    next_past(rows, top, id, rows[id as usize].depth)
+}
+
+impl Tree {
+    /// Of the nodes right below, the first in byte order of their names. None comes exactly where there is none.
+    pub fn first_child(&self, id: NodeId) -> Option<NodeId>
+        requires { IsLive self.now.rows id }
+        ensures found { result ≡ option_and_then (map.get (ids self.now.rows))
+            (first_child_of (nodes self.now.rows) (path_of self.now.rows id)) }
+        ensures live { IfSome result (λ child. IsLive self.now.rows child
+            × (first_child_of (nodes self.now.rows) (path_of self.now.rows id) ≡ Some (path_of self.now.rows child))) }
+    {
+        NodeId::of_row(least_child(&self.rows, id.row(), None))
+    }
+
+    /// The node beside whose name comes next in byte order. None comes exactly at the last, and at the root.
+    pub fn next_sibling(&self, id: NodeId) -> Option<NodeId>
+        requires { IsLive self.now.rows id }
+        ensures found { result ≡ option_and_then (map.get (ids self.now.rows))
+            (next_sibling_of (nodes self.now.rows) (path_of self.now.rows id)) }
+        ensures live { IfSome result (λ next. IsLive self.now.rows next
+            × (next_sibling_of (nodes self.now.rows) (path_of self.now.rows id) ≡ Some (path_of self.now.rows next))) }
+    {
+        if id.row() == 0 {
+            return None;
+        }
+        let parent = self.rows[id.row() as usize].parent;
+        NodeId::of_row(least_child(&self.rows, parent, Some(id.row())))
+    }
+
+    /// The node behind this one in the order of the tree text, among those at and below `top`; with `past`, the one behind
+    /// all that stand below it. None comes exactly where there is none. From `top` on, it goes through the whole subtree.
+    pub fn next_below(&self, top: NodeId, id: NodeId, past: bool) -> Option<NodeId>
+        requires top { IsLive self.now.rows top }
+        requires live { IsLive self.now.rows id }
+        requires below { IsTrue (is_below (path_of self.now.rows top) (path_of self.now.rows id)) }
+        ensures found { result ≡ option_and_then (map.get (ids self.now.rows))
+            (next_path_below (nodes self.now.rows) (path_of self.now.rows top) (path_of self.now.rows id) past) }
+        ensures live { IfSome result (λ next. IsLive self.now.rows next
+            × (next_path_below (nodes self.now.rows) (path_of self.now.rows top) (path_of self.now.rows id) past
+                ≡ Some (path_of self.now.rows next))) }
+
+        // So it may be gone on from there, and what stands behind becomes less with each step.
+        ensures within { IfSome result (λ next.
+            IsTrue (is_below (path_of self.now.rows top) (path_of self.now.rows next))) }
+        ensures behind { behind (nodes self.now.rows) (path_of self.now.rows top) (path_of self.now.rows id) past
+            ≡ option_map_or (λ next. path_of self.now.rows next
+                ∷ behind (nodes self.now.rows) (path_of self.now.rows top) (path_of self.now.rows next) false) result [] }
+    {
+        NodeId::of_row(next_row(&self.rows, top.row(), id.row(), past))
+    }
+}
