@@ -1,9 +1,12 @@
 -- Tokens and bytes folded into two numbers.
-use Rattle.std.specs.Prelude.{◌+◌, ◌*◌, ◌%◌, ◌^◌, ℕ, if◌then◌else◌, List, [], ◌∷◌, length, None}
+use Rattle.std.specs.Prelude.{◌+◌, ◌*◌, ◌%◌, ◌^◌, ℕ, if◌then◌else◌, List, [], ◌∷◌, length, None, Result, Ok, Err, ⊤, ◌≡◌}
 use Rattle.wbxml_tables.specs.Tables.{code_on_page}
 use Rattle.wbxml_tokens.specs.declared.token.Token.{Token}
 use Rattle.wbxml_tokens.specs.declared.token.Token.TheVariants.{Tag, End, Text, Opaque}
 use Rattle.wbxml_tokens.specs.Taking.{Taking, taking}
+use Rattle.wbxml_tokens.specs.declared.reason.FeedError.{FeedError}
+use Rattle.syncml_types.specs.Message.{Parts}
+use Rattle.syncml_codec.specs.declared.decoder.DecodeError.{DecodeError}
 use Rattle.codec_bench.specs.declared.fold.Fold.{Fold}
 
 -- the number that a token counts for
@@ -28,3 +31,9 @@ folded f token = with_number f (number_of token)
 -- folding, which takes each token and no notice of places
 abbrev pub folding : Taking Fold
 folding = taking (λ f at. f) folded (λ f token. None)
+
+-- where there is a message, the number of its commands is folded
+abbrev pub FoldsMessage : Result Unit FeedError → Fold → Fold → Result Parts DecodeError → Type 0
+FoldsMessage (Ok u) old new (Ok parts) = new ≡ with_number old (length parts.body)
+FoldsMessage (Ok u) old new (Err e) = ⊥
+FoldsMessage (Err e) old new answer = ⊤

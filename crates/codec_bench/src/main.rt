@@ -1,4 +1,4 @@
-//! Measures how fast documents are read into tokens, and how fast messages are spelled and measured. Without words it does
+//! Measures how fast documents are read into tokens and messages, and how fast messages are spelled and measured. Without words it does
 //! each once, and tells what it folds to. The words FILE SECONDS PIECE READER, encode SECONDS MESSAGE and
 //! length SECONDS MESSAGE ask for nanoseconds a byte.
 #![tactic(auto)]
@@ -125,7 +125,7 @@ fn write(rt: &HostRuntime, what: &str, span: &str, name: &str) -> io::Result<()>
 // One turn over a document of the data, in each way, whole and byte by byte.
 fn show(rt: &HostRuntime, name: &str) -> io::Result<()> {
     let bytes = fs::read(rt, name)?;
-    for way in [Way::Engine, Way::Tokens] {
+    for way in [Way::Engine, Way::Tokens, Way::Message] {
         for size in [1, bytes.len().max(1)] {
             let mut fold = Fold { tokens: 0, sum: 0 };
             turn(rt.alloc(), way, bytes.as_slice(), size.max(1), &mut fold).map_err(told)?;

@@ -2,10 +2,12 @@
 ghost use Rattle.std.specs.Prelude.{◌≡◌, ◌<◌, OnOk, Ok as Fine, None as Nothing};
 ghost use Rattle.wbxml_tokens.specs.Reading.{reading, refusal_of, ended};
 ghost use Rattle.wbxml_tokens.specs.Taking.{taken};
-ghost use Rattle.codec_bench.specs.Folding.{folding};
+ghost use Rattle.codec_bench.specs.Folding.{folding, FoldsMessage};
 
 use crate::fold::Fold;
 use std::alloc::Global;
+use syncml_codec::{DecodeError, Decoder, decode};
+use syncml_types::Message;
 use wbxml_tokens::{FeedError, Reader, Tokens};
 
 /// What reads a document.
@@ -15,6 +17,8 @@ pub enum Way {
     Engine,
     /// The queue of tokens; each is taken as soon as it is there.
     Tokens,
+    /// The decoder, which builds the message.
+    Message,
 }
 
 // Refuses where the bytes so far are no whole document.
@@ -83,7 +87,32 @@ fn read_by_tokens(
     }
 }
 
-/// Reads a document once, in pieces of `size` bytes, and folds its tokens.
+// The message of a document in pieces of this many bytes.
+fn decode_in_pieces(alloc: Global, bytes: &[u8], size: usize) -> Result<Message, DecodeError>
+    requires { 0 < size }
+{
+    let mut decoder = Decoder::new(alloc);
+    for piece in bytes.chunks(size) {
+        decoder.feed(piece)?;
+    }
+    decoder.finish()
+}
+
+// Folds how many commands the message has that an answer gives.
+fn fold_message(answer: Result<Message, DecodeError>, fold: &mut Fold) -> Result<(), FeedError>
+    ensures { FoldsMessage result fold.old fold.new answer }
+{
+    match answer {
+        Ok(message) => {
+            fold.add(message.body().len() as u64);
+            Ok(())
+        }
+        Err(DecodeError::Refused(refusal)) => Err(FeedError::Refused(refusal)),
+        Err(DecodeError::Memory) => Err(FeedError::Memory),
+    }
+}
+
+/// Reads a document once, in pieces of `size` bytes, and folds its tokens, or how many commands its message has.
 pub fn turn(
     alloc: Global,
     way: Way,
@@ -97,5 +126,7 @@ pub fn turn(
         Way::Engine if bytes.len() <= size => read_at_once(alloc, bytes, fold),
         Way::Engine => read_in_pieces(alloc, bytes, size, fold),
         Way::Tokens => read_by_tokens(alloc, bytes, size, fold),
+        Way::Message if bytes.len() <= size => fold_message(decode(alloc, bytes), fold),
+        Way::Message => fold_message(decode_in_pieces(alloc, bytes, size), fold),
     }
 }

@@ -30,6 +30,7 @@ fn way_of(word: &str) -> Option<Way> {
     match word {
         "engine" => Some(Way::Engine),
         "tokens" => Some(Way::Tokens),
+        "message" => Some(Way::Message),
         _ => None,
     }
 }

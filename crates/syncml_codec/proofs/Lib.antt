@@ -7,3 +7,7 @@ pub mod Reading
 pub mod Listings
 pub mod Texts
 pub mod FirstFit
+pub mod Unrefused
+pub mod Documents
+pub mod Decoded
+pub mod Feeding

@@ -1,3 +1,6 @@
 pub mod FirstMessages
 pub mod FirstGet
 pub mod Listing
+pub mod Messages
+pub mod Decoding
+pub mod Laws

@@ -1,6 +1,7 @@
 //! Messages to bytes and back. So far: every message is written, and those of the first path are read.
 #![tactic(auto)]
 
+pub mod decoder;
 pub mod encoder;
 pub mod first;
 pub mod first_get;
@@ -11,8 +12,11 @@ pub mod lister;
 pub mod names;
 mod parts;
 #[cfg(test)]
+mod decode_tests;
+#[cfg(test)]
 mod tests;
 
+pub use decoder::{DecodeError, Decoder, decode};
 pub use encoder::encode;
 pub use first::{FirstEnds, FirstGet};
 pub use first_get::read_first;

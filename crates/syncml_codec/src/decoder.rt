@@ -1,0 +1,132 @@
+// Bytes to messages, in pieces and at once.
+ghost use Rattle.std.specs.Prelude.{◌≡◌, ◌++◌, ℕ, [], List as ListOf, Ok as Good, Err as Bad, None as Nothing};
+ghost use Rattle.wbxml_tokens.specs.declared.reason.Refusal.{Refusal as ARefusal};
+ghost use Rattle.syncml_types.specs.Message.{Parts};
+ghost use Rattle.syncml_codec.specs.declared.decoder.DecodeError.TheVariants as errors;
+ghost use Rattle.syncml_codec.specs.Messages.{Spells, MessageRefusedAt};
+ghost use Rattle.syncml_codec.specs.Decoding.{read_of, settled, IsRead, Decodes, TellsSettled, HasDecoded, Lacks, LacksAfter};
+
+use std::alloc::Global;
+use std::marker::Model;
+use syncml_grammar::Builder;
+use syncml_types::Message;
+use wbxml_tokens::{FeedError, Reader, Reason, Refusal};
+
+/// Why no message is read of bytes.
+#[derive(Clone, Copy, Debug, PartialEq, Eq)]
+pub enum DecodeError {
+    /// The bytes spell none: the first refusal.
+    Refused(Refusal),
+    Memory,
+}
+
+/// A reader of one message in pieces. The message is built while its bytes come; beside it are kept the string table and what
+/// a piece cut. A text is copied once, into the message.
+#[derive(Drop)]
+pub struct Decoder {
+    reader: Reader,
+    builder: Builder,
+    length: u64,
+    stopped: Option<DecodeError>,
+}
+
+impl Model for Decoder {
+    ghost use Rattle.syncml_codec.specs.Decoding.{Decoding};
+
+    ghost Value = { Decoding };
+
+    ghost view = { λ d. record { reader = d.reader; building = d.builder; length = d.length; stopped = d.stopped } };
+}
+
+impl Decoder {
+    /// No byte was fed.
+    #[tactic(auto, using(crate::proofs::Feeding::nothing_fed))]
+    pub fn new(alloc: Global) -> Decoder
+        ensures { HasDecoded result [] }
+    {
+        Decoder {
+            reader: Reader::new(alloc),
+            builder: Builder::new(alloc),
+            length: 0,
+            stopped: None,
+        }
+    }
+
+    // Reads a piece where nothing has stopped the decoder.
+    fn read(&mut self, piece: &[u8]) -> Result<(), DecodeError>
+        requires { self.old.stopped ≡ Nothing }
+        ensures told { (bytes : ListOf ℕ) → HasDecoded self.old bytes → TellsSettled result (settled (bytes ++ piece.now)) }
+        ensures decoded { (bytes : ListOf ℕ) → HasDecoded self.old bytes → HasDecoded self.new (bytes ++ piece.now) }
+        ensures memory { result ≡ Bad errors.Memory → Lacks self.new }
+    {
+        match self.reader.feed(piece, &mut self.builder) {
+            Ok(()) => {
+                self.length = self.length.saturating_add(piece.len() as u64);
+                Ok(())
+            }
+            Err(FeedError::Refused(refusal)) => {
+                self.stopped = Some(DecodeError::Refused(refusal));
+                Err(DecodeError::Refused(refusal))
+            }
+            Err(FeedError::Memory) => {
+                self.stopped = Some(DecodeError::Memory);
+                Err(DecodeError::Memory)
+            }
+        }
+    }
+
+    /// Reads the next piece of the message, in work linear in it and in the texts that it stands for. A refusal is answered
+    /// exactly where the bytes so far settle it, whatever follows, and again by each later call. After `Memory` each later
+    /// call answers `Memory`.
+    pub fn feed(&mut self, piece: &[u8]) -> Result<(), DecodeError>
+        ensures told { (bytes : ListOf ℕ) → HasDecoded self.old bytes → TellsSettled result (settled (bytes ++ piece.now)) }
+        ensures decoded { (bytes : ListOf ℕ) → HasDecoded self.old bytes → HasDecoded self.new (bytes ++ piece.now) }
+        ensures memory { LacksAfter result self.old self.new }
+    {
+        match self.stopped {
+            Some(error) => Err(error),
+            None => self.read(piece),
+        }
+    }
+
+    /// The message of the bytes that were fed, or their first refusal; `Truncated` comes from here alone. After want of memory
+    /// it answers `Memory`.
+    pub fn finish(self) -> Result<Message, DecodeError>
+        ensures read { (bytes : ListOf ℕ) → HasDecoded self bytes → IsRead result (read_of bytes) }
+        ensures memory { Lacks self → result ≡ Bad errors.Memory }
+    {
+        if let Some(error) = self.stopped {
+            return Err(error);
+        }
+        match self.builder.finish() {
+            Some(message) => Ok(message),
+            None => Err(DecodeError::Refused(Refusal {
+                at: self.length,
+                reason: Reason::Truncated,
+            })),
+        }
+    }
+}
+
+// What is read of bytes.
+fn decoded(alloc: Global, bytes: &[u8]) -> Result<Message, DecodeError>
+    ensures { IsRead result (read_of bytes.now) }
+{
+    let mut decoder = Decoder::new(alloc);
+    match decoder.feed(bytes) {
+        Ok(()) => decoder.finish(),
+        Err(error) => Err(error),
+    }
+}
+
+/// Reads a message: Ok exactly where the bytes spell it, and Refused exactly at the place and for the reason of the first
+/// refusal. The work is linear in the bytes and in the texts that they stand for, where a string of the table counts at each
+/// use.
+pub fn decode(alloc: Global, bytes: &[u8]) -> Result<Message, DecodeError>
+    ensures read { IsRead result (read_of bytes.now) }
+    ensures exact { Decodes result bytes.now }
+    ensures message { (parts : Parts) → Spells bytes.now parts → IsRead result (Good parts) }
+    ensures refusal { (refusal : ARefusal) → MessageRefusedAt bytes.now refusal.at refusal.reason → IsRead result (Bad refusal) }
+{
+    decoded(alloc, bytes)
+}
