@@ -96,6 +96,7 @@ impl Decoder {
         ensures memory { Lacks self → result ≡ Bad errors.Memory }
     {
         if let Some(error) = self.stopped {
+            drop(self);
             return Err(error);
         }
         match self.builder.finish() {
