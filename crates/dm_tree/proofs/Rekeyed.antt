@@ -103,9 +103,9 @@ module _ (rows : List Row) (shape : IsShaped rows) (k : ℕ) (live : IsLive rows
             let is : path_of rows k ≡ r ++ (row_at rows i).name ∷ [] = some_path _ _ (sym live ∙ ap (path_below rows 0) (sym h) ∙ lies) in
             let apart : is_below (r ++ (row_at rows i).name ∷ []) r ≡ false = not_in_longer r (row_at rows i).name in
             rw is (
-              ap (λ q. q ++ (row_at (with_name rows k name node) i).name ∷ []) (rekeyed-apart (r ++ (row_at rows i).name ∷ []) name r apart)
-              ∙ ap (λ n. r ++ n ∷ []) (ap (λ j. (row_at (with_name rows k name node) j).name) h ∙ ap (λ (s : Row). s.name) here_then)
-              ∙ sym (rekeyed-itself r (row_at rows i).name name)
+            ap (λ q. q ++ (row_at (with_name rows k name node) i).name ∷ []) (rekeyed-apart (r ++ (row_at rows i).name ∷ []) name r apart)
+            ∙ ap (λ n. r ++ n ∷ []) (ap (λ j. (row_at (with_name rows k name node) j).name) h ∙ ap (λ (s : Row). s.name) here_then)
+            ∙ sym (rekeyed-itself r (row_at rows i).name name)
             )
         | inr h ↦
             ap (λ (s : Row). rekeyed (path_of rows k) name r ++ s.name ∷ []) (other_then i h)

@@ -239,7 +239,7 @@ module _ (rows : List Row) (shape : IsShaped rows) where
           least = λ q x e is.
               let m = child_is a q is in
               rw (live.1, m.1) (fork_not_before a m.0 (row_at rows c).name [] (not_before_least u None c h m.0 (child_row u a at m.0 [] x (ap (get (nodes rows)) (sym m.1) ∙ e)) refl));
-        })
+        }),
       )
 
   pub first-is : (u : ℕ) → IsLive rows u → Shows rows (least_child rows u None (length rows)) (first_child (nodes rows) (path_of rows u))
@@ -263,7 +263,7 @@ module _ (rows : List Row) (shape : IsShaped rows) where
           least = λ q x e is.
               let s = sibling_is a (row_at rows k).name q is in
               rw (live.1, s.1) (fork_not_before a s.0 (row_at rows c).name [] (not_before_least u (Some k) c h s.0 (child_row u a at s.0 [] x (ap (get (nodes rows)) (sym s.1) ∙ e)) s.2));
-        })
+        }),
       )
 
   pub next-is : (k : ℕ) → IsLive rows k → nat_eq k 0 ≡ false → Shows rows (least_child rows (row_at rows k).parent (Some k) (length rows)) (next_sibling (nodes rows) (path_of rows k))
@@ -288,7 +288,7 @@ module _ (rows : List Row) (shape : IsShaped rows) where
           there = node_there rows shape c live.0;
           passes = ap (is_behind t (a ++ (row_at rows k).name ∷ [])) live.1 ∙ behind_from t (a ++ n ∷ []) (a ++ m ∷ []) (record { below = below_longer t a m tb; behind = first; apart = to_false _ (λ is. other first (below_last (a ++ (row_at rows k).name ∷ []) a (row_at rows c).name is (not_below_shorter a (row_at rows k).name))) });
           least = λ q x e is. ap (is_before q) live.1 ∙ not_first q x e (behind_parts t (a ++ (row_at rows k).name ∷ []) q is) (is_below a q) refl;
-        })
+        }),
       )
     where
       other : is_before (a ++ (row_at rows k).name ∷ []) (a ++ (row_at rows c).name ∷ []) ≡ true → a ++ (row_at rows k).name ∷ [] ≡ a ++ (row_at rows c).name ∷ [] → ⊥
@@ -376,7 +376,7 @@ module _ (rows : List Row) (shape : IsShaped rows) where
           there = node_there rows shape c live.0;
           passes = ap (is_next_in t (path_of rows k)) live.1 ∙ rw (below_longer t (path_of rows k) (row_at rows c).name tb, before_longer (path_of rows k) (row_at rows c).name []) refl;
           least = λ q x e is. ap (is_before q) live.1 ∙ not_first q x e (next_parts q is) (is_below (path_of rows k) q) refl;
-        })
+        }),
       )
     where
       next_parts : (q : Path) → is_next_in t (path_of rows k) q ≡ true → is_before (path_of rows k) q ≡ true

@@ -11,11 +11,11 @@ pub mod rows;
 mod siblings;
 #[cfg(test)]
 mod tests;
-#[cfg(test)]
-mod walk_tests;
 mod text;
 pub mod tree;
 mod update;
+#[cfg(test)]
+mod walk_tests;
 mod walks;
 
 pub use arena::Tree;

@@ -1,4 +1,5 @@
-// The order of the tree text: siblings by the bytes of their names, each node before all that stands below it.
+// The order of the tree text: siblings by the bytes of their names, each node before all that stands below it. Each step
+// looks at every row, so its time grows with the number of rows.
 ghost use Rattle.std.specs.Prelude.{◌≡◌, ◌<◌, ◌^◌, ◌∷◌, [], length, false, Some, None, IsTrue, IfSome, option_and_then};
 ghost use Rattle.std.specs.Option.{option_map_or};
 ghost use Rattle.std.specs.FinMap as map;
@@ -132,14 +133,14 @@ impl Tree {
             (next_path_below (nodes self.now.rows) (path_of self.now.rows top) (path_of self.now.rows id) past) }
         ensures live { IfSome result (λ next. IsLive self.now.rows next
             × (next_path_below (nodes self.now.rows) (path_of self.now.rows top) (path_of self.now.rows id) past
-                ≡ Some (path_of self.now.rows next))) }
+            ≡ Some (path_of self.now.rows next))) }
 
         // So it may be gone on from there, and what stands behind becomes less with each step.
         ensures within { IfSome result (λ next.
             IsTrue (is_below (path_of self.now.rows top) (path_of self.now.rows next))) }
         ensures behind { behind (nodes self.now.rows) (path_of self.now.rows top) (path_of self.now.rows id) past
             ≡ option_map_or (λ next. path_of self.now.rows next
-                ∷ behind (nodes self.now.rows) (path_of self.now.rows top) (path_of self.now.rows next) false) result [] }
+            ∷ behind (nodes self.now.rows) (path_of self.now.rows top) (path_of self.now.rows next) false) result [] }
     {
         NodeId::of_row(next_row(&self.rows, top.row(), id.row(), past))
     }

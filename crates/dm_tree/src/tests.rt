@@ -4,7 +4,7 @@ ghost use Rattle.dm_uri.specs.Names.{is_within_limits};
 ghost use Rattle.dm_tree.specs.declared.nodes.Stamp.{Stamp as Time};
 ghost use Rattle.dm_tree.specs.Nodes.{made, IsNode, IsValue, IsShortAcl};
 ghost use Rattle.dm_tree.specs.Rows.{IsLive};
-ghost use Rattle.dm_tree.specs.Undos.{Fits, IsHeld};
+ghost use Rattle.dm_tree.specs.Undos.{Fits, IsHeld, GoesBackAlike, flipped};
 
 use crate::{NewNode, NodeId, Role, Stamp, Tree, Undo, Value};
 use dm_acl::{Acl, Right};
@@ -85,7 +85,7 @@ fn chr(alloc: Global, bytes: &[u8]) -> Option<Value>
     })
 }
 
-pub(crate) fn node(alloc: Global, row: &Start) -> Option<NewNode>
+fn node(alloc: Global, row: &Start, role: Role) -> Option<NewNode>
     ensures may { IfSome result (λ new. (now : Time) → IsNode (made now new)) }
     ensures dynamic { IfSome result (λ new. new.permanent ≡ false) }
 {
@@ -109,16 +109,17 @@ pub(crate) fn node(alloc: Global, row: &Start) -> Option<NewNode>
         acl,
         title: Bytes::new(alloc),
         permanent: false,
-        role: Role::Plain,
+        role,
     })
 }
 
-pub(crate) fn put_below(tree: &mut Tree, path: &Path, name: Name, new: NewNode) -> Option<Undo>
+fn put_below(tree: &mut Tree, path: &Path, name: Name, new: NewNode) -> Option<Undo>
     requires within { IsTrue (is_within_limits (path.now ++ name ∷ [])) }
     requires may { (now : Time) → IsNode (made now new) }
     requires dynamic { new.permanent ≡ false }
     ensures fits { IfSome result (λ undo. Fits tree.new.rows undo) }
     ensures free { IfSome result (λ undo. IsHeld tree.new.rows undo) }
+    ensures back { IfSome result (λ undo. GoesBackAlike tree.old.rows (flipped tree.new.rows undo)) }
 {
     let parent = tree.find(path)?;
     if !tree.view(parent).interior || tree.child(parent, &name).is_some() {
@@ -130,11 +131,12 @@ pub(crate) fn put_below(tree: &mut Tree, path: &Path, name: Name, new: NewNode) 
     }
 }
 
-pub(crate) fn put(alloc: Global, tree: &mut Tree, row: &Start) -> Option<Undo>
+pub(crate) fn put(alloc: Global, tree: &mut Tree, row: &Start, role: Role) -> Option<Undo>
     ensures fits { IfSome result (λ undo. Fits tree.new.rows undo) }
     ensures free { IfSome result (λ undo. IsHeld tree.new.rows undo) }
+    ensures back { IfSome result (λ undo. GoesBackAlike tree.old.rows (flipped tree.new.rows undo)) }
 {
-    let new = node(alloc, row)?;
+    let new = node(alloc, row, role)?;
     match parse(alloc, row.uri) {
         Ok(uri) => {
             let mut path = uri.path;
@@ -150,7 +152,7 @@ pub(crate) fn put(alloc: Global, tree: &mut Tree, row: &Start) -> Option<Undo>
 pub(crate) fn grown(alloc: Global) -> Option<Tree> {
     let mut tree = Tree::new(alloc, acl(alloc, b"Add=*&Get=s1&Exec=*")?).ok()?;
     for row in &NODES {
-        let undo = put(alloc, &mut tree, row)?;
+        let undo = put(alloc, &mut tree, row, Role::Plain)?;
         tree.discard(undo);
     }
     Some(tree)
@@ -352,7 +354,7 @@ fn out_and_back(alloc: Global, tree: &mut Tree) -> Option<bool> {
     Some(gone && back && at(alloc, tree, b"./T").is_none() && tree.count() == 4)
 }
 
-const LEAF_T: Start = Start {
+pub(crate) const LEAF_T: Start = Start {
     uri: b"./T",
     acl: b"",
     interior: false,
@@ -366,7 +368,7 @@ fn given_up_and_replaced(alloc: Global, tree: &mut Tree) -> Option<bool> {
     }
     let undo = tree.detach(id);
     tree.discard(undo);
-    let mut undo = put(alloc, tree, &LEAF_T)?;
+    let mut undo = put(alloc, tree, &LEAF_T, Role::Plain)?;
     let new = at(alloc, tree, b"./T");
     let there = new.is_some() && new != Some(id) && tree.count() == 5;
     tree.flip(&mut undo);

@@ -1,8 +1,8 @@
 // Other names, the order of the tree text, and the place of the update, on the tree of a few nodes.
 
-use crate::tests::{FIRST, LATER, NOW, Start, at, grown, node, put, put_below, unread};
+use crate::tests::{FIRST, LATER, LEAF_T, NOW, Start, at, grown, put, unread};
 use crate::{Role, Stamp, Tree};
-use dm_uri::{parse, parse_name};
+use dm_uri::parse_name;
 use std::alloc::Global;
 use std::test::Fail;
 
@@ -124,8 +124,12 @@ fn stays_below(alloc: Global, tree: &Tree) -> Option<bool> {
     let first = tree.next_below(top, top, false)?;
     let second = tree.next_below(top, first, true)?;
     let third = tree.next_below(top, second, false)?;
-    let end = tree.next_below(top, third, false).is_none() && tree.next_below(top, top, true).is_none();
-    Some(end && at(alloc, tree, b"./T/a") == Some(second) && at(alloc, tree, b"./T/b") == Some(third))
+    let end = tree.next_below(top, third, false).is_none()
+        && tree.next_below(top, top, true).is_none();
+    Some(
+        end && at(alloc, tree, b"./T/a") == Some(second)
+            && at(alloc, tree, b"./T/b") == Some(third),
+    )
 }
 
 #[test]
@@ -161,7 +165,8 @@ fn renamed_and_back(alloc: Global, tree: &mut Tree) -> Option<bool> {
         && unread(alloc, tree).is_none()
         && is_counted(alloc, tree, b"./T", 0, FIRST);
     tree.flip(&mut undo);
-    let again = at(alloc, tree, b"./Q/B/c") == Some(below) && is_counted(alloc, tree, b"./Q", 1, NOW);
+    let again = at(alloc, tree, b"./Q/B/c") == Some(below)
+        && is_counted(alloc, tree, b"./Q", 1, NOW);
     Some(done && back && again)
 }
 
@@ -214,17 +219,21 @@ const DEEPER: Start = Start {
 // Whether a name of 64 bytes fits `./T`.
 fn long_name_fits(alloc: Global, tree: &Tree) -> Option<bool> {
     let id = at(alloc, tree, b"./T")?;
-    let name = parse_name(alloc, b"aaaaaaaaaaaaaaaaaaaaaaaaaaaaaaaaaaaaaaaaaaaaaaaaaaaaaaaaaaaaaaaa").ok()?;
+    let name = parse_name(
+        alloc,
+        b"aaaaaaaaaaaaaaaaaaaaaaaaaaaaaaaaaaaaaaaaaaaaaaaaaaaaaaaaaaaaaaaa",
+    )
+    .ok()?;
     Some(tree.fits(id, &name))
 }
 
 fn fits_up_to_the_limit(alloc: Global, tree: &mut Tree) -> Option<bool> {
     for row in &DEEP {
-        let undo = put(alloc, tree, row)?;
+        let undo = put(alloc, tree, row, Role::Plain)?;
         tree.discard(undo);
     }
     let at_limit = long_name_fits(alloc, tree)?;
-    let mut undo = put(alloc, tree, &DEEPER)?;
+    let mut undo = put(alloc, tree, &DEEPER, Role::Plain)?;
     let over = long_name_fits(alloc, tree)?;
     tree.flip(&mut undo);
     let again = long_name_fits(alloc, tree)?;
@@ -249,11 +258,7 @@ const UPDATE: Start = Start {
 // Whether no node is the update's at first, then the one that is put there, and none once that is taken back.
 fn update_comes_and_goes(alloc: Global, tree: &mut Tree) -> Option<bool> {
     let none = tree.update_node().is_none();
-    let mut new = node(alloc, &UPDATE)?;
-    new.role = Role::UpdateNode;
-    let name = parse_name(alloc, b"F").ok()?;
-    let root = parse(alloc, b".").ok()?.path;
-    let mut undo = put_below(tree, &root, name, new)?;
+    let mut undo = put(alloc, tree, &UPDATE, Role::UpdateNode)?;
     let found = at(alloc, tree, b"./F");
     let there = found.is_some() && tree.update_node() == found;
     tree.flip(&mut undo);
@@ -265,6 +270,34 @@ fn the_update_node_is_told_by_its_role(rt: HostRuntime) -> Result<(), Fail> {
     let alloc = rt.alloc();
     if let Some(mut tree) = grown(alloc) {
         assert_eq!(rt; update_comes_and_goes(alloc, &mut tree), Some(true));
+    }
+    Ok(())
+}
+
+// Whether a subtree that was taken out, and a leaf that was put in its place, are as they were once both are taken back
+// in turn, and as they became once both are done again.
+fn both_in_turn(alloc: Global, tree: &mut Tree) -> Option<bool> {
+    let id = at(alloc, tree, b"./T")?;
+    if tree.view(id).permanent {
+        return None;
+    }
+    let mut out = tree.detach(id);
+    let mut new = put(alloc, tree, &LEAF_T, Role::Plain)?;
+    let leaf = at(alloc, tree, b"./T");
+    tree.flip(&mut new);
+    tree.flip(&mut out);
+    let back = at(alloc, tree, b"./T") == Some(id) && unread(alloc, tree).is_none();
+    tree.flip(&mut out);
+    tree.flip(&mut new);
+    let again = at(alloc, tree, b"./T") == leaf && leaf != Some(id) && tree.count() == 5;
+    Some(back && again)
+}
+
+#[test]
+fn two_edits_at_one_path_are_taken_back_and_done_again(rt: HostRuntime) -> Result<(), Fail> {
+    let alloc = rt.alloc();
+    if let Some(mut tree) = grown(alloc) {
+        assert_eq!(rt; both_in_turn(alloc, &mut tree), Some(true));
     }
     Ok(())
 }
