@@ -1,6 +1,8 @@
 //! Messages to bytes and back. So far: every message is written, and those of the first path are read.
 #![tactic(auto)]
 
+#[cfg(test)]
+mod container_tests;
 pub mod encoder;
 pub mod first;
 pub mod first_get;
