@@ -1,6 +1,10 @@
-//! Messages to bytes and back. So far: every message is written, and those of the first path are read.
+//! Messages to bytes and back, exactly; and the reader and the writers of the first path.
 #![tactic(auto)]
 
+#[cfg(test)]
+mod container_tests;
+#[cfg(test)]
+mod decode_tests;
 pub mod decoder;
 pub mod encoder;
 pub mod first;
@@ -11,8 +15,6 @@ pub mod laws;
 pub mod lister;
 pub mod names;
 mod parts;
-#[cfg(test)]
-mod decode_tests;
 #[cfg(test)]
 mod tests;
 
