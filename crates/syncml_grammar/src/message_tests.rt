@@ -56,7 +56,9 @@ fn is_read(alloc: Global, head: &[Piece], front: &[u8], reading: &Reading) -> Re
     push_all(alloc, &mut tokens, reading.pieces)?;
     let want = joined(alloc, front, reading.spelling)?;
     let verdict = judge(alloc, tokens.as_slice())?;
-    is_spelled(alloc, &verdict, &want)
+    let is_read = is_spelled(alloc, &verdict, &want);
+    drop(verdict);
+    is_read
 }
 
 // The number of the first of these that is read otherwise. A head of tokens and a front of bytes stand before each.
@@ -172,15 +174,20 @@ fn reads_bodies(rt: HostRuntime) -> Result<(), Fail> {
     Ok(())
 }
 
-// After a refusal no token is taken, and no message is there.
-fn stays_refused(alloc: Global) -> bool {
-    let mut builder = Builder::new(alloc);
+fn refuses_all(builder: &mut Builder) -> bool {
     let stop = Err(Stop::Refused(Reason::Leftout));
     builder.tag(ECred, true) == stop
         && builder.tag(ESyncML, true) == stop
         && builder.text(b"x") == stop
         && builder.end() == stop
-        && builder.finish().is_none()
+}
+
+// After a refusal no token is taken, and no message is there.
+fn stays_refused(alloc: Global) -> bool {
+    let mut builder = Builder::new(alloc);
+    let refuses = refuses_all(&mut builder);
+    let is_none = builder.finish().is_none();
+    refuses && is_none
 }
 
 #[test]

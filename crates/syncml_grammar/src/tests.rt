@@ -101,7 +101,9 @@ fn is_answered(
     let place = tokens.len();
     push_all(alloc, &mut tokens, pieces)?;
     let verdict = judge(alloc, tokens.as_slice())?;
-    Ok(answer_of(place, &verdict) == Some(answer))
+    let is_answered = answer_of(place, &verdict) == Some(answer);
+    drop(verdict);
+    Ok(is_answered)
 }
 
 /// Pieces, and what they are judged behind a front.
