@@ -1,9 +1,8 @@
 -- What stands behind a node: the next one, and what stands behind that.
-use Rattle.std.proofs.Common.{◌≡◌, ℕ, Bool, true, false, List, [], ◌∷◌, ◌++◌, length, drop, Option, None, Some, refl, sym, ◌∙◌, ap}
-use Rattle.std.specs.Prelude.{◌&&◌, not, IfSome, IsSome}
-use Rattle.std.specs.List.{find, filter}
+use Rattle.std.proofs.Common.{◌≡◌, ℕ, Bool, true, false, List, [], ◌∷◌, ◌++◌, length, drop, Option, None, Some, refl, ◌∙◌, ap}
+use Rattle.std.specs.Prelude.{◌&&◌, not, IsSome}
 use Rattle.std.specs.Option.{option_map_or}
-use Rattle.std.specs.FinMap.{get, keys}
+use Rattle.std.specs.FinMap.{get}
 use Rattle.std.proofs.lemmas.Bool.{and_parts}
 use Rattle.dm_tree.specs.declared.nodes.Node.{Node}
 use Rattle.dm_tree.specs.declared.rows.Row.{Row}
@@ -12,7 +11,7 @@ use Rattle.dm_tree.specs.Order.{is_before, next_below, behind, below}
 use Rattle.dm_tree.specs.Rows.{nodes, path_of}
 use Rattle.dm_tree.proofs.Paths.{below_self}
 use Rattle.dm_tree.proofs.Forks.{rest_below, before_longer, before_before, not_before_itself, not_back, behind_all}
-use Rattle.dm_tree.proofs.Firsts.{IsFirst, first_key, key_passes, keys_from, keys_none}
+use Rattle.dm_tree.proofs.Firsts.{first_key, key_passes, keys_from, keys_none}
 use Rattle.dm_tree.specs.Laws.{SubtreeBegins}
 use Rattle.dm_tree.proofs.Steps.{Shows}
 

@@ -1,6 +1,6 @@
 -- Where the update node of a tree is.
-use Rattle.std.proofs.Common.{◌≡◌, ℕ, ◌<◌, Bool, true, false, List, [], ◌∷◌, ◌++◌, length, Option, None, Some, refl, sym, ◌∙◌, ap, subst, arith, ◌⊎◌, inl, inr}
-use Rattle.std.specs.Prelude.{◌&&◌, codes, is_some, option_and_then, IfSome}
+use Rattle.std.proofs.Common.{◌≡◌, ℕ, ◌<◌, true, false, List, [], ◌∷◌, ◌++◌, length, Option, None, Some, refl, sym, ◌∙◌, ap, inl, inr}
+use Rattle.std.specs.Prelude.{codes, is_some, option_and_then, IfSome}
 use Rattle.std.specs.List.{find}
 use Rattle.std.specs.Option.{option_map}
 use Rattle.std.specs.FinMap.{get, entries}
@@ -10,11 +10,11 @@ use Rattle.dm_tree.specs.declared.nodes.Role.{Role}
 use Rattle.dm_tree.specs.declared.nodes.Role.TheVariants as role
 use Rattle.dm_tree.specs.declared.rows.Row.{Row}
 use Rattle.dm_tree.specs.Nodes.{Path, Nodes}
-use Rattle.dm_tree.specs.Rows.{row_at, node_of, path_below, ids, nodes, IsShaped, IsLive, path_of}
-use Rattle.dm_tree.specs.Devices.{is_update_node, is_of_update, update_node, IsUpdateInOrder, HasUpdate, HasNoUpdate}
+use Rattle.dm_tree.specs.Rows.{node_of, path_below, ids, nodes, IsShaped, IsLive, path_of}
+use Rattle.dm_tree.specs.Devices.{is_update_node, is_of_update, update_node, IsUpdateInOrder, HasUpdate}
 use Rattle.dm_tree.specs.Walks.{is_update_row}
 use Rattle.dm_tree.proofs.Maps.{id_of}
-use Rattle.dm_tree.proofs.Seen.{live_at, node_there, StandsInRow, row_there}
+use Rattle.dm_tree.proofs.Seen.{live_at, node_there, row_there}
 use Rattle.dm_tree.proofs.Firsts.{entry_there, no_entry}
 
 -- ---- roles

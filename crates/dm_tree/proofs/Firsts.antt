@@ -1,6 +1,5 @@
 -- The first of the keys that pass a test.
 use Rattle.std.proofs.Common.{◌≡◌, Bool, true, false, cond, List, [], ◌∷◌, map, Option, None, Some, refl, sym, ◌∙◌, ap, subst, T}
-use Rattle.std.specs.Prelude.{◌&&◌}
 use Rattle.std.specs.List.{find, filter}
 use Rattle.std.specs.Ordering.{eq_by_cmp, is_lt}
 use Rattle.std.proofs.lemmas.Bool.{and_parts}
@@ -9,7 +8,7 @@ use Rattle.std.specs.FinMap as map
 use Rattle.std.specs.FinMap.Entries.{below_all}
 use Rattle.dm_tree.specs.Nodes.{Path, tree_order}
 use Rattle.dm_tree.specs.Order.{is_before}
-use Rattle.dm_tree.proofs.Paths.{same_path, other_path}
+use Rattle.dm_tree.proofs.Paths.{same_path}
 use Rattle.dm_tree.proofs.Keys.{tied}
 use Rattle.dm_tree.proofs.Forks.{not_before_itself, not_back}
 

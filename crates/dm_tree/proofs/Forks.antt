@@ -1,6 +1,6 @@
 -- How paths stand to each other in the order of the tree text.
-use Rattle.std.proofs.Common.{◌≡◌, ◌≢◌, ℕ, Bool, true, false, List, [], ◌∷◌, ◌++◌, length, drop, take, refl, sym, ◌∙◌, ap, subst, arith, append_assoc, length-append}
-use Rattle.std.specs.Ordering.{nat_cmp, is_lt, is_eq, eq_by_cmp, ordering_then, ordering_reverse}
+use Rattle.std.proofs.Common.{◌≡◌, ℕ, true, false, List, [], ◌∷◌, ◌++◌, length, drop, take, refl, sym, ◌∙◌, ap, arith, append_assoc, length-append}
+use Rattle.std.specs.Ordering.{nat_cmp, is_lt, is_eq, ordering_then, ordering_reverse}
 use Rattle.std.specs.declared.cmp.Ordering.{Ordering}
 use Rattle.std.specs.declared.cmp.Ordering.TheVariants.{Less, Equal, Greater}
 use Rattle.std.specs.Cmp.{IsTotalOrder, nat_cmp_total, tied_itself}
@@ -10,7 +10,7 @@ use Rattle.std.proofs.lemmas.List.{take-append-le, take-append-drop, length-take
 use Rattle.std.proofs.Math.Seq.{take-length}
 use Rattle.dm_tree.specs.Nodes.{Path, tree_order, is_below}
 use Rattle.dm_tree.specs.Order.{is_before}
-use Rattle.dm_tree.proofs.Paths.{tree_total, tree_exact, equal_below, below_equal}
+use Rattle.dm_tree.proofs.Paths.{tree_total, equal_below, below_equal}
 
 -- ---- names
 

@@ -1,23 +1,21 @@
 -- A node bears another name: where each row lies then.
-use Rattle.std.proofs.Common.{◌≡◌, ◌≢◌, ℕ, zero, suc, ◌<◌, ◌≤◌, Bool, true, false, cond, nat_eq, List, [], ◌∷◌, ◌++◌, length, drop, Option, None, Some, refl, sym, ◌∙◌, ap, subst, arith, inl, inr, append_assoc, length-append}
-use Rattle.std.specs.Prelude.{unwrap_or}
+use Rattle.std.proofs.Common.{◌≡◌, ◌≢◌, ℕ, zero, suc, ◌<◌, ◌≤◌, Bool, true, false, cond, nat_eq, List, [], ◌∷◌, ◌++◌, length, drop, Option, None, Some, refl, sym, ◌∙◌, ap, arith, inl, inr, append_assoc, length-append}
 use Rattle.std.specs.Option.{option_map}
 use Rattle.std.specs.Ordering.{eq_by_cmp}
-use Rattle.std.specs.FinMap.{FinMap, get, insert, get-insert, same_map}
-use Rattle.std.proofs.Math.ListN.{set, length-set, drop_of_length-le}
+use Rattle.std.specs.FinMap.{get, insert, get-insert, same_map}
+use Rattle.std.proofs.Math.ListN.{drop_of_length-le}
 use Rattle.std.proofs.lemmas.List.{get_or-set_same, get_or-set_other, drop-append-le, length-take}
 use Rattle.dm_tree.specs.declared.nodes.Node.{Node}
 use Rattle.dm_tree.specs.declared.rows.Row.{Row}
 use Rattle.dm_tree.specs.Nodes.{Path, tree_order, above, is_below}
 use Rattle.dm_tree.specs.Rows.{blank, row_at, node_of, walk, path_below, ids, nodes, IsShaped, IsLive, path_of}
 use Rattle.dm_tree.specs.Edits.{with_name, rekeyed, renamed, StayRenamed}
-use Rattle.dm_tree.proofs.Paths.{below_or_not, same_or_not, same_path, other_path, tree_total, tree_exact, same_ends, not_empty, equal_below, below_longer, below_last, below_none, below_self}
+use Rattle.dm_tree.proofs.Paths.{same_or_not, same_path, tree_total, tree_exact, not_empty, equal_below, below_longer, below_last, below_none, below_self}
 use Rattle.dm_tree.proofs.Keys.{tied, moved_from, moved_to}
-use Rattle.dm_tree.proofs.Climbs.{Child, attached_row, attached_falls, walk_up, child_below, one_row, some_path, not_zero}
+use Rattle.dm_tree.proofs.Climbs.{attached_falls, child_below, one_row, some_path, not_zero}
 use Rattle.dm_tree.proofs.Maps.{get_nodes, id_is, id_of}
 use Rattle.dm_tree.proofs.Nodewise.{of_both, live_row}
-use Rattle.dm_tree.proofs.Cuts.{live_attached}
-use Rattle.dm_tree.proofs.Seen.{HasParent, has_parent, above-append, live_at, node_there, StandsInRow, row_there}
+use Rattle.dm_tree.proofs.Seen.{HasParent, has_parent, above-append, live_at, row_there}
 
 -- ---- paths
 

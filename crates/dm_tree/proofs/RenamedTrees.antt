@@ -1,19 +1,18 @@
 -- A tree in which a node bears another name.
 use Rattle.std.proofs.Common.{◌≡◌, ◌≢◌, ℕ, zero, suc, ◌+◌, ◌%◌, ◌^◌, ◌<◌, ◌≤◌, true, false, List, [], ◌∷◌, ◌++◌, length, Option, None, Some, refl, sym, ◌∙◌, ap, subst, arith, inl, inr}
-use Rattle.std.specs.Prelude.{◌&&◌, nat_le, nat_eq, IfSome}
+use Rattle.std.specs.Prelude.{◌&&◌, nat_le, IfSome}
 use Rattle.std.specs.List.{list_all}
 use Rattle.std.specs.Option.{option_map}
-use Rattle.std.specs.FinMap.{get, len}
+use Rattle.std.specs.FinMap.{get}
 use Rattle.std.proofs.Math.ListN.{length-set}
 use Rattle.std.proofs.lemmas.Bool.{and_from, and_parts}
 use Rattle.std.proofs.lemmas.Bool.Decides.{nat_tests}
 use Rattle.dm_uri.specs.Names.{has_name_form, is_name, is_short, printed_path, is_within_limits}
-use Rattle.dm_tree.specs.declared.nodes.Node.{Node}
 use Rattle.dm_tree.specs.declared.nodes.Stamp.{Stamp}
 use Rattle.dm_tree.specs.declared.rows.Row.{Row}
 use Rattle.dm_tree.specs.declared.rows.Change.TheVariants as change
-use Rattle.dm_tree.specs.Nodes.{Path, above, changed, IsNode, IsRoot, IsChildOf}
-use Rattle.dm_tree.specs.Rows.{blank, row_at, node_of, walk, path_below, placed, ids_below, ids, nodes, IsShaped, IsRow, IsTree, IsLive, path_of}
+use Rattle.dm_tree.specs.Nodes.{Path, above, changed, IsRoot}
+use Rattle.dm_tree.specs.Rows.{row_at, node_of, path_below, placed, ids_below, ids, nodes, IsShaped, IsRow, IsTree, IsLive, path_of}
 use Rattle.dm_tree.specs.Edits.{with_name, rekeyed, fits}
 use Rattle.dm_tree.specs.Undos.{TakesBack}
 use Rattle.dm_tree.proofs.Paths.{below_or_not, same_or_not}
@@ -21,7 +20,6 @@ use Rattle.dm_tree.proofs.Keys.{keys_all}
 use Rattle.dm_tree.proofs.Climbs.{child_below, depth_is, not_zero}
 use Rattle.dm_tree.proofs.Maps.{id_of}
 use Rattle.dm_tree.proofs.Nodewise.{of_both, live_row}
-use Rattle.dm_tree.proofs.Cuts.{live_attached}
 use Rattle.dm_tree.proofs.Seen.{HasParent, has_parent, above-append, live_at, len-nodes, all_named, node_there}
 use Rattle.dm_tree.proofs.Flips.{again}
 use Rattle.dm_tree.proofs.Rekeyed.{parent_then, depth_then, attached_then, here_then, other_then, path_then, lies_then}

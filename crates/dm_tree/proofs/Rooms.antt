@@ -1,8 +1,6 @@
 -- How long the paths of rows are, once one of them bears another name.
-use Rattle.std.proofs.Common.{◌≡◌, ◌≢◌, ℕ, zero, suc, ◌+◌, ◌-◌, ◌<◌, ◌≤◌, Bool, true, false, cond, nat_eq, List, [], ◌∷◌, ◌++◌, length, Option, None, Some, refl, sym, ◌∙◌, ap, subst, arith, inl, inr, length-append}
-use Rattle.std.specs.Prelude.{◌&&◌, ◌||◌, not, nat_le, nat_lt, is_some, if◌then◌else◌, unwrap_or}
-use Rattle.std.specs.List.{list_all}
-use Rattle.std.specs.Option.{option_map}
+use Rattle.std.proofs.Common.{◌≡◌, ◌≢◌, ℕ, zero, suc, ◌+◌, ◌-◌, ◌<◌, ◌≤◌, Bool, true, false, nat_eq, List, [], ◌∷◌, ◌++◌, length, Option, None, Some, refl, sym, ◌∙◌, ap, arith, inl, inr, length-append}
+use Rattle.std.specs.Prelude.{nat_le, nat_lt, if◌then◌else◌}
 use Rattle.std.specs.Cmp.{both_ways}
 use Rattle.std.specs.FinMap.{get}
 use Rattle.std.proofs.lemmas.Bool.{and_from, and_parts}
@@ -17,8 +15,8 @@ use Rattle.dm_tree.specs.Walks.{name_then, has_room, row_fits, rows_fit}
 use Rattle.dm_tree.proofs.Paths.{below_or_not, same_or_not}
 use Rattle.dm_tree.proofs.Keys.{all_keys, keys_all}
 use Rattle.dm_tree.proofs.Climbs.{at_top, at_bottom, attached_falls, walk_up, not_zero}
-use Rattle.dm_tree.proofs.Seen.{live_at, node_there, StandsInRow, row_there}
-use Rattle.dm_tree.proofs.Rekeyed.{parent_then, depth_then, attached_then, here_then, other_then, path_then, lies_then}
+use Rattle.dm_tree.proofs.Seen.{live_at, node_there, row_there}
+use Rattle.dm_tree.proofs.Rekeyed.{parent_then, depth_then, attached_then, here_then, other_then, lies_then}
 
 -- ---- paths in print
 

@@ -1,13 +1,13 @@
 -- A row that is in no tree changes nothing; an insert that is taken back leaves one.
-use Rattle.std.proofs.Common.{◌≡◌, ℕ, suc, ◌+◌, ◌<◌, ◌≤◌, ◌^◌, true, false, List, [], ◌∷◌, ◌++◌, length, Some, None, refl, sym, ◌∙◌, ap, subst, arith, length-append}
+use Rattle.std.proofs.Common.{◌≡◌, ℕ, suc, ◌<◌, true, false, List, [], ◌∷◌, ◌++◌, length, refl, sym, ◌∙◌, ap, subst, arith, length-append}
 use Rattle.std.proofs.Math.ListN.{set}
 use Rattle.std.proofs.lemmas.List.{set-append_left}
 use Rattle.dm_tree.specs.declared.nodes.Node.{Node}
 use Rattle.dm_tree.specs.declared.rows.Row.{Row}
 use Rattle.dm_tree.specs.declared.rows.Change.{Change}
 use Rattle.dm_tree.specs.declared.rows.Change.TheVariants as change
-use Rattle.dm_tree.specs.Nodes.{Path, counted, with_value, with_acl, with_title}
-use Rattle.dm_tree.specs.Rows.{row_at, node_of, ids, nodes, IsTree, IsRow, path_of}
+use Rattle.dm_tree.specs.Nodes.{counted, with_value, with_acl, with_title}
+use Rattle.dm_tree.specs.Rows.{row_at, ids, nodes, IsTree, path_of}
 use Rattle.dm_tree.specs.Edits.{attached_as, new_row}
 use Rattle.dm_tree.specs.Undos.{TakesOut, IsInserted, Fits, IsReady, FitAll, GoesBackAlike, row_of, flipped, all_flipped}
 use Rattle.dm_tree.proofs.Nodewise.{of_both, live_row}

@@ -1,29 +1,27 @@
 -- The first child, the next sibling and the next node are the first of the keys that pass.
-use Rattle.std.proofs.Common.{◌≡◌, ◌≢◌, ℕ, zero, suc, ◌+◌, ◌<◌, Bool, true, false, cond, nat_eq, List, [], ◌∷◌, ◌++◌, length, drop, Option, None, Some, refl, sym, ◌∙◌, ap, subst, arith, inl, inr, length-append}
+use Rattle.std.proofs.Common.{◌≡◌, ℕ, zero, suc, ◌+◌, ◌<◌, Bool, true, false, cond, nat_eq, List, [], ◌∷◌, ◌++◌, length, drop, Option, None, Some, refl, sym, ◌∙◌, ap, subst, arith, length-append}
 use Rattle.std.specs.Prelude.{◌==◌, ◌&&◌, not, IfSome, option_and_then, unwrap_or}
-use Rattle.std.specs.List.{find}
 use Rattle.std.specs.Option.{option_or}
 use Rattle.std.specs.Ordering.{is_lt, ordering_then}
 use Rattle.std.specs.declared.cmp.Ordering.{Ordering}
 use Rattle.std.specs.declared.cmp.Ordering.TheVariants.{Less, Equal, Greater}
 use Rattle.std.specs.Cmp.{both_ways}
-use Rattle.std.specs.FinMap.{get, keys}
+use Rattle.std.specs.FinMap.{get}
 use Rattle.std.proofs.lemmas.Bool.{and_from, and_parts}
 use Rattle.std.proofs.lemmas.Bool.Decides.{nat_tests}
 use Rattle.dm_tree.specs.declared.nodes.Node.{Node}
 use Rattle.dm_tree.specs.declared.rows.Row.{Row}
 use Rattle.dm_tree.specs.Nodes.{Path, tree_order, above, is_below}
 use Rattle.dm_tree.specs.Order.{is_child_of, is_before, first_child, next_sibling, next_below}
-use Rattle.dm_tree.specs.Rows.{blank, row_at, node_of, walk, path_below, ids, nodes, IsShaped, IsLive, path_of}
+use Rattle.dm_tree.specs.Rows.{row_at, node_of, walk, path_below, ids, nodes, IsShaped, IsLive, path_of}
 use Rattle.dm_tree.specs.Walks.{comes_after, is_later_child, least_child, next_past, next_row}
-use Rattle.dm_tree.proofs.Paths.{same_or_not, equal_below, below_self, below_last, below_none, below_longer, not_empty}
+use Rattle.dm_tree.proofs.Paths.{below_last, below_none, below_longer}
 use Rattle.dm_tree.proofs.Climbs.{Child, Above, child_below, attached_row, one_row, some_path, not_zero}
 use Rattle.dm_tree.proofs.Climbs as climbs
-use Rattle.dm_tree.proofs.Maps.{id_of, root_live}
-use Rattle.dm_tree.proofs.Nodewise.{live_row}
-use Rattle.dm_tree.proofs.Seen.{HasParent, has_parent, root_path, above-append, live_at, node_there, StandsInRow, row_there}
-use Rattle.dm_tree.proofs.Forks.{name_order, name_exact, is_less, rest_below, below_append, below_below, fork, before_longer, before_before, not_before_itself, not_back, behind_all, not_below_shorter}
-use Rattle.dm_tree.proofs.Firsts.{IsFirst, first_key, no_key, same_key, key_passes}
+use Rattle.dm_tree.proofs.Maps.{id_of}
+use Rattle.dm_tree.proofs.Seen.{HasParent, has_parent, above-append, live_at, node_there, row_there}
+use Rattle.dm_tree.proofs.Forks.{name_order, name_exact, rest_below, below_append, below_below, fork, before_longer, before_before, not_before_itself, not_back, behind_all, not_below_shorter}
+use Rattle.dm_tree.proofs.Firsts.{first_key, no_key, same_key, key_passes}
 use Rattle.dm_tree.proofs.Leasts.{HasNoChild, IsLeast, IsLeastChild, least-is}
 
 -- ---- tests of paths

@@ -12,16 +12,15 @@ use Rattle.dm_tree.specs.declared.nodes.Node.{Node}
 use Rattle.dm_tree.specs.declared.rows.Row.{Row}
 use Rattle.dm_tree.specs.Nodes.{Path, with_mark, IsNode, IsRoot, IsChildOf}
 use Rattle.dm_tree.specs.Rows.{blank, row_at, node_of, walk, path_below, ids_below, ids, nodes, IsShaped, IsRow, IsTree, IsLive, path_of}
-use Rattle.dm_tree.specs.Edits.{with_node, attached_as, new_row, IsGrown}
+use Rattle.dm_tree.specs.Edits.{with_node, new_row, IsGrown}
 use Rattle.dm_tree.specs.declared.rows.Change.{Change}
-use Rattle.dm_tree.specs.declared.rows.Change.TheVariants as change
-use Rattle.dm_tree.specs.Undos.{TakesBack, TakesOut, IsInserted, row_of, IsReady, flipped}
+use Rattle.dm_tree.specs.Undos.{TakesBack, row_of, IsReady, flipped}
 use Rattle.dm_tree.proofs.Paths.{below_or_not, same_or_not, tree_total}
 use Rattle.dm_tree.proofs.Climbs.{depth_is, not_zero, attached_row, same_number, at_bottom}
 use Rattle.dm_tree.proofs.Maps.{get_nodes}
 use Rattle.dm_tree.proofs.Nodewise.{IsAlike, walk_alike, ids_alike, of_both, node_alike, shaped_alike, live_row}
-use Rattle.dm_tree.proofs.Grows.{at_end_of, before_end, walk_grown, new_path, nodes-append, ids-append, with_row-end, shaped-append, nodes-parked, ids-parked, shaped-parked, no_place, set_last, set_twice}
-use Rattle.dm_tree.proofs.Seen.{len-nodes, live_at, stay_live-insert}
+use Rattle.dm_tree.proofs.Grows.{at_end_of, before_end, walk_grown, new_path, nodes-append, shaped-append, nodes-parked, shaped-parked, no_place, set_twice}
+use Rattle.dm_tree.proofs.Seen.{len-nodes, live_at}
 
 -- ---- another node in a row
 

@@ -1,8 +1,8 @@
-use Rattle.std.proofs.Common.{◌≡◌, ◌∙◌, ◌<◌, ◌-◌, ap, sym, arith, nat_eq, false, length, Some, None}
+use Rattle.std.proofs.Common.{◌≡◌, ◌∙◌, ◌<◌, ◌-◌, ap, sym, arith, nat_eq, false, length, Some}
 use Rattle.std.proofs.lemmas.List.{get_or_default}
 use Rattle.std.proofs.lemmas.Bool.Decides.{nat_tests}
 use Rattle.dm_tree.specs.declared.rows.Row.{Row}
-use Rattle.dm_tree.specs.Rows.{blank, row_at}
+use Rattle.dm_tree.specs.Rows.{blank}
 use Rattle.dm_tree.specs.Walks.{least_child, next_past}
 use Rattle.dm_tree.proofs.Leasts.{past_one}
 use Rattle.dm_tree.proofs.siblings.+next_past.Goals as goal

@@ -1,6 +1,6 @@
-use Rattle.std.proofs.Common.{◌∙◌, ap, sym, true, false, Some, if◌then◌else◌, ◌≡◌}
+use Rattle.std.proofs.Common.{◌∙◌, ap, sym, Some, if◌then◌else◌}
 use Rattle.std.proofs.lemmas.List.{get_or_default}
-use Rattle.dm_tree.specs.Rows.{blank, row_at}
+use Rattle.dm_tree.specs.Rows.{blank}
 use Rattle.dm_tree.specs.Walks.{is_next, least_child}
 use Rattle.dm_tree.proofs.Leasts.{one_more_child}
 use Rattle.dm_tree.proofs.siblings.least_child.Goals as goal

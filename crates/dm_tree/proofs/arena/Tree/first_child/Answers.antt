@@ -1,4 +1,4 @@
-use Rattle.std.proofs.Common.{◌≡◌, ◌∙◌, subst, sym, ap, length, None}
+use Rattle.std.proofs.Common.{◌∙◌, subst, sym, ap, length, None}
 use Rattle.dm_tree.specs.Order.{first_child}
 use Rattle.dm_tree.specs.Rows.{Tree, IsTree, nodes, path_of}
 use Rattle.dm_tree.specs.Walks.{least_child}

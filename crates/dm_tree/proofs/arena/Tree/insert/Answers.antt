@@ -1,16 +1,13 @@
-use Rattle.std.proofs.Common.{◌≡◌, ◌∙◌, sym, subst, ap, refl, arith, ◌+◌, ◌<◌, suc, ℕ, true, false, ◌∷◌, ◌++◌, [], length, None, Option, Some}
-use Rattle.std.specs.FinMap.{insert}
+use Rattle.std.proofs.Common.{◌≡◌, ◌∙◌, sym, subst, ap, refl, arith, ◌<◌, ℕ, ◌∷◌, ◌++◌, [], length, None, Option, Some}
 use Rattle.std.specs.Option.{option_map}
 use Rattle.dm_tree.specs.declared.nodes.Node.{Node}
 use Rattle.dm_tree.specs.declared.rows.Row.{Row}
 use Rattle.dm_tree.specs.declared.rows.Change.TheVariants as change
 use Rattle.dm_tree.specs.Nodes.{made}
-use Rattle.dm_tree.specs.Rows.{Tree, IsTree, nodes, ids, row_at, path_of}
-use Rattle.dm_tree.specs.Edits.{with_row, new_row, IsGrown}
+use Rattle.dm_tree.specs.Rows.{Tree, IsTree, row_at, path_of}
+use Rattle.dm_tree.specs.Edits.{new_row}
 use Rattle.dm_tree.specs.Undos.{IsInserted}
-use Rattle.dm_tree.proofs.Grows.{with_row-end, nodes-append, ids-append}
 use Rattle.dm_tree.proofs.Maps.{get_nodes}
-use Rattle.dm_tree.proofs.Seen.{read_live, stay_live-insert}
 use Rattle.dm_tree.proofs.Trees.{MayCome, tree-append, parent_is_shallow}
 use Rattle.dm_tree.proofs.Spares.{inserted}
 use Rattle.dm_tree.proofs.arena.Tree.insert.Goals as goal

@@ -1,4 +1,4 @@
-use Rattle.std.proofs.Common.{◌≡◌, ◌∙◌, subst, sym, ap}
+use Rattle.std.proofs.Common.{◌∙◌, subst, sym, ap}
 use Rattle.dm_tree.specs.Order.{next_below}
 use Rattle.dm_tree.specs.Rows.{Tree, IsTree, nodes, path_of}
 use Rattle.dm_tree.specs.Walks.{next_row}

@@ -1,4 +1,4 @@
-use Rattle.std.proofs.Common.{◌≡◌, ◌∙◌, subst, sym, ap, length, Some}
+use Rattle.std.proofs.Common.{◌∙◌, subst, sym, ap, length, Some}
 use Rattle.std.specs.FinMap.{get}
 use Rattle.std.specs.Prelude.{option_and_then}
 use Rattle.dm_tree.specs.declared.rows.Row.{Row}
