@@ -143,7 +143,7 @@ forest_spelled (full e inner rest) n some more end h later page at =
     (subst (λ ts. SpelledTo (page_of e) (at + length (token_bytes page (Tag e true))) (extents.Inside (n + 1)) ts end) (sym (append_assoc (spelling inner) (End ∷ spelling rest) more))
     (forest_spelled inner (n + 1) (omega arith) (End ∷ (spelling rest ++ more)) end parts.0
     (λ page' at'. token_step page' at' (extents.Inside (n + 1)) end End (spelling rest ++ more) tt refl
-      (subst (λ extent. SpelledTo page' (at' + 1) extent (spelling rest ++ more) end) (sym (inner_ends n some)) (forest_spelled rest n some more end parts.1.1 later page' (at' + 1))))
+    (subst (λ extent. SpelledTo page' (at' + 1) extent (spelling rest ++ more) end) (sym (inner_ends n some)) (forest_spelled rest n some more end parts.1.1 later page' (at' + 1))))
     (page_of e) (at + length (token_bytes page (Tag e true)))))
 
 -- a whole element of trees
@@ -175,7 +175,7 @@ message_spelled parts fit numbers =
     let children = message_children parts fit numbers in
     let inner : Forest = children.front nothing in
     let same : spelling inner ≡ header_tokens parts.header ++ body_tokens parts.body parts.last =
-        children.spells nothing ∙ append-nil (header_tokens parts.header ++ body_tokens parts.body parts.last) in
+    children.spells nothing ∙ append-nil (header_tokens parts.header ++ body_tokens parts.body parts.last) in
     subst (λ ts. SpelledTo 0 5 extents.Before (Tag elements.ESyncML true ∷ ts ++ End ∷ []) extents.Whole) same
     (element_spelled elements.ESyncML inner (subst (AllByRecursion CanBeWritten) (sym same) children.written) 0 5)
 

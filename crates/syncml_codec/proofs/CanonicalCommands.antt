@@ -174,10 +174,10 @@ plain_other c other good =
     let one = and_true _ _ two.0 in
     let none = no_correlator (is_exec c.verb) c.correlator other good.correlates in
     subst (λ o. Puts (in_order false table.PLAIN) (of_draft (drafts.Plain (no_plain c.verb)))
-      (number_tokens ECmdID c.id ++ flag_tokens ENoResp c.no_resp ++ optional meta_tokens c.meta ++ optional (text_tokens ECorrelator) o ++ items_tokens c.items)
-      (in_order false []) (plain_held c.verb c.id c.no_resp c.meta o c.items)) (sym none)
+    (number_tokens ECmdID c.id ++ flag_tokens ENoResp c.no_resp ++ optional meta_tokens c.meta ++ optional (text_tokens ECorrelator) o ++ items_tokens c.items)
+    (in_order false []) (plain_held c.verb c.id c.no_resp c.meta o c.items)) (sym none)
     (plain_puts c.verb c.id c.no_resp c.meta c.items good.number good.range.id (good_meta c.meta one.0 good.range.meta) (not_exec c other good.filled)
-      (good_items c.items two.1 good.data_short good.range.items))
+    (good_items c.items two.1 good.data_short good.range.items))
 
 plain_exec : (c : Plain) → is_exec c.verb ≡ true → GoodPlain c
     → Puts (in_order false table.EXEC) (of_draft (drafts.Plain (no_plain c.verb))) (plain_children c) (in_order false []) (of_draft (drafts.Plain c))
@@ -188,8 +188,8 @@ plain_exec c exec_ good =
     let single = one_item c.items (sym (ap (λ (b : Bool). if b then length c.items == 1 else is_filled c.items) exec_) ∙ good.filled) in
     let all = subst (AllByRecursion GoodItem) single.1 (good_items c.items two.1 good.data_short good.range.items) in
     subst (λ items. Puts (in_order false table.EXEC) (of_draft (drafts.Plain (no_plain c.verb)))
-      (number_tokens ECmdID c.id ++ flag_tokens ENoResp c.no_resp ++ optional meta_tokens c.meta ++ optional (text_tokens ECorrelator) c.correlator ++ items_tokens items)
-      (in_order false []) (plain_held c.verb c.id c.no_resp c.meta c.correlator items)) (sym single.1)
+    (number_tokens ECmdID c.id ++ flag_tokens ENoResp c.no_resp ++ optional meta_tokens c.meta ++ optional (text_tokens ECorrelator) c.correlator ++ items_tokens items)
+    (in_order false []) (plain_held c.verb c.id c.no_resp c.meta c.correlator items)) (sym single.1)
     (exec_puts c.verb c.id c.no_resp c.meta c.correlator single.0 good.number good.range.id (good_meta c.meta one.0 good.range.meta) one.1 all.0)
 
 plain_start : (v : Verb) → is_exec v ≡ false → start (verb_kind v) ≡ in_order false table.PLAIN
@@ -236,13 +236,13 @@ unfolding alert_tokens alert_texts
 alert_element a n good =
     let both = and_true _ _ good.texts in
     let inner : Puts (start kinds.Alert) (fresh kinds.Alert EAlert)
-        (number_tokens ECmdID a.id ++ flag_tokens ENoResp a.no_resp ++ number_tokens EData a.code ++ optional (text_tokens ECorrelator) a.correlator ++ items_tokens a.items)
-        (in_order false []) (of_draft (drafts.Alert a)) =
-        id_row ECmdID true false (drop 1 table.ALERT) a.id refl good.number good.range.id
-        behind puts_flag ENoResp (drop 2 table.ALERT) (λ b. alert_held a.id b 0 None []) a.no_resp refl refl
-        behind code_row EData true false (drop 3 table.ALERT) a.code refl good.range.code
-        behind text_option ECorrelator (drop 4 table.ALERT) (λ o. alert_held a.id a.no_resp a.code o []) a.correlator refl both.0 (λ t. refl)
-        behind items_any (alert_held a.id a.no_resp a.code a.correlator) (λ before item. refl) a.items (good_items a.items both.1 good.data_short good.range.items) in
+    (number_tokens ECmdID a.id ++ flag_tokens ENoResp a.no_resp ++ number_tokens EData a.code ++ optional (text_tokens ECorrelator) a.correlator ++ items_tokens a.items)
+    (in_order false []) (of_draft (drafts.Alert a)) =
+    id_row ECmdID true false (drop 1 table.ALERT) a.id refl good.number good.range.id
+    behind puts_flag ENoResp (drop 2 table.ALERT) (λ b. alert_held a.id b 0 None []) a.no_resp refl refl
+    behind code_row EData true false (drop 3 table.ALERT) a.code refl good.range.code
+    behind text_option ECorrelator (drop 4 table.ALERT) (λ o. alert_held a.id a.no_resp a.code o []) a.correlator refl both.0 (λ t. refl)
+    behind items_any (alert_held a.id a.no_resp a.code a.correlator) (λ before item. refl) a.items (good_items a.items both.1 good.data_short good.range.items) in
     puts_full EAlert kinds.Alert (node (drafts.Alert a)) n inner refl refl
 
 -- ---- containers
@@ -331,13 +331,13 @@ atomic_element : {c d : Content} {v : Value} (b : Block) → next c EAtomic ≡ 
 unfolding atomic_tokens members_tokens
 atomic_element b n good =
     let inner : Puts (start kinds.Atomic) (fresh kinds.Atomic EAtomic)
-        (number_tokens ECmdID b.id ++ flag_tokens ENoResp b.no_resp ++ optional meta_tokens b.meta ++ members_tokens b.members)
-        (in_order false []) (of_draft (drafts.Atomic b)) =
-        id_row ECmdID true false (drop 1 table.ATOMIC) b.id refl good.number good.low
-        behind puts_flag ENoResp (drop 2 table.ATOMIC) (λ x. atomic_held b.id x None []) b.no_resp refl refl
-        behind meta_option (drop 3 table.ATOMIC) (λ o. atomic_held b.id b.no_resp o []) b.meta refl good.meta (λ m. refl)
-        behind puts_filled (many_row AtomicMembers true ∷ []) (atomic_held b.id b.no_resp b.meta) member_tokens b.members good.filled
-          (each_so GoodMember _ b.members (member_one b.id b.no_resp b.meta) good.members) (ends (many_row AtomicMembers true) true refl) in
+    (number_tokens ECmdID b.id ++ flag_tokens ENoResp b.no_resp ++ optional meta_tokens b.meta ++ members_tokens b.members)
+    (in_order false []) (of_draft (drafts.Atomic b)) =
+    id_row ECmdID true false (drop 1 table.ATOMIC) b.id refl good.number good.low
+    behind puts_flag ENoResp (drop 2 table.ATOMIC) (λ x. atomic_held b.id x None []) b.no_resp refl refl
+    behind meta_option (drop 3 table.ATOMIC) (λ o. atomic_held b.id b.no_resp o []) b.meta refl good.meta (λ m. refl)
+    behind puts_filled (many_row AtomicMembers true ∷ []) (atomic_held b.id b.no_resp b.meta) member_tokens b.members good.filled
+    (each_so GoodMember _ b.members (member_one b.id b.no_resp b.meta) good.members) (ends (many_row AtomicMembers true) true refl) in
     puts_full EAtomic kinds.Atomic (node (drafts.Atomic b)) n inner refl refl
 
 abbrev pub GoodSeqMember : SeqMember → Type 0
@@ -374,13 +374,13 @@ sequence_element : {c d : Content} {v : Value} (b : SeqBlock) → next c ESequen
 unfolding sequence_tokens seq_members_tokens
 sequence_element b n good =
     let inner : Puts (start kinds.Sequence) (fresh kinds.Sequence ESequence)
-        (number_tokens ECmdID b.id ++ flag_tokens ENoResp b.no_resp ++ optional meta_tokens b.meta ++ seq_members_tokens b.members)
-        (in_order false []) (of_draft (drafts.Sequence b)) =
-        id_row ECmdID true false (drop 1 table.SEQUENCE) b.id refl good.number good.low
-        behind puts_flag ENoResp (drop 2 table.SEQUENCE) (λ x. sequence_held b.id x None []) b.no_resp refl refl
-        behind meta_option (drop 3 table.SEQUENCE) (λ o. sequence_held b.id b.no_resp o []) b.meta refl good.meta (λ m. refl)
-        behind puts_filled (many_row SequenceMembers true ∷ []) (sequence_held b.id b.no_resp b.meta) seq_member_tokens b.members good.filled
-          (each_so GoodSeqMember _ b.members (seq_member_one b.id b.no_resp b.meta) good.members) (ends (many_row SequenceMembers true) true refl) in
+    (number_tokens ECmdID b.id ++ flag_tokens ENoResp b.no_resp ++ optional meta_tokens b.meta ++ seq_members_tokens b.members)
+    (in_order false []) (of_draft (drafts.Sequence b)) =
+    id_row ECmdID true false (drop 1 table.SEQUENCE) b.id refl good.number good.low
+    behind puts_flag ENoResp (drop 2 table.SEQUENCE) (λ x. sequence_held b.id x None []) b.no_resp refl refl
+    behind meta_option (drop 3 table.SEQUENCE) (λ o. sequence_held b.id b.no_resp o []) b.meta refl good.meta (λ m. refl)
+    behind puts_filled (many_row SequenceMembers true ∷ []) (sequence_held b.id b.no_resp b.meta) seq_member_tokens b.members good.filled
+    (each_so GoodSeqMember _ b.members (seq_member_one b.id b.no_resp b.meta) good.members) (ends (many_row SequenceMembers true) true refl) in
     puts_full ESequence kinds.Sequence (node (drafts.Sequence b)) n inner refl refl
 
 -- ---- Status and Results
@@ -412,7 +412,7 @@ chal_option : (rows : List Row) (value : Option Meta → Value) (o : Option Meta
 chal_option rows value o none good same =
     puts_optional GoodMeta chal_tokens value o good (skips EChal kinds.Chal false false false rows none refl)
     (λ m is. subst (λ w. Puts (in_order false (row EChal kinds.Chal false false ∷ rows)) (value None) (chal_tokens m) (in_order false rows) w) (same m)
-      (puts_then (chal_element m (next_here EChal kinds.Chal false false false rows refl) is) (skips EChal kinds.Chal false false true rows none refl)))
+    (puts_then (chal_element m (next_here EChal kinds.Chal false false false rows refl) is) (skips EChal kinds.Chal false false true rows none refl)))
 
 status_element : {c d : Content} {v : Value} (s : StatusCmd) → next c EStatus ≡ Some (kinds.Status, d) → GoodStatus s
     → Puts c v (status_tokens s) d (with_child v EStatus (node (drafts.Status s)))
@@ -423,19 +423,19 @@ status_element s n good =
     let two = and_true _ _ three.0 in
     let one = and_true _ _ two.0 in
     let inner : Puts (start kinds.Status) (fresh kinds.Status EStatus)
-        (number_tokens ECmdID s.id ++ number_tokens EMsgRef s.msg_ref ++ number_tokens ECmdRef s.cmd_ref ++ text_tokens ECmd s.cmd ++ texts_tokens ETargetRef s.target_refs
-        ++ texts_tokens ESourceRef s.source_refs ++ optional chal_tokens s.chal ++ number_tokens EData s.code ++ items_tokens s.items)
-        (in_order false []) (of_draft (drafts.Status s)) =
-        id_row ECmdID true false (drop 1 table.STATUS) s.id refl good.number good.range.id
-        behind id_row EMsgRef true false (drop 2 table.STATUS) s.msg_ref refl good.message_number good.range.msg_ref
-        behind code_row ECmdRef true false (drop 3 table.STATUS) s.cmd_ref refl good.range.cmd_ref
-        behind text_row ECmd true false (drop 4 table.STATUS) s.cmd refl one.0
-        behind texts_any ETargetRef (drop 5 table.STATUS) (λ l. status_held s.id s.msg_ref s.cmd_ref s.cmd l [] None 0 []) refl (λ before t. refl) s.target_refs one.1
-        behind texts_any ESourceRef (drop 6 table.STATUS) (λ l. status_held s.id s.msg_ref s.cmd_ref s.cmd s.target_refs l None 0 []) refl (λ before t. refl) s.source_refs two.1
-        behind chal_option (drop 7 table.STATUS) (λ o. status_held s.id s.msg_ref s.cmd_ref s.cmd s.target_refs s.source_refs o 0 []) s.chal refl (good_meta s.chal three.1 good.range.chal) (λ m. refl)
-        behind code_row EData true false (drop 8 table.STATUS) s.code refl good.range.code
-        behind items_any (status_held s.id s.msg_ref s.cmd_ref s.cmd s.target_refs s.source_refs s.chal s.code) (λ before item. refl) s.items
-          (good_items s.items four.1 good.data_short good.range.items) in
+    (number_tokens ECmdID s.id ++ number_tokens EMsgRef s.msg_ref ++ number_tokens ECmdRef s.cmd_ref ++ text_tokens ECmd s.cmd ++ texts_tokens ETargetRef s.target_refs
+    ++ texts_tokens ESourceRef s.source_refs ++ optional chal_tokens s.chal ++ number_tokens EData s.code ++ items_tokens s.items)
+    (in_order false []) (of_draft (drafts.Status s)) =
+    id_row ECmdID true false (drop 1 table.STATUS) s.id refl good.number good.range.id
+    behind id_row EMsgRef true false (drop 2 table.STATUS) s.msg_ref refl good.message_number good.range.msg_ref
+    behind code_row ECmdRef true false (drop 3 table.STATUS) s.cmd_ref refl good.range.cmd_ref
+    behind text_row ECmd true false (drop 4 table.STATUS) s.cmd refl one.0
+    behind texts_any ETargetRef (drop 5 table.STATUS) (λ l. status_held s.id s.msg_ref s.cmd_ref s.cmd l [] None 0 []) refl (λ before t. refl) s.target_refs one.1
+    behind texts_any ESourceRef (drop 6 table.STATUS) (λ l. status_held s.id s.msg_ref s.cmd_ref s.cmd s.target_refs l None 0 []) refl (λ before t. refl) s.source_refs two.1
+    behind chal_option (drop 7 table.STATUS) (λ o. status_held s.id s.msg_ref s.cmd_ref s.cmd s.target_refs s.source_refs o 0 []) s.chal refl (good_meta s.chal three.1 good.range.chal) (λ m. refl)
+    behind code_row EData true false (drop 8 table.STATUS) s.code refl good.range.code
+    behind items_any (status_held s.id s.msg_ref s.cmd_ref s.cmd s.target_refs s.source_refs s.chal s.code) (λ before item. refl) s.items
+    (good_items s.items four.1 good.data_short good.range.items) in
     puts_full EStatus kinds.Status (node (drafts.Status s)) n inner refl refl
 
 -- what is known of a Results
@@ -468,7 +468,7 @@ id_option : (e : Element) (rows : List Row) (value : Option ℕ → Value) (o : 
 id_option e rows value o none h low same =
     puts_optional (λ n. (is_number n ≡ true) × IsShort n) (number_tokens e) value o (id_known o h low) (skips e kinds.Id false false false rows none refl)
     (λ n is. subst (λ w. Puts (in_order false (row e kinds.Id false false ∷ rows)) (value None) (number_tokens e n) (in_order false rows) w) (same n)
-      (id_row e false false rows n none is.0 is.1))
+    (id_row e false false rows n none is.0 is.1))
 
 results_element : {c d : Content} {v : Value} (s : ResultsCmd) → next c EResults ≡ Some (kinds.Results, d) → GoodResults s
     → Puts c v (results_tokens s) d (with_child v EResults (node (drafts.Results s)))
@@ -478,17 +478,17 @@ results_element s n good =
     let two = and_true _ _ three.0 in
     let one = and_true _ _ two.0 in
     let inner : Puts (start kinds.Results) (fresh kinds.Results EResults)
-        (number_tokens ECmdID s.id ++ optional (number_tokens EMsgRef) s.msg_ref ++ number_tokens ECmdRef s.cmd_ref ++ optional meta_tokens s.meta
-        ++ optional (text_tokens ETargetRef) s.target_ref ++ optional (text_tokens ESourceRef) s.source_ref ++ items_tokens s.items)
-        (in_order false []) (of_draft (drafts.Results s)) =
-        id_row ECmdID true false (drop 1 table.RESULTS) s.id refl good.number good.range.id
-        behind id_option EMsgRef (drop 2 table.RESULTS) (λ o. results_held s.id o 0 None None None []) s.msg_ref refl good.message_number good.range.msg_ref (λ x. refl)
-        behind code_row ECmdRef true false (drop 3 table.RESULTS) s.cmd_ref refl good.range.cmd_ref
-        behind meta_option (drop 4 table.RESULTS) (λ o. results_held s.id s.msg_ref s.cmd_ref o None None []) s.meta refl (good_meta s.meta one.0 good.range.meta) (λ m. refl)
-        behind text_option ETargetRef (drop 5 table.RESULTS) (λ o. results_held s.id s.msg_ref s.cmd_ref s.meta o None []) s.target_ref refl one.1 (λ t. refl)
-        behind text_option ESourceRef (drop 6 table.RESULTS) (λ o. results_held s.id s.msg_ref s.cmd_ref s.meta s.target_ref o []) s.source_ref refl two.1 (λ t. refl)
-        behind items_filled (results_held s.id s.msg_ref s.cmd_ref s.meta s.target_ref s.source_ref) (λ before item. refl) s.items good.filled
-          (good_items s.items three.1 good.data_short good.range.items) in
+    (number_tokens ECmdID s.id ++ optional (number_tokens EMsgRef) s.msg_ref ++ number_tokens ECmdRef s.cmd_ref ++ optional meta_tokens s.meta
+    ++ optional (text_tokens ETargetRef) s.target_ref ++ optional (text_tokens ESourceRef) s.source_ref ++ items_tokens s.items)
+    (in_order false []) (of_draft (drafts.Results s)) =
+    id_row ECmdID true false (drop 1 table.RESULTS) s.id refl good.number good.range.id
+    behind id_option EMsgRef (drop 2 table.RESULTS) (λ o. results_held s.id o 0 None None None []) s.msg_ref refl good.message_number good.range.msg_ref (λ x. refl)
+    behind code_row ECmdRef true false (drop 3 table.RESULTS) s.cmd_ref refl good.range.cmd_ref
+    behind meta_option (drop 4 table.RESULTS) (λ o. results_held s.id s.msg_ref s.cmd_ref o None None []) s.meta refl (good_meta s.meta one.0 good.range.meta) (λ m. refl)
+    behind text_option ETargetRef (drop 5 table.RESULTS) (λ o. results_held s.id s.msg_ref s.cmd_ref s.meta o None []) s.target_ref refl one.1 (λ t. refl)
+    behind text_option ESourceRef (drop 6 table.RESULTS) (λ o. results_held s.id s.msg_ref s.cmd_ref s.meta s.target_ref o []) s.source_ref refl two.1 (λ t. refl)
+    behind items_filled (results_held s.id s.msg_ref s.cmd_ref s.meta s.target_ref s.source_ref) (λ before item. refl) s.items good.filled
+    (good_items s.items three.1 good.data_short good.range.items) in
     puts_full EResults kinds.Results (node (drafts.Results s)) n inner refl refl
 
 -- ---- commands of a body

@@ -129,7 +129,7 @@ pub puts_element : {c d f : Content} {v w : Value} {ts : List Token} (e : Elemen
 puts_element {f = f} {w = w} {ts = []} e k whole n inner done is =
     let none : inner.front nothing ≡ nothing = no_tree (inner.front nothing) (inner.spells nothing) in
     let same : fresh k e ≡ w = same_read (fresh k e) w 0 (inner.place 0)
-        (ap (λ tree. read 0 (fresh k e) (start k) tree) (sym none) ∙ inner.reads 0 nothing done) in
+    (ap (λ tree. read 0 (fresh k e) (start k) tree) (sym none) ∙ inner.reads 0 nothing done) in
     puts_bare e k whole n (subst (λ tree. IsTrue (fits (start k) tree)) none (inner.fit nothing done)) (ap (closed k) same ∙ is)
 puts_element {ts = t ∷ ts} e k whole n inner done is = puts_full e k whole n inner done is
 
@@ -170,7 +170,7 @@ never h = cc
 came_bare : (d : Content) (e : Element) (rest : Forest) → IsTrue (fits d (bare e rest)) → (x : Kind × Content) × (next d e ≡ Some x) × IsTrue (is_complete (start x.0) && fits x.1 rest)
 came_bare d e rest h =
     (elim (next d e) as (λ (o : Option (Kind × Content)). next d e ≡ o → IsTrue (elim o as (λ _. Bool) [ None ↦ false | Some x ↦ is_complete (start x.0) && fits x.1 rest ])
-      → (x : Kind × Content) × (next d e ≡ Some x) × IsTrue (is_complete (start x.0) && fits x.1 rest)) [
+    → (x : Kind × Content) × (next d e ≡ Some x) × IsTrue (is_complete (start x.0) && fits x.1 rest)) [
       | None ↦ λ is g. never g
       | Some x ↦ λ is g. (x, is, g)
     ]) refl h
@@ -178,7 +178,7 @@ came_bare d e rest h =
 came_full : (d : Content) (e : Element) (i rest : Forest) → IsTrue (fits d (full e i rest)) → (x : Kind × Content) × (next d e ≡ Some x) × IsTrue (fits (start x.0) i && fits x.1 rest)
 came_full d e i rest h =
     (elim (next d e) as (λ (o : Option (Kind × Content)). next d e ≡ o → IsTrue (elim o as (λ _. Bool) [ None ↦ false | Some x ↦ fits (start x.0) i && fits x.1 rest ])
-      → (x : Kind × Content) × (next d e ≡ Some x) × IsTrue (fits (start x.0) i && fits x.1 rest)) [
+    → (x : Kind × Content) × (next d e ≡ Some x) × IsTrue (fits (start x.0) i && fits x.1 rest)) [
       | None ↦ λ is g. never g
       | Some x ↦ λ is g. (x, is, g)
     ]) refl h

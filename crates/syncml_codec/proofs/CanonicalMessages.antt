@@ -53,7 +53,7 @@ cred_option : (rows : List Row) (value : Option Cred → Value) (o : Option Cred
 cred_option rows value o none good same =
     puts_optional GoodCred cred_tokens value o good (skips ECred kinds.Cred false false false rows none refl)
     (λ c is. subst (λ w. Puts (in_order false (row ECred kinds.Cred false false ∷ rows)) (value None) (cred_tokens c) (in_order false rows) w) (same c)
-      (puts_then (cred_element c (next_here ECred kinds.Cred false false false rows refl) is) (skips ECred kinds.Cred false false true rows none refl)))
+    (puts_then (cred_element c (next_here ECred kinds.Cred false false false rows refl) is) (skips ECred kinds.Cred false false true rows none refl)))
 
 abbrev header_held : List ℕ → List ℕ → List ℕ → ℕ → Loc → Loc → Option (List ℕ) → Bool → Option Cred → Option Meta → Value
 header_held dtd proto session msg target source resp_uri no_resp cred meta = of_draft (drafts.Header (record {
@@ -81,21 +81,21 @@ header_element h n good =
     let two = and_true _ _ three.0 in
     let one = and_true _ _ two.0 in
     let inner : Puts (start kinds.Header) (fresh kinds.Header ESyncHdr)
-        (text_tokens EVerDTD h.dtd ++ text_tokens EVerProto h.proto ++ text_tokens ESessionID h.session ++ number_tokens EMsgID h.msg ++ loc_tokens ETarget h.target
-        ++ loc_tokens ESource h.source ++ optional (text_tokens ERespURI) h.resp_uri ++ flag_tokens ENoResp h.no_resp ++ optional cred_tokens h.cred ++ optional meta_tokens h.meta)
-        (in_order false []) (of_draft (drafts.Header h)) =
-        text_row EVerDTD true false (drop 1 table.HEADER) h.dtd refl one.0
-        behind text_row EVerProto true false (drop 2 table.HEADER) h.proto refl one.1
-        behind text_row ESessionID true false (drop 3 table.HEADER) h.session refl two.1
-        behind id_row EMsgID true false (drop 4 table.HEADER) h.msg refl good.number good.range.msg
-        behind loc_row ETarget (drop 5 table.HEADER) h.target refl three.1
-        behind loc_row ESource (drop 6 table.HEADER) h.source refl four.1
-        behind text_option ERespURI (drop 7 table.HEADER) (λ o. header_held h.dtd h.proto h.session h.msg h.target h.source o false None None) h.resp_uri refl five.1 (λ t. refl)
-        behind puts_flag ENoResp (drop 8 table.HEADER) (λ b. header_held h.dtd h.proto h.session h.msg h.target h.source h.resp_uri b None None) h.no_resp refl refl
-        behind cred_option (drop 9 table.HEADER) (λ o. header_held h.dtd h.proto h.session h.msg h.target h.source h.resp_uri h.no_resp o None) h.cred refl
-          (good_cred h.cred six.1 good.data_short good.range.cred) (λ c. refl)
-        behind meta_option [] (λ o. header_held h.dtd h.proto h.session h.msg h.target h.source h.resp_uri h.no_resp h.cred o) h.meta refl
-          (good_meta h.meta seven.1 good.range.meta) (λ m. refl) in
+    (text_tokens EVerDTD h.dtd ++ text_tokens EVerProto h.proto ++ text_tokens ESessionID h.session ++ number_tokens EMsgID h.msg ++ loc_tokens ETarget h.target
+    ++ loc_tokens ESource h.source ++ optional (text_tokens ERespURI) h.resp_uri ++ flag_tokens ENoResp h.no_resp ++ optional cred_tokens h.cred ++ optional meta_tokens h.meta)
+    (in_order false []) (of_draft (drafts.Header h)) =
+    text_row EVerDTD true false (drop 1 table.HEADER) h.dtd refl one.0
+    behind text_row EVerProto true false (drop 2 table.HEADER) h.proto refl one.1
+    behind text_row ESessionID true false (drop 3 table.HEADER) h.session refl two.1
+    behind id_row EMsgID true false (drop 4 table.HEADER) h.msg refl good.number good.range.msg
+    behind loc_row ETarget (drop 5 table.HEADER) h.target refl three.1
+    behind loc_row ESource (drop 6 table.HEADER) h.source refl four.1
+    behind text_option ERespURI (drop 7 table.HEADER) (λ o. header_held h.dtd h.proto h.session h.msg h.target h.source o false None None) h.resp_uri refl five.1 (λ t. refl)
+    behind puts_flag ENoResp (drop 8 table.HEADER) (λ b. header_held h.dtd h.proto h.session h.msg h.target h.source h.resp_uri b None None) h.no_resp refl refl
+    behind cred_option (drop 9 table.HEADER) (λ o. header_held h.dtd h.proto h.session h.msg h.target h.source h.resp_uri h.no_resp o None) h.cred refl
+    (good_cred h.cred six.1 good.data_short good.range.cred) (λ c. refl)
+    behind meta_option [] (λ o. header_held h.dtd h.proto h.session h.msg h.target h.source h.resp_uri h.no_resp h.cred o) h.meta refl
+    (good_meta h.meta seven.1 good.range.meta) (λ m. refl) in
     puts_full ESyncHdr kinds.Header (node (drafts.Header h)) n inner refl refl
 
 -- ---- bodies
@@ -113,8 +113,8 @@ commands_pass : (came : Bool) → Covers (in_order came table.BODY) (in_order fa
 commands_pass came = record {
   next = λ other x h.
       (elim (same EFinal other) as (λ (b : Bool). same EFinal other ≡ b
-        → after_row (in_row (if b then Some kinds.Flag else None) false (row EFinal kinds.Flag false false) [] (next_row false [] other)) ≡ Some x
-        → next (in_order came table.BODY) other ≡ Some x) [
+      → after_row (in_row (if b then Some kinds.Flag else None) false (row EFinal kinds.Flag false false) [] (next_row false [] other)) ≡ Some x
+      → next (in_order came table.BODY) other ≡ Some x) [
         | true ↦ λ is g. subst (λ e. next (in_order came table.BODY) e ≡ Some x) (same_only EFinal other is) (final_next came ∙ g)
         | false ↦ λ is g. none_some x g
       ]) refl h;
@@ -127,9 +127,9 @@ body_element : {c d : Content} {v : Value} (body : List Command) (last : Bool) �
 unfolding body_tokens commands_tokens
 body_element body last n good =
     let inner : Puts (start kinds.Body) (fresh kinds.Body ESyncBody) (body_children body last) (in_order false []) (body_held body last) =
-        puts_list (many_row Commands false ∷ drop 1 table.BODY) (λ cs. body_held cs false) command_tokens body
-          (each_so GoodCommand _ body (command_one (drop 1 table.BODY)) good) (commands_pass false) (commands_pass true)
-        behind puts_flag EFinal [] (λ b. body_held body b) last refl refl in
+    puts_list (many_row Commands false ∷ drop 1 table.BODY) (λ cs. body_held cs false) command_tokens body
+    (each_so GoodCommand _ body (command_one (drop 1 table.BODY)) good) (commands_pass false) (commands_pass true)
+    behind puts_flag EFinal [] (λ b. body_held body b) last refl refl in
     puts_element ESyncBody kinds.Body (node (drafts.Body (record { commands = body; last = last }))) n inner refl refl
 
 -- ---- messages
@@ -145,17 +145,16 @@ message_children parts fit numbers =
     let data_short = and_true _ _ fit.short_data in
     let ids = and_true _ _ fit.numbers in
     puts_then (header_element parts.header (next_here ESyncHdr kinds.Header true false false (drop 1 table.MESSAGE) refl)
-      (record { texts = texts.0; data_short = data_short.0; number = ids.0; range = numbers.header })) (skips ESyncHdr kinds.Header true false true (drop 1 table.MESSAGE) refl refl)
+    (record { texts = texts.0; data_short = data_short.0; number = ids.0; range = numbers.header })) (skips ESyncHdr kinds.Header true false true (drop 1 table.MESSAGE) refl refl)
     behind puts_then (body_element parts.body parts.last (next_here ESyncBody kinds.Body true false false [] refl)
-      (good_commands parts.body texts.1 data_short.1 ids.1 fit.filled fit.correlators numbers.body)) (skips ESyncBody kinds.Body true false true [] refl refl)
+    (good_commands parts.body texts.1 data_short.1 ids.1 fit.filled fit.correlators numbers.body)) (skips ESyncBody kinds.Body true false true [] refl refl)
 
 -- the canonical tokens of a fit message spell it
 pub canonical_is_spelled : (parts : Parts) → IsFit parts.header parts.body → AreNumbers parts → SpellsParts (message_tokens parts) parts
 unfolding message_tokens
 canonical_is_spelled parts fit numbers =
     let whole = puts_full {c = document} {v = of_draft drafts.Document} ESyncML kinds.Message (node (drafts.Message (record { header = Some parts.header; body = parts.body; last = parts.last })))
-        (next_here ESyncML kinds.Message true false false [] refl) (message_children parts fit numbers) refl refl in
-    (
+    (next_here ESyncML kinds.Message true false false [] refl) (message_children parts fit numbers) refl refl in (
       whole.front nothing,
       record { spelled = sym (whole.spells nothing ∙ append-nil (message_tokens parts)); fitting = whole.fit nothing refl },
       (message_held (Some parts.header) parts.body parts.last, whole.place 0, whole.reads 0 nothing refl, refl),

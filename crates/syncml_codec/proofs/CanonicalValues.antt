@@ -141,7 +141,7 @@ pub text_option : (e : Element) (rows : List Row) (value : Option (List ℕ) →
 text_option e rows value o none h same =
     puts_optional IsText (text_tokens e) value o (some_of is_text o h) (skips e kinds.Text false false false rows none refl)
     (λ t is. subst (λ w. Puts (in_order false (row e kinds.Text false false ∷ rows)) (value None) (text_tokens e t) (in_order false rows) w) (same t)
-      (text_row e false false rows t none is))
+    (text_row e false false rows t none is))
 
 pub id_row : {v : Value} (e : Element) (r m : Bool) (rows : List Row) (n : ℕ) → next_row false rows e ≡ None → is_number n ≡ true → IsShort n
     → Puts (in_order false (row e kinds.Id r m ∷ rows)) v (number_tokens e n) (in_order false rows) (with_child v e (simple (simples.Short n)))
@@ -244,7 +244,7 @@ pub meta_option : (rows : List Row) (value : Option Meta → Value) (o : Option 
 meta_option rows value o none good same =
     puts_optional GoodMeta meta_tokens value o good (skips EMeta kinds.Meta false false false rows none refl)
     (λ m is. subst (λ w. Puts (in_order false (row EMeta kinds.Meta false false ∷ rows)) (value None) (meta_tokens m) (in_order false rows) w) (same m)
-      (puts_then (meta_element m (next_here EMeta kinds.Meta false false false rows refl) is) (skips EMeta kinds.Meta false false true rows none refl)))
+    (puts_then (meta_element m (next_here EMeta kinds.Meta false false false rows refl) is) (skips EMeta kinds.Meta false false true rows none refl)))
 
 pub good_meta : (o : Option Meta) → all_of (meta_texts is_text) o ≡ true → IfSome o MetaRange → IfSome o GoodMeta
 good_meta None h r = tt
@@ -264,7 +264,7 @@ loc_option : (e : Element) (rows : List Row) (value : Option Loc → Value) (o :
 loc_option e rows value o none h same =
     puts_optional (λ loc. loc_texts is_text loc ≡ true) (loc_tokens e) value o (some_of (loc_texts is_text) o h) (skips e kinds.Loc false false false rows none refl)
     (λ loc is. subst (λ w. Puts (in_order false (row e kinds.Loc false false ∷ rows)) (value None) (loc_tokens e loc) (in_order false rows) w) (same loc)
-      (puts_then (loc_element e loc (next_here e kinds.Loc false false false rows refl) is) (skips e kinds.Loc false false true rows none refl)))
+    (puts_then (loc_element e loc (next_here e kinds.Loc false false false rows refl) is) (skips e kinds.Loc false false true rows none refl)))
 
 data_option : (rows : List Row) (value : Option (List ℕ) → Value) (o : Option (List ℕ)) → next_row false rows EData ≡ None → all_of is_short o ≡ true
     → ((t : List ℕ) → with_child (value None) EData (simple (simples.Text t)) ≡ value (Some t))
@@ -272,7 +272,7 @@ data_option : (rows : List Row) (value : Option (List ℕ) → Value) (o : Optio
 data_option rows value o none h same =
     puts_optional (λ t. is_short t ≡ true) data_tokens value o (some_of is_short o h) (skips EData kinds.Bytes false false false rows none refl)
     (λ t is. subst (λ w. Puts (in_order false (row EData kinds.Bytes false false ∷ rows)) (value None) (data_tokens t) (in_order false rows) w) (same t)
-      (puts_then (data_element t (next_here EData kinds.Bytes false false false rows refl) is) (skips EData kinds.Bytes false false true rows none refl)))
+    (puts_then (data_element t (next_here EData kinds.Bytes false false false rows refl) is) (skips EData kinds.Bytes false false true rows none refl)))
 
 abbrev item_held : Option Loc → Option Loc → Option Meta → Option (List ℕ) → Bool → Value
 item_held target source meta value more = of_draft (drafts.Item (record { target = target; source = source; meta = meta; value = value; more = more }))
