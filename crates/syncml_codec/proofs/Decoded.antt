@@ -151,6 +151,7 @@ token_unbuilt bytes at reason t =
   where
     in_three : (p b r d : List ℕ) → (p ++ (b ++ r)) ++ d ≡ (p ++ b) ++ (r ++ d)
     in_three p b r d = append_assoc p (b ++ r) d ∙ ap (λ l. p ++ l) (append_assoc b r d) ∙ sym (append_assoc p b (r ++ d))
+
     few : (n : ℕ) (l : List ℕ) → length (take n l) ≤ n
     few n l = omega (arith, length-take n l)
 

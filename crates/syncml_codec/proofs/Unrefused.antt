@@ -76,7 +76,7 @@ limit_of r true is full =
 limit_of r false is full = (
   reasons.Toolong,
   ap (λ (c : Bool). if c then Some reasons.Trailing else if taken_by r == most_bytes then Some reasons.Toolong else None) is
-  ∙ ap (λ (c : Bool). if c then Some reasons.Toolong else None) at_most,
+      ∙ ap (λ (c : Bool). if c then Some reasons.Toolong else None) at_most,
 )
   where
     at_most : (taken_by r == most_bytes) ≡ true
@@ -109,8 +109,8 @@ read_more bytes later =
     let x : Reading = reading bytes in (
       (reads (record x { tokens = [] }) later).tokens,
       ap (λ y. y.tokens) (reads-append (begun_by at_start) bytes later)
-      ∙ ap (λ t. (reads (record x { tokens = t }) later).tokens) (sym (append-nil x.tokens))
-      ∙ ap (λ y. y.tokens) (reads-told x.tokens (record x { tokens = [] }) later),
+          ∙ ap (λ t. (reads (record x { tokens = t }) later).tokens) (sym (append-nil x.tokens))
+          ∙ ap (λ y. y.tokens) (reads-told x.tokens (record x { tokens = [] }) later),
     )
 
 pub refused_more : (bytes later : List ℕ) (f : Refusal) → (reading bytes).refused ≡ Some f → reading (bytes ++ later) ≡ reading bytes
@@ -150,5 +150,6 @@ begins_with {table} {page} {at} {extent = extent} (a_token {tokens = tokens} t f
   where
     head_is : (a b : Placed) (as' bs : List Placed) → a ∷ as' ≡ b ∷ bs → a ≡ b
     head_is a b as' bs e = cc
+
     tail_is : (a b : Placed) (as' bs : List Placed) → a ∷ as' ≡ b ∷ bs → as' ≡ bs
     tail_is a b as' bs e = cc

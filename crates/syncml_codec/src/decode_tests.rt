@@ -8,11 +8,7 @@ use wbxml_tokens::{Reason, Refusal};
 // Messages of other encoders, whole and damaged: their bytes, and the place and the reason of the refusal that two other
 // implementations gave.
 const REFUSED: [(&str, u64, Reason); 30] = [
-    (
-        "-",
-        0,
-        Reason::Truncated,
-    ),
+    ("-", 0, Reason::Truncated),
     (
         "03a4016a006d6c7103312e3200017203444d2f312e32000165033100015b033200016e57037331000101675703643100\
           01015a00014c033136333834000155",
@@ -37,22 +33,14 @@ const REFUSED: [(&str, u64, Reason); 30] = [
         0,
         Reason::Version,
     ),
-    (
-        "03b10103000103006d6c710374747474",
-        1,
-        Reason::Publicid,
-    ),
+    ("03b10103000103006d6c710374747474", 1, Reason::Publicid),
     (
         "03016a016d6c71032361000172037800016503236100015b033700016e570320000101675703636872000101016b604b\
           03313835343800011d546e5703780001014fc302fffe010101120101",
         1,
         Reason::Publicid,
     ),
-    (
-        "01a401006d6c7103636872020172032361",
-        3,
-        Reason::Charset,
-    ),
+    ("01a401006d6c7103636872020172032361", 3, Reason::Charset),
     (
         "03a401ff6a006d6c7103312e3200017203444d2f312e32000165033100015b033100016e570364310001016757037331\
           000101016b534b03310001546e57032e2f410001010101120101",
@@ -88,11 +76,7 @@ const REFUSED: [(&str, u64, Reason); 30] = [
         46,
         Reason::Token,
     ),
-    (
-        "03a4016a006d6c710363687200010003c3a9e282",
-        14,
-        Reason::Tag,
-    ),
+    ("03a4016a006d6c710363687200010003c3a9e282", 14, Reason::Tag),
     (
         "03808080a4018080806a80006d6c00027103780000010100010000720378000165015b03343239343936373239350000\
           010100006e5703610a62000101675703636872000101016b0100010001000101",
@@ -117,11 +101,7 @@ const REFUSED: [(&str, u64, Reason); 30] = [
         48,
         Reason::Nested,
     ),
-    (
-        "03a4016a002d",
-        5,
-        Reason::Misplaced,
-    ),
+    ("03a4016a002d", 5, Reason::Misplaced),
     (
         "03a4016a006d6c7103312e3200017203444d2f312e32000165033100015b033100016e57036431000101675703733100\
           0101016b534b03310001546e57032e2f410001000101120101",
@@ -186,7 +166,7 @@ const REFUSED: [(&str, u64, Reason); 30] = [
 
 // Messages of other encoders, and whether they are spelled as we would.
 const WHOLE: [(&str, bool); 5] = [
-(
+    (
         "03a4016a006d6c3172037800016503236100015b033700016e570378000101671701012b01",
         true,
     ),
@@ -238,9 +218,11 @@ fn decode_in(alloc: Global, bytes: &[u8], size: usize) -> Result<Message, Decode
 
 fn is_refused(alloc: Global, text: &str, at: u64, reason: Reason) -> Result<bool, Memory> {
     let bytes = bytes_of(alloc, text)?;
-    Ok(is_refusal(decode(alloc, bytes.as_slice()), at, reason)
-        && is_refusal(decode_in(alloc, bytes.as_slice(), 1), at, reason)
-        && is_refusal(decode_in(alloc, bytes.as_slice(), 7), at, reason))
+    Ok(
+        is_refusal(decode(alloc, bytes.as_slice()), at, reason)
+            && is_refusal(decode_in(alloc, bytes.as_slice(), 1), at, reason)
+            && is_refusal(decode_in(alloc, bytes.as_slice(), 7), at, reason),
+    )
 }
 
 #[test]
@@ -267,8 +249,10 @@ fn is_message(
 fn is_whole(alloc: Global, text: &str, canonical: bool) -> Result<bool, Memory> {
     let bytes = bytes_of(alloc, text)?;
     let bytes = bytes.as_slice();
-    Ok(is_message(alloc, decode(alloc, bytes), bytes, canonical)?
-        && is_message(alloc, decode_in(alloc, bytes, 1), bytes, canonical)?)
+    Ok(
+        is_message(alloc, decode(alloc, bytes), bytes, canonical)?
+            && is_message(alloc, decode_in(alloc, bytes, 1), bytes, canonical)?,
+    )
 }
 
 #[test]
@@ -288,6 +272,9 @@ fn refuses_for_good(rt: HostRuntime) -> Result<(), Fail> {
     });
     assert!(rt; decoder.feed(b"\x04") == Err(refused), "at once");
     assert!(rt; decoder.feed(b"\x03\xa4") == Err(refused), "and again");
-    assert!(rt; is_refusal(decoder.finish(), 0, Reason::Version), "and at the end");
+    assert!(rt;
+        is_refusal(decoder.finish(), 0, Reason::Version),
+        "and at the end"
+    );
     Ok(())
 }
