@@ -1,21 +1,16 @@
 -- What is read of bytes is the message that they spell, and what is refused is what is refused first.
-use Rattle.std.proofs.Common.{ℕ, zero, suc, ◌≡◌, ◌<◌, ◌≤◌, ◌+◌, ◌-◌, List, [], ◌∷◌, ◌++◌, length, take, drop, refl, sym, ap, ◌∙◌, subst, arith, append_assoc, inl, inr}
+use Rattle.std.proofs.Common.{ℕ, zero, suc, ◌≡◌, ◌≤◌, ◌-◌, List, [], ◌∷◌, ◌++◌, length, take, drop, refl, sym, ap, ◌∙◌, subst, arith, append_assoc, inl, inr}
 use Rattle.std.proofs.lemmas.List.{append-nil, length-append, length-take, take-append-drop}
-use Rattle.std.specs.Prelude.{◌==◌, Bool, true, false, if◌then◌else◌, Option, Some, None, Result, Ok, Err, IsTrue, ◌&&◌}
+use Rattle.std.specs.Prelude.{◌==◌, Bool, true, false, if◌then◌else◌, Option, Some, None, Result, Ok, Err}
 use Rattle.wbxml_ints.specs.Multibyte.{AreBytes}
-use Rattle.wbxml_tables.specs.declared.Element.{Element}
 use Rattle.wbxml_tokens.specs.declared.reason.Reason.{Reason}
 use Rattle.wbxml_tokens.specs.declared.reason.Reason.TheVariants as reasons
 use Rattle.wbxml_tokens.specs.declared.reason.Refusal.{Refusal}
-use Rattle.wbxml_tokens.specs.declared.token.Token.{Token}
-use Rattle.wbxml_tokens.specs.declared.token.Token.TheVariants.{Tag, End}
 use Rattle.wbxml_tokens.specs.declared.token.Placed.{Placed}
 use Rattle.wbxml_tokens.specs.declared.extent.Extent.TheVariants as extents
-use Rattle.wbxml_tokens.specs.Fronts.{more, prologue_at}
-use Rattle.wbxml_tokens.specs.Reading.{Reader, Reading, at_start, begun_by, most_bytes, taken_by, is_whole, limit, reads, reading}
+use Rattle.wbxml_tokens.specs.Reading.{Reader, Reading, at_start, begun_by, most_bytes, taken_by, is_whole, limit, reading}
 use Rattle.wbxml_tokens.specs.Taking.{taken, ◌>>=◌}
-use Rattle.wbxml_tokens.specs.Spelled.{SpellsTokens, IsReadSo, RefusedAt}
-use Rattle.wbxml_tokens.specs.Whole.{IsElement, tokens_read}
+use Rattle.wbxml_tokens.specs.Spelled.{RefusedAt}
 use Rattle.wbxml_tokens.proofs.Documents.{known, Known, spelled_is_read as spelled_tokens_are_read}
 use Rattle.wbxml_tokens.proofs.Refusals.{refused_is_told}
 use Rattle.wbxml_tokens.proofs.Elements.{whole_of_element}
@@ -32,7 +27,7 @@ use Rattle.syncml_grammar.proofs.Taken.{built_is_taken}
 use Rattle.syncml_codec.specs.Messages.{Spells, TokenRefusedAt, NoTokenRefused, MessageRefusedAt, by_grammar, by_reader, cut}
 use Rattle.syncml_codec.specs.Decoding.{built, first_of, settled, parts_of, read_by, read_of}
 use Rattle.syncml_codec.specs.Laws.{SpelledIsRead, RefusedIsRead, OneIsSpelled, NoneGoesOn, SettledIsRefused}
-use Rattle.syncml_codec.proofs.Unrefused.{some_not_none, HasFront, front_of, sound_within, read_more, refused_more, BeginsWith, begins_with}
+use Rattle.syncml_codec.proofs.Unrefused.{some_not_none, HasFront, front_of, sound_within, read_more, refused_more, begins_with}
 use Rattle.syncml_codec.proofs.Documents.{element_of_parts}
 
 ok_not_err : {A E : Type 0} (a : A) (e : E) → Ok a ≡ Err e → ⊥

@@ -1,12 +1,12 @@
 -- A decoder that is fed pieces stands behind their bytes.
-use Rattle.std.proofs.Common.{ℕ, suc, ◌≡◌, ◌<◌, ◌≤◌, ◌+◌, ◌-◌, ◌^◌, min, List, [], ◌∷◌, ◌++◌, length, length-append, refl, sym, ap, ◌∙◌, subst, arith, inl, inr}
+use Rattle.std.proofs.Common.{ℕ, suc, ◌≡◌, ◌<◌, ◌+◌, ◌-◌, ◌^◌, min, List, [], ◌∷◌, ◌++◌, length, length-append, refl, sym, ap, ◌∙◌, subst, arith, inl, inr}
 use Rattle.std.proofs.lemmas.List.{append-nil}
 use Rattle.std.specs.Prelude.{Option, Some, None, Result, Ok, Err, get_or}
 use Rattle.wbxml_ints.specs.Multibyte.{AreBytes}
 use Rattle.wbxml_tokens.specs.declared.reason.Refusal.{Refusal}
 use Rattle.wbxml_tokens.specs.declared.reason.Reason.TheVariants as reasons
 use Rattle.wbxml_tokens.specs.declared.token.Placed.{Placed}
-use Rattle.wbxml_tokens.specs.Reading.{Reader, Reading, at_start, begun_by, most_bytes, reads, reading}
+use Rattle.wbxml_tokens.specs.Reading.{Reading, at_start, begun_by, reads, reading}
 use Rattle.wbxml_tokens.specs.Taking.{taken, told, IsFirst, ◌>>=◌}
 use Rattle.wbxml_tokens.proofs.Steps.{reads-append}
 use Rattle.wbxml_tokens.proofs.Turns.{reads-told, taken-append}

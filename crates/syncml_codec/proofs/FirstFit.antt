@@ -1,5 +1,5 @@
 -- The messages of the first path are fit.
-use Rattle.std.proofs.Common.{◌≡◌, ◌≢◌, ◌≤◌, ◌<◌, ◌+◌, ◌^◌, ◌&&◌, ℕ, Bool, true, false, not, cond, if◌then◌else◌, List, [], ◌∷◌, ◌++◌, codes, length, ltb, leb, eqb, nat_lt, nat_le, Option, Some, None, IfSome, option_map, Bor, Result, Ok, Err, IfOk, subst, refl, sym, ap, ◌∙◌, arith}
+use Rattle.std.proofs.Common.{◌≡◌, ◌≢◌, ◌<◌, ◌^◌, ◌&&◌, ℕ, Bool, true, false, not, if◌then◌else◌, List, [], ◌∷◌, codes, length, ltb, nat_lt, nat_le, Option, Some, None, IfSome, option_map, Bor, Result, Ok, Err, IfOk, subst, refl, ap, ◌∙◌, arith}
 use Rattle.std.specs.List.{list_all}
 use Rattle.std.specs.Fmt.{decimal}
 use Rattle.std.specs.Result.{result_ok}
@@ -19,11 +19,11 @@ use Rattle.syncml_types.specs.declared.message.Unfit.{Unfit}
 use Rattle.syncml_types.specs.declared.message.Unfit.TheVariants as unfit
 use Rattle.syncml_types.specs.Message.{Parts, IsShortData}
 use Rattle.syncml_types.specs.Canonical.{is_text, canonical}
-use Rattle.syncml_types.specs.Fitness.{all_of, is_short, is_number, loc_texts, meta_texts, item_texts, cred_texts, header_texts, plain_texts, alert_texts, status_texts, results_texts, command_texts, message_texts, item_data, header_data, command_data, message_data, command_numbers, message_numbers, plain_filled, command_filled, plain_correlates, command_correlates, IsFit, first_unfit, told_unfit}
+use Rattle.syncml_types.specs.Fitness.{all_of, is_short, is_number, loc_texts, meta_texts, item_texts, cred_texts, header_texts, plain_texts, alert_texts, status_texts, results_texts, command_texts, item_data, header_data, command_data, command_numbers, plain_filled, command_filled, plain_correlates, command_correlates, IsFit, first_unfit, told_unfit}
 use Rattle.syncml_codec.specs.declared.first.FirstEnds.{FirstEnds}
 use Rattle.syncml_codec.specs.declared.first.FirstGet.{FirstGet}
-use Rattle.syncml_codec.specs.FirstMessages.{plain_loc, kind_meta, limits_meta, plain_header, header_of, leaf_item, device_item, device_items, device_replace, opening_alert, open_body, Got, got_from, got_at, got_item, got_by, got_in, got_of, status_entry, results_entry, get_entries, reply_body, HasShortTexts}
-use Rattle.syncml_codec.specs.FirstGet.{is_id_number, has_sound_parts, get_item, get_command, get_header, get_message, leaf_uri, is_leaf_name}
+use Rattle.syncml_codec.specs.FirstMessages.{limits_meta, plain_header, header_of, leaf_item, device_item, open_body, Got, got_at, got_item, got_by, got_in, got_of, status_entry, results_entry, get_entries, reply_body, HasShortTexts}
+use Rattle.syncml_codec.specs.FirstGet.{is_id_number, has_sound_parts, get_item, get_command, get_header, get_message, is_leaf_name}
 use Rattle.syncml_codec.proofs.Texts.{IsGood, good_word, good_decimal, good_uri}
 
 -- a test that good texts pass

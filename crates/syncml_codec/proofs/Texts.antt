@@ -1,9 +1,9 @@
 -- Texts of ASCII without byte 00 are texts of a message.
-use Rattle.std.proofs.Common.{◌≡◌, ◌≤◌, ◌<◌, ◌+◌, ◌^◌, ◌&&◌, ℕ, zero, suc, Bool, true, false, not, List, [], ◌∷◌, ◌++◌, codes, length, length-append, ltb, leb, eqb, refl, sym, ◌∙◌, arith, lit<}
+use Rattle.std.proofs.Common.{◌≡◌, ◌≤◌, ◌<◌, ◌^◌, ◌&&◌, ℕ, zero, suc, Bool, true, not, List, [], ◌∷◌, length, ltb, leb, eqb, refl, arith, lit<}
 use Rattle.std.specs.List.{list_all}
 use Rattle.std.specs.Fmt.{decimal}
-use Rattle.std.specs.Str.{IsAscii, is_utf8}
-use Rattle.std.proofs.lemmas.Bool.{and_parts, leb-true, ltb-true, le-leb, ne_eqb}
+use Rattle.std.specs.Str.{IsAscii}
+use Rattle.std.proofs.lemmas.Bool.{and_parts, leb-true, le-leb}
 use Rattle.std.proofs.lemmas.Fmt.{IsAscii-decimal, length-decimal-le}
 use Rattle.std.proofs.lemmas.Str.{is_utf8-from_IsUtf8, IsUtf8-from_ascii}
 use Rattle.std.proofs.lemmas.Str.Ascii.{IsAscii-nil}

@@ -1,4 +1,4 @@
-use Rattle.std.proofs.Common.{sym, ap, ◌∙◌, ◌++◌}
+use Rattle.std.proofs.Common.{sym, ap, ◌∙◌}
 use Rattle.syncml_codec.proofs.Feeding.{fed_stopped}
 use Rattle.syncml_codec.proofs.decoder.Decoder.feed.Goals as goal
 
