@@ -67,7 +67,8 @@ spelled_reading bytes parts s =
     let r = spelled_tokens_are_read s.table s.prologue s.body s.placed s.page s.extent s.is_prologue s.spells (subst (λ l. length l ≤ most_bytes) s.whole s.within) in
     subst (λ l. ((reading l).tokens ≡ s.placed) × ((reading l).refused ≡ None)) (sym s.whole) (r.0, r.1)
 
-spelled_read : (bytes : List ℕ) (parts : Parts) → Spells bytes parts → read_of bytes ≡ Ok parts
+-- what spells a message is read as it, of whatever numbers the bytes are
+pub spelled_read : (bytes : List ℕ) (parts : Parts) → Spells bytes parts → read_of bytes ≡ Ok parts
 spelled_read bytes parts s =
     let r = spelled_reading bytes parts s in
     let b = built_of s.placed parts s.message in

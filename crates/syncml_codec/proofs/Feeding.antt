@@ -1,5 +1,5 @@
 -- A decoder that is fed pieces stands behind their bytes.
-use Rattle.std.proofs.Common.{ℕ, ◌≡◌, ◌<◌, ◌≤◌, ◌+◌, ◌-◌, ◌^◌, min, List, [], ◌∷◌, ◌++◌, length, length-append, refl, sym, ap, ◌∙◌, subst, arith, inl, inr}
+use Rattle.std.proofs.Common.{ℕ, suc, ◌≡◌, ◌<◌, ◌≤◌, ◌+◌, ◌-◌, ◌^◌, min, List, [], ◌∷◌, ◌++◌, length, length-append, refl, sym, ap, ◌∙◌, subst, arith, inl, inr}
 use Rattle.std.proofs.lemmas.List.{append-nil}
 use Rattle.std.specs.Prelude.{Option, Some, None, Result, Ok, Err, get_or}
 use Rattle.wbxml_ints.specs.Multibyte.{AreBytes}
@@ -16,7 +16,7 @@ use Rattle.syncml_grammar.specs.Taken.{building}
 use Rattle.syncml_codec.specs.declared.decoder.DecodeError.{DecodeError}
 use Rattle.syncml_codec.specs.declared.decoder.DecodeError.TheVariants as errors
 use Rattle.syncml_codec.specs.Messages.{Spells, MessageRefusedAt}
-use Rattle.syncml_codec.specs.Decoding.{built, first_of, settled, parts_of, read_by, read_of, IsRead, Decodes, Decoding, StandsBehind, HasDecoded}
+use Rattle.syncml_codec.specs.Decoding.{built, first_of, settled, parts_of, read_by, read_of, IsRead, Decodes, TellsSettled, Decoding, StandsBehind, HasDecoded}
 use Rattle.syncml_codec.proofs.Unrefused.{sound_within}
 use Rattle.syncml_codec.proofs.Decoded.{spelled_is_read, refused_is_read, settled_more, settled_read}
 
@@ -63,19 +63,19 @@ unfolding settled
 settled_on bytes r o is refused = ap (λ b. first_of b (reading bytes).refused) is ∙ ap (first_of r) refused
 
 -- a piece of which nothing is refused
-pub fed_ok : (d : Decoding) (bytes piece : List ℕ) (s : Reader) (b : Building) (n : ℕ) → HasDecoded d bytes → d.stopped ≡ None
-    → (taken building d.building (reads (begun_by d.reader) piece).tokens ≡ Ok b) × ((reads (begun_by d.reader) piece).refused ≡ None)
-    → s ≡ (reads (begun_by d.reader) piece).reader → n ≡ min (d.length + length piece) (2 ^ 64 - 1)
-    → (settled (bytes ++ piece) ≡ None) × HasDecoded (record { reader = s; building = b; length = n; stopped = None }) (bytes ++ piece)
+pub fed_ok : (d e : Decoding) (bytes piece : List ℕ) → HasDecoded d bytes → d.stopped ≡ None → e.stopped ≡ None
+    → (taken building d.building (reads (begun_by d.reader) piece).tokens ≡ Ok e.building) × ((reads (begun_by d.reader) piece).refused ≡ None)
+    → e.reader ≡ (reads (begun_by d.reader) piece).reader → e.length ≡ min (d.length + length piece) (2 ^ 64 - 1)
+    → (settled (bytes ++ piece) ≡ None) × HasDecoded e (bytes ++ piece)
 unfolding HasDecoded
-fed_ok d bytes piece s b n h going (handed, sound) is_reader is_length =
+fed_ok d e bytes piece h going goes_on (handed, sound) is_reader is_length =
     let x = stands_by d bytes going h in
     let on = read_on d bytes piece x in
     let all : (reading (bytes ++ piece)).refused ≡ None = ap (λ y. y.refused) on ∙ sound in
-    let is : built (bytes ++ piece) ≡ Ok b = built_on d bytes piece x ∙ handed in
-    let none : settled (bytes ++ piece) ≡ None = settled_on (bytes ++ piece) (Ok b) None is all in
-    let count : n ≡ length (bytes ++ piece) = omega (arith, is_length, x.3, length-append bytes piece, sound_within (bytes ++ piece) all) in
-    (none, (none, is_reader ∙ sym (ap (λ y. y.reader) on), is, count))
+    let is : built (bytes ++ piece) ≡ Ok e.building = built_on d bytes piece x ∙ handed in
+    let none_settled : settled (bytes ++ piece) ≡ None = settled_on (bytes ++ piece) (Ok e.building) None is all in
+    let count : e.length ≡ length (bytes ++ piece) = omega (arith, is_length, x.3, length-append bytes piece, sound_within (bytes ++ piece) all) in
+    (none_settled, subst (λ o. StandsBehind o e (bytes ++ piece)) (sym goes_on) (none_settled, is_reader ∙ sym (ap (λ y. y.reader) on), is, count))
 
 -- a piece of which something is refused
 pub fed_refused : (d e : Decoding) (bytes piece : List ℕ) (b : Building) (f : Refusal) → HasDecoded d bytes → d.stopped ≡ None
@@ -97,19 +97,26 @@ pub fed_lacking : (e : Decoding) (bytes : List ℕ) → e.stopped ≡ Some error
 unfolding HasDecoded
 fed_lacking e bytes stops = subst (λ o. StandsBehind o e bytes) (sym stops) tt
 
--- a piece behind a refusal
-pub fed_stopped : (d : Decoding) (bytes piece : List ℕ) (f : Refusal) → HasDecoded d bytes → d.stopped ≡ Some (errors.Refused f)
-    → (settled (bytes ++ piece) ≡ Some f) × HasDecoded d (bytes ++ piece)
+-- a piece behind what stopped the decoder
+pub fed_stopped : (d : Decoding) (bytes piece : List ℕ) (e : DecodeError) → HasDecoded d bytes → d.stopped ≡ Some e
+    → TellsSettled (Err e) (settled (bytes ++ piece)) × HasDecoded d (bytes ++ piece)
 unfolding HasDecoded
-fed_stopped d bytes piece f h stops =
+fed_stopped d bytes piece (errors.Refused f) h stops =
     let is = settled_more bytes piece f (subst (λ o. StandsBehind o d bytes) stops h) in
     (is, subst (λ o. StandsBehind o d (bytes ++ piece)) (sym stops) is)
+fed_stopped d bytes piece errors.Memory h stops = (tt, fed_lacking d (bytes ++ piece) stops)
 
 -- ---- the end
 
-pub finished_refused : (d : Decoding) (bytes : List ℕ) (f : Refusal) → HasDecoded d bytes → d.stopped ≡ Some (errors.Refused f) → read_of bytes ≡ Err f
+-- a refusal, or want of memory, that a feed tells is what is read
+pub told_is_read : (bytes : List ℕ) (e : DecodeError) → TellsSettled (Err e) (settled bytes) → IsRead (Err e) (read_of bytes)
+told_is_read bytes (errors.Refused f) h = settled_read bytes f h
+told_is_read bytes errors.Memory h = tt
+
+pub finished_stopped : (d : Decoding) (bytes : List ℕ) (e : DecodeError) → HasDecoded d bytes → d.stopped ≡ Some e → IsRead (Err e) (read_of bytes)
 unfolding HasDecoded
-finished_refused d bytes f h stops = settled_read bytes f (subst (λ o. StandsBehind o d bytes) stops h)
+finished_stopped d bytes (errors.Refused f) h stops = settled_read bytes f (subst (λ o. StandsBehind o d bytes) stops h)
+finished_stopped d bytes errors.Memory h stops = tt
 
 read_when_open : (d : Decoding) (bytes : List ℕ) (p : Option Parts) → Stands d bytes → built_by d.building ≡ p → read_of bytes ≡ read_by None p (length bytes)
 unfolding read_of

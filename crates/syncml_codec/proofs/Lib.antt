@@ -11,3 +11,8 @@ pub mod Unrefused
 pub mod Documents
 pub mod Decoded
 pub mod Feeding
+pub mod CanonicalForests
+pub mod CanonicalValues
+pub mod CanonicalCommands
+pub mod CanonicalMessages
+pub mod CanonicalBytes

@@ -7,6 +7,7 @@ use Rattle.syncml_types.specs.Message.{Parts}
 use Rattle.syncml_types.specs.Canonical.{canonical, message_tokens}
 use Rattle.syncml_types.specs.Fitness.{IsFit}
 use Rattle.syncml_grammar.specs.Reads.{SpellsParts}
+use Rattle.syncml_codec.specs.Ranges.{AreNumbers}
 use Rattle.syncml_codec.specs.Messages.{Spells, MessageRefusedAt}
 use Rattle.syncml_codec.specs.Decoding.{read_of, settled}
 
@@ -31,12 +32,12 @@ NoneGoesOn = (bytes more : List ℕ) (a b : Parts) → AreBytes (bytes ++ more) 
 abbrev pub SettledIsRefused : Type 0
 SettledIsRefused = (bytes more : List ℕ) (refusal : Refusal) → settled bytes ≡ Some refusal → read_of (bytes ++ more) ≡ Err refusal
 
--- The canonical tokens of a fit message spell it.
+-- The canonical tokens of a fit message, each number of which is in the range of its type, spell it.
 abbrev pub CanonicalIsSpelled : Type 0
-CanonicalIsSpelled = (parts : Parts) → IsFit parts.header parts.body → SpellsParts (message_tokens parts) parts
+CanonicalIsSpelled = (parts : Parts) → IsFit parts.header parts.body → AreNumbers parts → SpellsParts (message_tokens parts) parts
 
--- The canonical spelling of a fit message, where it has at most 65,536 bytes, spells it, so it is read again.
+-- The canonical spelling of such a message, where it has at most 65,536 bytes, spells it, so it is read again.
 abbrev pub EncodedIsRead : Type 0
 EncodedIsRead =
-    (parts : Parts) → IsFit parts.header parts.body → length (canonical parts) ≤ most_bytes
+    (parts : Parts) → IsFit parts.header parts.body → AreNumbers parts → length (canonical parts) ≤ most_bytes
     → Spells (canonical parts) parts × (read_of (canonical parts) ≡ Ok parts)

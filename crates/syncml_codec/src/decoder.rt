@@ -96,6 +96,7 @@ impl Decoder {
         ensures memory { Lacks self → result ≡ Bad errors.Memory }
     {
         if let Some(error) = self.stopped {
+            drop(self);
             return Err(error);
         }
         match self.builder.finish() {
@@ -113,10 +114,9 @@ fn decoded(alloc: Global, bytes: &[u8]) -> Result<Message, DecodeError>
     ensures { IsRead result (read_of bytes.now) }
 {
     let mut decoder = Decoder::new(alloc);
-    match decoder.feed(bytes) {
-        Ok(()) => decoder.finish(),
-        Err(error) => Err(error),
-    }
+    // What a feed refuses, `finish` refuses too.
+    let _ = decoder.feed(bytes);
+    decoder.finish()
 }
 
 /// Reads a message: Ok exactly where the bytes spell it, and Refused exactly at the place and for the reason of the first

@@ -1,5 +1,5 @@
 -- What a child with children puts into its parent. Where its parent has no such child, it puts nothing.
-use Rattle.std.specs.Prelude.{List, [], ◌∷◌, ◌++◌, Option, Some, None}
+use Rattle.std.specs.Prelude.{Bool, true, false, List, [], ◌∷◌, ◌++◌, Option, Some, None}
 use Rattle.wbxml_tables.specs.declared.Element.{Element}
 use Rattle.wbxml_tables.specs.declared.Element.TheVariants.{ETarget}
 use Rattle.syncml_types.specs.declared.values.Loc.{Loc}
@@ -126,3 +126,7 @@ with_node (draft.Loc loc) e child = draft.Loc loc
 with_node (draft.Cred cred) e child = draft.Cred (cred_with cred child)
 with_node (draft.Chal meta) e child = draft.Chal (meta_with meta child)
 with_node (draft.Meta meta) e child = draft.Meta (meta_with meta child)
+
+abbrev pub is_document : Draft → Bool
+is_document draft.Document = true
+is_document other = false

@@ -50,6 +50,7 @@ impl Builder {
         ensures { result ≡ built_by self }
     {
         if let Some(_) = self.stopped {
+            drop(self);
             return None;
         }
         match self.stack.into_parts() {

@@ -99,7 +99,10 @@ impl Draft {
     {
         match self {
             Draft::Message(message) => message.into_parts(),
-            _ => None,
+            other => {
+                drop(other);
+                None
+            }
         }
     }
 }

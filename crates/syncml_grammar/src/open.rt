@@ -1,11 +1,11 @@
 // Open elements, and what ends them.
-ghost use Rattle.std.specs.Prelude.{◌≡◌, true, false, IfOk};
+ghost use Rattle.std.specs.Prelude.{◌≡◌, ◌∷◌, [], true, false, IfOk, option_map};
 ghost use Rattle.syncml_shape.specs.Rows.{takes_text as has_text};
 ghost use Rattle.syncml_grammar.specs.Values.{holds_leaf};
-ghost use Rattle.syncml_grammar.specs.Machine.{began, on_end, on_text};
-ghost use Rattle.syncml_grammar.specs.Opens.{frame_of, leaf_frame, leaf_content, GivesFrame};
+ghost use Rattle.syncml_grammar.specs.Machine.{began, on_end, on_text, finished};
+ghost use Rattle.syncml_grammar.specs.Opens.{frame_of, leaf_frame, leaf_content, GivesFrame, parts_of};
 
-use crate::draft::{Draft, new_draft};
+use crate::draft::{Draft, WholeParts, new_draft};
 use crate::leaf::{Leaf, new_leaf};
 use crate::put_node::put_node;
 use crate::put_simple::put_simple;
@@ -114,15 +114,41 @@ impl Open {
     pub(crate) fn end_into(self, parent: &mut Open) -> Result<(), Stop>
         ensures { GivesFrame result (frame_of parent.new) (on_end (frame_of self) (frame_of parent.old)) }
     {
-        if !self.progress.is_complete() {
+        let Open {
+            element,
+            kind: _,
+            progress,
+            draft,
+        } = self;
+        if !progress.is_complete() {
+            drop(draft);
             return Err(Stop::Refused(Reason::Misplaced));
         }
-        let Some(element) = self.element else {
+        let Some(element) = element else {
+            drop(draft);
             return Err(Stop::Refused(Reason::Misplaced));
         };
-        match put_node(&mut parent.draft, element, self.draft) {
+        match put_node(&mut parent.draft, element, draft) {
             Ok(()) => Ok(()),
             Err(_) => Err(Stop::Memory),
+        }
+    }
+
+    /// The parts of the message that a document holds.
+    pub(crate) fn into_parts(self) -> Option<WholeParts>
+        ensures { option_map parts_of result ≡ finished (frame_of self ∷ []) }
+    {
+        let Open {
+            element: _,
+            kind: _,
+            progress,
+            draft,
+        } = self;
+        if progress.is_complete() {
+            draft.into_parts()
+        } else {
+            drop(draft);
+            None
         }
     }
 }

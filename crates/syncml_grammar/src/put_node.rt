@@ -1,68 +1,33 @@
-// What a child with children puts into its parent.
-ghost use Rattle.std.specs.Prelude.{◌≡◌, OnOk};
-ghost use Rattle.syncml_grammar.specs.Nodes.{as_command, as_member, as_seq_member, joined, message_with, header_with_loc, header_with, plain_with, alert_with, atomic_with, sequence_with, status_with, results_with, item_with_loc, item_with, cred_with, meta_with, with_node};
+// What a child with children puts into its parent. The child is taken apart first, so that no arm drops all of it.
+ghost use Rattle.std.specs.Prelude.{◌≡◌, false, Some, OnOk};
+ghost use Rattle.syncml_grammar.specs.declared.draft.Draft.TheVariants as drafts;
+ghost use Rattle.syncml_grammar.specs.Nodes.{header_with_loc, item_with_loc, with_node, is_document};
 
-use crate::draft::{Draft, HeaderDraft, MessageDraft};
-use dm_base::{List, Memory};
+use crate::draft::{BodyDraft, Draft, HeaderDraft};
+use dm_base::Memory;
+use std::mem;
 use syncml_types::{
-    AlertCmd, Block, Command, Cred, Header, Item, Loc, Member, Meta, Plain, ResultsCmd, SeqBlock,
+    AlertCmd, Block, Command, Cred, Item, Loc, Member, Meta, Plain, ResultsCmd, SeqBlock,
     SeqMember, StatusCmd,
 };
 use wbxml_tables::Element;
 
-impl Draft {
-    fn into_command(self) -> Option<Command>
-        ensures { result ≡ as_command self }
-    {
-        match self {
-            Draft::Plain(plain) => Some(Command::Plain(plain)),
-            Draft::Alert(alert) => Some(Command::Alert(alert)),
-            Draft::Atomic(block) => Some(Command::Atomic(block)),
-            Draft::Sequence(block) => Some(Command::Sequence(block)),
-            Draft::Status(status) => Some(Command::Status(status)),
-            Draft::Results(results) => Some(Command::Results(results)),
-            _ => None,
-        }
-    }
-
-    fn into_member(self) -> Option<Member>
-        ensures { result ≡ as_member self }
-    {
-        match self {
-            Draft::Plain(plain) => Some(Member::One(plain)),
-            Draft::Alert(alert) => Some(Member::Alert(alert)),
-            _ => None,
-        }
-    }
-
-    fn into_seq_member(self) -> Option<SeqMember>
-        ensures { result ≡ as_seq_member self }
-    {
-        match self {
-            Draft::Atomic(block) => Some(SeqMember::Atomic(block)),
-            Draft::Plain(plain) => Some(SeqMember::Single(Member::One(plain))),
-            Draft::Alert(alert) => Some(SeqMember::Single(Member::Alert(alert))),
-            _ => None,
-        }
+fn put_header(draft: &mut Draft, element: Element, header: HeaderDraft)
+    requires { is_document draft.old ≡ false }
+    ensures { draft.new ≡ with_node draft.old element (drafts.Header header) }
+{
+    match draft {
+        Draft::Message(message) => message.header = Some(header),
+        _ => {}
     }
 }
 
-// Adds a value, where there is one.
-fn join<T: Drop>(list: &mut List<T>, value: Option<T>) -> Result<(), Memory>
-    ensures { OnOk result (list.new ≡ joined list.old value) }
+fn put_body(draft: &mut Draft, element: Element, body: BodyDraft)
+    requires { is_document draft.old ≡ false }
+    ensures { draft.new ≡ with_node draft.old element (drafts.Body body) }
 {
-    match value {
-        None => Ok(()),
-        Some(value) => list.push(value),
-    }
-}
-
-fn put_in_message(message: &mut MessageDraft, child: Draft)
-    ensures { message.new ≡ message_with message.old child }
-{
-    match child {
-        Draft::Header(header) => message.header = Some(header),
-        Draft::Body(body) => {
+    match draft {
+        Draft::Message(message) => {
             message.body = body.commands;
             message.last = body.last;
         }
@@ -70,90 +35,91 @@ fn put_in_message(message: &mut MessageDraft, child: Draft)
     }
 }
 
-fn put_loc_in_header(header: &mut Header, element: Element, loc: Loc)
-    ensures { header.new ≡ header_with_loc header.old element loc }
+fn put_plain(draft: &mut Draft, element: Element, plain: Plain) -> Result<(), Memory>
+    requires { is_document draft.old ≡ false }
+    ensures { OnOk result (draft.new ≡ with_node draft.old element (drafts.Plain plain)) }
 {
-    match element {
-        Element::ETarget => header.target = loc,
-        _ => header.source = loc,
-    }
-}
-
-fn put_in_header(draft: &mut HeaderDraft, element: Element, child: Draft)
-    ensures { draft.new ≡ header_with draft.old element child }
-{
-    match child {
-        Draft::Loc(loc) => put_loc_in_header(&mut draft.header, element, loc),
-        Draft::Cred(cred) => draft.header.cred = Some(cred),
-        Draft::Meta(meta) => draft.header.meta = Some(meta),
-        _ => {}
-    }
-}
-
-fn put_in_plain(plain: &mut Plain, child: Draft) -> Result<(), Memory>
-    ensures { OnOk result (plain.new ≡ plain_with plain.old child) }
-{
-    match child {
-        Draft::Meta(meta) => plain.meta = Some(meta),
-        Draft::Item(item) => return plain.items.push(item),
-        _ => {}
-    }
-    Ok(())
-}
-
-fn put_in_alert(alert: &mut AlertCmd, child: Draft) -> Result<(), Memory>
-    ensures { OnOk result (alert.new ≡ alert_with alert.old child) }
-{
-    match child {
-        Draft::Item(item) => alert.items.push(item),
+    match draft {
+        Draft::Body(body) => body.commands.push(Command::Plain(plain)),
+        Draft::Atomic(block) => block.members.push(Member::One(plain)),
+        Draft::Sequence(block) => block.members.push(SeqMember::Single(Member::One(plain))),
         _ => Ok(()),
     }
 }
 
-fn put_in_atomic(block: &mut Block, child: Draft) -> Result<(), Memory>
-    ensures { OnOk result (block.new ≡ atomic_with block.old child) }
+fn put_alert(draft: &mut Draft, element: Element, alert: AlertCmd) -> Result<(), Memory>
+    requires { is_document draft.old ≡ false }
+    ensures { OnOk result (draft.new ≡ with_node draft.old element (drafts.Alert alert)) }
 {
-    match child {
-        Draft::Meta(meta) => {
-            block.meta = Some(meta);
-            Ok(())
-        }
-        other => join(&mut block.members, other.into_member()),
+    match draft {
+        Draft::Body(body) => body.commands.push(Command::Alert(alert)),
+        Draft::Atomic(block) => block.members.push(Member::Alert(alert)),
+        Draft::Sequence(block) => block.members.push(SeqMember::Single(Member::Alert(alert))),
+        _ => Ok(()),
     }
 }
 
-fn put_in_sequence(block: &mut SeqBlock, child: Draft) -> Result<(), Memory>
-    ensures { OnOk result (block.new ≡ sequence_with block.old child) }
+fn put_atomic(draft: &mut Draft, element: Element, block: Block) -> Result<(), Memory>
+    requires { is_document draft.old ≡ false }
+    ensures { OnOk result (draft.new ≡ with_node draft.old element (drafts.Atomic block)) }
 {
-    match child {
-        Draft::Meta(meta) => {
-            block.meta = Some(meta);
-            Ok(())
-        }
-        other => join(&mut block.members, other.into_seq_member()),
+    match draft {
+        Draft::Body(body) => body.commands.push(Command::Atomic(block)),
+        Draft::Sequence(sequence) => sequence.members.push(SeqMember::Atomic(block)),
+        _ => Ok(()),
     }
 }
 
-fn put_in_status(status: &mut StatusCmd, child: Draft) -> Result<(), Memory>
-    ensures { OnOk result (status.new ≡ status_with status.old child) }
+fn put_sequence(draft: &mut Draft, element: Element, block: SeqBlock) -> Result<(), Memory>
+    requires { is_document draft.old ≡ false }
+    ensures { OnOk result (draft.new ≡ with_node draft.old element (drafts.Sequence block)) }
 {
-    match child {
-        Draft::Chal(meta) => status.chal = Some(meta),
-        Draft::Item(item) => return status.items.push(item),
-        _ => {}
+    match draft {
+        Draft::Body(body) => body.commands.push(Command::Sequence(block)),
+        _ => Ok(()),
     }
-    Ok(())
 }
 
-fn put_in_results(results: &mut ResultsCmd, child: Draft) -> Result<(), Memory>
-    ensures { OnOk result (results.new ≡ results_with results.old child) }
+fn put_status(draft: &mut Draft, element: Element, status: StatusCmd) -> Result<(), Memory>
+    requires { is_document draft.old ≡ false }
+    ensures { OnOk result (draft.new ≡ with_node draft.old element (drafts.Status status)) }
 {
-    match child {
-        Draft::Meta(meta) => results.meta = Some(meta),
-        Draft::Item(item) => return results.items.push(item),
-        _ => {}
+    match draft {
+        Draft::Body(body) => body.commands.push(Command::Status(status)),
+        _ => Ok(()),
     }
-    Ok(())
+}
+
+fn put_results(draft: &mut Draft, element: Element, results: ResultsCmd) -> Result<(), Memory>
+    requires { is_document draft.old ≡ false }
+    ensures { OnOk result (draft.new ≡ with_node draft.old element (drafts.Results results)) }
+{
+    match draft {
+        Draft::Body(body) => body.commands.push(Command::Results(results)),
+        _ => Ok(()),
+    }
+}
+
+fn put_item(draft: &mut Draft, element: Element, item: Item) -> Result<(), Memory>
+    requires { is_document draft.old ≡ false }
+    ensures { OnOk result (draft.new ≡ with_node draft.old element (drafts.Item item)) }
+{
+    match draft {
+        Draft::Plain(plain) => plain.items.push(item),
+        Draft::Alert(alert) => alert.items.push(item),
+        Draft::Status(status) => status.items.push(item),
+        Draft::Results(results) => results.items.push(item),
+        _ => Ok(()),
+    }
+}
+
+fn put_loc_in_header(draft: &mut HeaderDraft, element: Element, loc: Loc)
+    ensures { draft.new ≡ header_with_loc draft.old element loc }
+{
+    match element {
+        Element::ETarget => draft.header.target = loc,
+        _ => draft.header.source = loc,
+    }
 }
 
 fn put_loc_in_item(item: &mut Item, element: Element, loc: Loc)
@@ -165,54 +131,115 @@ fn put_loc_in_item(item: &mut Item, element: Element, loc: Loc)
     }
 }
 
-fn put_in_item(item: &mut Item, element: Element, child: Draft)
-    ensures { item.new ≡ item_with item.old element child }
+fn put_loc(draft: &mut Draft, element: Element, loc: Loc)
+    requires { is_document draft.old ≡ false }
+    ensures { draft.new ≡ with_node draft.old element (drafts.Loc loc) }
 {
-    match child {
-        Draft::Loc(loc) => put_loc_in_item(item, element, loc),
-        Draft::Meta(meta) => item.meta = Some(meta),
+    match draft {
+        Draft::Header(header) => put_loc_in_header(header, element, loc),
+        Draft::Item(item) => put_loc_in_item(item, element, loc),
         _ => {}
     }
 }
 
-fn put_in_cred(cred: &mut Cred, child: Draft)
-    ensures { cred.new ≡ cred_with cred.old child }
+fn put_cred_in_header(draft: &mut HeaderDraft, cred: Cred)
+    ensures { draft.new ≡ record draft.old { cred = Some cred } }
 {
-    match child {
-        Draft::Meta(meta) => cred.meta = Some(meta),
+    draft.header.cred = Some(cred);
+}
+
+fn put_cred(draft: &mut Draft, element: Element, cred: Cred)
+    requires { is_document draft.old ≡ false }
+    ensures { draft.new ≡ with_node draft.old element (drafts.Cred cred) }
+{
+    match draft {
+        Draft::Header(header) => put_cred_in_header(header, cred),
         _ => {}
     }
 }
 
-fn put_in_meta(meta: &mut Meta, child: Draft)
-    ensures { meta.new ≡ meta_with meta.old child }
+fn put_chal(draft: &mut Draft, element: Element, meta: Meta)
+    requires { is_document draft.old ≡ false }
+    ensures { draft.new ≡ with_node draft.old element (drafts.Chal meta) }
+{
+    match draft {
+        Draft::Status(status) => status.chal = Some(meta),
+        _ => {}
+    }
+}
+
+fn put_meta_in_header(draft: &mut HeaderDraft, meta: Meta)
+    ensures { draft.new ≡ record draft.old { meta = Some meta } }
+{
+    draft.header.meta = Some(meta);
+}
+
+fn set_meta(slot: &mut Option<Meta>, meta: Meta)
+    ensures { slot.new ≡ Some meta }
+{
+    *slot = Some(meta);
+}
+
+// The Meta of a Chal, or the MetInf of a Meta, stands for the whole.
+fn put_meta(draft: &mut Draft, element: Element, meta: Meta)
+    requires { is_document draft.old ≡ false }
+    ensures { draft.new ≡ with_node draft.old element (drafts.Meta meta) }
+{
+    match draft {
+        Draft::Header(header) => put_meta_in_header(header, meta),
+        Draft::Plain(plain) => set_meta(&mut plain.meta, meta),
+        Draft::Atomic(block) => set_meta(&mut block.meta, meta),
+        Draft::Sequence(block) => set_meta(&mut block.meta, meta),
+        Draft::Results(results) => set_meta(&mut results.meta, meta),
+        Draft::Item(item) => set_meta(&mut item.meta, meta),
+        Draft::Cred(cred) => set_meta(&mut cred.meta, meta),
+        Draft::Chal(old) => *old = meta,
+        Draft::Meta(old) => *old = meta,
+        _ => {}
+    }
+}
+
+#[tactic(auto, using(crate::proofs::Left::left_document, crate::proofs::Left::left_message))]
+fn put_part(draft: &mut Draft, element: Element, child: Draft) -> Result<(), Memory>
+    requires { is_document draft.old ≡ false }
+    ensures { OnOk result (draft.new ≡ with_node draft.old element child) }
 {
     match child {
-        Draft::Meta(inner) => *meta = inner,
-        _ => {}
+        Draft::Document => {}
+        Draft::Message(_message) => {}
+        Draft::Header(header) => put_header(draft, element, header),
+        Draft::Body(body) => put_body(draft, element, body),
+        Draft::Plain(plain) => return put_plain(draft, element, plain),
+        Draft::Alert(alert) => return put_alert(draft, element, alert),
+        Draft::Atomic(block) => return put_atomic(draft, element, block),
+        Draft::Sequence(block) => return put_sequence(draft, element, block),
+        Draft::Status(status) => return put_status(draft, element, status),
+        Draft::Results(results) => return put_results(draft, element, results),
+        Draft::Item(item) => return put_item(draft, element, item),
+        Draft::Loc(loc) => put_loc(draft, element, loc),
+        Draft::Cred(cred) => put_cred(draft, element, cred),
+        Draft::Chal(meta) => put_chal(draft, element, meta),
+        Draft::Meta(meta) => put_meta(draft, element, meta),
+    }
+    Ok(())
+}
+
+impl Draft {
+    fn is_document(&self) -> bool
+        ensures { result ≡ is_document self.now }
+    {
+        matches!(self, Draft::Document)
     }
 }
 
 /// Puts what a child with children holds into its parent.
+#[tactic(auto, using(crate::proofs::Left::whole_child))]
 pub(crate) fn put_node(draft: &mut Draft, element: Element, child: Draft) -> Result<(), Memory>
     ensures { OnOk result (draft.new ≡ with_node draft.old element child) }
 {
-    match draft {
-        Draft::Document => *draft = child,
-        Draft::Message(message) => put_in_message(message, child),
-        Draft::Header(header) => put_in_header(header, element, child),
-        Draft::Body(body) => return join(&mut body.commands, child.into_command()),
-        Draft::Plain(plain) => return put_in_plain(plain, child),
-        Draft::Alert(alert) => return put_in_alert(alert, child),
-        Draft::Atomic(block) => return put_in_atomic(block, child),
-        Draft::Sequence(block) => return put_in_sequence(block, child),
-        Draft::Status(status) => return put_in_status(status, child),
-        Draft::Results(results) => return put_in_results(results, child),
-        Draft::Item(item) => put_in_item(item, element, child),
-        Draft::Loc(_) => {}
-        Draft::Cred(cred) => put_in_cred(cred, child),
-        Draft::Chal(meta) => put_in_meta(meta, child),
-        Draft::Meta(meta) => put_in_meta(meta, child),
+    if draft.is_document() {
+        drop(mem::replace(draft, child));
+        return Ok(());
     }
-    Ok(())
+    put_part(draft, element, child)
 }

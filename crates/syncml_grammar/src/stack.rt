@@ -142,11 +142,13 @@ impl Nest {
     fn into_parts(self) -> Option<WholeParts>
         ensures { option_map parts_of result ≡ finished self }
     {
-        if !self.below.is_empty() || !self.top.progress.is_complete() {
-            return None;
+        let Nest { top, below } = self;
+        if below.is_empty() {
+            top.into_parts()
+        } else {
+            drop(top);
+            None
         }
-        let top = self.top;
-        top.draft.into_parts()
     }
 
     fn end(&mut self) -> Result<(), Stop>
@@ -248,9 +250,17 @@ impl Stack {
     pub fn into_parts(self) -> Option<WholeParts>
         ensures { option_map parts_of result ≡ finished self }
     {
-        match self.leaf {
-            Some(_) => None,
-            None => self.nest.into_parts(),
+        let Stack {
+            alloc: _,
+            leaf,
+            nest,
+        } = self;
+        match leaf {
+            Some(_leaf) => {
+                drop(nest);
+                None
+            }
+            None => nest.into_parts(),
         }
     }
 }

@@ -40,8 +40,14 @@ fn judged(alloc: Global, tokens: &[Token]) -> Result<Verdict, Memory>
     for (at, token) in tokens.iter().enumerate() {
         match put(&mut builder, token) {
             Ok(()) => {}
-            Err(Stop::Memory) => return Err(Memory),
-            Err(Stop::Refused(reason)) => return Ok(Verdict::Refused { at, reason }),
+            Err(Stop::Memory) => {
+                drop(builder);
+                return Err(Memory);
+            }
+            Err(Stop::Refused(reason)) => {
+                drop(builder);
+                return Ok(Verdict::Refused { at, reason });
+            }
         }
     }
     match builder.finish() {

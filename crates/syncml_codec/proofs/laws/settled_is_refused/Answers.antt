@@ -1,4 +1,3 @@
-use Rattle.syncml_codec.proofs.Feeding.{fed_ok}
 use Rattle.syncml_codec.proofs.Decoded.{settled_is_refused}
 use Rattle.syncml_codec.proofs.laws.settled_is_refused.Goals as goal
 
