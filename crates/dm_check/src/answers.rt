@@ -14,23 +14,16 @@ use dm_base::{Fault, Sink, Source, put_all};
 use dm_replay::Exit;
 use std::alloc::Global;
 
-// How a run ends that has put its whole text.
-fn exit_of(received: &Received) -> Exit
-    ensures { result ≡ Spec.exit_of (read_in received.now) }
-{
-    match received {
-        Received::Message { .. } => Exit::Done,
-        Received::Refused(_) => Exit::BadInput,
-    }
-}
-
-// Puts a text, and ends so.
-fn put_text<K: Sink>(out: &mut K, text: &[u8], exit: Exit) -> Exit
-    ensures bytes { PutsEnd text.now exit (K.got out.old) (K.got out.new) result }
+// Puts the text of what was received.
+fn put_answer<K: Sink>(out: &mut K, text: &[u8], received: &Received) -> Exit
+    ensures bytes { PutsEnd text.now (Spec.exit_of (read_in received.now)) (K.got out.old) (K.got out.new) result }
     ensures count { SinkCause (K.faults out.old) (K.faults out.new) result }
 {
     match put_all(out, text) {
-        Ok(()) => exit,
+        Ok(()) => match received {
+            Received::Message { .. } => Exit::Done,
+            Received::Refused(_) => Exit::BadInput,
+        },
         Err(Fault::Failed) => Exit::WriteFault,
         Err(Fault::Memory) => Exit::NoMemory,
     }
@@ -51,7 +44,7 @@ pub fn show<S: Source, K: Sink>(alloc: Global, src: &mut S, out: &mut K) -> Exit
 {
     match receive(alloc, src) {
         Ok(received) => match show_lines(alloc, &received) {
-            Ok(text) => put_text(out, text.as_slice(), exit_of(&received)),
+            Ok(text) => put_answer(out, text.as_slice(), &received),
             Err(_) => Exit::NoMemory,
         },
         Err(Fault::Failed) => Exit::ReadFault,
@@ -71,7 +64,7 @@ pub fn check<S: Source, K: Sink>(alloc: Global, src: &mut S, out: &mut K) -> Exi
 {
     match receive(alloc, src) {
         Ok(received) => match check_line(alloc, &received) {
-            Ok(line) => put_text(out, line.as_slice(), exit_of(&received)),
+            Ok(line) => put_answer(out, line.as_slice(), &received),
             Err(_) => Exit::NoMemory,
         },
         Err(Fault::Failed) => Exit::ReadFault,
