@@ -1,22 +1,17 @@
--- The forms of a command line, and what a run of each puts.
-use Rattle.std.specs.Prelude.{◌≡◌, ℕ, if◌then◌else◌, bytes_eq, codes, List, [], ◌∷◌, ◌++◌, Option, Some, None}
+-- What a run puts, by the form of its words.
+use Rattle.std.specs.Prelude.{◌≡◌, ℕ, codes, List, [], ◌∷◌, ◌++◌, Option, Some, None}
 use Rattle.std.specs.Io.KnownBytes.{Appends}
 use Rattle.dm_base.specs.Outside.{OfKnown}
 use Rattle.dm_replay.specs.Output.{Replays, PutsPrefix}
+use Rattle.dm_replay.specs.From.{Ends}
 use Rattle.dm_replay.specs.declared.exit.Exit.{Exit}
 use Rattle.dm_replay.specs.declared.exit.Exit.TheVariants as exit
-
--- what the words of a command line ask for
-pub data Form : Type 0 where
-  Replay : Form
-
--- the one word `replay`
-abbrev pub form_of : List (List ℕ) → Option Form
-form_of (word ∷ []) = if bytes_eq word (codes "replay") then Some Replay else None
-form_of other = None
+use Rattle.dm_check.specs.Answers.{show_text, check_text, message_exit}
+use Rattle.dm_words.specs.declared.forms.Form.{Form}
+use Rattle.dm_words.specs.declared.forms.Form.TheVariants as forms
 
 abbrev pub usage_line : List ℕ
-usage_line = codes "usage: dmtool replay" ++ 10 ∷ []
+usage_line = codes "usage: dmtool replay | show | check" ++ 10 ∷ []
 
 -- the usage line was put, or a part of it
 abbrev pub PutsUsage : Option (List ℕ) → Option (List ℕ) → Exit → Type 0
@@ -29,10 +24,12 @@ PutsUsage old new exit.NotBuilt = ⊥
 PutsUsage old new exit.ReadFault = ⊥
 PutsUsage old new exit.TooLong = ⊥
 
--- what a run puts, by the form of its words: the usage line, or the text of replay over the bytes that the source tells
+-- what a run puts, by the form of its words: the usage line, or a text over the bytes that the source tells
 abbrev pub Runs : Option Form → Option (List ℕ) → Option (List ℕ) → Option (List ℕ) → Exit → Type 0
 Runs None left old new e = PutsUsage old new e
-Runs (Some Replay) left old new e = OfKnown left (λ bytes. Replays bytes old new e)
+Runs (Some forms.Replay) left old new e = OfKnown left (λ bytes. Replays bytes old new e)
+Runs (Some forms.Show) left old new e = OfKnown left (λ bytes. Ends (show_text bytes) (message_exit bytes) old new e)
+Runs (Some forms.Check) left old new e = OfKnown left (λ bytes. Ends (check_text bytes) (message_exit bytes) old new e)
 
 -- whatever the source tells, Usage is answered only to words of no form
 abbrev pub UsageMeansNoForm : Option Form → Exit → Type 0

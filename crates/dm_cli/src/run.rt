@@ -1,23 +1,14 @@
 // The top call.
-ghost use Rattle.std.specs.Prelude.{◌≡◌, map, string_bytes, Some, None, if◌then◌else◌};
+ghost use Rattle.std.specs.Prelude.{◌≡◌, map, string_bytes};
 ghost use Rattle.dm_replay.specs.Causes.{SourceCause, SinkCause};
-ghost use Rattle.dm_cli.specs.Forms.{form_of, Runs, PutsUsage, Replay, UsageMeansNoForm, status_of};
+ghost use Rattle.dm_words.specs.Forms.{form_of};
+ghost use Rattle.dm_cli.specs.Forms.{Runs, PutsUsage, UsageMeansNoForm, status_of};
 
-use dm_base::{Fault, Sink, Source, put_all};
+use dm_base::{Fault, Memory, Sink, Source, put_all};
+use dm_check::{check, show};
 use dm_replay::{Exit, replay};
+use dm_words::{Form, USAGE, read_form};
 use std::alloc::Global;
-
-const USAGE: &str = "usage: dmtool replay\n";
-
-// Whether the words are the one word `replay`.
-fn is_replay(words: &[String]) -> bool
-    ensures { form_of (map string_bytes words.now) ≡ (if result then Some Replay else None) }
-{
-    match words {
-        [word] => word.as_str() == "replay",
-        _ => false,
-    }
-}
 
 // Puts the usage line.
 fn put_usage<K: Sink>(out: &mut K) -> Exit
@@ -40,10 +31,12 @@ pub fn run<S: Source, K: Sink>(alloc: Global, words: &[String], src: &mut S, out
     ensures source { SourceCause (S.faults src.old) (S.faults src.new) result }
     ensures sink { SinkCause (K.faults out.old) (K.faults out.new) result }
 {
-    if is_replay(words) {
-        replay(alloc, src, out)
-    } else {
-        put_usage(out)
+    match read_form(alloc, words) {
+        Ok(Some(Form::Replay)) => replay(alloc, src, out),
+        Ok(Some(Form::Show)) => show(alloc, src, out),
+        Ok(Some(Form::Check)) => check(alloc, src, out),
+        Ok(None) => put_usage(out),
+        Err(Memory) => Exit::NoMemory,
     }
 }
 

@@ -33,7 +33,7 @@ const PLAIN: Row = Row {
     output: Text::OneGetAnswered,
 };
 
-const ROWS: [Row; 19] = [
+const ROWS: [Row; 21] = [
     PLAIN,
     Row {
         name: "one Get, in pieces of 1",
@@ -147,6 +147,21 @@ const ROWS: [Row; 19] = [
         name: "sixteen leaves",
         input: Text::Sixteen,
         output: Text::SixteenAnswered,
+        ..PLAIN
+    },
+    Row {
+        name: "a Get that is shown",
+        words: &["show"],
+        input: Text::Get,
+        output: Text::GetListed,
+        ..PLAIN
+    },
+    Row {
+        name: "a Get that is checked, in pieces of 7",
+        words: &["check"],
+        input: Text::Get,
+        piece: 7,
+        output: Text::GetChecked,
         ..PLAIN
     },
     Row {

@@ -215,6 +215,15 @@ sent 03a4016a006d6c7103312e3200017203444d2f312e32000165033100015b033200016e57037
 300015c033100014c03310001546757032e2f410001015a0001470363687200015303746578742f706c61696e00010100004\
 f037800010101120101\n";
 
+// A Get of ./A.
+const GET: &[u8] = b"\x03\xa4\x01j\x00mlq\x031.2\x00\x01r\x03DM/1.2\x00\x01e\x031\x00\x01[\x031\x00\x01nW\x03d1\x00\x01\x01gW\
+    \x03s1\x00\x01\x01\x01kSK\x031\x00\x01TnW\x03./A\x00\x01\x01\x01\x01\x12\x01\x01";
+
+const GET_LISTED: &[u8] = b"\
+SyncML\n  SyncHdr\n    VerDTD 1.2\n    VerProto DM/1.2\n    SessionID 1\n    MsgID 1\n    Target\n      LocURI d1\n\
+\x20   Source\n      LocURI s1\n  SyncBody\n    Get\n      CmdID 1\n      Item\n        Target\n          LocURI ./A\n\
+\x20   Final\n";
+
 /// The texts by name, since a table of the texts themselves is too large a constant.
 #[derive(Clone, Copy)]
 pub enum Text {
@@ -233,12 +242,15 @@ pub enum Text {
     NoOpen,
     FirstAnswer,
     BothAnswers,
+    Get,
+    GetListed,
+    GetChecked,
 }
 
 pub fn bytes_of(text: Text) -> &'static [u8] {
     match text {
         Text::Nothing => b"",
-        Text::Usage => b"usage: dmtool replay\n",
+        Text::Usage => b"usage: dmtool replay | show | check\n",
         Text::BadCut => b"bad 1 cut\n",
         Text::NotBuiltSeven => b"notbuilt 7\n",
         Text::OneGet => ONE_GET,
@@ -252,5 +264,8 @@ pub fn bytes_of(text: Text) -> &'static [u8] {
         Text::NoOpen => NO_OPEN,
         Text::FirstAnswer => FIRST_ANSWER,
         Text::BothAnswers => BOTH_ANSWERS,
+        Text::Get => GET,
+        Text::GetListed => GET_LISTED,
+        Text::GetChecked => b"ok 73 73 canonical\n",
     }
 }
