@@ -48,7 +48,12 @@ fn ok_line(alloc: Global, bytes: u64, spelling: u64, same: bool) -> Result<Bytes
 // Whether the bytes are the canonical spelling, of which the length is known. Only where the lengths agree is it written: a
 // string of the table may stand for a text at many places, so the spelling may be many times as long as the bytes.
 #[tactic(auto, using(crate::proofs::Lengths::other_length))]
-fn is_canonical(alloc: Global, message: &Message, bytes: &[u8], spelling: u64) -> Result<bool, Memory>
+fn is_canonical(
+    alloc: Global,
+    message: &Message,
+    bytes: &[u8],
+    spelling: u64,
+) -> Result<bool, Memory>
     requires { spelling ≡ up_to_most (length (canonical message.now)) }
     ensures { IfOk result (λ same. same ≡ bytes_eq bytes.now (canonical message.now)) }
 {

@@ -20,7 +20,8 @@ fn respelled_digits() -> &'static [u8] {
 }
 
 // The Get's listing.
-const GET_LINES: &str = "SyncML\n  SyncHdr\n    VerDTD 1.2\n    VerProto DM/1.2\n    SessionID 1\n    MsgID 1\n    Target\n\
+const GET_LINES: &str =
+    "SyncML\n  SyncHdr\n    VerDTD 1.2\n    VerProto DM/1.2\n    SessionID 1\n    MsgID 1\n    Target\n\
     \x20     LocURI d1\n    Source\n      LocURI s1\n  SyncBody\n    Get\n      CmdID 1\n      Item\n        Target\n\
     \x20         LocURI ./A\n    Final\n";
 
@@ -50,24 +51,104 @@ type Row = (Form, Input, Exit, &'static str);
 
 const ROWS: [Row; 19] = [
     (Form::Check, Input::Get, Exit::Done, "ok 73 73 canonical\n"),
-    (Form::Check, Input::Respelled, Exit::Done, "ok 102 73 other\n"),
+    (
+        Form::Check,
+        Input::Respelled,
+        Exit::Done,
+        "ok 102 73 other\n",
+    ),
     (Form::Show, Input::Get, Exit::Done, GET_LINES),
     (Form::Show, Input::Respelled, Exit::Done, GET_LINES),
-    (Form::Show, Input::Cut(20), Exit::BadInput, "refused 20 truncated\n"),
-    (Form::Show, Input::Table(70_000), Exit::BadInput, "refused 65536 toolong\n"),
-    (Form::Check, Input::Cut(0), Exit::BadInput, "refused 0 truncated\n"),
-    (Form::Check, Input::Cut(20), Exit::BadInput, "refused 20 truncated\n"),
-    (Form::Check, Input::Cut(72), Exit::BadInput, "refused 72 truncated\n"),
-    (Form::Check, Input::Longer, Exit::BadInput, "refused 73 trailing\n"),
-    (Form::Check, Input::Other(0, 0x04), Exit::BadInput, "refused 0 version\n"),
-    (Form::Check, Input::Other(2, 0x02), Exit::BadInput, "refused 1 publicid\n"),
-    (Form::Check, Input::Other(3, 0x03), Exit::BadInput, "refused 3 charset\n"),
-    (Form::Check, Input::Other(5, 0x04), Exit::BadInput, "refused 5 token\n"),
-    (Form::Check, Input::Other(52, 0x5f), Exit::BadInput, "refused 52 leftout\n"),
-    (Form::Check, Input::Other(55, 0x30), Exit::BadInput, "refused 57 number\n"),
-    (Form::Check, Input::Table(65_536), Exit::BadInput, "refused 65536 truncated\n"),
-    (Form::Check, Input::Table(65_537), Exit::BadInput, "refused 65536 toolong\n"),
-    (Form::Check, Input::Table(70_000), Exit::BadInput, "refused 65536 toolong\n"),
+    (
+        Form::Show,
+        Input::Cut(20),
+        Exit::BadInput,
+        "refused 20 truncated\n",
+    ),
+    (
+        Form::Show,
+        Input::Table(70_000),
+        Exit::BadInput,
+        "refused 65536 toolong\n",
+    ),
+    (
+        Form::Check,
+        Input::Cut(0),
+        Exit::BadInput,
+        "refused 0 truncated\n",
+    ),
+    (
+        Form::Check,
+        Input::Cut(20),
+        Exit::BadInput,
+        "refused 20 truncated\n",
+    ),
+    (
+        Form::Check,
+        Input::Cut(72),
+        Exit::BadInput,
+        "refused 72 truncated\n",
+    ),
+    (
+        Form::Check,
+        Input::Longer,
+        Exit::BadInput,
+        "refused 73 trailing\n",
+    ),
+    (
+        Form::Check,
+        Input::Other(0, 0x04),
+        Exit::BadInput,
+        "refused 0 version\n",
+    ),
+    (
+        Form::Check,
+        Input::Other(2, 0x02),
+        Exit::BadInput,
+        "refused 1 publicid\n",
+    ),
+    (
+        Form::Check,
+        Input::Other(3, 0x03),
+        Exit::BadInput,
+        "refused 3 charset\n",
+    ),
+    (
+        Form::Check,
+        Input::Other(5, 0x04),
+        Exit::BadInput,
+        "refused 5 token\n",
+    ),
+    (
+        Form::Check,
+        Input::Other(52, 0x5f),
+        Exit::BadInput,
+        "refused 52 leftout\n",
+    ),
+    (
+        Form::Check,
+        Input::Other(55, 0x30),
+        Exit::BadInput,
+        "refused 57 number\n",
+    ),
+    (
+        Form::Check,
+        Input::Table(65_536),
+        Exit::BadInput,
+        "refused 65536 truncated\n",
+    ),
+    (
+        Form::Check,
+        Input::Table(65_537),
+        Exit::BadInput,
+        "refused 65536 toolong\n",
+    ),
+    (
+        Form::Check,
+        Input::Table(70_000),
+        Exit::BadInput,
+        "refused 65536 toolong\n",
+    ),
 ];
 
 fn bytes_of(alloc: Global, digits: &[u8]) -> Result<Bytes, Memory> {
@@ -152,23 +233,70 @@ fn rows_in_pieces(rt: HostRuntime) -> Result<(), Fail> {
 
 #[test]
 fn no_piece_is_taken_behind_a_refusal(rt: HostRuntime) -> Result<(), Fail> {
-    let version = (Form::Check, Input::Other(0, 0x04), Exit::BadInput, "refused 0 version\n");
-    let second = Faults { source: &[2], ..NONE };
+    let version = (
+        Form::Check,
+        Input::Other(0, 0x04),
+        Exit::BadInput,
+        "refused 0 version\n",
+    );
+    let second = Faults {
+        source: &[2],
+        ..NONE
+    };
     assert!(rt; passes(rt.alloc(), version, 1, second)?);
     // Sixteen pieces of 4,096 bytes, and one of the last byte that is looked at.
-    let long = (Form::Check, Input::Table(70_000), Exit::BadInput, "refused 65536 toolong\n");
-    let later = Faults { source: &[18], ..NONE };
+    let long = (
+        Form::Check,
+        Input::Table(70_000),
+        Exit::BadInput,
+        "refused 65536 toolong\n",
+    );
+    let later = Faults {
+        source: &[18],
+        ..NONE
+    };
     assert!(rt; passes(rt.alloc(), long, 4096, later)?);
     Ok(())
 }
 
 #[test]
 fn faults_are_answered(rt: HostRuntime) -> Result<(), Fail> {
-    let second = Faults { source: &[2], ..NONE };
+    let second = Faults {
+        source: &[2],
+        ..NONE
+    };
     let first = Faults { sink: &[1], ..NONE };
-    assert!(rt; passes(rt.alloc(), (Form::Show, Input::Get, Exit::ReadFault, ""), 64, second)?);
-    assert!(rt; passes(rt.alloc(), (Form::Check, Input::Get, Exit::ReadFault, ""), 73, second)?);
-    assert!(rt; passes(rt.alloc(), (Form::Show, Input::Get, Exit::WriteFault, ""), 64, first)?);
-    assert!(rt; passes(rt.alloc(), (Form::Check, Input::Cut(20), Exit::WriteFault, ""), 64, first)?);
+    assert!(rt;
+        passes(
+            rt.alloc(),
+            (Form::Show, Input::Get, Exit::ReadFault, ""),
+            64,
+            second
+        )?
+    );
+    assert!(rt;
+        passes(
+            rt.alloc(),
+            (Form::Check, Input::Get, Exit::ReadFault, ""),
+            73,
+            second
+        )?
+    );
+    assert!(rt;
+        passes(
+            rt.alloc(),
+            (Form::Show, Input::Get, Exit::WriteFault, ""),
+            64,
+            first
+        )?
+    );
+    assert!(rt;
+        passes(
+            rt.alloc(),
+            (Form::Check, Input::Cut(20), Exit::WriteFault, ""),
+            64,
+            first
+        )?
+    );
     Ok(())
 }
