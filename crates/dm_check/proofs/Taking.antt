@@ -1,13 +1,13 @@
 -- What was taken of a source says what all of its bytes are.
-use Rattle.std.proofs.Common.{ℕ, ◌≡◌, ◌<◌, ◌≤◌, ◌+◌, List, [], ◌∷◌, ◌++◌, length, take, refl, sym, ap, ◌∙◌, subst, arith}
+use Rattle.std.proofs.Common.{ℕ, ◌≡◌, ◌≤◌, ◌+◌, List, [], ◌++◌, length, take, refl, sym, ap, ◌∙◌, subst, arith}
 use Rattle.std.proofs.lemmas.List.{append-nil, length-append, length-take}
 use Rattle.std.proofs.KnownBytes.{Consumes-trans}
 use Rattle.std.specs.Prelude.{Option, Some, None, Result, Ok, Err}
-use Rattle.std.specs.Io.KnownBytes.{Consumes, IsAtEnd, Keeps}
+use Rattle.std.specs.Io.KnownBytes.{Consumes, IsAtEnd}
 use Rattle.dm_base.specs.Outside.{OfKnown}
 use Rattle.dm_base.specs.declared.outside.Fault.{Fault}
 use Rattle.wbxml_tokens.specs.declared.reason.Refusal.{Refusal}
-use Rattle.wbxml_tokens.specs.Reading.{reading, reads, most_bytes}
+use Rattle.wbxml_tokens.specs.Reading.{reading, reads}
 use Rattle.syncml_grammar.specs.Building.{Building}
 use Rattle.syncml_codec.specs.declared.decoder.DecodeError.{DecodeError}
 use Rattle.syncml_codec.specs.declared.decoder.DecodeError.TheVariants as errors
@@ -17,7 +17,7 @@ use Rattle.syncml_codec.proofs.Decoded.{settled_more, settled_read}
 use Rattle.dm_check.specs.declared.message.Received.{Received}
 use Rattle.dm_check.specs.declared.message.Received.TheVariants as received
 use Rattle.dm_check.specs.Kept.{answer_to}
-use Rattle.dm_check.specs.Receiving.{Receives, TakesNoMore, most_piece, most_taken}
+use Rattle.dm_check.specs.Receiving.{Receives, TakesNoMore}
 
 -- ---- bytes of which nothing is refused
 

@@ -4,8 +4,6 @@ use Rattle.std.specs.Io.KnownBytes.{Consumes}
 use Rattle.dm_base.specs.Outside.{Rose}
 use Rattle.dm_base.specs.declared.outside.Fault.{Fault}
 use Rattle.dm_base.specs.declared.outside.Fault.TheVariants as fault
-use Rattle.wbxml_tokens.specs.declared.reason.Refusal.{Refusal}
-use Rattle.syncml_types.specs.Message.{Parts}
 use Rattle.syncml_codec.specs.Decoding.{settled, read_of}
 use Rattle.dm_check.specs.declared.message.Received.{Received}
 use Rattle.dm_check.specs.declared.message.Received.TheVariants as received

@@ -80,9 +80,15 @@ pub fn receive<S: Source>(alloc: Global, src: &mut S) -> Result<Received, Fault>
             Ok(0) => return finish(decoder, bytes),
             Ok(count) => match keep(&mut decoder, &mut bytes, &buf[..count]) {
                 Ok(()) => {}
-                Err(error) => return stopped(error),
+                Err(error) => {
+                    drop(decoder);
+                    return stopped(error);
+                }
             },
-            Err(Failed) => return Err(Fault::Failed),
+            Err(Failed) => {
+                drop(decoder);
+                return Err(Fault::Failed);
+            }
         }
     }
 }

@@ -1,5 +1,5 @@
 -- A run that ends before its form is known puts nothing, which is a prefix of every text.
-use Rattle.std.proofs.Common.{ℕ, ◌≡◌, List, [], ◌∷◌, ◌++◌, refl, sym}
+use Rattle.std.proofs.Common.{ℕ, List, sym}
 use Rattle.std.specs.Prelude.{Option, Some, None}
 use Rattle.std.proofs.lemmas.List.{append-nil}
 use Rattle.dm_replay.specs.Output.{PutsPrefix}
