@@ -168,7 +168,7 @@ fn with_byte(bytes: Bytes, at: usize, byte: u8) -> Bytes {
 
 fn table(alloc: Global, len: usize) -> Result<Bytes, Memory> {
     let mut bytes = bytes_of(alloc, b"03a4016a84a270")?;
-    while bytes.len() < len {
+    for _ in bytes.len()..len {
         bytes.push(b'x')?;
     }
     Ok(bytes)
