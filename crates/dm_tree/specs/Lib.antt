@@ -8,4 +8,5 @@ pub mod Order
 pub mod Devices
 pub mod Views
 pub mod Walks
+pub mod Index
 pub mod Laws

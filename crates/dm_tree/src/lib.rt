@@ -3,6 +3,7 @@
 
 pub mod arena;
 pub mod edits;
+mod index;
 pub mod laws;
 mod lays;
 pub mod nodes;
