@@ -27,6 +27,10 @@ is_before rows name j = is_lt (slice_cmp nat_cmp (row_at rows j).name name)
 abbrev pub is_behind : List Row → List ℕ → ℕ → Bool
 is_behind rows name j = is_lt (slice_cmp nat_cmp name (row_at rows j).name)
 
+-- each of these numbers is that of a row
+abbrev pub AreRows : List Row → List ℕ → Type 0
+AreRows rows ids = (i : ℕ) → i < length ids → get_or ids i 0 < length rows
+
 -- each of these rows stands before those that come after it
 abbrev pub IsInOrder : List Row → List ℕ → Type 0
 IsInOrder rows ids = (i j : ℕ) → i < j → j < length ids → is_before rows (row_at rows (get_or ids j 0)).name (get_or ids i 0) ≡ true

@@ -7,9 +7,10 @@ ghost use Rattle.dm_tree.specs.Rows.{nodes, ids, node_of, path_of, IsLive};
 ghost use Rattle.dm_tree.specs.Rights.{effective_path, allows};
 ghost use Rattle.dm_tree.specs.Views.{shown};
 
+use crate::index::Children;
 use crate::nodes::{Node, Role, Stamp, Value, View};
 use crate::rows::{NodeId, Row};
-use crate::walks::{child_row, count_in, deciding_row, found_row, put_path, row_allows};
+use crate::walks::{child_row, deciding_row, found_row, put_path, row_allows};
 use dm_acl::{Acl, Right};
 use dm_base::{Bytes, Memory};
 use dm_uri::{Name, Path, parse_name};
@@ -29,17 +30,21 @@ const FIRST_STAMP: Stamp = Stamp {
 pub struct Tree {
     pub(crate) alloc: Global,
     pub(crate) rows: Vec<Row>,
+    /// The children of each row, and how many rows lie at and below it.
+    pub(crate) index: Vec<Children>,
+    pub(crate) sizes: Vec<u32>,
     pub(crate) clock: Stamp,
 }
 
 impl Model for Tree {
-    ghost use Rattle.dm_tree.specs.Rows.{Tree as Kept, IsTree};
+    ghost use Rattle.dm_tree.specs.Rows.{Tree as Kept};
+    ghost use Rattle.dm_tree.specs.Index.{IsKept};
 
     ghost Value = { Kept };
 
     ghost view = { λ t. record { rows = t.rows.items; clock = t.clock } };
 
-    ghost invariant = { λ t. IsTree t.rows.items };
+    ghost invariant = { λ t. IsKept t.rows.items t.index.items t.sizes.items };
 }
 
 fn root_of(alloc: Global, acl: Acl) -> Result<Node, Memory>
@@ -85,9 +90,14 @@ impl Tree {
             name,
             node,
         })?;
+        let mut index = Vec::new(alloc);
+        index.push(Children::new(alloc))?;
+        let sizes = Vec::from_slice(alloc, &[1])?;
         Ok(Tree {
             alloc,
             rows,
+            index,
+            sizes,
             clock: FIRST_STAMP,
         })
     }
@@ -99,7 +109,7 @@ impl Tree {
         ensures live { IfSome result (λ id.
             IsLive self.now.rows id × (path_of self.now.rows id ≡ path.now)) }
     {
-        NodeId::of_row(found_row(&self.rows, path.as_slice()))
+        NodeId::of_row(found_row(&self.rows, &self.index, path.as_slice()))
     }
 
     /// The number of the root. Every tree keeps to the limits and is in order.
@@ -121,7 +131,7 @@ impl Tree {
         ensures live { IfSome result (λ child. IsLive self.now.rows child
             × (path_of self.now.rows child ≡ path_of self.now.rows id ++ name.now ∷ [])) }
     {
-        NodeId::of_row(child_row(&self.rows, id.row(), name))
+        NodeId::of_row(child_row(&self.rows, &self.index, id.row(), name))
     }
 
     /// The node above. None comes exactly at the root.
@@ -142,7 +152,7 @@ impl Tree {
     pub fn count(&self) -> u32
         ensures { result ≡ map.len (nodes self.now.rows) }
     {
-        count_in(&self.rows)
+        self.sizes[0]
     }
 
     /// The node as it stands.

@@ -5,13 +5,16 @@ ghost use Rattle.dm_uri.specs.Names.{is_within_limits};
 ghost use Rattle.dm_tree.specs.declared.rows.Change.TheVariants as change;
 ghost use Rattle.dm_tree.specs.declared.edits.TreeError.TheVariants as error;
 ghost use Rattle.dm_tree.specs.Nodes.{made as made_node, changed, counted, with_value, with_acl, with_title, IsNode, IsValue, IsShortAcl, tree_order};
-ghost use Rattle.dm_tree.specs.Rows.{nodes, ids, row_at, node_of, path_of, IsLive, IsParkedTop, StayLive};
+ghost use Rattle.dm_tree.specs.Rows.{nodes, ids, row_at, node_of, path_of, IsLive, IsTree, IsParkedTop, StayLive};
+ghost use Rattle.dm_tree.specs.Index.{IsIndex, IsSized};
 ghost use Rattle.dm_tree.specs.Edits.{with_node, attached_as, new_row as new_row_below, pruned, without_content};
-ghost use Rattle.dm_tree.specs.Undos.{Fits, TakesBack, IsInserted, IsHeld, IsDiscarded, row_of, flipped, turned};
+ghost use Rattle.dm_tree.specs.Undos.{Fits, TakesBack, IsInserted, IsHeld, IsDiscarded, flipped, turned};
 
 use crate::arena::Tree;
+use crate::index::{Children, add_row, forget, put_in, swap_name, take_out};
 use crate::nodes::{NewNode, Node, Stamp, Value};
 use crate::rows::{Change, NodeId, Row, Undo};
+use crate::sizes::{count_in, count_out};
 use dm_acl::Acl;
 use dm_base::Bytes;
 use dm_uri::Name;
@@ -98,56 +101,20 @@ fn put_title(rows: &mut Vec<Row>, id: u32, title: Bytes, clock: Stamp) -> Change
     Change::Title(id, mem::replace(&mut row.node.title, title), verno, stamp)
 }
 
-fn new_row(rows: &[Row], parent: u32, name: Name, node: Node) -> Row
+// A row below a row, which isn't put in yet.
+fn parked_row(rows: &[Row], parent: u32, name: Name, node: Node) -> Row
     requires inside { parent < length rows.now }
     requires shallow { (row_at rows.now parent).depth < 16 }
-    ensures { result ≡ new_row_below rows.now parent name node }
+    ensures { result ≡ record (new_row_below rows.now parent name node) { attached = false } }
 {
     Row {
         parent,
         depth: rows[parent as usize].depth + 1,
-        attached: true,
+        attached: false,
         given_up: false,
         name,
         node,
     }
-}
-
-fn push_row(rows: &mut Vec<Row>, row: Row) -> Result<(), TreeError>
-    ensures ok { OnOk result (rows.new.items ≡ rows.old.items ++ row ∷ []) }
-    ensures err { OnErr result (rows.new.items ≡ rows.old.items) }
-    ensures memory { IfErr result (λ e. e ≡ error.Memory) }
-{
-    match rows.push(row) {
-        Ok(()) => Ok(()),
-        Err(_) => Err(TreeError::Memory),
-    }
-}
-
-fn set_attached(rows: &mut Vec<Row>, id: u32, attached: bool)
-    requires { id < length rows.old.items }
-    ensures { rows.new.items ≡ attached_as rows.old.items id attached }
-{
-    let row = &mut rows[id as usize];
-    row.attached = attached;
-}
-
-fn take_out(rows: &mut Vec<Row>, id: u32) -> Change
-    requires { id < length rows.old.items }
-    ensures rows { rows.new.items ≡ attached_as rows.old.items id false }
-    ensures change { result ≡ change.PutIn id }
-{
-    set_attached(rows, id, false);
-    Change::PutIn(id)
-}
-
-fn put_in(rows: &mut Vec<Row>, id: u32) -> Change
-    requires { id < length rows.old.items }
-    ensures rows { rows.new.items ≡ attached_as rows.old.items id true }
-    ensures change { result ≡ change.TakeOut id }
-{
-    set_attached(rows, id, true);
-    Change::TakeOut(id)
 }
 
 // Exchanges a node's VerNo and stamp with those that an Undo keeps.
@@ -160,10 +127,13 @@ fn swap_counts(node: &mut Node, verno: &mut u16, stamp: &mut Stamp)
     mem::swap(&mut node.stamp, stamp);
 }
 
-fn flip_row(rows: &mut Vec<Row>, change: &mut Change)
-    requires { row_of change.old < length rows.old.items }
+fn flip_row(rows: &mut Vec<Row>, index: &mut Vec<Children>, change: &mut Change)
+    requires fits { Fits rows.old.items change.old }
+    requires tree { IsTree rows.old.items }
+    requires index { IsIndex rows.old.items index.old.items }
     ensures rows { rows.new.items ≡ flipped rows.old.items change.old }
     ensures change { change.new ≡ turned rows.old.items change.old }
+    ensures index { IsIndex rows.new.items index.new.items }
 {
     match change {
         Change::Value(id, value, verno, stamp) => {
@@ -182,12 +152,33 @@ fn flip_row(rows: &mut Vec<Row>, change: &mut Change)
             swap_counts(&mut row.node, verno, stamp);
         }
         Change::Name(id, name, verno, stamp) => {
-            let row = &mut rows[*id as usize];
-            mem::swap(&mut row.name, name);
-            swap_counts(&mut row.node, verno, stamp);
+            swap_name(rows, index, *id, name);
+            swap_counts(&mut rows[*id as usize].node, verno, stamp);
         }
-        Change::TakeOut(id) => *change = take_out(rows, *id),
-        Change::PutIn(id) => *change = put_in(rows, *id),
+        Change::TakeOut(id) => {
+            let id = *id;
+            take_out(rows, index, id);
+            *change = Change::PutIn(id);
+        }
+        Change::PutIn(id) => {
+            let id = *id;
+            put_in(rows, index, id);
+            *change = Change::TakeOut(id);
+        }
+    }
+}
+
+// Counts the rows below each row anew, where the change that may be flipped next puts a row in or takes one out.
+fn recount(rows: &[Row], sizes: &mut Vec<u32>, change: &Change)
+    requires tree { IsTree rows.now }
+    requires fits { Fits rows.now change.now }
+    requires sizes { IsSized (flipped rows.now change.now) sizes.old.items }
+    ensures { IsSized rows.now sizes.new.items }
+{
+    match change {
+        Change::TakeOut(id) => count_in(rows, sizes, *id),
+        Change::PutIn(id) => count_out(rows, sizes, *id),
+        _ => {}
     }
 }
 
@@ -233,13 +224,18 @@ impl Tree {
             return Err(TreeError::Memory);
         }
         let id = self.rows.len() as u32;
-        let row = new_row(&self.rows, parent.row(), name, made(node, self.clock));
-        push_row(&mut self.rows, row)?;
+        let row = parked_row(&self.rows, parent.row(), name, made(node, self.clock));
+        let (rows, index, sizes) = (&mut self.rows, &mut self.index, &mut self.sizes);
+        match add_row(self.alloc, rows, index, sizes, row) {
+            Err(_) => return Err(TreeError::Memory),
+            Ok(()) => put_in(rows, index, id),
+        }
+        count_in(&self.rows, &mut self.sizes, id);
         Ok((NodeId::of(id), Undo::of(Change::TakeOut(id))))
     }
 
     /// Takes a node out, with all that stands below it. The Undo holds them until it is discarded. It takes no memory, and
-    /// its time doesn't grow with the tree.
+    /// its time doesn't grow with the subtree.
     pub fn detach(&mut self, id: NodeId) -> Undo
         requires live { IsLive self.old.rows id }
         requires removable { (node_of self.old.rows id).permanent ≡ false }
@@ -249,7 +245,8 @@ impl Tree {
         ensures undo { TakesBack result self.old.rows self.new.rows }
         ensures parked { (result ≡ change.PutIn id) × IsParkedTop self.new.rows id }
     {
-        set_attached(&mut self.rows, id.row(), false);
+        take_out(&mut self.rows, &mut self.index, id.row());
+        count_out(&self.rows, &mut self.sizes, id.row());
         Undo::of(Change::PutIn(id.row()))
     }
 
@@ -317,7 +314,8 @@ impl Tree {
         ensures undo { undo.new ≡ turned self.old.rows undo.old }
         ensures again { TakesBack undo.new self.old.rows self.new.rows × (turned self.new.rows undo.new ≡ undo.old) }
     {
-        flip_row(&mut self.rows, &mut undo.change);
+        flip_row(&mut self.rows, &mut self.index, &mut undo.change);
+        recount(&self.rows, &mut self.sizes, &undo.change);
     }
 
     /// Gives up what the Undo holds: its subtree, where it holds one. All other rows that are in the tree or parked stay as
@@ -331,6 +329,7 @@ impl Tree {
         ensures clock { self.new.clock ≡ self.old.clock }
     {
         if let Change::PutIn(id) = undo.into_change() {
+            forget(&self.rows, &mut self.index, id);
             give_up(self.alloc, &mut self.rows, id);
         }
     }

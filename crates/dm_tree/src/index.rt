@@ -1,9 +1,9 @@
 // The children of each row in the byte order of their names, so that no search looks at every row.
-ghost use Rattle.std.specs.Prelude.{◌≡◌, ◌<◌, ◌≤◌, ◌+◌, ◌-◌, ◌^◌, length, true, false, OnOk, OnErr};
+ghost use Rattle.std.specs.Prelude.{◌≡◌, ◌<◌, ◌≤◌, ◌+◌, ◌-◌, ◌^◌, ◌++◌, ◌∷◌, [], length, true, false, OnOk, OnErr};
 ghost use Rattle.std.specs.List.{insert, remove};
-ghost use Rattle.dm_tree.specs.Rows.{row_at, IsShaped, IsParkedTop};
-ghost use Rattle.dm_tree.specs.Edits.{attached_as, without_content};
-ghost use Rattle.dm_tree.specs.Index.{no_children, is_before as is_named_before, is_behind as is_named_behind, IsInOrder, IsIndex, IsPlace, IsPlacePast};
+ghost use Rattle.dm_tree.specs.Rows.{row_at, node_of, IsShaped, IsTree, IsParkedTop};
+ghost use Rattle.dm_tree.specs.Edits.{attached_as, with_name, without_content};
+ghost use Rattle.dm_tree.specs.Index.{no_children, is_before as is_named_before, is_behind as is_named_behind, AreRows, IsInOrder, IsIndex, IsPlace, IsPlacePast};
 
 use crate::rows::Row;
 use dm_base::Memory;
@@ -11,6 +11,7 @@ use dm_uri::Name;
 use std::alloc::Global;
 use std::cmp::Ordering;
 use std::marker::Model;
+use std::mem;
 
 /// The rows right below a row, and how many may be put in there again.
 #[derive(Drop)]
@@ -94,4 +95,182 @@ fn is_before(rows: &[Row], id: u32, name: &Name) -> bool
         Some(row) => row.name.compare(name) == Ordering::Less,
         None => false,
     }
+}
+
+fn is_behind(rows: &[Row], id: u32, name: &Name) -> bool
+    ensures { id < length rows.now → result ≡ is_named_behind rows.now name.now id }
+{
+    match rows.get(id as usize) {
+        Some(row) => name.compare(&row.name) == Ordering::Less,
+        None => false,
+    }
+}
+
+/// Where a name stands among the children of a row, or where it would.
+pub(crate) fn place_of(rows: &[Row], ids: &[u32], name: &Name) -> usize
+    requires inside { AreRows rows.now ids.now }
+    requires order { IsInOrder rows.now ids.now }
+    ensures { IsPlace rows.now ids.now name.now result }
+{
+    ids.partition_point(|id| is_before(rows, *id, name))
+}
+
+/// The place of the first child whose name stands behind this one.
+pub(crate) fn place_past(rows: &[Row], ids: &[u32], name: &Name) -> usize
+    requires inside { AreRows rows.now ids.now }
+    requires order { IsInOrder rows.now ids.now }
+    ensures { IsPlacePast rows.now ids.now name.now result }
+{
+    ids.partition_point(|id| !is_behind(rows, *id, name))
+}
+
+// Puts a row among its parent's children. It takes no memory.
+fn link(rows: &[Row], index: &mut Vec<Children>, id: u32)
+    requires inside { id < length rows.now }
+    requires below_root { 0 < id }
+    requires shaped { IsShaped (attached_as rows.now id true) }
+    requires out { (row_at rows.now id).attached ≡ false }
+    requires held { (row_at rows.now id).given_up ≡ false }
+    requires index { IsIndex rows.now index.old.items }
+    ensures { IsIndex (attached_as rows.now id true) index.new.items }
+{
+    let row = &rows[id as usize];
+    let parent = row.parent as usize;
+    let place = place_of(rows, index[parent].as_slice(), &row.name);
+    index[parent].put_in(place, id);
+}
+
+// Takes a row out from among its parent's children. It takes no memory, and leaves room for it.
+fn unlink(rows: &[Row], index: &mut Vec<Children>, id: u32)
+    requires inside { id < length rows.now }
+    requires below_root { 0 < id }
+    requires shaped { IsShaped rows.now }
+    requires attached { (row_at rows.now id).attached ≡ true }
+    requires held { (row_at rows.now id).given_up ≡ false }
+    requires index { IsIndex rows.now index.old.items }
+    ensures { IsIndex (attached_as rows.now id false) index.new.items }
+{
+    let row = &rows[id as usize];
+    let parent = row.parent as usize;
+    let place = place_of(rows, index[parent].as_slice(), &row.name);
+    index[parent].take_out(place);
+}
+
+fn set_attached(rows: &mut Vec<Row>, id: u32, attached: bool)
+    requires { id < length rows.old.items }
+    ensures { rows.new.items ≡ attached_as rows.old.items id attached }
+{
+    let row = &mut rows[id as usize];
+    row.attached = attached;
+}
+
+/// Puts a row in, with all that stands below it. It takes no memory.
+pub(crate) fn put_in(rows: &mut Vec<Row>, index: &mut Vec<Children>, id: u32)
+    requires inside { id < length rows.old.items }
+    requires below_root { 0 < id }
+    requires shaped { IsShaped (attached_as rows.old.items id true) }
+    requires out { (row_at rows.old.items id).attached ≡ false }
+    requires held { (row_at rows.old.items id).given_up ≡ false }
+    requires index { IsIndex rows.old.items index.old.items }
+    ensures rows { rows.new.items ≡ attached_as rows.old.items id true }
+    ensures index { IsIndex rows.new.items index.new.items }
+{
+    link(rows, index, id);
+    set_attached(rows, id, true);
+}
+
+/// Takes a row out, with all that stands below it. It takes no memory.
+pub(crate) fn take_out(rows: &mut Vec<Row>, index: &mut Vec<Children>, id: u32)
+    requires inside { id < length rows.old.items }
+    requires below_root { 0 < id }
+    requires shaped { IsShaped rows.old.items }
+    requires attached { (row_at rows.old.items id).attached ≡ true }
+    requires held { (row_at rows.old.items id).given_up ≡ false }
+    requires index { IsIndex rows.old.items index.old.items }
+    ensures rows { rows.new.items ≡ attached_as rows.old.items id false }
+    ensures index { IsIndex rows.new.items index.new.items }
+{
+    unlink(rows, index, id);
+    set_attached(rows, id, false);
+}
+
+/// Adds a row that isn't put in yet. Its parent gets room for it.
+pub(crate) fn add_row(
+    alloc: Global,
+    rows: &mut Vec<Row>,
+    index: &mut Vec<Children>,
+    sizes: &mut Vec<u32>,
+    row: Row,
+) -> Result<(), Memory>
+    requires shaped { IsShaped rows.old.items }
+    requires few { length rows.old.items + 1 < 2 ^ 32 }
+    requires out { row.attached ≡ false }
+    requires held { row.given_up ≡ false }
+    requires parent { row.parent < length rows.old.items }
+    requires index { IsIndex rows.old.items index.old.items }
+    ensures ok { OnOk result (rows.new.items ≡ rows.old.items ++ row ∷ []) }
+    ensures err { OnErr result ((rows.new.items ≡ rows.old.items) × (sizes.new.items ≡ sizes.old.items)) }
+    ensures sizes { OnOk result (sizes.new.items ≡ sizes.old.items ++ 1 ∷ []) }
+    ensures index { IsIndex rows.new.items index.new.items }
+{
+    rows.reserve(1)?;
+    index.reserve(1)?;
+    sizes.reserve(1)?;
+    index[row.parent as usize].expect()?;
+    rows.push_reserved(row);
+    index.push_reserved(Children::new(alloc));
+    sizes.push_reserved(1);
+    Ok(())
+}
+
+fn exchange_name(rows: &mut Vec<Row>, id: u32, name: &mut Name)
+    requires { id < length rows.old.items }
+    ensures rows { rows.new.items ≡ with_name rows.old.items id name.old (node_of rows.old.items id) }
+    ensures name { name.new ≡ (row_at rows.old.items id).name }
+{
+    mem::swap(&mut rows[id as usize].name, name);
+}
+
+// Exchanges the name of a row that is in the tree or in a subtree, which gives it another place among its parent's children.
+fn move_name(rows: &mut Vec<Row>, index: &mut Vec<Children>, id: u32, name: &mut Name)
+    requires attached { (row_at rows.old.items id).attached ≡ true }
+    requires held { (row_at rows.old.items id).given_up ≡ false }
+    requires shaped { IsShaped rows.old.items }
+    requires after { IsShaped (with_name rows.old.items id name.old (node_of rows.old.items id)) }
+    requires index { IsIndex rows.old.items index.old.items }
+    ensures rows { rows.new.items ≡ with_name rows.old.items id name.old (node_of rows.old.items id) }
+    ensures name { name.new ≡ (row_at rows.old.items id).name }
+    ensures index { IsIndex rows.new.items index.new.items }
+{
+    take_out(rows, index, id);
+    exchange_name(rows, id, name);
+    put_in(rows, index, id);
+}
+
+/// Exchanges the name of a row. It takes no memory.
+pub(crate) fn swap_name(rows: &mut Vec<Row>, index: &mut Vec<Children>, id: u32, name: &mut Name)
+    requires inside { id < length rows.old.items }
+    requires tree { IsTree rows.old.items }
+    requires after { IsShaped (with_name rows.old.items id name.old (node_of rows.old.items id)) }
+    requires index { IsIndex rows.old.items index.old.items }
+    ensures rows { rows.new.items ≡ with_name rows.old.items id name.old (node_of rows.old.items id) }
+    ensures name { name.new ≡ (row_at rows.old.items id).name }
+    ensures index { IsIndex rows.new.items index.new.items }
+{
+    if rows[id as usize].attached {
+        move_name(rows, index, id, name);
+    } else {
+        exchange_name(rows, id, name);
+    }
+}
+
+/// A row that was taken out can't be put in again: its parent needs no room for it.
+pub(crate) fn forget(rows: &[Row], index: &mut Vec<Children>, id: u32)
+    requires parked { IsParkedTop rows.now id }
+    requires shaped { IsShaped rows.now }
+    requires index { IsIndex rows.now index.old.items }
+    ensures { IsIndex (without_content rows.now id) index.new.items }
+{
+    let parent = rows[id as usize].parent as usize;
+    index[parent].give_up();
 }

@@ -3,18 +3,19 @@ ghost use Rattle.std.specs.Prelude.{◌≡◌, ◌<◌, ◌+◌, ◌++◌, ◌�
 ghost use Rattle.std.specs.FinMap as map;
 ghost use Rattle.dm_tree.specs.declared.rows.Change.TheVariants as change;
 ghost use Rattle.dm_tree.specs.Nodes.{above, changed};
-ghost use Rattle.dm_tree.specs.Rows.{nodes, ids, row_at, node_of, path_of, IsLive, IsShaped};
+ghost use Rattle.dm_tree.specs.Rows.{nodes, ids, row_at, node_of, path_of, IsLive, IsShaped, IsTree};
+ghost use Rattle.dm_tree.specs.Index.{IsIndex};
 ghost use Rattle.dm_tree.specs.Edits.{with_name, renamed, fits as all_fit, StayRenamed};
 ghost use Rattle.dm_tree.specs.Undos.{TakesBack};
-ghost use Rattle.dm_tree.specs.Walks.{name_then, has_room as rows_have_room, row_fits as row_fits_then, rows_fit as first_rows_fit};
+ghost use Rattle.dm_tree.specs.Walks.{name_then, has_room as rows_have_room, row_fits as row_fits_then};
 
 use crate::arena::Tree;
 use crate::edits::raised;
+use crate::index::{Children, swap_name};
 use crate::nodes::Stamp;
 use crate::rows::{Change, NodeId, Row, Undo};
 use crate::walks::is_in;
 use dm_uri::Name;
-use std::mem;
 
 // A path has at most 255 bytes in print, and the dot in front is one of them.
 const ROOM: usize = 254;
@@ -54,40 +55,46 @@ fn row_fits(rows: &[Row], id: u32, name: &Name, at: u32) -> bool
     !is_in(rows, at) || has_room(rows, id, name, at, rows[at as usize].depth, ROOM)
 }
 
-fn rows_fit(rows: &[Row], id: u32, name: &Name) -> bool
-    requires { IsShaped rows.now }
-    ensures { result ≡ first_rows_fit rows.now id name.now (length rows.now) }
-{
-    for at in 0..rows.len() {
-        if !row_fits(rows, id, name, at as u32) {
-            return false;
-        }
-    }
-    true
-}
-
-fn put_name(rows: &mut Vec<Row>, id: u32, name: Name, clock: Stamp) -> Change
-    requires { id < length rows.old.items }
+fn put_name(
+    rows: &mut Vec<Row>,
+    index: &mut Vec<Children>,
+    id: u32,
+    name: Name,
+    clock: Stamp,
+) -> Change
+    requires inside { id < length rows.old.items }
+    requires tree { IsTree rows.old.items }
+    requires after { IsShaped (with_name rows.old.items id name (node_of rows.old.items id)) }
+    requires index { IsIndex rows.old.items index.old.items }
     ensures rows { rows.new.items ≡ with_name rows.old.items id name (changed clock (node_of rows.old.items id)) }
     ensures change { result ≡ change.Name id (row_at rows.old.items id).name
         (node_of rows.old.items id).verno (node_of rows.old.items id).stamp }
+    ensures index { IsIndex rows.new.items index.new.items }
 {
-    let row = &mut rows[id as usize];
-    let verno = row.node.verno;
-    let stamp = row.node.stamp;
-    row.node.verno = raised(verno);
-    row.node.stamp = clock;
-    Change::Name(id, mem::replace(&mut row.name, name), verno, stamp)
+    let mut name = name;
+    swap_name(rows, index, id, &mut name);
+    let node = &mut rows[id as usize].node;
+    let (verno, stamp) = (node.verno, node.stamp);
+    node.verno = raised(verno);
+    node.stamp = clock;
+    Change::Name(id, name, verno, stamp)
 }
 
 impl Tree {
-    /// Whether every path keeps to the limit of 255 bytes in print, once the node bears the name. Its time grows with the
-    /// number of all nodes.
+    /// Whether every path keeps to the limit of 255 bytes in print, once the node bears the name. It goes through the
+    /// node's subtree once.
     pub fn fits(&self, id: NodeId, name: &Name) -> bool
         requires { IsLive self.now.rows id }
         ensures { result ≡ all_fit (nodes self.now.rows) (path_of self.now.rows id) name.now }
     {
-        rows_fit(&self.rows, id.row(), name)
+        let mut at = Some(id);
+        while let Some(here) = at {
+            if !row_fits(&self.rows, id.row(), name, here.row()) {
+                return false;
+            }
+            at = self.next_below(id, here, false);
+        }
+        true
     }
 
     /// Gives a node another name, or the one that it has. All that stands below it goes with it. Every node keeps its
@@ -109,7 +116,7 @@ impl Tree {
     {
         // Its contract says that the name keeps to the form and the limit.
         let _ = name.as_slice();
-        let change = put_name(&mut self.rows, id.row(), name, self.clock);
+        let change = put_name(&mut self.rows, &mut self.index, id.row(), name, self.clock);
         Undo::of(change)
     }
 }

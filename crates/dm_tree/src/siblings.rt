@@ -1,74 +1,37 @@
-// The order of the tree text: siblings by the bytes of their names, each node before all that stands below it. Each step
-// looks at every row, so its time grows with the number of rows.
+// The order of the tree text: siblings by the bytes of their names, each node before all that stands below it.
 ghost use Rattle.std.specs.Prelude.{◌≡◌, ◌<◌, ◌^◌, ◌∷◌, [], length, false, Some, None, IsTrue, IfSome, option_and_then};
 ghost use Rattle.std.specs.Option.{option_map_or};
 ghost use Rattle.std.specs.FinMap as map;
 ghost use Rattle.dm_tree.specs.Nodes.{is_below};
 ghost use Rattle.dm_tree.specs.Rows.{nodes, ids, row_at, path_of, IsLive, IsShaped};
 ghost use Rattle.dm_tree.specs.Order.{first_child as first_child_of, next_sibling as next_sibling_of, next_below as next_path_below, behind};
-ghost use Rattle.dm_tree.specs.Walks.{comes_after as name_comes_after, is_later_child as is_child_after, is_better as is_better_row, is_next as is_next_row, least_child as least_child_of, next_past as next_row_past, next_row as next_row_of};
+ghost use Rattle.dm_tree.specs.Walks.{least_child as least_child_of, next_past as next_row_past, next_row as next_row_of};
+ghost use Rattle.dm_tree.specs.Index.{IsIndex};
 
 use crate::arena::Tree;
+use crate::index::{Children, place_past};
 use crate::rows::{NodeId, Row};
-use dm_uri::Name;
-use std::cmp::Ordering;
-
-// Whether a name stands behind that of a row. All do where no row is given.
-fn comes_after(rows: &[Row], after: Option<u32>, name: &Name) -> bool
-    requires { IfSome after (λ row. row < length rows.now) }
-    ensures { result ≡ name_comes_after rows.now after name.now }
-{
-    match after {
-        None => true,
-        Some(row) => rows[row as usize].name.compare(name) == Ordering::Less,
-    }
-}
-
-// Whether a row is a child of `id` whose name stands behind that of a row.
-fn is_later_child(rows: &[Row], id: u32, after: Option<u32>, row: &Row) -> bool
-    requires { IfSome after (λ row. row < length rows.now) }
-    ensures { result ≡ is_child_after rows.now id after row.now }
-{
-    row.attached && (row.parent == id && comes_after(rows, after, &row.name))
-}
-
-// Whether a row's name stands before that of the best row so far.
-fn is_better(rows: &[Row], best: Option<u32>, row: &Row) -> bool
-    requires { IfSome best (λ best. best < length rows.now) }
-    ensures { result ≡ is_better_row rows.now best row.now }
-{
-    match best {
-        None => true,
-        Some(best) => row.name.compare(&rows[best as usize].name) == Ordering::Less,
-    }
-}
-
-fn is_next(rows: &[Row], id: u32, after: Option<u32>, best: Option<u32>, row: &Row) -> bool
-    requires after { IfSome after (λ row. row < length rows.now) }
-    requires best { IfSome best (λ best. best < length rows.now) }
-    ensures { result ≡ is_next_row rows.now id after best row.now }
-{
-    is_later_child(rows, id, after, row) && is_better(rows, best, row)
-}
 
 // Of the children of `id` behind a row, the first by name.
-fn least_child(rows: &[Row], id: u32, after: Option<u32>) -> Option<u32>
-    requires few { length rows.now < 2 ^ 32 }
-    requires inside { IfSome after (λ row. row < length rows.now) }
+fn least_child(rows: &[Row], index: &[Children], id: u32, after: Option<u32>) -> Option<u32>
+    requires shaped { IsShaped rows.now }
+    requires index { IsIndex rows.now index.now }
+    requires inside { id < length rows.now }
+    requires after { IfSome after (λ row. row < length rows.now) }
     ensures { result ≡ least_child_of rows.now id after (length rows.now) }
 {
-    let mut best = None;
-    for (k, row) in rows.iter().enumerate() {
-        if is_next(rows, id, after, best, row) {
-            best = Some(k as u32);
-        }
-    }
-    best
+    let ids = index[id as usize].as_slice();
+    let place = match after {
+        None => 0,
+        Some(row) => place_past(rows, ids, &rows[row as usize].name),
+    };
+    ids.get(place).copied()
 }
 
 // The first sibling behind a row or behind one of those above it, up to `top`.
-fn next_past(rows: &[Row], top: u32, at: u32, left: u32) -> Option<u32>
+fn next_past(rows: &[Row], index: &[Children], top: u32, at: u32, left: u32) -> Option<u32>
     requires shaped { IsShaped rows.now }
+    requires index { IsIndex rows.now index.now }
     requires inside { at < length rows.now }
     ensures { result ≡ next_row_past rows.now top left at }
 {
@@ -76,24 +39,25 @@ fn next_past(rows: &[Row], top: u32, at: u32, left: u32) -> Option<u32>
         return None;
     }
     let parent = rows[at as usize].parent;
-    match least_child(rows, parent, Some(at)) {
+    match least_child(rows, index, parent, Some(at)) {
         Some(next) => Some(next),
-        None => next_past(rows, top, parent, left - 1),
+        None => next_past(rows, index, top, parent, left - 1),
     }
 }
 
-fn next_row(rows: &[Row], top: u32, id: u32, past: bool) -> Option<u32>
+fn next_row(rows: &[Row], index: &[Children], top: u32, id: u32, past: bool) -> Option<u32>
     requires shaped { IsShaped rows.now }
+    requires index { IsIndex rows.now index.now }
     requires inside { id < length rows.now }
     ensures { result ≡ next_row_of rows.now top id past }
 {
     if !past {
-        let child = least_child(rows, id, None);
+        let child = least_child(rows, index, id, None);
         if child.is_some() {
             return child;
         }
     }
-    next_past(rows, top, id, rows[id as usize].depth)
+    next_past(rows, index, top, id, rows[id as usize].depth)
 }
 
 impl Tree {
@@ -105,7 +69,7 @@ impl Tree {
         ensures live { IfSome result (λ child. IsLive self.now.rows child
             × (first_child_of (nodes self.now.rows) (path_of self.now.rows id) ≡ Some (path_of self.now.rows child))) }
     {
-        NodeId::of_row(least_child(&self.rows, id.row(), None))
+        NodeId::of_row(least_child(&self.rows, &self.index, id.row(), None))
     }
 
     /// The node beside whose name comes next in byte order. None comes exactly at the last, and at the root.
@@ -120,7 +84,7 @@ impl Tree {
             return None;
         }
         let parent = self.rows[id.row() as usize].parent;
-        NodeId::of_row(least_child(&self.rows, parent, Some(id.row())))
+        NodeId::of_row(least_child(&self.rows, &self.index, parent, Some(id.row())))
     }
 
     /// The node behind this one in the order of the tree text, among those at and below `top`; with `past`, the one behind
@@ -142,6 +106,6 @@ impl Tree {
             ≡ option_map_or (λ next. path_of self.now.rows next
             ∷ behind (nodes self.now.rows) (path_of self.now.rows top) (path_of self.now.rows next) false) result [] }
     {
-        NodeId::of_row(next_row(&self.rows, top.row(), id.row(), past))
+        NodeId::of_row(next_row(&self.rows, &self.index, top.row(), id.row(), past))
     }
 }

@@ -1,39 +1,37 @@
-// Searches through the rows. They look at each row, so their time grows with the number of rows.
+// Searches downwards by name, and upwards.
 ghost use Rattle.std.specs.Prelude.{◌≡◌, ◌<◌, ◌≤◌, ◌+◌, ◌^◌, ◌++◌, length, OnOk, OnErr, IfOk, is_some};
-ghost use Rattle.dm_tree.specs.Rows.{IsShaped, row_at, path_below, ids_below};
-ghost use Rattle.dm_tree.specs.Walks.{is_child as is_child_row, child_of, find_from, path_up, row_names as names_right, row_allows as row_allows_it, deciding_row};
+ghost use Rattle.dm_tree.specs.Rows.{IsShaped, row_at, path_below};
+ghost use Rattle.dm_tree.specs.Index.{IsIndex};
+ghost use Rattle.dm_tree.specs.Walks.{child_of, find_from, path_up, row_names as names_right, row_allows as row_allows_it, deciding_row};
 
+use crate::index::{Children, place_of};
 use crate::rows::Row;
 use dm_acl::Right;
 use dm_base::Memory;
 use dm_uri::{Name, Path};
 use std::alloc::Global;
 
-fn is_child(id: u32, name: &Name, row: &Row) -> bool
-    ensures { result ≡ is_child_row id name.now row.now }
-{
-    row.attached && (row.parent == id && row.name.is_same(name))
-}
-
-pub(crate) fn child_row(rows: &[Row], id: u32, name: &Name) -> Option<u32>
-    requires { length rows.now < 2 ^ 32 }
+pub(crate) fn child_row(rows: &[Row], index: &[Children], id: u32, name: &Name) -> Option<u32>
+    requires shaped { IsShaped rows.now }
+    requires index { IsIndex rows.now index.now }
+    requires inside { id < length rows.now }
     ensures { result ≡ child_of rows.now id name.now }
 {
-    for (k, row) in rows.iter().enumerate() {
-        if is_child(id, name, row) {
-            return Some(k as u32);
-        }
+    let ids = index[id as usize].as_slice();
+    match ids.get(place_of(rows, ids, name)) {
+        Some(child) if rows[*child as usize].name.is_same(name) => Some(*child),
+        _ => None,
     }
-    None
 }
 
-pub(crate) fn found_row(rows: &[Row], path: &[Name]) -> Option<u32>
-    requires { length rows.now < 2 ^ 32 }
+pub(crate) fn found_row(rows: &[Row], index: &[Children], path: &[Name]) -> Option<u32>
+    requires shaped { IsShaped rows.now }
+    requires index { IsIndex rows.now index.now }
     ensures { result ≡ find_from rows.now 0 path.now }
 {
     let mut at = 0;
     for name in path {
-        match child_row(rows, at, name) {
+        match child_row(rows, index, at, name) {
             Some(child) => at = child,
             None => return None,
         }
@@ -60,20 +58,6 @@ pub(crate) fn is_in(rows: &[Row], id: u32) -> bool
         left -= 1;
     }
     at == 0
-}
-
-// How many rows lie below the root.
-pub(crate) fn count_in(rows: &[Row]) -> u32
-    requires { IsShaped rows.now }
-    ensures { result ≡ length (ids_below rows.now 0 (length rows.now)) }
-{
-    let mut count = 0;
-    for id in 0..rows.len() {
-        if is_in(rows, id as u32) {
-            count += 1;
-        }
-    }
-    count
 }
 
 // Appends the names of the rows from this one upwards, the topmost first.

@@ -8,7 +8,7 @@ use Rattle.dm_tree.proofs.arena.Tree.allows.Goals as goal
 
 pub index-requires : goal.index-requires
 index-requires c =
-    let tree : IsTree c.args.self.now.rows = subst (λ (t : Tree). IsTree t.rows) c.self.view_is c.self.invariant in
+    let tree : IsTree c.args.self.now.rows = subst (λ (t : Tree). IsTree t.rows) c.self.view_is c.self.invariant.tree in
     let rows = c.deref.ensures.value ∙ ap (λ (t : Tree). t.rows) c.self.view_is in
     let decides = c.in-Some.ensures ∙ ap (λ r. deciding_row r c.args.right (row_at r c.row.result).depth c.row.result) rows ∙ ap (λ k. deciding_row c.args.self.now.rows c.args.right (row_at c.args.self.now.rows k).depth k) c.row.ensures in
     let inside = live_row c.args.self.now.rows tree.shape c.in-Some.row (decided_live c.args.self.now.rows tree.shape c.args.right c.args.id c.requires (Some c.in-Some.row) decides) in
@@ -17,14 +17,14 @@ index-requires c =
 
 pub returns-in-None : goal.returns-in-None
 returns-in-None c =
-    let tree : IsTree c.args.self.now.rows = subst (λ (t : Tree). IsTree t.rows) c.self.view_is c.self.invariant in
+    let tree : IsTree c.args.self.now.rows = subst (λ (t : Tree). IsTree t.rows) c.self.view_is c.self.invariant.tree in
     let rows = c.deref.ensures.value ∙ ap (λ (t : Tree). t.rows) c.self.view_is in
     allows-none c.args.self.now.rows tree.shape c.args.server.now c.args.right c.args.id c.requires
     (c.in-None.ensures ∙ ap (λ r. deciding_row r c.args.right (row_at r c.row.result).depth c.row.result) rows ∙ ap (λ k. deciding_row c.args.self.now.rows c.args.right (row_at c.args.self.now.rows k).depth k) c.row.ensures)
 
 pub returns-in-Some : goal.returns-in-Some
 returns-in-Some c =
-    let tree : IsTree c.args.self.now.rows = subst (λ (t : Tree). IsTree t.rows) c.self.view_is c.self.invariant in
+    let tree : IsTree c.args.self.now.rows = subst (λ (t : Tree). IsTree t.rows) c.self.view_is c.self.invariant.tree in
     let rows = c.deref.ensures.value ∙ ap (λ (t : Tree). t.rows) c.self.view_is in
     let now = ap (λ (t : Tree). t.rows) c.self.view_is in
     let decides = c.in-Some.ensures ∙ ap (λ r. deciding_row r c.args.right (row_at r c.row.result).depth c.row.result) rows ∙ ap (λ k. deciding_row c.args.self.now.rows c.args.right (row_at c.args.self.now.rows k).depth k) c.row.ensures in

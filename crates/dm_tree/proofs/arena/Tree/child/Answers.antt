@@ -7,7 +7,7 @@ use Rattle.dm_tree.proofs.arena.Tree.child.Goals as goal
 
 found : goal.returns-clause-found
 found c =
-    let tree : IsTree c.args.self.now.rows = subst (λ (t : Tree). IsTree t.rows) c.self.view_is c.self.invariant in
+    let tree : IsTree c.args.self.now.rows = subst (λ (t : Tree). IsTree t.rows) c.self.view_is c.self.invariant.tree in
     let rows = c.deref.ensures.value ∙ ap (λ (t : Tree). t.rows) c.self.view_is in
     c.of_row.ensures ∙ c.child_row.ensures ∙ ap (λ r. child_of r c.row.result c.args.name.now) rows ∙ ap (λ k. child_of c.args.self.now.rows k c.args.name.now) c.row.ensures
     ∙ child-ids c.args.self.now.rows tree.shape c.args.id c.requires c.args.name.now

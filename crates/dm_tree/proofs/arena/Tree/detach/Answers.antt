@@ -14,7 +14,7 @@ rows_are c =
     c.set_attached.ensures ∙ ap (λ (t : Tree). attached_as t.rows c.row.result false) c.self.view_is ∙ ap (λ k. attached_as c.args.self.now.rows k false) c.row.ensures
 
 tree : (c : goal.After-of) → IsTree c.args.self.now.rows
-tree c = subst (λ (t : Tree). IsTree t.rows) c.self.view_is c.self.invariant
+tree c = subst (λ (t : Tree). IsTree t.rows) c.self.view_is c.self.invariant.tree
 
 -- the root is permanent
 no_root : (c : goal.After-of) → 0 < c.args.id

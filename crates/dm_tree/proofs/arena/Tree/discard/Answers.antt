@@ -11,7 +11,7 @@ rows_are : (c : goal.After-give_up) → c.give_up.new.rows.items ≡ without_con
 rows_are c = c.give_up.ensures ∙ ap (λ (t : Tree). without_content t.rows c.in-PutIn.id) c.self.view_is
 
 tree : (c : goal.After-give_up) → IsTree c.args.self.now.rows
-tree c = subst (λ (t : Tree). IsTree t.rows) c.self.view_is c.self.invariant
+tree c = subst (λ (t : Tree). IsTree t.rows) c.self.view_is c.self.invariant.tree
 
 top : (c : goal.After-give_up) → IsParkedTop c.args.self.now.rows c.in-PutIn.id
 top c = subst (IsHeld c.args.self.now.rows) (sym c.in-PutIn.ensures) c.requires

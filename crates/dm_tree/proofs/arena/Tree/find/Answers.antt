@@ -7,7 +7,7 @@ use Rattle.dm_tree.proofs.arena.Tree.find.Goals as goal
 
 found : goal.returns-clause-found
 found c =
-    let tree : IsTree c.args.self.now.rows = subst (λ (t : Tree). IsTree t.rows) c.self.view_is c.self.invariant in
+    let tree : IsTree c.args.self.now.rows = subst (λ (t : Tree). IsTree t.rows) c.self.view_is c.self.invariant.tree in
     let rows = c.deref.ensures.value ∙ ap (λ (t : Tree). t.rows) c.self.view_is in
     c.of_row.ensures ∙ c.found_row.ensures ∙ ap (λ r. find_from r 0 c.as_slice.result.now) rows ∙ ap (find_from c.args.self.now.rows 0) c.as_slice.ensures.names
     ∙ find-root c.args.self.now.rows tree.shape c.args.path.now

@@ -6,7 +6,7 @@ use Rattle.dm_tree.proofs.Steps.{Shows, first-is, shown_ids, shown_live}
 use Rattle.dm_tree.proofs.arena.Tree.first_child.Goals as goal
 
 tree : (c : goal.After-of_row) → IsTree c.args.self.now.rows
-tree c = subst (λ (t : Tree). IsTree t.rows) c.self.view_is c.self.invariant
+tree c = subst (λ (t : Tree). IsTree t.rows) c.self.view_is c.self.invariant.tree
 
 shows : (c : goal.After-of_row) → Shows c.args.self.now.rows c.of_row.result (first_child (nodes c.args.self.now.rows) (path_of c.args.self.now.rows c.args.id))
 shows c =

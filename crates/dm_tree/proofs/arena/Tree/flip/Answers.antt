@@ -14,7 +14,7 @@ pub returns-clause-again : goal.returns-clause-again
 returns-clause-again c =
     let rows = c.args.self.now.rows in
     let undo = c.args.undo.now in
-    let tree : IsTree rows = subst (λ (t : Tree). IsTree t.rows) c.self.view_is c.self.invariant in (
+    let tree : IsTree rows = subst (λ (t : Tree). IsTree t.rows) c.self.view_is c.self.invariant.tree in (
       subst (λ u. TakesBack u rows c.flip_row.new.rows.items) (sym (undo_is c)) (subst (TakesBack (turned rows undo) rows) (sym (rows_are c)) (again rows undo tree c.requires)),
       ap (λ r. turned r c.flip_row.new.change) (rows_are c) ∙ ap (turned (flipped rows undo)) (undo_is c) ∙ turned_twice rows undo c.requires.inside,
     )

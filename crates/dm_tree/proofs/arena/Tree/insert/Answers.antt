@@ -13,7 +13,7 @@ use Rattle.dm_tree.proofs.Spares.{inserted}
 use Rattle.dm_tree.proofs.arena.Tree.insert.Goals as goal
 
 tree : (c : goal.After-of-2) → IsTree c.args.self.now.rows
-tree c = subst (λ (t : Tree). IsTree t.rows) c.self.view_is c.self.invariant
+tree c = subst (λ (t : Tree). IsTree t.rows) c.self.view_is c.self.invariant.tree
 
 node : (c : goal.After-of-2) → Node
 node c = made c.args.self.now.clock c.args.node
@@ -53,7 +53,7 @@ may c = record {
 
 pub new_row-row-requires-clause-shallow : goal.new_row-row-requires-clause-shallow
 new_row-row-requires-clause-shallow c =
-    let tree : IsTree c.args.self.now.rows = subst (λ (t : Tree). IsTree t.rows) c.self.view_is c.self.invariant in
+    let tree : IsTree c.args.self.now.rows = subst (λ (t : Tree). IsTree t.rows) c.self.view_is c.self.invariant.tree in
     let rows = c.deref.ensures.value ∙ ap (λ (t : Tree). t.rows) c.self.view_is in
     subst (λ r. (row_at r c.row.result).depth < 16) (sym rows) (subst (λ k. (row_at c.args.self.now.rows k).depth < 16) (sym c.row.ensures)
     (parent_is_shallow c.args.self.now.rows tree.shape c.args.parent c.requires.live c.args.name c.requires.within))

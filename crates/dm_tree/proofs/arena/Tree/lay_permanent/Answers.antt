@@ -19,7 +19,7 @@ rows_are c =
 
 pub invariant_of-self : goal.invariant_of-self
 invariant_of-self c =
-    let tree : IsTree c.args.self.now.rows = subst (λ (t : Tree). IsTree t.rows) c.self.view_is c.self.invariant in
+    let tree : IsTree c.args.self.now.rows = subst (λ (t : Tree). IsTree t.rows) c.self.view_is c.self.invariant.tree in
     let inside = live_row c.args.self.now.rows tree.shape c.args.id c.requires.live in
     let held = (tree.each c.args.id inside).node in
     subst IsTree (sym (rows_are c)) (tree-with_mark c.args.self.now.rows tree c.args.id inside (λ other.
@@ -30,15 +30,15 @@ invariant_of-self c =
 
 pub returns-clause-nodes : goal.returns-clause-nodes
 returns-clause-nodes c =
-    let tree : IsTree c.args.self.now.rows = subst (λ (t : Tree). IsTree t.rows) c.self.view_is c.self.invariant in
+    let tree : IsTree c.args.self.now.rows = subst (λ (t : Tree). IsTree t.rows) c.self.view_is c.self.invariant.tree in
     ap nodes (rows_are c) ∙ nodes-with_node c.args.self.now.rows tree.shape c.args.id c.requires.live _
 
 pub returns-clause-ids : goal.returns-clause-ids
 returns-clause-ids c =
-    let tree : IsTree c.args.self.now.rows = subst (λ (t : Tree). IsTree t.rows) c.self.view_is c.self.invariant in
+    let tree : IsTree c.args.self.now.rows = subst (λ (t : Tree). IsTree t.rows) c.self.view_is c.self.invariant.tree in
     ap ids (rows_are c) ∙ ids-with_node c.args.self.now.rows tree.shape c.args.id c.requires.live _
 
 pub returns-clause-stays : goal.returns-clause-stays
 returns-clause-stays c =
-    let tree : IsTree c.args.self.now.rows = subst (λ (t : Tree). IsTree t.rows) c.self.view_is c.self.invariant in
+    let tree : IsTree c.args.self.now.rows = subst (λ (t : Tree). IsTree t.rows) c.self.view_is c.self.invariant.tree in
     stay_live c.args.self.now.rows c.set_mark.new.rows.items tree.shape (returns-clause-ids c)

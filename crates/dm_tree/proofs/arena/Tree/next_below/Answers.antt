@@ -7,7 +7,7 @@ use Rattle.dm_tree.proofs.Behinds.{shown_behind}
 use Rattle.dm_tree.proofs.arena.Tree.next_below.Goals as goal
 
 tree : (c : goal.After-of_row) → IsTree c.args.self.now.rows
-tree c = subst (λ (t : Tree). IsTree t.rows) c.self.view_is c.self.invariant
+tree c = subst (λ (t : Tree). IsTree t.rows) c.self.view_is c.self.invariant.tree
 
 shows : (c : goal.After-of_row) → Shows c.args.self.now.rows c.of_row.result (next_below (nodes c.args.self.now.rows) (path_of c.args.self.now.rows c.args.top) (path_of c.args.self.now.rows c.args.id) c.args.past)
 shows c =

@@ -7,7 +7,7 @@ use Rattle.dm_tree.proofs.arena.Tree.path.Goals as goal
 
 pub returns : goal.returns
 returns c =
-    let tree : IsTree c.args.self.now.rows = subst (λ (t : Tree). IsTree t.rows) c.self.view_is c.self.invariant in
+    let tree : IsTree c.args.self.now.rows = subst (λ (t : Tree). IsTree t.rows) c.self.view_is c.self.invariant.tree in
     let rows = c.deref.ensures.value ∙ ap (λ (t : Tree). t.rows) c.self.view_is in
     let now = ap (λ (t : Tree). t.rows) c.self.view_is in
     let here = read_live c.args.self.now.rows c.self.inside.rows.items tree.shape now c.args.id c.row.result c.requires c.row.ensures c.index.result.now c.index.ensures in

@@ -9,7 +9,7 @@ use Rattle.dm_tree.proofs.RenamedTrees.{MayRename, no_root, shaped-renamed, tree
 use Rattle.dm_tree.proofs.arena.Tree.rename.Goals as goal
 
 tree : (c : goal.After-of) → IsTree c.args.self.now.rows
-tree c = subst (λ (t : Tree). IsTree t.rows) c.self.view_is c.self.invariant
+tree c = subst (λ (t : Tree). IsTree t.rows) c.self.view_is c.self.invariant.tree
 
 -- the rows that the code left
 rows_are : (c : goal.After-of) → c.put_name-change.new.rows.items ≡ with_name c.args.self.now.rows c.args.id c.args.name (changed c.args.self.now.clock (node_of c.args.self.now.rows c.args.id))

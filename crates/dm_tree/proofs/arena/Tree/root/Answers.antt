@@ -6,8 +6,8 @@ use Rattle.dm_tree.proofs.arena.Tree.root.Goals as goal
 
 pub returns-clause-id : goal.returns-clause-id
 returns-clause-id c =
-    let tree : IsTree c.args.self.now.rows = subst (λ (t : Tree). IsTree t.rows) c.self.view_is c.self.invariant in
+    let tree : IsTree c.args.self.now.rows = subst (λ (t : Tree). IsTree t.rows) c.self.view_is c.self.invariant.tree in
     ap (λ n. Some n) c.of.ensures ∙ sym (id_of c.args.self.now.rows tree.shape 0 [] (root_live c.args.self.now.rows tree.shape))
 
 pub returns-clause-well_formed : goal.returns-clause-well_formed
-returns-clause-well_formed c = well_formed c.args.self.now.rows (subst (λ (t : Tree). IsTree t.rows) c.self.view_is c.self.invariant)
+returns-clause-well_formed c = well_formed c.args.self.now.rows (subst (λ (t : Tree). IsTree t.rows) c.self.view_is c.self.invariant.tree)

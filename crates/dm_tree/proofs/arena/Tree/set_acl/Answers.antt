@@ -22,7 +22,7 @@ rows_are c =
 
 kept : (c : goal.After-of) → IsTree (with_node c.args.self.now.rows c.args.id (changed c.args.self.now.clock (with_acl (node_of c.args.self.now.rows c.args.id) c.args.acl)))
 kept c =
-    let tree : IsTree c.args.self.now.rows = subst (λ (t : Tree). IsTree t.rows) c.self.view_is c.self.invariant in
+    let tree : IsTree c.args.self.now.rows = subst (λ (t : Tree). IsTree t.rows) c.self.view_is c.self.invariant.tree in
     let inside = live_row c.args.self.now.rows tree.shape c.args.id c.requires.live in
     let held = (tree.each c.args.id inside).node in
     tree-with_node c.args.self.now.rows tree c.args.id inside _ (record { value = held.value; acl = c.requires.short; title = held.title }) (record { interior = refl; permanent = refl }) (λ z. let top = subst (λ k. IsRoot (node_of c.args.self.now.rows k)) (sym z) tree.root in record { interior = top.interior; permanent = top.permanent; acl = c.requires.root (ap (path_of c.args.self.now.rows) z ∙ ap (λ o. unwrap_or o []) (root_live c.args.self.now.rows tree.shape)); media = top.media; role = top.role })
@@ -32,17 +32,17 @@ invariant_of-self c = subst IsTree (sym (rows_are c)) (kept c)
 
 pub returns-clause-nodes : goal.returns-clause-nodes
 returns-clause-nodes c =
-    let tree : IsTree c.args.self.now.rows = subst (λ (t : Tree). IsTree t.rows) c.self.view_is c.self.invariant in
+    let tree : IsTree c.args.self.now.rows = subst (λ (t : Tree). IsTree t.rows) c.self.view_is c.self.invariant.tree in
     ap nodes (rows_are c) ∙ nodes-with_node c.args.self.now.rows tree.shape c.args.id c.requires.live _
 
 pub returns-clause-ids : goal.returns-clause-ids
 returns-clause-ids c =
-    let tree : IsTree c.args.self.now.rows = subst (λ (t : Tree). IsTree t.rows) c.self.view_is c.self.invariant in
+    let tree : IsTree c.args.self.now.rows = subst (λ (t : Tree). IsTree t.rows) c.self.view_is c.self.invariant.tree in
     ap ids (rows_are c) ∙ ids-with_node c.args.self.now.rows tree.shape c.args.id c.requires.live _
 
 pub returns-clause-undo : goal.returns-clause-undo
 returns-clause-undo c =
-    let tree : IsTree c.args.self.now.rows = subst (λ (t : Tree). IsTree t.rows) c.self.view_is c.self.invariant in
+    let tree : IsTree c.args.self.now.rows = subst (λ (t : Tree). IsTree t.rows) c.self.view_is c.self.invariant.tree in
     let inside = live_row c.args.self.now.rows tree.shape c.args.id c.requires.live in
     let undo : c.of.result ≡ change.Acl c.args.id (node_of c.args.self.now.rows c.args.id).acl (node_of c.args.self.now.rows c.args.id).verno (node_of c.args.self.now.rows c.args.id).stamp =
     c.of.ensures ∙ c.put_acl-change.ensures.change ∙ ap (λ (t : Tree). change.Acl c.row.result (node_of t.rows c.row.result).acl (node_of t.rows c.row.result).verno (node_of t.rows c.row.result).stamp) c.self.view_is ∙ ap (λ k. change.Acl k (node_of c.args.self.now.rows k).acl (node_of c.args.self.now.rows k).verno (node_of c.args.self.now.rows k).stamp) c.row.ensures in
@@ -53,5 +53,5 @@ returns-clause-undo c =
 
 pub returns-clause-stays : goal.returns-clause-stays
 returns-clause-stays c =
-    let tree : IsTree c.args.self.now.rows = subst (λ (t : Tree). IsTree t.rows) c.self.view_is c.self.invariant in
+    let tree : IsTree c.args.self.now.rows = subst (λ (t : Tree). IsTree t.rows) c.self.view_is c.self.invariant.tree in
     stay_live c.args.self.now.rows c.put_acl-change.new.rows.items tree.shape (returns-clause-ids c)

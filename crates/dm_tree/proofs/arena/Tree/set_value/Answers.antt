@@ -19,7 +19,7 @@ rows_are c =
 
 kept : (c : goal.After-of) → IsTree (with_node c.args.self.now.rows c.args.id (changed c.args.self.now.clock (with_value (node_of c.args.self.now.rows c.args.id) c.args.value)))
 kept c =
-    let tree : IsTree c.args.self.now.rows = subst (λ (t : Tree). IsTree t.rows) c.self.view_is c.self.invariant in
+    let tree : IsTree c.args.self.now.rows = subst (λ (t : Tree). IsTree t.rows) c.self.view_is c.self.invariant.tree in
     let inside = live_row c.args.self.now.rows tree.shape c.args.id c.requires.live in
     let held = (tree.each c.args.id inside).node in
     tree-with_node c.args.self.now.rows tree c.args.id inside _ (record { value = subst (λ b. IsValue b c.args.value) (sym c.requires.leaf) c.requires.value; acl = held.acl; title = held.title }) (record { interior = refl; permanent = refl }) (λ z. absurd (let top : (node_of c.args.self.now.rows 0).interior ≡ true = tree.root.interior in let leaf : (node_of c.args.self.now.rows 0).interior ≡ false = ap (λ k. (node_of c.args.self.now.rows k).interior) (sym z) ∙ c.requires.leaf in cc))
@@ -29,17 +29,17 @@ invariant_of-self c = subst IsTree (sym (rows_are c)) (kept c)
 
 pub returns-clause-nodes : goal.returns-clause-nodes
 returns-clause-nodes c =
-    let tree : IsTree c.args.self.now.rows = subst (λ (t : Tree). IsTree t.rows) c.self.view_is c.self.invariant in
+    let tree : IsTree c.args.self.now.rows = subst (λ (t : Tree). IsTree t.rows) c.self.view_is c.self.invariant.tree in
     ap nodes (rows_are c) ∙ nodes-with_node c.args.self.now.rows tree.shape c.args.id c.requires.live _
 
 pub returns-clause-ids : goal.returns-clause-ids
 returns-clause-ids c =
-    let tree : IsTree c.args.self.now.rows = subst (λ (t : Tree). IsTree t.rows) c.self.view_is c.self.invariant in
+    let tree : IsTree c.args.self.now.rows = subst (λ (t : Tree). IsTree t.rows) c.self.view_is c.self.invariant.tree in
     ap ids (rows_are c) ∙ ids-with_node c.args.self.now.rows tree.shape c.args.id c.requires.live _
 
 pub returns-clause-undo : goal.returns-clause-undo
 returns-clause-undo c =
-    let tree : IsTree c.args.self.now.rows = subst (λ (t : Tree). IsTree t.rows) c.self.view_is c.self.invariant in
+    let tree : IsTree c.args.self.now.rows = subst (λ (t : Tree). IsTree t.rows) c.self.view_is c.self.invariant.tree in
     let inside = live_row c.args.self.now.rows tree.shape c.args.id c.requires.live in
     let undo : c.of.result ≡ change.Value c.args.id (node_of c.args.self.now.rows c.args.id).value (node_of c.args.self.now.rows c.args.id).verno (node_of c.args.self.now.rows c.args.id).stamp =
     c.of.ensures ∙ c.put_value-change.ensures.change ∙ ap (λ (t : Tree). change.Value c.row.result (node_of t.rows c.row.result).value (node_of t.rows c.row.result).verno (node_of t.rows c.row.result).stamp) c.self.view_is ∙ ap (λ k. change.Value k (node_of c.args.self.now.rows k).value (node_of c.args.self.now.rows k).verno (node_of c.args.self.now.rows k).stamp) c.row.ensures in
@@ -50,5 +50,5 @@ returns-clause-undo c =
 
 pub returns-clause-stays : goal.returns-clause-stays
 returns-clause-stays c =
-    let tree : IsTree c.args.self.now.rows = subst (λ (t : Tree). IsTree t.rows) c.self.view_is c.self.invariant in
+    let tree : IsTree c.args.self.now.rows = subst (λ (t : Tree). IsTree t.rows) c.self.view_is c.self.invariant.tree in
     stay_live c.args.self.now.rows c.put_value-change.new.rows.items tree.shape (returns-clause-ids c)

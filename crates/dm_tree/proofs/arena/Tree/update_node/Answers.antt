@@ -4,7 +4,7 @@ use Rattle.dm_tree.proofs.Devices.{IsUpdateRow, found_update, none_update}
 use Rattle.dm_tree.proofs.arena.Tree.update_node.Goals as goal
 
 tree : (c : goal.After-of_row) → IsTree c.args.self.now.rows
-tree c = subst (λ (t : Tree). IsTree t.rows) c.self.view_is c.self.invariant
+tree c = subst (λ (t : Tree). IsTree t.rows) c.self.view_is c.self.invariant.tree
 
 is_row : (c : goal.After-of_row) → IsUpdateRow c.args.self.now.rows c.of_row.result
 is_row c =

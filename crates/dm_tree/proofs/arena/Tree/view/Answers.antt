@@ -11,7 +11,7 @@ use Rattle.dm_tree.proofs.arena.Tree.view.Goals as goal
 
 name_here : (c : goal.Joined-row-eq0) → nat_eq c.args.id 0 ≡ false → Some c.index-row.result.now.name ≡ last_name (path_of c.args.self.now.rows c.args.id)
 name_here c other =
-    let tree : IsTree c.args.self.now.rows = subst (λ (t : Tree). IsTree t.rows) c.self.view_is c.self.invariant in
+    let tree : IsTree c.args.self.now.rows = subst (λ (t : Tree). IsTree t.rows) c.self.view_is c.self.invariant.tree in
     let now = ap (λ (t : Tree). t.rows) c.self.view_is in
     let here = read_live c.args.self.now.rows c.self.inside.rows.items tree.shape now c.args.id c.row.result c.requires c.row.ensures c.index-row.result.now c.index-row.ensures in
     let up = has_parent c.args.self.now.rows tree.shape c.args.id c.requires other in
@@ -20,7 +20,7 @@ name_here c other =
 
 none_here : (c : goal.Joined-row-eq0) → nat_eq c.args.id 0 ≡ true → None ≡ last_name (path_of c.args.self.now.rows c.args.id)
 none_here c is =
-    ap last_name (sym (root_path c.args.self.now.rows (subst (λ (t : Tree). IsShaped t.rows) c.self.view_is c.self.invariant.shape) c.args.id is))
+    ap last_name (sym (root_path c.args.self.now.rows (subst (λ (t : Tree). IsShaped t.rows) c.self.view_is c.self.invariant.tree.shape) c.args.id is))
 
 pub returns-clause-name : goal.returns-clause-name
 returns-clause-name c =
@@ -30,4 +30,4 @@ returns-clause-name c =
     ]
 
 pub returns-clause-there : goal.returns-clause-there
-returns-clause-there c = node_there c.args.self.now.rows (subst (λ (t : Tree). IsShaped t.rows) c.self.view_is c.self.invariant.shape) c.args.id c.requires
+returns-clause-there c = node_there c.args.self.now.rows (subst (λ (t : Tree). IsShaped t.rows) c.self.view_is c.self.invariant.tree.shape) c.args.id c.requires
