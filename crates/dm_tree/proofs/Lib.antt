@@ -27,3 +27,5 @@ pub mod Steps
 pub mod Devices
 pub mod Behinds
 pub mod Spares
+pub mod Ordered
+pub mod Links
