@@ -27,3 +27,4 @@ pub mod Steps
 pub mod Devices
 pub mod Behinds
 pub mod Spares
+pub mod Counts

@@ -10,6 +10,7 @@ pub mod nodes;
 mod renames;
 pub mod rows;
 mod siblings;
+mod sizes;
 #[cfg(test)]
 mod tests;
 mod text;
