@@ -29,3 +29,4 @@ pub mod Behinds
 pub mod Spares
 pub mod Ordered
 pub mod Links
+pub mod Counts
