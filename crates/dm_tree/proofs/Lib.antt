@@ -29,4 +29,5 @@ pub mod Behinds
 pub mod Spares
 pub mod Ordered
 pub mod Links
+pub mod Unlinks
 pub mod Counts

@@ -4,12 +4,12 @@ use Rattle.std.specs.Prelude.{◌&&◌, not, nat_lt, if◌then◌else◌}
 use Rattle.std.specs.List.{insert, remove}
 use Rattle.std.proofs.Math.ListN.{set, length-set}
 use Rattle.std.proofs.lemmas.Bool.Decides.{nat_tests}
-use Rattle.std.proofs.lemmas.List.{get_or-set_same, get_or-set_other, get_or_past}
+use Rattle.std.proofs.lemmas.List.{get_or-set_same, get_or-set_other, get_or_past, get_or_default}
 use Rattle.std.proofs.lemmas.List.Edits.{length-insert, get_or-insert_below, get_or-insert_at, get_or-insert_above, length-remove}
 use Rattle.dm_tree.specs.declared.rows.Row.{Row}
-use Rattle.dm_tree.specs.Rows.{blank, row_at, IsShaped}
+use Rattle.dm_tree.specs.Rows.{blank, row_at}
 use Rattle.dm_tree.specs.Edits.{attached_as}
-use Rattle.dm_tree.specs.Index.{ChildList, no_children, children_at, is_before, is_parked_below, parked_below, IsInOrder, IsChildList, IsIndex, IsPlace}
+use Rattle.dm_tree.specs.Index.{ChildList, no_children, children_at, is_before, is_parked_below, parked_below, IsInOrder, IsChildList, IsIndex, IsPlace, IsPut}
 use Rattle.dm_tree.proofs.Paths.{below_or_not, same_or_not}
 use Rattle.dm_tree.proofs.Climbs.{same_number}
 use Rattle.dm_tree.proofs.Ordered.{Stands, stands, insert_order, stood, remove_order}
@@ -77,7 +77,7 @@ pub order-alike : (rows rows' : List Row) (ids : List ℕ) → ((i : ℕ) → i 
 order-alike rows rows' ids same order i j l m =
     rw (same i (omega (arith, l, m)), same j m) (order i j l m)
 
-parked_test : (rows rows' : List Row) (k j : ℕ) → (row_at rows' j).attached ≡ (row_at rows j).attached → (row_at rows' j).given_up ≡ (row_at rows j).given_up → (row_at rows' j).parent ≡ (row_at rows j).parent
+pub parked_test : (rows rows' : List Row) (k j : ℕ) → (row_at rows' j).attached ≡ (row_at rows j).attached → (row_at rows' j).given_up ≡ (row_at rows j).given_up → (row_at rows' j).parent ≡ (row_at rows j).parent
     → is_parked_below rows' k j ≡ is_parked_below rows k j
 parked_test rows rows' k j a g p = rw (a, g, p) refl
 
@@ -99,17 +99,17 @@ index-alike rows rows' same index h = record {
 
 -- ---- a row is put in
 
-is_parked : (rows : List Row) (k j : ℕ) → 0 < j → (row_at rows j).attached ≡ false → (row_at rows j).given_up ≡ false → (row_at rows j).parent ≡ k → is_parked_below rows k j ≡ true
+pub is_parked : (rows : List Row) (k j : ℕ) → 0 < j → (row_at rows j).attached ≡ false → (row_at rows j).given_up ≡ false → (row_at rows j).parent ≡ k → is_parked_below rows k j ≡ true
 is_parked rows k j z a g p = let t : nat_lt 0 j ≡ true = grind (arith, nat_tests) in let s : nat_eq k k ≡ true = grind (arith, nat_tests) in rw (t, a, g, p, s) refl
 
-isnt_parked : (rows : List Row) (k j : ℕ) → (row_at rows j).attached ≡ true → is_parked_below rows k j ≡ false
+pub isnt_parked : (rows : List Row) (k j : ℕ) → (row_at rows j).attached ≡ true → is_parked_below rows k j ≡ false
 isnt_parked rows k j a = by_test (nat_lt 0 j) (not (row_at rows j).given_up && nat_eq (row_at rows j).parent k) (row_at rows j).attached a
   where
     by_test : (b c d : Bool) → d ≡ true → b && (not d && c) ≡ false
     by_test true c d e = rw e refl
     by_test false c d e = refl
 
-parked_elsewhere : (rows : List Row) (k j : ℕ) → ((row_at rows j).parent ≡ k → ⊥) → is_parked_below rows k j ≡ false
+pub parked_elsewhere : (rows : List Row) (k j : ℕ) → ((row_at rows j).parent ≡ k → ⊥) → is_parked_below rows k j ≡ false
 parked_elsewhere rows k j other =
     let t : nat_eq (row_at rows j).parent k ≡ false = elim (nat_eq (row_at rows j).parent k) as (λ b. nat_eq (row_at rows j).parent k ≡ b → b ≡ false) [ true ↦ λ e. absurd (other (same_number (row_at rows j).parent k e)) | false ↦ λ _. refl ] refl in
     rw t (by_test (nat_lt 0 j) (not (row_at rows j).attached) (not (row_at rows j).given_up))
@@ -122,10 +122,10 @@ parked_elsewhere rows k j other =
 
 -- what `attached_as` leaves of a row
 module _ (rows : List Row) (id : ℕ) (b : Bool) (inside : id < length rows) where
-  set_here : row_at (attached_as rows id b) id ≡ record (row_at rows id) { attached = b }
+  pub set_here : row_at (attached_as rows id b) id ≡ record (row_at rows id) { attached = b }
   set_here = get_or-set_same rows id _ blank inside
 
-  set_there : (j : ℕ) → j ≢ id → row_at (attached_as rows id b) j ≡ row_at rows j
+  pub set_there : (j : ℕ) → j ≢ id → row_at (attached_as rows id b) j ≡ row_at rows j
   set_there j d = get_or-set_other rows id j _ blank d
 
   set_keeps : {X : Type 0} (f : Row → X) → ((r : Row) → f (record r { attached = b }) ≡ f r) → (j : ℕ) → f (row_at (attached_as rows id b) j) ≡ f (row_at rows j)
@@ -182,14 +182,6 @@ index_with rows index id b c inside above h here = record {
         (other_children rows id b inside k (λ e. d (sym e)) (children_at index k) (h.each k (omega (arith, l, set_long rows id b inside))))
   ];
 }
-
--- what a row that is put in, or taken out, keeps to
-pub record IsPut (rows : List Row) (id : ℕ) : Type 0 where
-  pub inside : id < length rows
-  pub below_root : 0 < id
-  pub out : (row_at rows id).attached ≡ false
-  pub held : (row_at rows id).given_up ≡ false
-  pub shaped : IsShaped (attached_as rows id true)
 
 pub parent_inside : (rows : List Row) (id : ℕ) → IsPut rows id → (row_at rows id).parent < length rows
 parent_inside rows id put = omega (arith, put.shaped.inside id (omega (arith, put.inside, set_long rows id true put.inside)), set_parent rows id true put.inside id, set_long rows id true put.inside)
@@ -285,3 +277,44 @@ ids_inside rows k c h i l = elim (below_or_not (get_or c.ids i 0) (length rows))
   | inl g ↦ g
   | inr g ↦ let past : row_at rows (get_or c.ids i 0) ≡ blank = get_or_past rows (get_or c.ids i 0) blank g in let no : (row_at rows (get_or c.ids i 0)).attached ≡ false = ap (λ (r : Row). r.attached) past in let yes = h.attached i l in absurd (cc)
 ]
+
+-- ---- what the code reads
+
+pub read : {X : Type 0} (xs : List X) (i : ℕ) (r d : X) → i < length xs → r ≡ get_or xs i r → r ≡ get_or xs i d
+read xs i r d l e = e ∙ get_or_default xs i r d l
+
+-- the code has read the row id, whose parent's children it looks at
+pub record HasRead (rows : List Row) (index : List ChildList) (id : ℕ) (r : Row) : Type 0 where
+  pub inside : id < length rows
+  pub is : r ≡ get_or rows id r
+  pub above : (row_at rows id).parent < length rows
+  pub known : IsIndex rows index
+
+-- those children
+abbrev pub siblings : List Row → List ChildList → ℕ → ChildList
+siblings rows index id = children_at index (row_at rows id).parent
+
+module _ (rows : List Row) (kept : List ChildList) (id : ℕ) (r : Row) (x : HasRead rows kept id r) where
+  pub read_row : r ≡ row_at rows id
+  read_row = read rows id r blank x.inside x.is
+
+  pub read_above : r.parent < length kept
+  read_above = subst (λ (s : Row). s.parent < length kept) (sym read_row) (omega (arith, x.above, x.known.same))
+
+  pub read_list : IsChildList rows (row_at rows id).parent (siblings rows kept id)
+  read_list = x.known.each (row_at rows id).parent x.above
+
+  pub read_children : (l : ChildList) → l ≡ get_or kept r.parent l → l ≡ siblings rows kept id
+  read_children l e = read kept r.parent l no_children read_above e ∙ ap (λ (s : Row). children_at kept s.parent) read_row
+
+  pub read_place : (l : ChildList) → l ≡ get_or kept r.parent l → (ids : List ℕ) → ids ≡ l.ids → (place : ℕ) → IsPlace rows ids r.name place → IsPlace rows (siblings rows kept id).ids (row_at rows id).name place
+  read_place l e ids f place at =
+      subst (λ n. IsPlace rows (siblings rows kept id).ids n place) (ap (λ (s : Row). s.name) read_row)
+      (subst (λ i. IsPlace rows i r.name place) (f ∙ ap (λ (c : ChildList). c.ids) (read_children l e)) at)
+
+  pub read_ids : (l : ChildList) → l ≡ get_or kept r.parent l → (ids : List ℕ) → ids ≡ l.ids → ids ≡ (siblings rows kept id).ids
+  read_ids l e ids f = f ∙ ap (λ (c : ChildList). c.ids) (read_children l e)
+
+  -- the children of the parent are written anew
+  pub written : (rows' : List Row) (l l' : ChildList) → l ≡ l' → IsIndex rows' (set kept (row_at rows id).parent l') → IsIndex rows' (set kept r.parent l)
+  written rows' l l' e h = subst (λ (s : Row). IsIndex rows' (set kept s.parent l)) (sym read_row) (subst (λ c. IsIndex rows' (set kept (row_at rows id).parent c)) (sym e) h)
