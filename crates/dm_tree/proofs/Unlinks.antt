@@ -8,14 +8,19 @@ use Rattle.std.proofs.lemmas.List.{get_or-set_same, get_or-set_other, get_or_pas
 use Rattle.std.proofs.lemmas.List.Edits.{length-remove, get_or-remove_below, get_or-remove_above}
 use Rattle.dm_tree.specs.declared.nodes.Node.{Node}
 use Rattle.dm_tree.specs.declared.rows.Row.{Row}
+use Rattle.dm_tree.specs.declared.rows.Change.{Change}
+use Rattle.dm_tree.specs.declared.rows.Change.TheVariants as change
 use Rattle.dm_tree.specs.Rows.{blank, row_at, node_of, IsShaped, IsTree, IsParkedTop}
 use Rattle.dm_tree.specs.Edits.{attached_as, with_node, with_name, emptied, without_content}
 use Rattle.dm_tree.specs.Index.{ChildList, no_children, children_at, is_before, is_parked_below, parked_below, IsInOrder, IsChildList, IsIndex, IsPlace, IsPut, IsTaken}
+use Rattle.dm_tree.specs.Index.{IsSized}
+use Rattle.dm_tree.specs.Undos.{Fits, row_of, flipped}
+use Rattle.dm_tree.proofs.Counts.{LieAlike, sized-alike, alike-with_node, alike-with_name}
 use Rattle.dm_tree.proofs.Paths.{below_or_not, same_or_not}
-use Rattle.dm_tree.proofs.Nodewise.{of_both}
+use Rattle.dm_tree.proofs.Nodewise.{of_both, node_alike, shaped_alike}
 use Rattle.dm_tree.proofs.Grows.{set_twice, at_end_of, before_end}
 use Rattle.dm_tree.proofs.Ordered.{not_before_itself, Stood, stood, remove_order}
-use Rattle.dm_tree.proofs.Links.{LinkAlike, index-alike, order-alike, parked-same, parked-more, parked-few, parked-some, is_parked, isnt_parked, parked_elsewhere, parked_test, set_here, set_there, set_parent, set_name, set_given_up, set_long, index_with}
+use Rattle.dm_tree.proofs.Links.{LinkAlike, index-alike, order-alike, parked-same, parked-more, parked-few, parked-some, is_parked, isnt_parked, parked_elsewhere, parked_test, set_here, set_there, set_parent, set_name, set_given_up, set_long, index_with, read}
 
 -- ---- a row is taken out
 
@@ -378,3 +383,76 @@ module _ (rows out renamed : List Row) (k : ℕ) (name : List ℕ) (taken : IsTa
   pub renamed_index : (kept : List ChildList) → IsIndex out kept → IsIndex renamed kept
   renamed_index kept h = subst (λ rs. IsIndex rs kept) (sym second)
       (index-alike out (with_name out k name (node_of out k)) (link-with_name out k name (node_of out k) inside_out (ap (λ (r : Row). r.attached) row_out)) kept h)
+
+-- ---- a row is written anew
+
+-- only its node and depth may have changed
+pub index-set : (rows : List Row) (k : ℕ) (r was : Row) → k < length rows → was ≡ get_or rows k was
+    → r.parent ≡ was.parent → r.attached ≡ was.attached → r.given_up ≡ was.given_up → r.name ≡ was.name → (kept : List ChildList) → IsIndex rows kept → IsIndex (set rows k r) kept
+index-set rows k r was l e p a g n kept h =
+    let here : was ≡ row_at rows k = read rows k was blank l e in
+    index-alike rows (set rows k r) (record {
+      parent = λ j. of_both rows k r (λ s. s.parent) (p ∙ ap (λ (s : Row). s.parent) here) j l;
+      attached = λ j. of_both rows k r (λ s. s.attached) (a ∙ ap (λ (s : Row). s.attached) here) j l;
+      given_up = λ j. of_both rows k r (λ s. s.given_up) (g ∙ ap (λ (s : Row). s.given_up) here) j l;
+      name = λ j _. of_both rows k r (λ s. s.name) (n ∙ ap (λ (s : Row). s.name) here) j l;
+      long = length-set rows k r;
+    }) kept h
+
+-- its name was written before, and now its node is
+pub named_node : (rows rows1 : List Row) (k : ℕ) (name : List ℕ) (n : Node) → k < length rows → rows1 ≡ with_name rows k name (node_of rows k)
+    → (was : Row) → was ≡ get_or rows1 k was → set rows1 k (record was { node = n }) ≡ with_name rows k name n
+named_node rows rows1 k name n l e was is =
+    let here : was ≡ record (row_at rows k) { name = name; node = node_of rows k } =
+        read rows1 k was blank (omega (arith, l, ap length e, length-set rows k (record (row_at rows k) { name = name; node = node_of rows k }))) is
+        ∙ ap (λ rs. row_at rs k) e ∙ get_or-set_same rows k _ blank l in
+    ap (λ (r : Row). set rows1 k (record r { node = n })) here ∙ ap (λ rs. set rs k (record (row_at rows k) { name = name; node = n })) e ∙ set_twice rows k _ _
+
+pub node_named : (rows rows1 : List Row) (k : ℕ) (name : List ℕ) → k < length rows → rows1 ≡ with_name rows k name (node_of rows k)
+    → (was : Row) → was ≡ get_or rows1 k was → was.node ≡ node_of rows k
+node_named rows rows1 k name l e was is =
+    ap (λ (r : Row). r.node) (read rows1 k was blank (omega (arith, l, ap length e, length-set rows k (record (row_at rows k) { name = name; node = node_of rows k }))) is
+    ∙ ap (λ rs. row_at rs k) e ∙ get_or-set_same rows k _ blank l)
+
+-- rows are shaped whatever their nodes
+pub shaped-renode : (rows : List Row) (k : ℕ) (name : List ℕ) (n m : Node) → k < length rows → IsShaped (with_name rows k name n) → IsShaped (with_name rows k name m)
+shaped-renode rows k name n m l h =
+    let here : row_at (with_name rows k name n) k ≡ record (row_at rows k) { name = name; node = n } = get_or-set_same rows k _ blank l in
+    let again : with_node (with_name rows k name n) k m ≡ with_name rows k name m =
+        ap (λ (r : Row). set (with_name rows k name n) k (record r { node = m })) here ∙ set_twice rows k _ _ in
+    subst IsShaped again (shaped_alike (with_name rows k name n) (with_node (with_name rows k name n) k m) (node_alike (with_name rows k name n) k m (omega (arith, l, length-set rows k (record (row_at rows k) { name = name; node = n })))) h)
+
+-- rows that lie alike do so both ways
+pub alike-back : (rows rows' : List Row) → LieAlike rows rows' → LieAlike rows' rows
+alike-back rows rows' same = record {
+  parent = λ k. sym (same.parent k);
+  depth = λ k. sym (same.depth k);
+  attached = λ k. sym (same.attached k);
+  long = sym same.long;
+}
+
+-- what an Undo that fits puts in
+pub may_put : (rows : List Row) (k : ℕ) → Fits rows (change.PutIn k) → IsPut rows k
+may_put rows k fits = record {
+    inside = fits.inside;
+    below_root = elim (same_or_not k 0) [
+      | inl e ↦ absurd (let no : (row_at (attached_as rows k true) 0).attached ≡ false = fits.sound.shape.fixed in let yes : (row_at (attached_as rows k true) 0).attached ≡ true = ap (λ n. (row_at (attached_as rows k true) n).attached) (sym e) ∙ ap (λ (r : Row). r.attached) here in cc)
+      | inr d ↦ omega (arith, d)
+    ];
+    out = fits.ready;
+    held = sym (set_given_up rows k true fits.inside k) ∙ (fits.sound.each k (omega (arith, fits.inside, set_long rows k true fits.inside))).attached (ap (λ (r : Row). r.attached) here);
+    shaped = fits.sound.shape;
+  }
+  where
+    here : row_at (attached_as rows k true) k ≡ record (row_at rows k) { attached = true }
+    here = set_here rows k true fits.inside
+
+-- the sizes stay where a flip changes a node or a name
+pub sized-flipped : (rows : List Row) (c : Change) → row_of c < length rows → ((k : ℕ) → c ≡ change.TakeOut k → ⊥) → ((k : ℕ) → c ≡ change.PutIn k → ⊥)
+    → (sizes : List ℕ) → IsSized (flipped rows c) sizes → IsSized rows sizes
+sized-flipped rows (change.Value k value verno stamp) l out into sizes h = sized-alike (flipped rows (change.Value k value verno stamp)) rows (alike-back rows (flipped rows (change.Value k value verno stamp)) (alike-with_node rows k _ l)) sizes h
+sized-flipped rows (change.Acl k acl verno stamp) l out into sizes h = sized-alike (flipped rows (change.Acl k acl verno stamp)) rows (alike-back rows (flipped rows (change.Acl k acl verno stamp)) (alike-with_node rows k _ l)) sizes h
+sized-flipped rows (change.Title k title verno stamp) l out into sizes h = sized-alike (flipped rows (change.Title k title verno stamp)) rows (alike-back rows (flipped rows (change.Title k title verno stamp)) (alike-with_node rows k _ l)) sizes h
+sized-flipped rows (change.Name k name verno stamp) l out into sizes h = sized-alike (flipped rows (change.Name k name verno stamp)) rows (alike-back rows (flipped rows (change.Name k name verno stamp)) (alike-with_name rows k name _ l)) sizes h
+sized-flipped rows (change.TakeOut k) l out into sizes h = absurd (out k refl)
+sized-flipped rows (change.PutIn k) l out into sizes h = absurd (into k refl)
