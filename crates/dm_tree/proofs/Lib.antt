@@ -31,3 +31,4 @@ pub mod Ordered
 pub mod Links
 pub mod Unlinks
 pub mod Counts
+pub mod Kepts

@@ -9,6 +9,7 @@ use Rattle.dm_tree.specs.Edits.{with_node}
 use Rattle.dm_tree.proofs.Nodewise.{live_row, nodes-with_node, ids-with_node}
 use Rattle.dm_tree.proofs.Seen.{has_parent, above-append, node_there}
 use Rattle.dm_tree.proofs.Trees.{tree-with_mark}
+use Rattle.dm_tree.proofs.Kepts.{kept-node}
 use Rattle.dm_tree.proofs.arena.Tree.lay_permanent.Goals as goal
 
 -- the rows that the code left
@@ -22,11 +23,11 @@ invariant_of-self c =
     let tree : IsTree c.args.self.now.rows = subst (λ (t : Tree). IsTree t.rows) c.self.view_is c.self.invariant.tree in
     let inside = live_row c.args.self.now.rows tree.shape c.args.id c.requires.live in
     let held = (tree.each c.args.id inside).node in
-    subst IsTree (sym (rows_are c)) (tree-with_mark c.args.self.now.rows tree c.args.id inside (λ other.
+    kept-node _ c.args.self.now.rows _ c.args.id _ (ap (λ (t : Tree). t.rows) c.self.view_is) c.requires.live (rows_are c) (tree-with_mark c.args.self.now.rows tree c.args.id inside (λ other.
     let up = has_parent c.args.self.now.rows tree.shape c.args.id c.requires.live other in
     let there = ap (λ p. get (nodes c.args.self.now.rows) (above p)) up.path ∙ ap (get (nodes c.args.self.now.rows)) (above-append (path_of c.args.self.now.rows (row_at c.args.self.now.rows c.args.id).parent) (row_at c.args.self.now.rows c.args.id).name)
     ∙ node_there c.args.self.now.rows tree.shape (row_at c.args.self.now.rows c.args.id).parent up.live in
-    subst (λ o. IfSome o (λ (parent : Node). parent.permanent ≡ true)) there c.requires.parent))
+    subst (λ o. IfSome o (λ (parent : Node). parent.permanent ≡ true)) there c.requires.parent)) c.self.inside.index.items c.self.inside.sizes.items c.self.invariant
 
 pub returns-clause-nodes : goal.returns-clause-nodes
 returns-clause-nodes c =

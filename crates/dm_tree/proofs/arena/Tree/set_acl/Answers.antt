@@ -12,6 +12,7 @@ use Rattle.dm_tree.specs.Rows.{path_of}
 use Rattle.dm_tree.proofs.Maps.{root_live}
 use Rattle.dm_tree.proofs.Nodewise.{live_row, nodes-with_node, ids-with_node}
 use Rattle.dm_tree.proofs.Trees.{tree-with_node, takes_back, back-node}
+use Rattle.dm_tree.proofs.Kepts.{kept-node}
 use Rattle.dm_tree.proofs.arena.Tree.set_acl.Goals as goal
 
 -- the rows that the code left
@@ -28,7 +29,7 @@ kept c =
     tree-with_node c.args.self.now.rows tree c.args.id inside _ (record { value = held.value; acl = c.requires.short; title = held.title }) (record { interior = refl; permanent = refl }) (λ z. let top = subst (λ k. IsRoot (node_of c.args.self.now.rows k)) (sym z) tree.root in record { interior = top.interior; permanent = top.permanent; acl = c.requires.root (ap (path_of c.args.self.now.rows) z ∙ ap (λ o. unwrap_or o []) (root_live c.args.self.now.rows tree.shape)); media = top.media; role = top.role })
 
 pub invariant_of-self : goal.invariant_of-self
-invariant_of-self c = subst IsTree (sym (rows_are c)) (kept c)
+invariant_of-self c = kept-node _ c.args.self.now.rows _ c.args.id _ (ap (λ (t : Tree). t.rows) c.self.view_is) c.requires.live (rows_are c) (kept c) c.self.inside.index.items c.self.inside.sizes.items c.self.invariant
 
 pub returns-clause-nodes : goal.returns-clause-nodes
 returns-clause-nodes c =

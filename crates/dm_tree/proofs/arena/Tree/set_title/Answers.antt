@@ -9,6 +9,7 @@ use Rattle.dm_tree.specs.Nodes.{counted}
 use Rattle.std.proofs.Math.ListN.{length-set}
 use Rattle.dm_tree.proofs.Nodewise.{live_row, nodes-with_node, ids-with_node}
 use Rattle.dm_tree.proofs.Trees.{tree-with_node, takes_back, back-node}
+use Rattle.dm_tree.proofs.Kepts.{kept-node}
 use Rattle.dm_tree.proofs.arena.Tree.set_title.Goals as goal
 
 -- the rows that the code left
@@ -25,7 +26,7 @@ kept c =
     tree-with_node c.args.self.now.rows tree c.args.id inside _ (record { value = held.value; acl = held.acl; title = c.requires.short }) (record { interior = refl; permanent = refl }) (λ z. let top = subst (λ k. IsRoot (node_of c.args.self.now.rows k)) (sym z) tree.root in record { interior = top.interior; permanent = top.permanent; acl = top.acl; media = top.media; role = top.role })
 
 pub invariant_of-self : goal.invariant_of-self
-invariant_of-self c = subst IsTree (sym (rows_are c)) (kept c)
+invariant_of-self c = kept-node _ c.args.self.now.rows _ c.args.id _ (ap (λ (t : Tree). t.rows) c.self.view_is) c.requires.live (rows_are c) (kept c) c.self.inside.index.items c.self.inside.sizes.items c.self.invariant
 
 pub returns-clause-nodes : goal.returns-clause-nodes
 returns-clause-nodes c =

@@ -9,6 +9,7 @@ use Rattle.dm_tree.specs.Nodes.{counted}
 use Rattle.std.proofs.Math.ListN.{length-set}
 use Rattle.dm_tree.proofs.Nodewise.{live_row, nodes-with_node, ids-with_node}
 use Rattle.dm_tree.proofs.Trees.{tree-with_node, takes_back, back-node}
+use Rattle.dm_tree.proofs.Kepts.{kept-node}
 use Rattle.dm_tree.proofs.arena.Tree.set_value.Goals as goal
 
 -- the rows that the code left
@@ -25,7 +26,7 @@ kept c =
     tree-with_node c.args.self.now.rows tree c.args.id inside _ (record { value = subst (λ b. IsValue b c.args.value) (sym c.requires.leaf) c.requires.value; acl = held.acl; title = held.title }) (record { interior = refl; permanent = refl }) (λ z. absurd (let top : (node_of c.args.self.now.rows 0).interior ≡ true = tree.root.interior in let leaf : (node_of c.args.self.now.rows 0).interior ≡ false = ap (λ k. (node_of c.args.self.now.rows k).interior) (sym z) ∙ c.requires.leaf in cc))
 
 pub invariant_of-self : goal.invariant_of-self
-invariant_of-self c = subst IsTree (sym (rows_are c)) (kept c)
+invariant_of-self c = kept-node _ c.args.self.now.rows _ c.args.id _ (ap (λ (t : Tree). t.rows) c.self.view_is) c.requires.live (rows_are c) (kept c) c.self.inside.index.items c.self.inside.sizes.items c.self.invariant
 
 pub returns-clause-nodes : goal.returns-clause-nodes
 returns-clause-nodes c =
