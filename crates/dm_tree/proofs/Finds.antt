@@ -99,6 +99,10 @@ find-root rows shape q = find-ids rows shape 0 [] q (root_live rows shape)
 pub find_stuck : (rows : List Row) (at idx : ℕ) (path : Path) (name : List ℕ) → idx < length path → name ≡ get_or path idx name → child_of rows at name ≡ None → find_from rows at (drop idx path) ≡ None
 find_stuck rows at idx path name l is none_there = rw (drop-cons path idx name l, ← is, none_there) refl
 
+pub find_more : (rows : List Row) (at idx : ℕ) (path : Path) (name : List ℕ) (k : ℕ) → idx < length path → name ≡ get_or path idx name → child_of rows at name ≡ Some k
+    → find_from rows at (drop idx path) ≡ find_from rows k (drop (idx + 1) path)
+find_more rows at idx path name k l is found = rw (drop-cons path idx name l, ← is, found) (let e : suc idx ≡ idx + 1 = omega arith in ap (λ i. find_from rows k (drop i path)) e)
+
 pub find_done : (rows : List Row) (at idx : ℕ) (path : Path) → length path ≤ idx → find_from rows at (drop idx path) ≡ Some at
 find_done rows at idx path l = rw (drop_of_length-le path l) refl
 

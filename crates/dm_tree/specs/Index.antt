@@ -80,7 +80,7 @@ pub record IsSized (rows : List Row) (sizes : List ℕ) : Type 0 where
 
 -- ---- the whole
 
-pub record IsKept (rows : List Row) (index : List ChildList) (sizes : List ℕ) : Type 0 where
+pub record IsKept (rows : List Row) (children : List ChildList) (counts : List ℕ) : Type 0 where
   pub tree : IsTree rows
-  pub index : IsIndex rows index
-  pub sizes : IsSized rows sizes
+  pub index : IsIndex rows children
+  pub sizes : IsSized rows counts
