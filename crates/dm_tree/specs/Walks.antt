@@ -53,15 +53,6 @@ has_room rows id name (suc d) k room =
     then has_room rows id name d (row_at rows k).parent (room - length (name_then rows id name k) - 1)
     else false
 
--- the row doesn't lie below the root, or its path has at most 255 bytes, one of which is the dot
-abbrev pub row_fits : List Row → ℕ → List ℕ → ℕ → Bool
-row_fits rows id name k = not (is_some (path_below rows 0 k)) || has_room rows id name (row_at rows k).depth k 254
-
--- the rows before the n-th do
-abbrev pub rows_fit : List Row → ℕ → List ℕ → ℕ → Bool
-rows_fit rows id name zero = true
-rows_fit rows id name (suc n) = rows_fit rows id name n && row_fits rows id name n
-
 -- ---- children in the order of their names
 
 -- the name stands behind that of the row; all do where no row is given
