@@ -1,12 +1,12 @@
 -- What the search for the first child finds.
-use Rattle.std.proofs.Common.{◌≡◌, ℕ, zero, suc, ◌+◌, ◌-◌, ◌<◌, Bool, true, false, nat_eq, List, length, Option, None, Some, refl, sym, ap, subst, arith, inl, inr}
+use Rattle.std.proofs.Common.{◌≡◌, ℕ, zero, suc, ◌-◌, ◌<◌, Bool, true, false, nat_eq, List, length, Option, None, Some, refl, sym, ap, subst, arith, inl, inr}
 use Rattle.std.specs.Prelude.{◌&&◌, if◌then◌else◌}
 use Rattle.std.specs.Ordering.{is_lt, ordering_reverse}
 use Rattle.std.specs.declared.cmp.Ordering.{Ordering}
 use Rattle.std.specs.declared.cmp.Ordering.TheVariants.{Less, Equal, Greater}
 use Rattle.dm_tree.specs.declared.rows.Row.{Row}
 use Rattle.dm_tree.specs.Rows.{row_at}
-use Rattle.dm_tree.specs.Walks.{is_later_child, is_better, is_next, least_child, next_past}
+use Rattle.dm_tree.specs.Walks.{is_later_child, is_better, least_child, next_past}
 use Rattle.dm_tree.proofs.Paths.{same_or_not}
 use Rattle.dm_tree.proofs.Forks.{name_order, name_total, is_less}
 

@@ -1,5 +1,5 @@
 -- Where names stand among the children of a row, and what is found there.
-use Rattle.std.proofs.Common.{◌≡◌, ℕ, zero, suc, ◌+◌, ◌<◌, ◌≤◌, Bool, true, false, nat_eq, List, length, get_or, Option, None, Some, refl, sym, ◌∙◌, ap, subst, arith, inl, inr}
+use Rattle.std.proofs.Common.{◌≡◌, ℕ, ◌+◌, ◌<◌, ◌≤◌, Bool, true, false, nat_eq, List, length, get_or, Option, None, Some, refl, sym, ◌∙◌, ap, subst, arith, inl, inr}
 use Rattle.std.specs.Prelude.{◌&&◌, nat_lt, not, slice_get, bytes_eq}
 use Rattle.std.specs.Ordering.{is_lt, ordering_reverse}
 use Rattle.std.specs.declared.cmp.Ordering.{Ordering}
@@ -77,7 +77,7 @@ module _ (rows : List Row) (ids : List ℕ) (name : List ℕ) (inside : AreRows 
         | inr other ↦
             let late = from_not (is_behind rows name (get_or ids j 0)) (behind_at j l true h) in
             let early : is_behind rows name (get_or ids i 0) ≡ false = to_false (is_behind rows name (get_or ids i 0)) (λ is.
-                let yes = less_less name (row_at rows (get_or ids i 0)).name (row_at rows (get_or ids j 0)).name is (order i j (omega arith) l) in absurd (cc)) in
+            let yes = less_less name (row_at rows (get_or ids i 0)).name (row_at rows (get_or ids j 0)).name is (order i j (omega arith) l) in absurd (cc)) in
             ap (λ t. not (nat_lt (get_or ids i 0) (length rows) && t)) early ∙ by_test (nat_lt (get_or ids i 0) (length rows))
       ]
     where

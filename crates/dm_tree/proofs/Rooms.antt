@@ -1,5 +1,5 @@
 -- How long the paths of rows are, once one of them bears another name.
-use Rattle.std.proofs.Common.{◌≡◌, ◌≢◌, ℕ, zero, suc, ◌+◌, ◌-◌, ◌<◌, ◌≤◌, Bool, true, false, cond, nat_eq, List, [], ◌∷◌, ◌++◌, length, Option, None, Some, refl, sym, ◌∙◌, ap, arith, inl, inr, length-append}
+use Rattle.std.proofs.Common.{◌≡◌, ◌≢◌, ℕ, zero, suc, ◌+◌, ◌-◌, ◌<◌, ◌≤◌, Bool, true, false, cond, nat_eq, List, [], ◌∷◌, ◌++◌, length, Option, Some, refl, sym, ◌∙◌, ap, arith, inl, inr, length-append}
 use Rattle.std.specs.Prelude.{◌&&◌, ◌||◌, not, filter, nat_le, nat_lt, if◌then◌else◌}
 use Rattle.std.specs.Cmp.{both_ways}
 use Rattle.std.specs.List.{list_all}
@@ -15,7 +15,7 @@ use Rattle.dm_tree.specs.Rows.{row_at, node_of, walk, path_below, nodes, IsShape
 use Rattle.dm_tree.specs.Edits.{with_name, rekeyed, fits}
 use Rattle.dm_tree.specs.Order.{behind, below}
 use Rattle.dm_tree.specs.Walks.{name_then, has_room}
-use Rattle.dm_tree.proofs.Paths.{below_or_not, same_or_not}
+use Rattle.dm_tree.proofs.Paths.{below_or_not}
 use Rattle.dm_tree.proofs.Keys.{all_keys, keys_all}
 use Rattle.dm_tree.proofs.Climbs.{at_top, at_bottom, attached_falls, walk_up, not_zero}
 use Rattle.dm_tree.proofs.Seen.{node_there, well_formed}

@@ -1,5 +1,5 @@
 -- What the searches through the rows find, row by row.
-use Rattle.std.specs.Prelude.{◌&&◌, ◌||◌, ◌-◌, ℕ, zero, suc, Bool, true, false, not, if◌then◌else◌, nat_eq, nat_lt, bytes_eq, List, [], ◌∷◌, ◌++◌, length, is_some, Option, Some, None, option_and_then}
+use Rattle.std.specs.Prelude.{◌&&◌, ◌-◌, ℕ, zero, suc, Bool, true, false, if◌then◌else◌, nat_eq, nat_lt, bytes_eq, List, [], ◌∷◌, ◌++◌, length, is_some, Option, Some, None, option_and_then}
 use Rattle.std.specs.Option.{option_map_or, option_or}
 use Rattle.std.specs.Ordering.{nat_cmp, is_lt}
 use Rattle.std.specs.Cmp.Lexicographic.{slice_cmp}
