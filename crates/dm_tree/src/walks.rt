@@ -1,5 +1,5 @@
 // Searches downwards by name, and upwards.
-ghost use Rattle.std.specs.Prelude.{◌≡◌, ◌<◌, ◌≤◌, ◌+◌, ◌^◌, ◌++◌, length, OnOk, OnErr, IfOk, is_some};
+ghost use Rattle.std.specs.Prelude.{◌≡◌, ◌<◌, ◌≤◌, ◌+◌, ◌^◌, ◌++◌, length, bytes_eq, OnOk, OnErr, IfOk, is_some};
 ghost use Rattle.dm_tree.specs.Rows.{IsShaped, row_at, path_below};
 ghost use Rattle.dm_tree.specs.Index.{IsIndex};
 ghost use Rattle.dm_tree.specs.Walks.{child_of, find_from, path_up, row_names as names_right, row_allows as row_allows_it, deciding_row};
@@ -11,6 +11,14 @@ use dm_base::Memory;
 use dm_uri::{Name, Path};
 use std::alloc::Global;
 
+// Whether a row bears the name.
+fn is_named(rows: &[Row], id: u32, name: &Name) -> bool
+    requires { id < length rows.now }
+    ensures { result ≡ bytes_eq (row_at rows.now id).name name.now }
+{
+    rows[id as usize].name.is_same(name)
+}
+
 pub(crate) fn child_row(rows: &[Row], index: &[Children], id: u32, name: &Name) -> Option<u32>
     requires shaped { IsShaped rows.now }
     requires index { IsIndex rows.now index.now }
@@ -19,7 +27,7 @@ pub(crate) fn child_row(rows: &[Row], index: &[Children], id: u32, name: &Name) 
 {
     let ids = index[id as usize].as_slice();
     match id_at(ids, place_of(rows, ids, name)) {
-        Some(child) if rows[child as usize].name.is_same(name) => Some(child),
+        Some(child) if is_named(rows, child, name) => Some(child),
         _ => None,
     }
 }

@@ -1,8 +1,5 @@
 use Rattle.std.proofs.Common.{◌∙◌, ap, sym, subst}
-use Rattle.std.specs.Prelude.{slice_get, bytes_eq}
-use Rattle.std.proofs.lemmas.List.{get_or_default}
-use Rattle.dm_tree.specs.declared.rows.Row.{Row}
-use Rattle.dm_tree.specs.Rows.{blank}
+use Rattle.std.specs.Prelude.{slice_get}
 use Rattle.dm_tree.specs.Index.{IsPlace}
 use Rattle.dm_tree.proofs.Places.{list_read, inside_read, order_read, found_inside, child_read, other_read, none_read}
 use Rattle.dm_tree.proofs.walks.child_row.Goals as goal
@@ -17,8 +14,8 @@ place_of-requires-clause-order c =
     let list = list_read c.args.rows.now c.args.index.now c.requires.index c.args.id c.requires.inside c.index-index-id.result c.index-index-id.is in
     order_read c.args.rows.now c.args.id c.index-index-id.result list c.as_slice-ids.result.now c.as_slice-ids.ensures
 
-pub bounds-rows-child : goal.bounds-rows-child
-bounds-rows-child c =
+pub is_named-requires : goal.is_named-requires
+is_named-requires c =
     let list = list_read c.args.rows.now c.args.index.now c.requires.index c.args.id c.requires.inside c.index-index-id.result c.index-index-id.is in
     let inside = inside_read c.args.rows.now c.requires.shaped c.args.id c.index-index-id.result list c.as_slice-ids.result.now c.as_slice-ids.ensures in
     found_inside c.args.rows.now c.as_slice-ids.result.now inside c.place_of.result c.in-Some.child (sym c.in-Some.ensures)
@@ -26,21 +23,15 @@ bounds-rows-child c =
 pub returns-in-Some : goal.returns-in-Some
 returns-in-Some c =
     let list = list_read c.args.rows.now c.args.index.now c.requires.index c.args.id c.requires.inside c.index-index-id.result c.index-index-id.is in
-    let inside = inside_read c.args.rows.now c.requires.shaped c.args.id c.index-index-id.result list c.as_slice-ids.result.now c.as_slice-ids.ensures in
-    let long = found_inside c.args.rows.now c.as_slice-ids.result.now inside c.place_of.result c.in-Some.child (sym c.in-Some.ensures) in
-    let here = ap (λ (r : Row). bytes_eq r.name c.args.name.now) (sym (get_or_default c.args.rows.now c.in-Some.child c.index-rows-child.result blank long)) in
     child_read c.args.rows.now c.requires.shaped c.args.id c.index-index-id.result list c.place_of.result c.in-Some.child
-    (ap (λ l. slice_get l c.place_of.result) (sym c.as_slice-ids.ensures) ∙ sym c.in-Some.ensures) c.args.name.now (here ∙ sym c.if-is_same.ensures)
+    (ap (λ l. slice_get l c.place_of.result) (sym c.as_slice-ids.ensures) ∙ sym c.in-Some.ensures) c.args.name.now (sym c.if-is_named.ensures)
 
 pub returns-in_default : goal.returns-in_default
 returns-in_default c =
     let list = list_read c.args.rows.now c.args.index.now c.requires.index c.args.id c.requires.inside c.index-index-id.result c.index-index-id.is in
-    let inside = inside_read c.args.rows.now c.requires.shaped c.args.id c.index-index-id.result list c.as_slice-ids.result.now c.as_slice-ids.ensures in
-    let long = found_inside c.args.rows.now c.as_slice-ids.result.now inside c.place_of.result c.in-Some.child (sym c.in-Some.ensures) in
-    let here = ap (λ (r : Row). bytes_eq r.name c.args.name.now) (sym (get_or_default c.args.rows.now c.in-Some.child c.index-rows-child.result blank long)) in
     other_read c.args.rows.now c.requires.shaped c.args.id c.index-index-id.result list c.args.name.now c.place_of.result
     (subst (λ l. IsPlace c.args.rows.now l c.args.name.now c.place_of.result) c.as_slice-ids.ensures c.place_of.ensures) c.in-Some.child
-    (ap (λ l. slice_get l c.place_of.result) (sym c.as_slice-ids.ensures) ∙ sym c.in-Some.ensures) (here ∙ sym c.if-is_same.ensures)
+    (ap (λ l. slice_get l c.place_of.result) (sym c.as_slice-ids.ensures) ∙ sym c.in-Some.ensures) (sym c.if-is_named.ensures)
 
 pub returns-in_default-2 : goal.returns-in_default-2
 returns-in_default-2 c =
