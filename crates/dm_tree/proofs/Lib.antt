@@ -28,3 +28,7 @@ pub mod Steps
 pub mod Devices
 pub mod Behinds
 pub mod Spares
+pub mod Ordered
+pub mod Links
+pub mod Unlinks
+pub mod Counts

@@ -3,7 +3,8 @@ use Rattle.std.specs.Prelude.{◌≡◌, ◌≤◌, ◌<◌, ◌+◌, ◌&&◌, 
 use Rattle.std.specs.Ordering.{nat_cmp, is_lt}
 use Rattle.std.specs.Cmp.Lexicographic.{slice_cmp}
 use Rattle.dm_tree.specs.declared.rows.Row.{Row}
-use Rattle.dm_tree.specs.Rows.{row_at, ids_below, IsTree}
+use Rattle.dm_tree.specs.Rows.{row_at, ids_below, IsShaped, IsTree}
+use Rattle.dm_tree.specs.Edits.{attached_as}
 
 -- ---- the children of one row
 
@@ -58,6 +59,22 @@ pub record IsChildList (rows : List Row) (k : ℕ) (children : ChildList) : Type
 pub record IsIndex (rows : List Row) (index : List ChildList) : Type 0 where
   pub same : length index ≡ length rows
   pub each : (k : ℕ) → k < length rows → IsChildList rows k (children_at index k)
+
+-- a row that may be put in
+pub record IsPut (rows : List Row) (id : ℕ) : Type 0 where
+  pub inside : id < length rows
+  pub below_root : 0 < id
+  pub out : (row_at rows id).attached ≡ false
+  pub held : (row_at rows id).given_up ≡ false
+  pub shaped : IsShaped (attached_as rows id true)
+
+-- a row that may be taken out
+pub record IsTaken (rows : List Row) (id : ℕ) : Type 0 where
+  pub inside : id < length rows
+  pub below_root : 0 < id
+  pub attached : (row_at rows id).attached ≡ true
+  pub held : (row_at rows id).given_up ≡ false
+  pub shaped : IsShaped rows
 
 -- where a name stands among these rows, or would stand: those before the place stand before it, the others don't
 pub record IsPlace (rows : List Row) (ids : List ℕ) (name : List ℕ) (place : ℕ) : Type 0 where

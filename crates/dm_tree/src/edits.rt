@@ -11,8 +11,9 @@ ghost use Rattle.dm_tree.specs.Edits.{with_node, attached_as, new_row as new_row
 ghost use Rattle.dm_tree.specs.Undos.{Fits, TakesBack, IsInserted, IsHeld, IsDiscarded, flipped, turned};
 
 use crate::arena::Tree;
-use crate::index::{Children, add_row, forget, put_in, swap_name, take_out};
+use crate::index::{Children, add_row, forget, put_in, take_out};
 use crate::nodes::{NewNode, Node, Stamp, Value};
+use crate::renames::flip_name;
 use crate::rows::{Change, NodeId, Row, Undo};
 use crate::sizes::{count_in, count_out};
 use dm_acl::Acl;
@@ -118,7 +119,7 @@ fn parked_row(rows: &[Row], parent: u32, name: Name, node: Node) -> Row
 }
 
 // Exchanges a node's VerNo and stamp with those that an Undo keeps.
-fn swap_counts(node: &mut Node, verno: &mut u16, stamp: &mut Stamp)
+pub(crate) fn swap_counts(node: &mut Node, verno: &mut u16, stamp: &mut Stamp)
     ensures node { node.new ≡ counted node.old verno.old stamp.old }
     ensures verno { verno.new ≡ node.old.verno }
     ensures stamp { stamp.new ≡ node.old.stamp }
@@ -152,8 +153,7 @@ fn flip_row(rows: &mut Vec<Row>, index: &mut Vec<Children>, change: &mut Change)
             swap_counts(&mut row.node, verno, stamp);
         }
         Change::Name(id, name, verno, stamp) => {
-            swap_name(rows, index, *id, name);
-            swap_counts(&mut rows[*id as usize].node, verno, stamp);
+            flip_name(rows, index, *id, name, verno, stamp);
         }
         Change::TakeOut(id) => {
             let id = *id;

@@ -3,7 +3,7 @@ ghost use Rattle.std.specs.Prelude.{◌≡◌, ◌<◌, ◌≤◌, ◌&&◌, ◌
 ghost use Rattle.std.specs.List.{insert, remove};
 ghost use Rattle.dm_tree.specs.Rows.{row_at, node_of, IsShaped, IsTree, IsParkedTop};
 ghost use Rattle.dm_tree.specs.Edits.{attached_as, with_name, without_content};
-ghost use Rattle.dm_tree.specs.Index.{no_children, is_before as is_named_before, is_behind as is_named_behind, AreRows, IsInOrder, IsIndex, IsPlace, IsPlacePast};
+ghost use Rattle.dm_tree.specs.Index.{no_children, is_before as is_named_before, is_behind as is_named_behind, AreRows, IsInOrder, IsIndex, IsPut, IsTaken, IsPlace, IsPlacePast};
 
 use crate::rows::Row;
 use dm_base::Memory;
@@ -129,11 +129,7 @@ pub(crate) fn id_at(ids: &[u32], place: usize) -> Option<u32>
 
 // Puts a row among its parent's children. It takes no memory.
 fn link(rows: &[Row], index: &mut Vec<Children>, id: u32)
-    requires inside { id < length rows.now }
-    requires below_root { 0 < id }
-    requires shaped { IsShaped (attached_as rows.now id true) }
-    requires out { (row_at rows.now id).attached ≡ false }
-    requires held { (row_at rows.now id).given_up ≡ false }
+    requires out { IsPut rows.now id }
     requires index { IsIndex rows.now index.old.items }
     ensures { IsIndex (attached_as rows.now id true) index.new.items }
 {
@@ -145,11 +141,7 @@ fn link(rows: &[Row], index: &mut Vec<Children>, id: u32)
 
 // Takes a row out from among its parent's children. It takes no memory, and leaves room for it.
 fn unlink(rows: &[Row], index: &mut Vec<Children>, id: u32)
-    requires inside { id < length rows.now }
-    requires below_root { 0 < id }
-    requires shaped { IsShaped rows.now }
-    requires attached { (row_at rows.now id).attached ≡ true }
-    requires held { (row_at rows.now id).given_up ≡ false }
+    requires attached { IsTaken rows.now id }
     requires index { IsIndex rows.now index.old.items }
     ensures { IsIndex (attached_as rows.now id false) index.new.items }
 {
@@ -169,11 +161,7 @@ fn set_attached(rows: &mut Vec<Row>, id: u32, attached: bool)
 
 /// Puts a row in, with all that stands below it. It takes no memory.
 pub(crate) fn put_in(rows: &mut Vec<Row>, index: &mut Vec<Children>, id: u32)
-    requires inside { id < length rows.old.items }
-    requires below_root { 0 < id }
-    requires shaped { IsShaped (attached_as rows.old.items id true) }
-    requires out { (row_at rows.old.items id).attached ≡ false }
-    requires held { (row_at rows.old.items id).given_up ≡ false }
+    requires out { IsPut rows.old.items id }
     requires index { IsIndex rows.old.items index.old.items }
     ensures rows { rows.new.items ≡ attached_as rows.old.items id true }
     ensures index { IsIndex rows.new.items index.new.items }
@@ -184,11 +172,7 @@ pub(crate) fn put_in(rows: &mut Vec<Row>, index: &mut Vec<Children>, id: u32)
 
 /// Takes a row out, with all that stands below it. It takes no memory.
 pub(crate) fn take_out(rows: &mut Vec<Row>, index: &mut Vec<Children>, id: u32)
-    requires inside { id < length rows.old.items }
-    requires below_root { 0 < id }
-    requires shaped { IsShaped rows.old.items }
-    requires attached { (row_at rows.old.items id).attached ≡ true }
-    requires held { (row_at rows.old.items id).given_up ≡ false }
+    requires attached { IsTaken rows.old.items id }
     requires index { IsIndex rows.old.items index.old.items }
     ensures rows { rows.new.items ≡ attached_as rows.old.items id false }
     ensures index { IsIndex rows.new.items index.new.items }
@@ -236,9 +220,7 @@ fn exchange_name(rows: &mut Vec<Row>, id: u32, name: &mut Name)
 
 // Exchanges the name of a row that is in the tree or in a subtree, which gives it another place among its parent's children.
 fn move_name(rows: &mut Vec<Row>, index: &mut Vec<Children>, id: u32, name: &mut Name)
-    requires attached { (row_at rows.old.items id).attached ≡ true }
-    requires held { (row_at rows.old.items id).given_up ≡ false }
-    requires shaped { IsShaped rows.old.items }
+    requires attached { IsTaken rows.old.items id }
     requires after { IsShaped (with_name rows.old.items id name.old (node_of rows.old.items id)) }
     requires index { IsIndex rows.old.items index.old.items }
     ensures rows { rows.new.items ≡ with_name rows.old.items id name.old (node_of rows.old.items id) }
@@ -274,6 +256,6 @@ pub(crate) fn forget(rows: &[Row], index: &mut Vec<Children>, id: u32)
     requires index { IsIndex rows.now index.old.items }
     ensures { IsIndex (without_content rows.now id) index.new.items }
 {
-    let parent = rows[id as usize].parent as usize;
-    index[parent].give_up();
+    let row = &rows[id as usize];
+    index[row.parent as usize].give_up();
 }

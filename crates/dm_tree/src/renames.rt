@@ -2,7 +2,7 @@
 ghost use Rattle.std.specs.Prelude.{◌≡◌, ◌<◌, ◌+◌, ◌++◌, ◌∷◌, [], false, length, IsTrue, IfSome};
 ghost use Rattle.std.specs.FinMap as map;
 ghost use Rattle.dm_tree.specs.declared.rows.Change.TheVariants as change;
-ghost use Rattle.dm_tree.specs.Nodes.{above, changed};
+ghost use Rattle.dm_tree.specs.Nodes.{above, changed, counted};
 ghost use Rattle.dm_tree.specs.Rows.{nodes, ids, row_at, node_of, path_of, IsLive, IsShaped, IsTree};
 ghost use Rattle.dm_tree.specs.Index.{IsIndex};
 ghost use Rattle.dm_tree.specs.Edits.{with_name, renamed, fits as all_fit, StayRenamed};
@@ -10,7 +10,7 @@ ghost use Rattle.dm_tree.specs.Undos.{TakesBack};
 ghost use Rattle.dm_tree.specs.Walks.{name_then, has_room as rows_have_room};
 
 use crate::arena::Tree;
-use crate::edits::raised;
+use crate::edits::{raised, swap_counts};
 use crate::index::{Children, swap_name};
 use crate::nodes::Stamp;
 use crate::rows::{Change, NodeId, Row, Undo};
@@ -54,6 +54,29 @@ fn path_fits(rows: &[Row], id: u32, name: &Name, at: u32) -> bool
     has_room(rows, id, name, at, rows[at as usize].depth, ROOM)
 }
 
+/// Exchanges the name of a row, and its node's VerNo and stamp. It takes no memory.
+pub(crate) fn flip_name(
+    rows: &mut Vec<Row>,
+    index: &mut Vec<Children>,
+    id: u32,
+    name: &mut Name,
+    verno: &mut u16,
+    stamp: &mut Stamp,
+)
+    requires inside { id < length rows.old.items }
+    requires tree { IsTree rows.old.items }
+    requires after { IsShaped (with_name rows.old.items id name.old (counted (node_of rows.old.items id) verno.old stamp.old)) }
+    requires index { IsIndex rows.old.items index.old.items }
+    ensures rows { rows.new.items ≡ with_name rows.old.items id name.old (counted (node_of rows.old.items id) verno.old stamp.old) }
+    ensures name { name.new ≡ (row_at rows.old.items id).name }
+    ensures verno { verno.new ≡ (node_of rows.old.items id).verno }
+    ensures stamp { stamp.new ≡ (node_of rows.old.items id).stamp }
+    ensures index { IsIndex rows.new.items index.new.items }
+{
+    swap_name(rows, index, id, name);
+    swap_counts(&mut rows[id as usize].node, verno, stamp);
+}
+
 fn put_name(
     rows: &mut Vec<Row>,
     index: &mut Vec<Children>,
@@ -63,19 +86,16 @@ fn put_name(
 ) -> Change
     requires inside { id < length rows.old.items }
     requires tree { IsTree rows.old.items }
-    requires after { IsShaped (with_name rows.old.items id name (node_of rows.old.items id)) }
+    requires after { IsShaped (with_name rows.old.items id name (changed clock (node_of rows.old.items id))) }
     requires index { IsIndex rows.old.items index.old.items }
     ensures rows { rows.new.items ≡ with_name rows.old.items id name (changed clock (node_of rows.old.items id)) }
     ensures change { result ≡ change.Name id (row_at rows.old.items id).name
         (node_of rows.old.items id).verno (node_of rows.old.items id).stamp }
     ensures index { IsIndex rows.new.items index.new.items }
 {
-    let mut name = name;
-    swap_name(rows, index, id, &mut name);
-    let node = &mut rows[id as usize].node;
-    let (verno, stamp) = (node.verno, node.stamp);
-    node.verno = raised(verno);
-    node.stamp = clock;
+    let (mut name, mut stamp) = (name, clock);
+    let mut verno = raised(rows[id as usize].node.verno);
+    flip_name(rows, index, id, &mut name, &mut verno, &mut stamp);
     Change::Name(id, name, verno, stamp)
 }
 
