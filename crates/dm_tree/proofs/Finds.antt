@@ -1,10 +1,9 @@
 -- What the searches find is what the maps say.
-use Rattle.std.proofs.Common.{◌≡◌, ℕ, zero, suc, ◌+◌, ◌<◌, ◌≤◌, Bool, true, false, cond, nat_eq, List, [], ◌∷◌, ◌++◌, length, Option, None, Some, get_or, refl, sym, ◌∙◌, ap, subst, arith, drop, drop-cons, append_assoc, append-nil}
+use Rattle.std.proofs.Common.{◌≡◌, ℕ, zero, suc, ◌+◌, ◌<◌, Bool, true, false, cond, nat_eq, List, [], ◌∷◌, ◌++◌, length, Option, None, Some, get_or, refl, sym, ◌∙◌, ap, subst, arith, drop, drop-cons, append_assoc, append-nil}
 use Rattle.dm_tree.specs.declared.rows.Row.{Row}
 use Rattle.dm_tree.specs.Nodes.{Path}
 use Rattle.dm_tree.specs.Rows.{blank, row_at, path_below, ids, IsShaped, IsLive, path_of}
 use Rattle.dm_tree.specs.Walks.{is_child, child_of, find_from}
-use Rattle.std.proofs.Math.ListN.{drop_of_length-le}
 use Rattle.std.proofs.lemmas.Bool.Decides.{nat_tests}
 use Rattle.std.specs.List.{position_from}
 use Rattle.std.specs.Cmp.Lexicographic.{same_text, nat_list_eq_equiv}
@@ -96,11 +95,9 @@ find-ids rows shape k p (n ∷ ns) at = find_step rows shape k p n ns at (λ j h
 pub find-root : (rows : List Row) → IsShaped rows → (q : Path) → find_from rows 0 q ≡ get (ids rows) q
 find-root rows shape q = find-ids rows shape 0 [] q (root_live rows shape)
 
-pub find_stuck : (rows : List Row) (at idx : ℕ) (path : Path) (name : List ℕ) → idx < length path → name ≡ get_or path idx name → child_of rows at name ≡ None → find_from rows at (drop idx path) ≡ None
-find_stuck rows at idx path name l is none_there = rw (drop-cons path idx name l, ← is, none_there) refl
-
-pub find_done : (rows : List Row) (at idx : ℕ) (path : Path) → length path ≤ idx → find_from rows at (drop idx path) ≡ Some at
-find_done rows at idx path l = rw (drop_of_length-le path l) refl
+pub find_more : (rows : List Row) (at idx : ℕ) (path : Path) (name : List ℕ) (k : ℕ) → idx < length path → name ≡ get_or path idx name → child_of rows at name ≡ Some k
+    → find_from rows at (drop idx path) ≡ find_from rows k (drop (idx + 1) path)
+find_more rows at idx path name k l is found = rw (drop-cons path idx name l, ← is, found) (let e : suc idx ≡ idx + 1 = omega arith in ap (λ i. find_from rows k (drop i path)) e)
 
 pub child-ids : (rows : List Row) → IsShaped rows → (k : ℕ) → IsLive rows k → (name : List ℕ) → child_of rows k name ≡ get (ids rows) (path_of rows k ++ name ∷ [])
 child-ids rows shape k live name = last_one (child_of rows k name) ∙ find-ids rows shape k (path_of rows k) (name ∷ []) live

@@ -1,23 +1,23 @@
 -- What the search for the first child finds.
-use Rattle.std.proofs.Common.{◌≡◌, ℕ, zero, suc, ◌+◌, ◌-◌, ◌<◌, Bool, true, false, nat_eq, List, length, Option, None, Some, refl, sym, ap, subst, arith, inl, inr}
+use Rattle.std.proofs.Common.{◌≡◌, ℕ, zero, suc, ◌-◌, ◌<◌, Bool, true, false, nat_eq, List, length, Option, None, Some, refl, sym, ap, subst, arith, inl, inr}
 use Rattle.std.specs.Prelude.{◌&&◌, if◌then◌else◌}
 use Rattle.std.specs.Ordering.{is_lt, ordering_reverse}
 use Rattle.std.specs.declared.cmp.Ordering.{Ordering}
 use Rattle.std.specs.declared.cmp.Ordering.TheVariants.{Less, Equal, Greater}
 use Rattle.dm_tree.specs.declared.rows.Row.{Row}
 use Rattle.dm_tree.specs.Rows.{row_at}
-use Rattle.dm_tree.specs.Walks.{is_later_child, is_better, is_next, least_child, next_past}
+use Rattle.dm_tree.specs.Walks.{is_later_child, is_better, least_child, next_past}
 use Rattle.dm_tree.proofs.Paths.{same_or_not}
 use Rattle.dm_tree.proofs.Forks.{name_order, name_total, is_less}
-
-pub one_more_child : (rows : List Row) (id : ℕ) (after : Option ℕ) (n : ℕ)
-    → least_child rows id after (n + 1) ≡ (if is_next rows id after (least_child rows id after n) (row_at rows n) then Some n else least_child rows id after n)
-one_more_child rows id after n = let e : n + 1 ≡ suc n = omega arith in rw e refl
 
 pub past_one : (rows : List Row) (top d k : ℕ) → 0 < d → nat_eq k top ≡ false → least_child rows (row_at rows k).parent (Some k) (length rows) ≡ None
     → next_past rows top d k ≡ next_past rows top (d - 1) (row_at rows k).parent
 past_one rows top zero k some other none_there = absurd (omega arith)
 past_one rows top (suc d) k some other none_there = let e : suc d - 1 ≡ d = omega arith in rw (other, none_there, e) refl
+
+pub past_found : (rows : List Row) (top d k c : ℕ) → 0 < d → nat_eq k top ≡ false → least_child rows (row_at rows k).parent (Some k) (length rows) ≡ Some c → next_past rows top d k ≡ Some c
+past_found rows top zero k c some other found = absurd (omega arith)
+past_found rows top (suc d) k c some other found = rw (other, found) refl
 
 -- none of the first n rows is a child behind `after`
 abbrev pub HasNoChild : List Row → ℕ → Option ℕ → ℕ → Type 0
@@ -33,7 +33,7 @@ abbrev pub IsLeastChild : List Row → ℕ → Option ℕ → ℕ → Option ℕ
 IsLeastChild rows id after n None = HasNoChild rows id after n
 IsLeastChild rows id after n (Some c) = IsLeast rows id after n c
 
-itself_not_less : (a : List ℕ) → is_lt (name_order a a) ≡ false
+pub itself_not_less : (a : List ℕ) → is_lt (name_order a a) ≡ false
 itself_not_less a = by_order (name_order a a) (name_total.antisymm a a)
   where
     by_order : (o : Ordering) → o ≡ ordering_reverse o → is_lt o ≡ false
@@ -42,7 +42,7 @@ itself_not_less a = by_order (name_order a a) (name_total.antisymm a a)
     by_order Greater e = refl
 
 -- what isn't before b isn't before what is before b
-not_before_less : (a b c : List ℕ) → is_lt (name_order a b) ≡ false → is_lt (name_order c b) ≡ true → is_lt (name_order a c) ≡ false
+pub not_before_less : (a b c : List ℕ) → is_lt (name_order a b) ≡ false → is_lt (name_order c b) ≡ true → is_lt (name_order a c) ≡ false
 not_before_less a b c h k =
     elim (is_lt (name_order a c)) as (λ t. is_lt (name_order a c) ≡ t → t ≡ false) [
       | true ↦ λ is. let less : is_lt (name_order a b) ≡ true = ap is_lt (name_total.trans a c b (is_less (name_order a c) is) (is_less (name_order c b) k)) in absurd (cc)

@@ -23,6 +23,7 @@ pub mod Rooms
 pub mod Forks
 pub mod Firsts
 pub mod Leasts
+pub mod Places
 pub mod Steps
 pub mod Devices
 pub mod Behinds

@@ -1,21 +1,25 @@
 -- How long the paths of rows are, once one of them bears another name.
-use Rattle.std.proofs.Common.{◌≡◌, ◌≢◌, ℕ, zero, suc, ◌+◌, ◌-◌, ◌<◌, ◌≤◌, Bool, true, false, nat_eq, List, [], ◌∷◌, ◌++◌, length, Option, None, Some, refl, sym, ◌∙◌, ap, arith, inl, inr, length-append}
-use Rattle.std.specs.Prelude.{nat_le, nat_lt, if◌then◌else◌}
+use Rattle.std.proofs.Common.{◌≡◌, ◌≢◌, ℕ, zero, suc, ◌+◌, ◌-◌, ◌<◌, ◌≤◌, Bool, true, false, cond, nat_eq, List, [], ◌∷◌, ◌++◌, length, Option, Some, refl, sym, ◌∙◌, ap, arith, inl, inr, length-append}
+use Rattle.std.specs.Prelude.{◌&&◌, ◌||◌, not, filter, nat_le, nat_lt, if◌then◌else◌}
 use Rattle.std.specs.Cmp.{both_ways}
-use Rattle.std.specs.FinMap.{get}
-use Rattle.std.proofs.lemmas.Bool.{and_from, and_parts}
+use Rattle.std.specs.List.{list_all}
+use Rattle.std.specs.Option.{option_map_or}
+use Rattle.std.specs.FinMap.{get, keys}
+use Rattle.std.proofs.lemmas.Bool.{and_parts, and_left, or_right}
 use Rattle.std.proofs.lemmas.Bool.Decides.{nat_tests}
-use Rattle.dm_uri.specs.Names.{printed_path, joined}
+use Rattle.dm_uri.specs.Names.{is_short, printed_path, joined}
 use Rattle.dm_tree.specs.declared.nodes.Node.{Node}
 use Rattle.dm_tree.specs.declared.rows.Row.{Row}
-use Rattle.dm_tree.specs.Nodes.{Path}
-use Rattle.dm_tree.specs.Rows.{row_at, node_of, walk, path_below, nodes, IsShaped, IsLive, path_of}
+use Rattle.dm_tree.specs.Nodes.{Path, is_below}
+use Rattle.dm_tree.specs.Rows.{row_at, node_of, walk, path_below, nodes, IsShaped, IsTree, IsLive, path_of}
 use Rattle.dm_tree.specs.Edits.{with_name, rekeyed, fits}
-use Rattle.dm_tree.specs.Walks.{name_then, has_room, row_fits, rows_fit}
-use Rattle.dm_tree.proofs.Paths.{below_or_not, same_or_not}
+use Rattle.dm_tree.specs.Order.{behind, below}
+use Rattle.dm_tree.specs.Walks.{name_then, has_room}
+use Rattle.dm_tree.proofs.Paths.{below_or_not}
 use Rattle.dm_tree.proofs.Keys.{all_keys, keys_all}
 use Rattle.dm_tree.proofs.Climbs.{at_top, at_bottom, attached_falls, walk_up, not_zero}
-use Rattle.dm_tree.proofs.Seen.{live_at, node_there, row_there}
+use Rattle.dm_tree.proofs.Seen.{node_there, well_formed}
+use Rattle.dm_tree.proofs.Behinds.{below-is}
 use Rattle.dm_tree.proofs.Rekeyed.{parent_then, depth_then, attached_then, here_then, other_then, lies_then}
 
 -- ---- paths in print
@@ -89,49 +93,74 @@ module _ (rows : List Row) (shape : IsShaped rows) (k : ℕ) (live : IsLive rows
       (λ l. room_is d (row_at rows i).parent u.above (room - length (name_then rows k name i) - 1) parents up)
       ∙ ap (λ n. nat_le n (room + 1)) (sym longer)
 
-  row_fit : (i : ℕ) (p : Path) → path_below rows 0 i ≡ Some p → row_fits rows k name i ≡ nat_le (length (printed_path (rekeyed (path_of rows k) name p))) 255
-  row_fit i p e =
+  -- the path of a row of the tree has at most 255 bytes exactly where its names and slashes have 254
+  pub path_fit : (i : ℕ) (p : Path) → path_below rows 0 i ≡ Some p → has_room rows k name (row_at rows i).depth i 254 ≡ nat_le (length (printed_path (rekeyed (path_of rows k) name p))) 255
+  path_fit i p e =
       let lies : walk (with_name rows k name node) (row_at rows i).depth 0 i ≡ Some (rekeyed (path_of rows k) name p) =
       ap (λ d. walk (with_name rows k name node) d 0 i) (sym (depth_then rows shape k live name node i)) ∙ lies_then rows shape k live name node i p e in
-      rw e (room_is (row_at rows i).depth i _ 254 refl lies)
+      room_is (row_at rows i).depth i _ 254 refl lies
 
--- ---- all rows
+-- ---- the rows at and below the one that gets the name
 
-each_fits : (rows : List Row) (k : ℕ) (name : List ℕ) (n i : ℕ) → rows_fit rows k name n ≡ true → i < n → row_fits rows k name i ≡ true
-each_fits rows k name zero i all l = absurd (omega arith)
-each_fits rows k name (suc n) i all l =
-    let both = and_parts (rows_fit rows k name n) (row_fits rows k name n) all in
-    elim (same_or_not i n) [
-      | inl h ↦ ap (row_fits rows k name) h ∙ both.1
-      | inr h ↦ each_fits rows k name n i both.0 (omega arith)
-    ]
-
-all_fit : (rows : List Row) (k : ℕ) (name : List ℕ) (n : ℕ) → ((i : ℕ) → row_fits rows k name i ≡ true) → rows_fit rows k name n ≡ true
-all_fit rows k name zero each = refl
-all_fit rows k name (suc n) each = and_from (rows_fit rows k name n) (row_fits rows k name n) (all_fit rows k name n each) (each n)
-
-pub one_unfit : (rows : List Row) (k : ℕ) (name : List ℕ) (n i : ℕ) → i < n → row_fits rows k name i ≡ false → rows_fit rows k name n ≡ false
-one_unfit rows k name n i l unfit =
-    elim (rows_fit rows k name n) as (λ b. rows_fit rows k name n ≡ b → b ≡ false) [
-      | true ↦ λ all. let yes = each_fits rows k name n i all l in absurd (cc)
-      | false ↦ λ _. refl
+all_filtered : (f g : Path → Bool) (qs : List Path) → list_all f (filter g qs) ≡ list_all (λ q. not (g q) || f q) qs
+all_filtered f g [] = refl
+all_filtered f g (q ∷ qs) =
+    elim (g q) as (λ b. g q ≡ b → list_all f (cond b (q ∷ filter g qs) (filter g qs)) ≡ (not b || f q) && list_all (λ r. not (g r) || f r) qs) [
+      | true ↦ λ is. ap (λ b. f q && b) (all_filtered f g qs)
+      | false ↦ λ is. all_filtered f g qs
     ] refl
 
-pub one_more_fits : (rows : List Row) (k : ℕ) (name : List ℕ) (n : ℕ) → rows_fit rows k name n ≡ true → row_fits rows k name n ≡ true → rows_fit rows k name (n + 1) ≡ true
-one_more_fits rows k name n all one = let e : n + 1 ≡ suc n = omega arith in rw e (and_from (rows_fit rows k name n) (row_fits rows k name n) all one)
+abbrev pub then_fits : Path → List ℕ → Path → Bool
+then_fits p name q = nat_le (length (printed_path (rekeyed p name q))) 255
 
-pub fits-is : (rows : List Row) → IsShaped rows → (k : ℕ) → IsLive rows k → (name : List ℕ) → rows_fit rows k name (length rows) ≡ fits (nodes rows) (path_of rows k) name
-fits-is rows shape k live name = both_ways _ _ to from
+-- a path that doesn't go through the node stays as it is
+unmoved : (p : Path) (name : List ℕ) (q : Path) → is_below p q ≡ false → rekeyed p name q ≡ q
+unmoved [] name q apart = refl
+unmoved (n ∷ ns) name q apart = rw apart refl
+
+-- the other paths keep to the limit as it is
+pub below_decides : (rows : List Row) → IsTree rows → (p : Path) (name : List ℕ) → list_all (then_fits p name) (below (nodes rows) p) ≡ fits (nodes rows) p name
+below_decides rows tree p name = all_filtered (then_fits p name) (is_below p) (keys (nodes rows)) ∙ both_ways _ _ to from
   where
-    to : rows_fit rows k name (length rows) ≡ true → fits (nodes rows) (path_of rows k) name ≡ true
-    to all = all_keys (nodes rows) _ (λ q x h. let s = row_there rows q x h in sym (row_fit rows shape k live name (node_of rows k) s.row q s.lies) ∙ each_fits rows k name (length rows) s.row all s.inside)
+    apart_fits : (q : Path) (x : Node) → get (nodes rows) q ≡ Some x → is_below p q ≡ false → then_fits p name q ≡ true
+    apart_fits q x e apart =
+        let limits = (well_formed rows tree).paths q x e in
+        ap (λ r. nat_le (length (printed_path r)) 255) (unmoved p name q apart) ∙ (and_parts (list_all is_short q && nat_le (length q) 16) (nat_le (length (printed_path q)) 255) limits.1).1
 
-    fits_at : fits (nodes rows) (path_of rows k) name ≡ true → (i : ℕ) (o : Option Path) → path_below rows 0 i ≡ o → row_fits rows k name i ≡ true
-    fits_at all i None e = rw e refl
-    fits_at all i (Some p) e =
-        let there = live_at rows i p e in
-        row_fit rows shape k live name (node_of rows k) i p e
-        ∙ keys_all (nodes rows) _ p (node_of rows i) all (ap (get (nodes rows)) (sym there.1) ∙ node_there rows shape i there.0)
+    to_one : (q : Path) (x : Node) → get (nodes rows) q ≡ Some x → not (is_below p q) || then_fits p name q ≡ true → then_fits p name q ≡ true
+    to_one q x e h =
+        elim (is_below p q) as (λ b. is_below p q ≡ b → not b || then_fits p name q ≡ true → then_fits p name q ≡ true) [
+          | true ↦ λ is g. g
+          | false ↦ λ is g. apart_fits q x e is
+        ] refl h
 
-    from : fits (nodes rows) (path_of rows k) name ≡ true → rows_fit rows k name (length rows) ≡ true
-    from all = all_fit rows k name (length rows) (λ i. fits_at all i (path_below rows 0 i) refl)
+    to : list_all (λ q. not (is_below p q) || then_fits p name q) (keys (nodes rows)) ≡ true → fits (nodes rows) p name ≡ true
+    to all = all_keys (nodes rows) (then_fits p name) (λ q x e. to_one q x e (keys_all (nodes rows) (λ r. not (is_below p r) || then_fits p name r) q x all e))
+
+    from : fits (nodes rows) p name ≡ true → list_all (λ q. not (is_below p q) || then_fits p name q) (keys (nodes rows)) ≡ true
+    from all = all_keys (nodes rows) (λ q. not (is_below p q) || then_fits p name q) (λ q x e. or_right (not (is_below p q)) (then_fits p name q) (keys_all (nodes rows) (then_fits p name) q x all e))
+
+-- ---- one row after the other
+
+-- the paths from a row on among those at and below the row k; none at the end
+abbrev pub still_to_come : List Row → ℕ → Option ℕ → List Path
+still_to_come rows k at = option_map_or (λ here. path_of rows here ∷ behind (nodes rows) (path_of rows k) (path_of rows here) false) at []
+
+-- those from the row k on are all of them
+pub all_to_come : (rows : List Row) → IsTree rows → (k : ℕ) → IsLive rows k → (name : List ℕ)
+    → list_all (then_fits (path_of rows k) name) (still_to_come rows k (Some k)) ≡ fits (nodes rows) (path_of rows k) name
+all_to_come rows tree k live name =
+    ap (list_all (then_fits (path_of rows k) name)) (sym (below-is (nodes rows) (path_of rows k) (node_of rows k) (node_there rows tree.shape k live))) ∙ below_decides rows tree (path_of rows k) name
+
+pub one_unfit : (rows : List Row) (shape : IsShaped rows) (k : ℕ) (live : IsLive rows k) (name : List ℕ) (here : ℕ) → IsLive rows here → has_room rows k name (row_at rows here).depth here 254 ≡ false
+    → list_all (then_fits (path_of rows k) name) (still_to_come rows k (Some here)) ≡ false
+one_unfit rows shape k live name here there unfit =
+    and_left (then_fits (path_of rows k) name (path_of rows here)) _ (sym (path_fit rows shape k live name (node_of rows k) here (path_of rows here) there) ∙ unfit)
+
+pub one_fits : (rows : List Row) (shape : IsShaped rows) (k : ℕ) (live : IsLive rows k) (name : List ℕ) (here : ℕ) → IsLive rows here → has_room rows k name (row_at rows here).depth here 254 ≡ true
+    → (next : Option ℕ) → behind (nodes rows) (path_of rows k) (path_of rows here) false ≡ still_to_come rows k next
+    → list_all (then_fits (path_of rows k) name) (still_to_come rows k next) ≡ list_all (then_fits (path_of rows k) name) (still_to_come rows k (Some here))
+one_fits rows shape k live name here there fit next rest =
+    ap (list_all (then_fits (path_of rows k) name)) (sym rest)
+    ∙ ap (λ b. b && list_all (then_fits (path_of rows k) name) (behind (nodes rows) (path_of rows k) (path_of rows here) false))
+    (sym (sym (path_fit rows shape k live name (node_of rows k) here (path_of rows here) there) ∙ fit))

@@ -1,5 +1,5 @@
 -- What the searches through the rows find, row by row.
-use Rattle.std.specs.Prelude.{◌&&◌, ◌||◌, ◌-◌, ℕ, zero, suc, Bool, true, false, not, if◌then◌else◌, nat_eq, nat_lt, bytes_eq, List, [], ◌∷◌, ◌++◌, length, is_some, Option, Some, None, option_and_then}
+use Rattle.std.specs.Prelude.{◌&&◌, ◌-◌, ℕ, zero, suc, Bool, true, false, if◌then◌else◌, nat_eq, nat_lt, bytes_eq, List, [], ◌∷◌, ◌++◌, length, is_some, Option, Some, None, option_and_then}
 use Rattle.std.specs.Option.{option_map_or, option_or}
 use Rattle.std.specs.Ordering.{nat_cmp, is_lt}
 use Rattle.std.specs.Cmp.Lexicographic.{slice_cmp}
@@ -52,15 +52,6 @@ has_room rows id name (suc d) k room =
     if nat_lt (length (name_then rows id name k)) room
     then has_room rows id name d (row_at rows k).parent (room - length (name_then rows id name k) - 1)
     else false
-
--- the row doesn't lie below the root, or its path has at most 255 bytes, one of which is the dot
-abbrev pub row_fits : List Row → ℕ → List ℕ → ℕ → Bool
-row_fits rows id name k = not (is_some (path_below rows 0 k)) || has_room rows id name (row_at rows k).depth k 254
-
--- the rows before the n-th do
-abbrev pub rows_fit : List Row → ℕ → List ℕ → ℕ → Bool
-rows_fit rows id name zero = true
-rows_fit rows id name (suc n) = rows_fit rows id name n && row_fits rows id name n
 
 -- ---- children in the order of their names
 

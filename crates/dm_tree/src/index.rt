@@ -1,5 +1,5 @@
 // The children of each row in the byte order of their names, so that no search looks at every row.
-ghost use Rattle.std.specs.Prelude.{◌≡◌, ◌<◌, ◌≤◌, ◌+◌, ◌-◌, ◌^◌, ◌++◌, ◌∷◌, [], length, true, false, OnOk, OnErr};
+ghost use Rattle.std.specs.Prelude.{◌≡◌, ◌<◌, ◌≤◌, ◌&&◌, ◌+◌, ◌-◌, ◌^◌, ◌++◌, ◌∷◌, [], length, nat_lt, slice_get, true, false, OnOk, OnErr};
 ghost use Rattle.std.specs.List.{insert, remove};
 ghost use Rattle.dm_tree.specs.Rows.{row_at, node_of, IsShaped, IsTree, IsParkedTop};
 ghost use Rattle.dm_tree.specs.Edits.{attached_as, with_name, without_content};
@@ -89,21 +89,17 @@ impl Children {
 }
 
 fn is_before(rows: &[Row], id: u32, name: &Name) -> bool
-    ensures { id < length rows.now → result ≡ is_named_before rows.now name.now id }
+    ensures { result ≡ (nat_lt id (length rows.now) && is_named_before rows.now name.now id) }
 {
-    match rows.get(id as usize) {
-        Some(row) => row.name.compare(name) == Ordering::Less,
-        None => false,
-    }
+    let at = id as usize;
+    at < rows.len() && rows[at].name.compare(name) == Ordering::Less
 }
 
 fn is_behind(rows: &[Row], id: u32, name: &Name) -> bool
-    ensures { id < length rows.now → result ≡ is_named_behind rows.now name.now id }
+    ensures { result ≡ (nat_lt id (length rows.now) && is_named_behind rows.now name.now id) }
 {
-    match rows.get(id as usize) {
-        Some(row) => name.compare(&row.name) == Ordering::Less,
-        None => false,
-    }
+    let at = id as usize;
+    at < rows.len() && name.compare(&rows[at].name) == Ordering::Less
 }
 
 /// Where a name stands among the children of a row, or where it would.
@@ -122,6 +118,13 @@ pub(crate) fn place_past(rows: &[Row], ids: &[u32], name: &Name) -> usize
     ensures { IsPlacePast rows.now ids.now name.now result }
 {
     ids.partition_point(|id| !is_behind(rows, *id, name))
+}
+
+/// The row at a place; none at the end.
+pub(crate) fn id_at(ids: &[u32], place: usize) -> Option<u32>
+    ensures { result ≡ slice_get ids.now place }
+{
+    ids.get(place).copied()
 }
 
 // Puts a row among its parent's children. It takes no memory.

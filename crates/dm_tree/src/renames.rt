@@ -7,14 +7,13 @@ ghost use Rattle.dm_tree.specs.Rows.{nodes, ids, row_at, node_of, path_of, IsLiv
 ghost use Rattle.dm_tree.specs.Index.{IsIndex};
 ghost use Rattle.dm_tree.specs.Edits.{with_name, renamed, fits as all_fit, StayRenamed};
 ghost use Rattle.dm_tree.specs.Undos.{TakesBack};
-ghost use Rattle.dm_tree.specs.Walks.{name_then, has_room as rows_have_room, row_fits as row_fits_then};
+ghost use Rattle.dm_tree.specs.Walks.{name_then, has_room as rows_have_room};
 
 use crate::arena::Tree;
 use crate::edits::{raised, swap_counts};
 use crate::index::{Children, swap_name};
 use crate::nodes::Stamp;
 use crate::rows::{Change, NodeId, Row, Undo};
-use crate::walks::is_in;
 use dm_uri::Name;
 
 // A path has at most 255 bytes in print, and the dot in front is one of them.
@@ -46,13 +45,13 @@ fn has_room(rows: &[Row], id: u32, name: &Name, at: u32, left: u32, room: usize)
     length < room && has_room(rows, id, name, parent, left - 1, room - length - 1)
 }
 
-// Whether a row doesn't lie below the root, or its path keeps to the limit.
-fn row_fits(rows: &[Row], id: u32, name: &Name, at: u32) -> bool
+// Whether the path of a row of the tree then keeps to the limit.
+fn path_fits(rows: &[Row], id: u32, name: &Name, at: u32) -> bool
     requires shaped { IsShaped rows.now }
     requires inside { at < length rows.now }
-    ensures { result ≡ row_fits_then rows.now id name.now at }
+    ensures { result ≡ rows_have_room rows.now id name.now (row_at rows.now at).depth at 254 }
 {
-    !is_in(rows, at) || has_room(rows, id, name, at, rows[at as usize].depth, ROOM)
+    has_room(rows, id, name, at, rows[at as usize].depth, ROOM)
 }
 
 /// Exchanges the name of a row, and its node's VerNo and stamp. It takes no memory.
@@ -109,7 +108,7 @@ impl Tree {
     {
         let mut at = Some(id);
         while let Some(here) = at {
-            if !row_fits(&self.rows, id.row(), name, here.row()) {
+            if !path_fits(&self.rows, id.row(), name, here.row()) {
                 return false;
             }
             at = self.next_below(id, here, false);

@@ -9,7 +9,7 @@ ghost use Rattle.dm_tree.specs.Walks.{least_child as least_child_of, next_past a
 ghost use Rattle.dm_tree.specs.Index.{IsIndex};
 
 use crate::arena::Tree;
-use crate::index::{Children, place_past};
+use crate::index::{Children, id_at, place_past};
 use crate::rows::{NodeId, Row};
 
 // Of the children of `id` behind a row, the first by name.
@@ -21,11 +21,10 @@ fn least_child(rows: &[Row], index: &[Children], id: u32, after: Option<u32>) ->
     ensures { result ≡ least_child_of rows.now id after (length rows.now) }
 {
     let ids = index[id as usize].as_slice();
-    let place = match after {
-        None => 0,
-        Some(row) => place_past(rows, ids, &rows[row as usize].name),
-    };
-    ids.get(place).copied()
+    match after {
+        None => id_at(ids, 0),
+        Some(row) => id_at(ids, place_past(rows, ids, &rows[row as usize].name)),
+    }
 }
 
 // The first sibling behind a row or behind one of those above it, up to `top`.

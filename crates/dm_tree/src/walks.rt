@@ -1,15 +1,23 @@
 // Searches downwards by name, and upwards.
-ghost use Rattle.std.specs.Prelude.{◌≡◌, ◌<◌, ◌≤◌, ◌+◌, ◌^◌, ◌++◌, length, OnOk, OnErr, IfOk, is_some};
+ghost use Rattle.std.specs.Prelude.{◌≡◌, ◌<◌, ◌≤◌, ◌+◌, ◌^◌, ◌++◌, length, bytes_eq, OnOk, OnErr, IfOk, is_some};
 ghost use Rattle.dm_tree.specs.Rows.{IsShaped, row_at, path_below};
 ghost use Rattle.dm_tree.specs.Index.{IsIndex};
 ghost use Rattle.dm_tree.specs.Walks.{child_of, find_from, path_up, row_names as names_right, row_allows as row_allows_it, deciding_row};
 
-use crate::index::{Children, place_of};
+use crate::index::{Children, id_at, place_of};
 use crate::rows::Row;
 use dm_acl::Right;
 use dm_base::Memory;
 use dm_uri::{Name, Path};
 use std::alloc::Global;
+
+// Whether a row bears the name.
+fn is_named(rows: &[Row], id: u32, name: &Name) -> bool
+    requires { id < length rows.now }
+    ensures { result ≡ bytes_eq (row_at rows.now id).name name.now }
+{
+    rows[id as usize].name.is_same(name)
+}
 
 pub(crate) fn child_row(rows: &[Row], index: &[Children], id: u32, name: &Name) -> Option<u32>
     requires shaped { IsShaped rows.now }
@@ -18,8 +26,8 @@ pub(crate) fn child_row(rows: &[Row], index: &[Children], id: u32, name: &Name) 
     ensures { result ≡ child_of rows.now id name.now }
 {
     let ids = index[id as usize].as_slice();
-    match ids.get(place_of(rows, ids, name)) {
-        Some(child) if rows[*child as usize].name.is_same(name) => Some(*child),
+    match id_at(ids, place_of(rows, ids, name)) {
+        Some(child) if is_named(rows, child, name) => Some(child),
         _ => None,
     }
 }

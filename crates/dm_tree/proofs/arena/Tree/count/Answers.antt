@@ -1,4 +1,5 @@
-use Rattle.std.proofs.Common.{◌∙◌, sym, subst, length, ap}
+use Rattle.std.proofs.Common.{◌∙◌, ◌<◌, sym, subst, length, ap, arith}
+use Rattle.std.proofs.lemmas.List.{get_or_default}
 use Rattle.dm_tree.specs.Rows.{Tree, IsTree, ids_below}
 use Rattle.dm_tree.proofs.Seen.{len-nodes}
 use Rattle.dm_tree.proofs.arena.Tree.count.Goals as goal
@@ -6,5 +7,6 @@ use Rattle.dm_tree.proofs.arena.Tree.count.Goals as goal
 pub returns : goal.returns
 returns c =
     let tree : IsTree c.args.self.now.rows = subst (λ (t : Tree). IsTree t.rows) c.self.view_is c.self.invariant.tree in
-    let rows = c.deref.ensures.value ∙ ap (λ (t : Tree). t.rows) c.self.view_is in
-    c.count_in.ensures ∙ ap (λ r. length (ids_below r 0 (length r))) rows ∙ sym (len-nodes c.args.self.now.rows tree.shape)
+    let rows = ap (λ (t : Tree). t.rows) c.self.view_is in
+    let inside : 0 < length c.self.inside.sizes.items = omega (arith, c.self.invariant.tree.shape.rooted, c.self.invariant.sizes.same) in
+    c.index.ensures ∙ get_or_default c.self.inside.sizes.items 0 c.index.result.now 0 inside ∙ c.self.invariant.sizes.each 0 c.self.invariant.tree.shape.rooted ∙ ap (λ r. length (ids_below r 0 (length r))) rows ∙ sym (len-nodes c.args.self.now.rows tree.shape)
