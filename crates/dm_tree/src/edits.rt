@@ -6,7 +6,7 @@ ghost use Rattle.dm_tree.specs.declared.rows.Change.TheVariants as change;
 ghost use Rattle.dm_tree.specs.declared.edits.TreeError.TheVariants as error;
 ghost use Rattle.dm_tree.specs.Nodes.{made as made_node, changed, counted, with_value, with_acl, with_title, IsNode, IsValue, IsShortAcl, tree_order};
 ghost use Rattle.dm_tree.specs.Rows.{nodes, ids, row_at, node_of, path_of, IsLive, IsTree, IsParkedTop, StayLive};
-ghost use Rattle.dm_tree.specs.Index.{IsIndex, IsSized};
+ghost use Rattle.dm_tree.specs.Index.{IsIndex, IsSized, IsKept};
 ghost use Rattle.dm_tree.specs.Edits.{with_node, attached_as, new_row as new_row_below, pruned, without_content};
 ghost use Rattle.dm_tree.specs.Undos.{Fits, TakesBack, IsInserted, IsHeld, IsDiscarded, flipped, turned};
 
@@ -102,19 +102,49 @@ fn put_title(rows: &mut Vec<Row>, id: u32, title: Bytes, clock: Stamp) -> Change
     Change::Title(id, mem::replace(&mut row.node.title, title), verno, stamp)
 }
 
-// A row below a row, which isn't put in yet.
-fn parked_row(rows: &[Row], parent: u32, name: Name, node: Node) -> Row
+fn new_row(rows: &[Row], parent: u32, name: Name, node: Node) -> Row
     requires inside { parent < length rows.now }
     requires shallow { (row_at rows.now parent).depth < 16 }
-    ensures { result ≡ record (new_row_below rows.now parent name node) { attached = false } }
+    ensures { result ≡ new_row_below rows.now parent name node }
 {
     Row {
         parent,
         depth: rows[parent as usize].depth + 1,
-        attached: false,
+        attached: true,
         given_up: false,
         name,
         node,
+    }
+}
+
+// Adds a row, which is put in at once, and counted above it.
+fn insert_row(
+    alloc: Global,
+    rows: &mut Vec<Row>,
+    index: &mut Vec<Children>,
+    sizes: &mut Vec<u32>,
+    row: Row,
+) -> Result<(), TreeError>
+    requires attached { row.attached ≡ true }
+    requires held { row.given_up ≡ false }
+    requires few { length rows.old.items + 1 < 2 ^ 32 }
+    requires after { IsTree (rows.old.items ++ row ∷ []) }
+    requires kept { IsKept rows.old.items index.old.items sizes.old.items }
+    ensures ok { OnOk result (rows.new.items ≡ rows.old.items ++ row ∷ []) }
+    ensures err { OnErr result (rows.new.items ≡ rows.old.items) }
+    ensures memory { IfErr result (λ e. e ≡ error.Memory) }
+    ensures kept { IsKept rows.new.items index.new.items sizes.new.items }
+{
+    let id = rows.len() as u32;
+    let mut row = row;
+    row.attached = false;
+    match add_row(alloc, rows, index, sizes, row) {
+        Err(_) => Err(TreeError::Memory),
+        Ok(()) => {
+            put_in(rows, index, id);
+            count_in(rows, sizes, id);
+            Ok(())
+        }
     }
 }
 
@@ -224,13 +254,9 @@ impl Tree {
             return Err(TreeError::Memory);
         }
         let id = self.rows.len() as u32;
-        let row = parked_row(&self.rows, parent.row(), name, made(node, self.clock));
+        let row = new_row(&self.rows, parent.row(), name, made(node, self.clock));
         let (rows, index, sizes) = (&mut self.rows, &mut self.index, &mut self.sizes);
-        match add_row(self.alloc, rows, index, sizes, row) {
-            Err(_) => return Err(TreeError::Memory),
-            Ok(()) => put_in(rows, index, id),
-        }
-        count_in(&self.rows, &mut self.sizes, id);
+        insert_row(self.alloc, rows, index, sizes, row)?;
         Ok((NodeId::of(id), Undo::of(Change::TakeOut(id))))
     }
 

@@ -7,11 +7,13 @@ use Rattle.dm_tree.proofs.Paths.{below_or_not}
 use Rattle.std.proofs.Common.{inl, inr}
 use Rattle.dm_tree.proofs.Cuts.{nodes-detached, ids-detached}
 use Rattle.dm_tree.proofs.CutTrees.{tree-cut, takes_back-cut, parked-cut}
+use Rattle.dm_tree.specs.Index.{IsSized, IsTaken}
+use Rattle.dm_tree.proofs.Kepts.{back_again}
 use Rattle.dm_tree.proofs.arena.Tree.detach.Goals as goal
 
-rows_are : (c : goal.After-of) → c.set_attached.new.rows.items ≡ attached_as c.args.self.now.rows c.args.id false
+rows_are : (c : goal.After-of) → c.take_out.new.rows.items ≡ attached_as c.args.self.now.rows c.args.id false
 rows_are c =
-    c.set_attached.ensures ∙ ap (λ (t : Tree). attached_as t.rows c.row.result false) c.self.view_is ∙ ap (λ k. attached_as c.args.self.now.rows k false) c.row.ensures
+    c.take_out.ensures.rows ∙ ap (λ (t : Tree). attached_as t.rows c.row.result false) c.self.view_is ∙ ap (λ k. attached_as c.args.self.now.rows k false) c.row.ensures
 
 tree : (c : goal.After-of) → IsTree c.args.self.now.rows
 tree c = subst (λ (t : Tree). IsTree t.rows) c.self.view_is c.self.invariant.tree
@@ -27,7 +29,11 @@ no_root c =
     ]
 
 pub invariant_of-self : goal.invariant_of-self
-invariant_of-self c = subst IsTree (sym (rows_are c)) (tree-cut c.args.self.now.rows (tree c) c.args.id (no_root c) c.requires.live)
+invariant_of-self c = record {
+  tree = subst IsTree (sym (rows_are c)) (tree-cut c.args.self.now.rows (tree c) c.args.id (no_root c) c.requires.live);
+  index = c.take_out.ensures.index;
+  sizes = subst (λ rows. IsSized rows c.count_out.new.sizes.items) c.deref.ensures.value c.count_out.ensures;
+}
 
 pub returns-clause-nodes : goal.returns-clause-nodes
 returns-clause-nodes c = ap nodes (rows_are c) ∙ nodes-detached c.args.self.now.rows (tree c).shape c.args.id (no_root c) c.requires.live
@@ -40,7 +46,7 @@ undo_is c = c.of.ensures ∙ ap (λ k. change.PutIn k) c.row-2.ensures
 
 pub returns-clause-undo : goal.returns-clause-undo
 returns-clause-undo c =
-    subst (λ u. TakesBack u c.args.self.now.rows c.set_attached.new.rows.items) (sym (undo_is c))
+    subst (λ u. TakesBack u c.args.self.now.rows c.take_out.new.rows.items) (sym (undo_is c))
     (subst (λ r. TakesBack (change.PutIn c.args.id) c.args.self.now.rows r) (sym (rows_are c)) (takes_back-cut c.args.self.now.rows (tree c) c.args.id (no_root c) c.requires.live))
 
 pub returns-clause-parked : goal.returns-clause-parked

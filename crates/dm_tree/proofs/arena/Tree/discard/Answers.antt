@@ -5,6 +5,8 @@ use Rattle.dm_tree.specs.Rows.{Tree, IsTree, IsParkedTop, nodes, ids}
 use Rattle.dm_tree.specs.Edits.{without_content}
 use Rattle.dm_tree.specs.Undos.{IsHeld, IsDiscarded}
 use Rattle.dm_tree.proofs.GivenUps.{tree-given_up, ids-given_up, nodes-given_up, given_up}
+use Rattle.dm_tree.specs.Index.{IsIndex}
+use Rattle.dm_tree.proofs.Kepts.{kept-given_up}
 use Rattle.dm_tree.proofs.arena.Tree.discard.Goals as goal
 
 rows_are : (c : goal.After-give_up) → c.give_up.new.rows.items ≡ without_content c.args.self.now.rows c.in-PutIn.id
@@ -17,7 +19,14 @@ top : (c : goal.After-give_up) → IsParkedTop c.args.self.now.rows c.in-PutIn.i
 top c = subst (IsHeld c.args.self.now.rows) (sym c.in-PutIn.ensures) c.requires
 
 pub invariant_of-self : goal.invariant_of-self
-invariant_of-self c = subst IsTree (sym (rows_are c)) (tree-given_up c.args.self.now.rows (tree c) c.in-PutIn.id (top c))
+invariant_of-self c =
+    kept-given_up _ c.args.self.now.rows _ c.in-PutIn.id (ap (λ (t : Tree). t.rows) c.self.view_is) (top c) (rows_are c) (tree-given_up c.args.self.now.rows (tree c) c.in-PutIn.id (top c))
+    c.self.inside.index.items c.forget.new.index.items c.self.inside.sizes.items c.self.invariant (subst (λ rows. IsIndex (without_content rows c.in-PutIn.id) c.forget.new.index.items) c.deref.ensures.value c.forget.ensures)
+
+pub forget-requires-clause-parked : goal.forget-requires-clause-parked
+forget-requires-clause-parked c =
+    subst (λ rows. IsParkedTop rows c.in-PutIn.id) (sym (c.deref.ensures.value ∙ ap (λ (t : Tree). t.rows) c.self.view_is)) (subst (IsHeld c.args.self.now.rows) (sym c.in-PutIn.ensures) c.requires)
+
 
 pub returns-in-PutIn-clause-nodes : goal.returns-in-PutIn-clause-nodes
 returns-in-PutIn-clause-nodes c = ap nodes (rows_are c) ∙ nodes-given_up c.args.self.now.rows c.in-PutIn.id (top c)

@@ -4,10 +4,10 @@ use Rattle.dm_tree.specs.Undos.{flipped, turned, TakesBack}
 use Rattle.dm_tree.proofs.Flips.{again, turned_twice}
 use Rattle.dm_tree.proofs.arena.Tree.flip.Goals as goal
 
-rows_are : (c : goal.After-flip_row) → c.flip_row.new.rows.items ≡ flipped c.args.self.now.rows c.args.undo.now
+rows_are : (c : goal.After-recount) → c.flip_row.new.rows.items ≡ flipped c.args.self.now.rows c.args.undo.now
 rows_are c = c.flip_row.ensures.rows ∙ ap (λ (t : Tree). flipped t.rows c.undo.inside.change) c.self.view_is ∙ ap (flipped c.args.self.now.rows) c.undo.view_is
 
-undo_is : (c : goal.After-flip_row) → c.flip_row.new.change ≡ turned c.args.self.now.rows c.args.undo.now
+undo_is : (c : goal.After-recount) → c.flip_row.new.change ≡ turned c.args.self.now.rows c.args.undo.now
 undo_is c = c.flip_row.ensures.change ∙ ap (λ (t : Tree). turned t.rows c.undo.inside.change) c.self.view_is ∙ ap (turned c.args.self.now.rows) c.undo.view_is
 
 pub returns-clause-again : goal.returns-clause-again

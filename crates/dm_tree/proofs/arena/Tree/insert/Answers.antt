@@ -23,12 +23,12 @@ id_is : (c : goal.After-of-2) → c.len-id.result ≡ length c.args.self.now.row
 id_is c = c.len-id.ensures ∙ c.self.inside.rows.ok.0 ∙ ap (λ (t : Tree). length t.rows) c.self.view_is
 
 -- the rows that the code left
-rows_are : (c : goal.After-of-2) → c.push_row.new.rows.items ≡ c.args.self.now.rows ++ new_row c.args.self.now.rows c.args.parent c.args.name (node c) ∷ []
+rows_are : (c : goal.After-of-2) → c.insert_row.new.rows.items ≡ c.args.self.now.rows ++ new_row c.args.self.now.rows c.args.parent c.args.name (node c) ∷ []
 unfolding node
 rows_are c =
     let rows = c.deref.ensures.value ∙ ap (λ (t : Tree). t.rows) c.self.view_is in
     let new : c.made.result ≡ made c.args.self.now.clock c.args.node = c.made.ensures ∙ ap (λ (t : Tree). made t.clock c.args.node) c.self.view_is in
-    c.in_ok-push_row.ensures.ok ∙ ap (λ r. r ++ c.new_row-row.result ∷ []) (ap (λ (t : Tree). t.rows) c.self.view_is)
+    c.in_ok-insert_row.ensures.ok ∙ ap (λ r. r ++ c.new_row-row.result ∷ []) (ap (λ (t : Tree). t.rows) c.self.view_is)
     ∙ ap (λ (r : Row). c.args.self.now.rows ++ r ∷ [])
     (c.new_row-row.ensures ∙ ap (λ r. new_row r c.row.result c.args.name c.made.result) rows ∙ ap (λ k. new_row c.args.self.now.rows k c.args.name c.made.result) c.row.ensures
     ∙ ap (new_row c.args.self.now.rows c.args.parent c.args.name) new)
@@ -59,7 +59,7 @@ new_row-row-requires-clause-shallow c =
     (parent_is_shallow c.args.self.now.rows tree.shape c.args.parent c.requires.live c.args.name c.requires.within))
 
 pub invariant_of-self-2 : goal.invariant_of-self-2
-invariant_of-self-2 c = subst IsTree (sym (rows_are c)) (tree-append c.args.self.now.rows (tree c) c.args.parent c.args.name (node c) (may c))
+invariant_of-self-2 c = c.in_ok-insert_row.ensures.kept
 
 pub returns-clause-ok : goal.returns-clause-ok
 unfolding node

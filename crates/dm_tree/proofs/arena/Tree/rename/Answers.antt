@@ -6,6 +6,7 @@ use Rattle.dm_tree.specs.Edits.{with_name, StayRenamed}
 use Rattle.dm_tree.specs.Undos.{TakesBack}
 use Rattle.dm_tree.proofs.Rekeyed.{ids-renamed, nodes-renamed, stay_renamed}
 use Rattle.dm_tree.proofs.RenamedTrees.{MayRename, no_root, shaped-renamed, tree-renamed, takes_back-renamed}
+use Rattle.dm_tree.proofs.Kepts.{kept-name}
 use Rattle.dm_tree.proofs.arena.Tree.rename.Goals as goal
 
 tree : (c : goal.After-of) → IsTree c.args.self.now.rows
@@ -27,7 +28,9 @@ may c = record {
 }
 
 pub invariant_of-self : goal.invariant_of-self
-invariant_of-self c = subst IsTree (sym (rows_are c)) (tree-renamed c.args.self.now.rows (tree c) c.args.id c.args.name c.args.self.now.clock (may c))
+invariant_of-self c =
+    kept-name _ c.args.self.now.rows _ c.args.id c.args.name _ (ap (λ (t : Tree). t.rows) c.self.view_is) c.requires.live (rows_are c) (tree-renamed c.args.self.now.rows (tree c) c.args.id c.args.name c.args.self.now.clock (may c))
+    c.self.inside.index.items c.put_name-change.new.index.items c.self.inside.sizes.items c.self.invariant c.put_name-change.ensures.index
 
 pub returns-clause-nodes : goal.returns-clause-nodes
 returns-clause-nodes c =
