@@ -1,5 +1,5 @@
 -- What is kept beside the rows stays right with each edit.
-use Rattle.std.proofs.Common.{◌≡◌, ◌∙◌, ℕ, ◌+◌, ◌<◌, ◌++◌, ◌∷◌, [], suc, true, false, List, length, length-append, refl, sym, ap, subst, arith, inl, inr}
+use Rattle.std.proofs.Common.{◌≡◌, ◌∙◌, ℕ, ◌+◌, ◌<◌, ◌++◌, ◌∷◌, [], zero, suc, true, false, List, length, length-append, refl, sym, ap, subst, arith, inl, inr}
 use Rattle.dm_tree.specs.declared.nodes.Node.{Node}
 use Rattle.dm_tree.specs.declared.rows.Row.{Row}
 use Rattle.dm_tree.specs.declared.rows.Change.{Change}
@@ -7,11 +7,13 @@ use Rattle.dm_tree.specs.declared.rows.Change.TheVariants as change
 use Rattle.dm_tree.specs.Rows.{blank, row_at, node_of, IsShaped, IsTree, IsLive, IsParkedTop}
 use Rattle.dm_tree.specs.Edits.{with_node, with_name, attached_as, without_content}
 use Rattle.dm_tree.specs.Undos.{Fits, flipped}
-use Rattle.dm_tree.specs.Index.{ChildList, IsIndex, IsSized, IsPut, IsKept}
+use Rattle.dm_tree.specs.Index.{ChildList, no_children, children_at, IsChildList, IsIndex, IsSized, IsPut, IsKept}
 use Rattle.std.proofs.Math.ListN.{set}
 use Rattle.std.proofs.lemmas.List.{get_or-set_same, set-get_or}
 use Rattle.dm_tree.proofs.Paths.{same_or_not}
 use Rattle.dm_tree.proofs.Grows.{at_end_of, before_end, set_last, set_twice}
+use Rattle.dm_acl.specs.declared.values.Entries.{Entries}
+use Rattle.dm_tree.proofs.Starts.{root_row}
 use Rattle.dm_tree.proofs.Nodewise.{live_row}
 use Rattle.dm_tree.proofs.Links.{index-alike}
 use Rattle.dm_tree.proofs.Unlinks.{link-with_node}
@@ -111,3 +113,24 @@ back_again rows now k l a e =
     let here : row_at (attached_as rows k false) k ≡ record (row_at rows k) { attached = false } = get_or-set_same rows k _ blank l in
     ap (λ rs. attached_as rs k true) e ∙ ap (λ (r : Row). set (attached_as rows k false) k (record r { attached = true })) here
     ∙ set_twice rows k _ _ ∙ ap (λ b. set rows k (record (row_at rows k) { attached = b })) (sym a) ∙ set-get_or rows k blank
+
+-- ---- the tree that is its root
+
+pub root-index : (name : List ℕ) (acl : Entries) → IsIndex (root_row name acl ∷ []) (no_children ∷ [])
+unfolding root_row
+root-index name acl = record { same = refl; each = one }
+  where
+    none_attached : (k : ℕ) → (row_at (root_row name acl ∷ []) k).attached ≡ true → ⊥
+    none_attached zero e = cc
+    none_attached (suc k) e = cc
+
+    one : (k : ℕ) → k < 1 → IsChildList (root_row name acl ∷ []) k (children_at (no_children ∷ []) k)
+    one zero l = record {
+      order = λ i j h m. absurd (omega (arith, m));
+      attached = λ i h. absurd (omega (arith, h));
+      parent = λ i h. absurd (omega (arith, h));
+      all = λ j a p. absurd (none_attached j a);
+      parked = refl;
+      room = omega arith;
+    }
+    one (suc k) l = absurd (omega (arith, l))

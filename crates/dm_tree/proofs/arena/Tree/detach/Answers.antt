@@ -42,7 +42,7 @@ pub returns-clause-ids : goal.returns-clause-ids
 returns-clause-ids c = ap ids (rows_are c) ∙ ids-detached c.args.self.now.rows (tree c).shape c.args.id (no_root c) c.requires.live
 
 undo_is : (c : goal.After-of) → c.of.result ≡ change.PutIn c.args.id
-undo_is c = c.of.ensures ∙ ap (λ k. change.PutIn k) c.row-2.ensures
+undo_is c = c.of.ensures ∙ ap (λ k. change.PutIn k) c.row-3.ensures
 
 pub returns-clause-undo : goal.returns-clause-undo
 returns-clause-undo c =

@@ -1,6 +1,7 @@
 use Rattle.std.proofs.Common.{◌≡◌, ◌∙◌, sym, subst, ap}
 use Rattle.dm_tree.specs.Rows.{Tree, IsTree}
-use Rattle.dm_tree.specs.Undos.{flipped, turned, TakesBack}
+use Rattle.dm_tree.specs.Undos.{flipped, turned, Fits, TakesBack}
+use Rattle.dm_tree.specs.Index.{IsSized}
 use Rattle.dm_tree.proofs.Flips.{again, turned_twice}
 use Rattle.dm_tree.proofs.arena.Tree.flip.Goals as goal
 
@@ -18,3 +19,25 @@ returns-clause-again c =
       subst (λ u. TakesBack u rows c.flip_row.new.rows.items) (sym (undo_is c)) (subst (TakesBack (turned rows undo) rows) (sym (rows_are c)) (again rows undo tree c.requires)),
       ap (λ r. turned r c.flip_row.new.change) (rows_are c) ∙ ap (turned (flipped rows undo)) (undo_is c) ∙ turned_twice rows undo c.requires.inside,
     )
+
+pub recount-requires-clause-fits : goal.recount-requires-clause-fits
+recount-requires-clause-fits c =
+    let now = c.args.self.now.rows in
+    let undo = c.args.undo.now in
+    let tree : IsTree now = subst (λ (t : Tree). IsTree t.rows) c.self.view_is c.self.invariant.tree in
+    let rows : c.deref.result.now ≡ flipped now undo =
+        c.deref.ensures.value ∙ c.flip_row.ensures.rows ∙ ap (λ (t : Tree). flipped t.rows c.undo.inside.change) c.self.view_is ∙ ap (flipped now) c.undo.view_is in
+    let change : c.flip_row.new.change ≡ turned now undo = c.flip_row.ensures.change ∙ ap (λ (t : Tree). turned t.rows c.undo.inside.change) c.self.view_is ∙ ap (turned now) c.undo.view_is in
+    subst (λ r. Fits r c.flip_row.new.change) (sym rows) (subst (Fits (flipped now undo)) (sym change) (again now undo tree c.requires).fits)
+
+pub recount-requires-clause-sizes : goal.recount-requires-clause-sizes
+recount-requires-clause-sizes c =
+    let now = c.args.self.now.rows in
+    let undo = c.args.undo.now in
+    let tree : IsTree now = subst (λ (t : Tree). IsTree t.rows) c.self.view_is c.self.invariant.tree in
+    let rows : c.deref.result.now ≡ flipped now undo =
+        c.deref.ensures.value ∙ c.flip_row.ensures.rows ∙ ap (λ (t : Tree). flipped t.rows c.undo.inside.change) c.self.view_is ∙ ap (flipped now) c.undo.view_is in
+    let change : c.flip_row.new.change ≡ turned now undo = c.flip_row.ensures.change ∙ ap (λ (t : Tree). turned t.rows c.undo.inside.change) c.self.view_is ∙ ap (turned now) c.undo.view_is in
+    let back : flipped c.deref.result.now c.flip_row.new.change ≡ c.self.inside.rows.items =
+        ap (λ r. flipped r c.flip_row.new.change) rows ∙ ap (flipped (flipped now undo)) change ∙ (again now undo tree c.requires).rows ∙ sym (ap (λ (t : Tree). t.rows) c.self.view_is) in
+    subst (λ r. IsSized r c.self.inside.sizes.items) (sym back) c.self.invariant.sizes

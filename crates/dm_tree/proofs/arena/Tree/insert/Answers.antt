@@ -68,3 +68,27 @@ returns-clause-ok c =
     (subst (λ u. IsInserted c.args.self.now.rows (c.args.self.now.rows ++ new_row c.args.self.now.rows c.args.parent c.args.name (node c) ∷ []) c.args.parent c.args.name (node c) c.of.result u) (sym (c.of-2.ensures ∙ ap (λ k. change.TakeOut k) (id_is c)))
     (subst (λ k. IsInserted c.args.self.now.rows (c.args.self.now.rows ++ new_row c.args.self.now.rows c.args.parent c.args.name (node c) ∷ []) c.args.parent c.args.name (node c) k (change.TakeOut (length c.args.self.now.rows))) (sym (c.of.ensures ∙ id_is c))
     (inserted c.args.self.now.rows (tree c) c.args.parent c.args.name (node c) (may c))))
+
+pub insert_row-requires-clause-after : goal.insert_row-requires-clause-after
+insert_row-requires-clause-after c =
+    let now = c.args.self.now in
+    let new : Node = made now.clock c.args.node in
+    let tree : IsTree now.rows = subst (λ (t : Tree). IsTree t.rows) c.self.view_is c.self.invariant.tree in
+    let rows = c.deref.ensures.value ∙ ap (λ (t : Tree). t.rows) c.self.view_is in
+    let node_is : c.made.result ≡ made now.clock c.args.node = c.made.ensures ∙ ap (λ (t : Tree). made t.clock c.args.node) c.self.view_is in
+    let row : c.new_row-row.result ≡ new_row now.rows c.args.parent c.args.name (made now.clock c.args.node) =
+        c.new_row-row.ensures ∙ ap (λ r. new_row r c.row.result c.args.name c.made.result) rows ∙ ap (λ k. new_row now.rows k c.args.name c.made.result) c.row.ensures
+        ∙ ap (new_row now.rows c.args.parent c.args.name) node_is in
+    let may : MayCome now.rows c.args.parent c.args.name (made now.clock c.args.node) = record {
+      live = c.requires.live;
+      interior = c.requires.interior;
+      free = no_number _ _ (sym (get_nodes now.rows (path_of now.rows c.args.parent ++ c.args.name ∷ [])) ∙ c.requires.free);
+      within = c.requires.within;
+      permanent = c.requires.permanent;
+      node = c.requires.node;
+      name = c.as_slice.ensures.name;
+      room = omega (arith, c.if-len.false, c.len.ensures, c.self.inside.rows.ok.0, ap (λ (t : Tree). length t.rows) c.self.view_is);
+      size = omega (arith, c.count.ensures, c.if-count-ge-NODE_LIMIT.false);
+    } in
+    subst (λ (t : Tree). IsTree (t.rows ++ c.new_row-row.result ∷ [])) (sym c.self.view_is)
+    (subst (λ r. IsTree (now.rows ++ r ∷ [])) (sym row) (tree-append now.rows tree c.args.parent c.args.name (made now.clock c.args.node) may))

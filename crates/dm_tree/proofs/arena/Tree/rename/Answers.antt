@@ -1,7 +1,7 @@
 use Rattle.std.proofs.Common.{◌≡◌, ◌∙◌, sym, subst, ap}
 use Rattle.dm_tree.specs.declared.rows.Change.TheVariants as change
 use Rattle.dm_tree.specs.Nodes.{changed}
-use Rattle.dm_tree.specs.Rows.{Tree, IsTree, node_of, nodes, ids, row_at, path_of}
+use Rattle.dm_tree.specs.Rows.{Tree, IsShaped, IsTree, node_of, nodes, ids, row_at, path_of}
 use Rattle.dm_tree.specs.Edits.{with_name, StayRenamed}
 use Rattle.dm_tree.specs.Undos.{TakesBack}
 use Rattle.dm_tree.proofs.Rekeyed.{ids-renamed, nodes-renamed, stay_renamed}
@@ -61,3 +61,13 @@ returns-clause-undo c =
     subst (λ u. TakesBack u c.args.self.now.rows c.put_name-change.new.rows.items) (sym (undo_is c))
     (subst (λ r. TakesBack (change.Name c.args.id (row_at c.args.self.now.rows c.args.id).name (node_of c.args.self.now.rows c.args.id).verno (node_of c.args.self.now.rows c.args.id).stamp) c.args.self.now.rows r) (sym (rows_are c))
     (takes_back-renamed c.args.self.now.rows (tree c) c.args.id c.args.name c.args.self.now.clock (may c)))
+
+pub put_name-change-requires-clause-after : goal.put_name-change-requires-clause-after
+put_name-change-requires-clause-after c =
+    let now = c.args.self.now in
+    let tree : IsTree now.rows = subst (λ (t : Tree). IsTree t.rows) c.self.view_is c.self.invariant.tree in
+    let may : MayRename now.rows c.args.id c.args.name =
+        record { live = c.requires.live; removable = c.requires.removable; free = c.requires.free; fits = c.requires.fits; named = c.as_slice.ensures.name } in
+    subst (λ (t : Tree). IsShaped (with_name t.rows c.row.result c.args.name (changed t.clock (node_of t.rows c.row.result)))) (sym c.self.view_is)
+    (subst (λ k. IsShaped (with_name now.rows k c.args.name (changed now.clock (node_of now.rows k)))) (sym c.row.ensures)
+    (tree-renamed now.rows tree c.args.id c.args.name now.clock may).shape)
