@@ -7,11 +7,12 @@ use Rattle.dm_tree.specs.declared.rows.Change.TheVariants as change
 use Rattle.dm_tree.specs.Rows.{blank, row_at, node_of, IsShaped, IsTree, IsLive, IsParkedTop}
 use Rattle.dm_tree.specs.Edits.{with_node, with_name, attached_as, without_content}
 use Rattle.dm_tree.specs.Undos.{Fits, flipped}
-use Rattle.dm_tree.specs.Index.{ChildList, no_children, children_at, IsChildList, IsIndex, IsSized, IsPut, IsKept}
+use Rattle.dm_tree.specs.Index.{ChildList, no_children, children_at, IsChildList, IsIndex, IsSized, IsPut, IsTaken, IsKept}
 use Rattle.std.proofs.Math.ListN.{set}
 use Rattle.std.proofs.lemmas.List.{get_or-set_same, set-get_or}
 use Rattle.dm_tree.proofs.Paths.{same_or_not}
 use Rattle.dm_tree.proofs.Grows.{at_end_of, before_end, set_last, set_twice}
+use Rattle.dm_tree.proofs.Cuts.{live_attached}
 use Rattle.dm_acl.specs.declared.values.Entries.{Entries}
 use Rattle.dm_tree.proofs.Starts.{root_row}
 use Rattle.dm_tree.proofs.Nodewise.{live_row}
@@ -134,3 +135,18 @@ root-index name acl = record { same = refl; each = one }
       room = omega arith;
     }
     one (suc k) l = absurd (omega (arith, l))
+
+-- ---- which row may be taken out
+
+pub isnt_root : (rows : List Row) → IsTree rows → (k : ℕ) → (node_of rows k).permanent ≡ false → 0 < k
+isnt_root rows tree k removable = elim (same_or_not k 0) [
+  | inl e ↦ absurd (let top : (node_of rows 0).permanent ≡ true = tree.root.permanent in let here : (node_of rows 0).permanent ≡ false = ap (λ n. (node_of rows n).permanent) (sym e) ∙ removable in cc)
+  | inr d ↦ omega (arith, d)
+]
+
+pub may_take : (rows : List Row) → IsTree rows → (k : ℕ) → IsLive rows k → (node_of rows k).permanent ≡ false → IsTaken rows k
+may_take rows tree k live removable =
+    let z = isnt_root rows tree k removable in
+    let l = live_row rows tree.shape k live in
+    let a = live_attached rows tree.shape k z live in
+    record { inside = l; below_root = z; attached = a; held = (tree.each k l).attached a; shaped = tree.shape }

@@ -1,6 +1,6 @@
-use Rattle.std.proofs.Common.{◌≡◌, ◌∙◌, sym, subst, ap, arith, ◌<◌, true, false}
+use Rattle.std.proofs.Common.{◌≡◌, ◌∙◌, ℕ, sym, subst, ap, arith, ◌<◌, true, false}
 use Rattle.dm_tree.specs.declared.rows.Change.TheVariants as change
-use Rattle.dm_tree.specs.Rows.{Tree, IsTree, IsParkedTop, node_of, nodes, ids}
+use Rattle.dm_tree.specs.Rows.{Tree, IsShaped, IsTree, IsParkedTop, node_of, nodes, ids}
 use Rattle.dm_tree.specs.Edits.{attached_as}
 use Rattle.dm_tree.specs.Undos.{TakesBack}
 use Rattle.dm_tree.proofs.Paths.{below_or_not}
@@ -8,7 +8,7 @@ use Rattle.std.proofs.Common.{inl, inr}
 use Rattle.dm_tree.proofs.Cuts.{nodes-detached, ids-detached}
 use Rattle.dm_tree.proofs.CutTrees.{tree-cut, takes_back-cut, parked-cut}
 use Rattle.dm_tree.specs.Index.{IsSized, IsTaken}
-use Rattle.dm_tree.proofs.Kepts.{back_again}
+use Rattle.dm_tree.proofs.Kepts.{back_again, isnt_root, may_take}
 use Rattle.dm_tree.proofs.arena.Tree.detach.Goals as goal
 
 rows_are : (c : goal.After-of) → c.take_out.new.rows.items ≡ attached_as c.args.self.now.rows c.args.id false
@@ -52,3 +52,27 @@ returns-clause-undo c =
 pub returns-clause-parked : goal.returns-clause-parked
 returns-clause-parked c =
     (undo_is c, subst (λ r. IsParkedTop r c.args.id) (sym (rows_are c)) (parked-cut c.args.self.now.rows (tree c) c.args.id (no_root c) c.requires.live))
+
+pub take_out-requires-clause-attached : goal.take_out-requires-clause-attached
+take_out-requires-clause-attached c =
+    let tree : IsTree c.args.self.now.rows = subst (λ (t : Tree). IsTree t.rows) c.self.view_is c.self.invariant.tree in
+    subst (λ (t : Tree). IsTaken t.rows c.row.result) (sym c.self.view_is) (subst (IsTaken c.args.self.now.rows) (sym c.row.ensures) (may_take c.args.self.now.rows tree c.args.id c.requires.live c.requires.removable))
+
+-- the rows, once the row is out
+pub count_out-requires-clause-shaped : goal.count_out-requires-clause-shaped
+count_out-requires-clause-shaped c =
+    let now = c.args.self.now.rows in
+    let tree : IsTree now = subst (λ (t : Tree). IsTree t.rows) c.self.view_is c.self.invariant.tree in
+    let rows : c.deref.result.now ≡ attached_as now c.args.id false =
+        c.deref.ensures.value ∙ c.take_out.ensures.rows ∙ ap (λ (t : Tree). attached_as t.rows c.row.result false) c.self.view_is ∙ ap (λ k. attached_as now k false) c.row.ensures in
+    subst IsShaped (sym rows) (tree-cut now tree c.args.id (isnt_root now tree c.args.id c.requires.removable) c.requires.live).shape
+
+pub count_out-requires-clause-sizes : goal.count_out-requires-clause-sizes
+count_out-requires-clause-sizes c =
+    let now = c.args.self.now.rows in
+    let tree : IsTree now = subst (λ (t : Tree). IsTree t.rows) c.self.view_is c.self.invariant.tree in
+    let taken = may_take now tree c.args.id c.requires.live c.requires.removable in
+    let rows : c.deref.result.now ≡ attached_as now c.args.id false =
+        c.deref.ensures.value ∙ c.take_out.ensures.rows ∙ ap (λ (t : Tree). attached_as t.rows c.row.result false) c.self.view_is ∙ ap (λ k. attached_as now k false) c.row.ensures in
+    subst (λ (k : ℕ). IsSized (attached_as c.deref.result.now k true) c.self.inside.sizes.items) (sym c.row-2.ensures)
+    (subst (λ r. IsSized r c.self.inside.sizes.items) (ap (λ (t : Tree). t.rows) c.self.view_is ∙ sym (back_again now c.deref.result.now c.args.id taken.inside taken.attached rows)) c.self.invariant.sizes)
