@@ -149,13 +149,13 @@ module _ (rows : List Row) (id : ℕ) (b : Bool) (inside : id < length rows) whe
 -- the children of another row than the parent
 pub other_children : (rows : List Row) (id : ℕ) (b : Bool) → id < length rows → (k : ℕ) → ((row_at rows id).parent ≡ k → ⊥) → (c : ChildList) → IsChildList rows k c → IsChildList (attached_as rows id b) k c
 other_children rows id b inside k other c h = record {
-    order = order-alike rows (attached_as rows id b) c.ids (λ i l. set_name rows id b inside (get_or c.ids i 0)) h.order;
-    attached = λ i l. ap (λ (r : Row). r.attached) (set_there rows id b inside (get_or c.ids i 0) (λ e. other (ap (λ n. (row_at rows n).parent) (sym e) ∙ h.parent i l))) ∙ h.attached i l;
-    parent = λ i l. set_parent rows id b inside (get_or c.ids i 0) ∙ h.parent i l;
-    all = λ j a p. h.all j (sym (ap (λ (r : Row). r.attached) (set_there rows id b inside j (apart j p))) ∙ a) (sym (set_parent rows id b inside j) ∙ p);
-    parked = h.parked ∙ sym (ap (parked_below (attached_as rows id b) k) (set_long rows id b inside) ∙ parked-same rows (attached_as rows id b) k (length rows) (λ j l. same j));
-    room = h.room;
-  }
+  order = order-alike rows (attached_as rows id b) c.ids (λ i l. set_name rows id b inside (get_or c.ids i 0)) h.order;
+  attached = λ i l. ap (λ (r : Row). r.attached) (set_there rows id b inside (get_or c.ids i 0) (λ e. other (ap (λ n. (row_at rows n).parent) (sym e) ∙ h.parent i l))) ∙ h.attached i l;
+  parent = λ i l. set_parent rows id b inside (get_or c.ids i 0) ∙ h.parent i l;
+  all = λ j a p. h.all j (sym (ap (λ (r : Row). r.attached) (set_there rows id b inside j (apart j p))) ∙ a) (sym (set_parent rows id b inside j) ∙ p);
+  parked = h.parked ∙ sym (ap (parked_below (attached_as rows id b) k) (set_long rows id b inside) ∙ parked-same rows (attached_as rows id b) k (length rows) (λ j l. same j));
+  room = h.room;
+}
   where
     apart : (j : ℕ) → (row_at (attached_as rows id b) j).parent ≡ k → j ≢ id
     apart j p e = other (ap (λ n. (row_at rows n).parent) (sym e) ∙ sym (set_parent rows id b inside j) ∙ p)
@@ -197,13 +197,13 @@ one_parked rows id put c h =
 pub put_children : (rows : List Row) (id : ℕ) → IsPut rows id → (c : ChildList) → IsChildList rows (row_at rows id).parent c → (place : ℕ) → IsPlace rows c.ids (row_at rows id).name place
     → IsChildList (attached_as rows id true) (row_at rows id).parent (put_list c place id)
 put_children rows id put c h place at = record {
-    order = order-alike rows rows' (insert c.ids place id) (λ i l. set_name rows id true put.inside (get_or (insert c.ids place id) i 0)) (insert_order rows c.ids place id h.order at differ);
-    attached = λ i l. attached (stands c.ids place id at.within i (short i l));
-    parent = λ i l. parent (stands c.ids place id at.within i (short i l));
-    all = all;
-    parked = omega (arith, h.parked, fewer, ap (parked_below rows' p) (set_long rows id true put.inside));
-    room = omega (arith, h.room, one_parked rows id put c h, length-insert c.ids place id at.within);
-  }
+  order = order-alike rows rows' (insert c.ids place id) (λ i l. set_name rows id true put.inside (get_or (insert c.ids place id) i 0)) (insert_order rows c.ids place id h.order at differ);
+  attached = λ i l. attached (stands c.ids place id at.within i (short i l));
+  parent = λ i l. parent (stands c.ids place id at.within i (short i l));
+  all = all;
+  parked = omega (arith, h.parked, fewer, ap (parked_below rows' p) (set_long rows id true put.inside));
+  room = omega (arith, h.room, one_parked rows id put c h, length-insert c.ids place id at.within);
+}
   where
     rows' : List Row
     rows' = attached_as rows id true

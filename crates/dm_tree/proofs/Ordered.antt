@@ -41,9 +41,9 @@ module _ (ids : List ℕ) (place id : ℕ) (within : place ≤ length ids) where
       elim (below_or_not i place) [
         | inl h ↦ low i h (get_or-insert_below ids place id 0 i h within)
         | inr h ↦ elim (same_or_not i place) [
-            | inl e ↦ mid i e (ap (λ n. get_or (insert ids place id) n 0) e ∙ get_or-insert_at ids place id 0 within)
-            | inr n ↦ upper i l h n
-          ]
+          | inl e ↦ mid i e (ap (λ n. get_or (insert ids place id) n 0) e ∙ get_or-insert_at ids place id 0 within)
+          | inr n ↦ upper i l h n
+        ]
       ]
     where
       upper : (i : ℕ) → i < suc (length ids) → place ≤ i → i ≢ place → Stands i
@@ -101,10 +101,10 @@ remove_order rows ids place within order i j l m =
     let a = stood ids place within i (omega (arith, l, m, long)) in
     let b = stood ids place within j (omega (arith, m, long)) in
     let apart : a.0 < b.0 =
-        elim (below_or_not i place) [
-          | inl h ↦ elim (below_or_not j place) [ inl k ↦ omega (arith, a.4 h, b.4 k, l) | inr k ↦ omega (arith, a.4 h, b.5 k, l, h) ]
-          | inr h ↦ elim (below_or_not j place) [ inl k ↦ absurd (omega (arith, l, h, k)) | inr k ↦ omega (arith, a.5 h, b.5 k, l) ]
-        ] in
+    elim (below_or_not i place) [
+      | inl h ↦ elim (below_or_not j place) [ inl k ↦ omega (arith, a.4 h, b.4 k, l) | inr k ↦ omega (arith, a.4 h, b.5 k, l, h) ]
+      | inr h ↦ elim (below_or_not j place) [ inl k ↦ absurd (omega (arith, l, h, k)) | inr k ↦ omega (arith, a.5 h, b.5 k, l) ]
+    ] in
     subst (λ x. is_before rows (row_at rows (get_or (remove ids place) j 0)).name x ≡ true) (sym a.3)
     (subst (λ y. is_before rows (row_at rows y).name (get_or ids a.0 0) ≡ true) (sym b.3)
     (order a.0 b.0 apart b.1))

@@ -33,9 +33,9 @@ once rows ids order i j l m e =
     elim (same_or_not i j) [
       | inl h ↦ h
       | inr d ↦ elim (below_or_not i j) [
-          | inl h ↦ absurd (not_before_itself (row_at rows (get_or ids j 0)).name (subst (λ x. is_before rows (row_at rows (get_or ids j 0)).name x ≡ true) e (order i j h m)))
-          | inr h ↦ absurd (not_before_itself (row_at rows (get_or ids i 0)).name (subst (λ x. is_before rows (row_at rows (get_or ids i 0)).name x ≡ true) (sym e) (order j i (omega (arith, h, d)) l)))
-        ]
+        | inl h ↦ absurd (not_before_itself (row_at rows (get_or ids j 0)).name (subst (λ x. is_before rows (row_at rows (get_or ids j 0)).name x ≡ true) e (order i j h m)))
+        | inr h ↦ absurd (not_before_itself (row_at rows (get_or ids i 0)).name (subst (λ x. is_before rows (row_at rows (get_or ids i 0)).name x ≡ true) (sym e) (order j i (omega (arith, h, d)) l)))
+      ]
     ]
 
 -- a child stands at the place of its name
@@ -50,25 +50,25 @@ child_place rows k c h j a p place at = (subst (λ n. n < length c.ids) here lis
     here = elim (same_or_not listed.0 place) [
       | inl e ↦ e
       | inr d ↦ elim (below_or_not listed.0 place) [
-          | inl l ↦ absurd (not_before_itself (row_at rows j).name (subst (λ x. is_before rows (row_at rows j).name x ≡ true) listed.2 (at.before listed.0 l)))
-          | inr l ↦
-              let m : place < listed.0 = omega (arith, l, d) in
-              let yes : is_before rows (row_at rows j).name (get_or c.ids place 0) ≡ true = subst (λ x. is_before rows (row_at rows x).name (get_or c.ids place 0) ≡ true) listed.2 (h.order place listed.0 m listed.1) in
-              let no : is_before rows (row_at rows j).name (get_or c.ids place 0) ≡ false = at.behind place (omega arith) (omega (arith, m, listed.1)) in
-              absurd (cc)
-        ]
+        | inl l ↦ absurd (not_before_itself (row_at rows j).name (subst (λ x. is_before rows (row_at rows j).name x ≡ true) listed.2 (at.before listed.0 l)))
+        | inr l ↦
+            let m : place < listed.0 = omega (arith, l, d) in
+            let yes : is_before rows (row_at rows j).name (get_or c.ids place 0) ≡ true = subst (λ x. is_before rows (row_at rows x).name (get_or c.ids place 0) ≡ true) listed.2 (h.order place listed.0 m listed.1) in
+            let no : is_before rows (row_at rows j).name (get_or c.ids place 0) ≡ false = at.behind place (omega arith) (omega (arith, m, listed.1)) in
+            absurd (cc)
+      ]
     ]
 
 pub taken_children : (rows : List Row) (id : ℕ) → IsTaken rows id → (c : ChildList) → IsChildList rows (row_at rows id).parent c → (place : ℕ) → place < length c.ids → get_or c.ids place 0 ≡ id
     → IsChildList (attached_as rows id false) (row_at rows id).parent (taken_list c place)
 taken_children rows id taken c h place within at = record {
-    order = order-alike rows rows' (remove c.ids place) (λ i l. set_name rows id false taken.inside (get_or (remove c.ids place) i 0)) (remove_order rows c.ids place within h.order);
-    attached = λ i l. ap (λ n. (row_at rows' n).attached) (was i l).3 ∙ ap (λ (r : Row). r.attached) (set_there rows id false taken.inside (get_or c.ids (was i l).0 0) (other i l)) ∙ h.attached (was i l).0 (was i l).1;
-    parent = λ i l. ap (λ n. (row_at rows' n).parent) (was i l).3 ∙ set_parent rows id false taken.inside (get_or c.ids (was i l).0 0) ∙ h.parent (was i l).0 (was i l).1;
-    all = all;
-    parked = omega (arith, h.parked, more, ap (parked_below rows' p) (set_long rows id false taken.inside));
-    room = omega (arith, h.room, long);
-  }
+  order = order-alike rows rows' (remove c.ids place) (λ i l. set_name rows id false taken.inside (get_or (remove c.ids place) i 0)) (remove_order rows c.ids place within h.order);
+  attached = λ i l. ap (λ n. (row_at rows' n).attached) (was i l).3 ∙ ap (λ (r : Row). r.attached) (set_there rows id false taken.inside (get_or c.ids (was i l).0 0) (other i l)) ∙ h.attached (was i l).0 (was i l).1;
+  parent = λ i l. ap (λ n. (row_at rows' n).parent) (was i l).3 ∙ set_parent rows id false taken.inside (get_or c.ids (was i l).0 0) ∙ h.parent (was i l).0 (was i l).1;
+  all = all;
+  parked = omega (arith, h.parked, more, ap (parked_below rows' p) (set_long rows id false taken.inside));
+  room = omega (arith, h.room, long);
+}
   where
     rows' : List Row
     rows' = attached_as rows id false
@@ -131,13 +131,13 @@ pub grown_children : (rows : List Row) (r : Row) → r.attached ≡ false → (k
     → parked ≡ parked_below (rows ++ r ∷ []) k (length (rows ++ r ∷ [])) → length c.ids + parked ≤ room
     → IsChildList (rows ++ r ∷ []) k (record { ids = c.ids; parked = parked; room = room })
 grown_children rows r out k c h parked room is fits = record {
-    order = order-alike rows (rows ++ r ∷ []) c.ids (λ i l. ap (λ (s : Row). s.name) (same i l)) h.order;
-    attached = λ i l. ap (λ (s : Row). s.attached) (same i l) ∙ h.attached i l;
-    parent = λ i l. ap (λ (s : Row). s.parent) (same i l) ∙ h.parent i l;
-    all = λ j a p. let e = grown_row rows r out j a in h.all j (ap (λ (s : Row). s.attached) (sym e) ∙ a) (ap (λ (s : Row). s.parent) (sym e) ∙ p);
-    parked = is;
-    room = fits;
-  }
+  order = order-alike rows (rows ++ r ∷ []) c.ids (λ i l. ap (λ (s : Row). s.name) (same i l)) h.order;
+  attached = λ i l. ap (λ (s : Row). s.attached) (same i l) ∙ h.attached i l;
+  parent = λ i l. ap (λ (s : Row). s.parent) (same i l) ∙ h.parent i l;
+  all = λ j a p. let e = grown_row rows r out j a in h.all j (ap (λ (s : Row). s.attached) (sym e) ∙ a) (ap (λ (s : Row). s.parent) (sym e) ∙ p);
+  parked = is;
+  room = fits;
+}
   where
     inside : (i : ℕ) → i < length c.ids → get_or c.ids i 0 < length rows
     inside i l = elim (below_or_not (get_or c.ids i 0) (length rows)) [
@@ -153,9 +153,9 @@ grown_children rows r out k c h parked room is fits = record {
     grown_row rows r out j a = elim (below_or_not j (length rows)) [
       | inl l ↦ before_end rows r j l
       | inr l ↦ elim (same_or_not j (length rows)) [
-          | inl e ↦ let no : (row_at (rows ++ r ∷ []) j).attached ≡ false = ap (λ n. (row_at (rows ++ r ∷ []) n).attached) e ∙ ap (λ (s : Row). s.attached) (at_end_of rows r) ∙ out in absurd (cc)
-          | inr d ↦ let no : (row_at (rows ++ r ∷ []) j).attached ≡ false = ap (λ (s : Row). s.attached) (get_or_past (rows ++ r ∷ []) j blank (omega (arith, l, d, length-append rows (r ∷ [])))) in absurd (cc)
-        ]
+        | inl e ↦ let no : (row_at (rows ++ r ∷ []) j).attached ≡ false = ap (λ n. (row_at (rows ++ r ∷ []) n).attached) e ∙ ap (λ (s : Row). s.attached) (at_end_of rows r) ∙ out in absurd (cc)
+        | inr d ↦ let no : (row_at (rows ++ r ∷ []) j).attached ≡ false = ap (λ (s : Row). s.attached) (get_or_past (rows ++ r ∷ []) j blank (omega (arith, l, d, length-append rows (r ∷ [])))) in absurd (cc)
+      ]
     ]
 
 -- a row that isn't attached is parked below its parent
@@ -175,9 +175,9 @@ pub added_index : (rows : List Row) → IsShaped rows → (index : List ChildLis
     → (c : ChildList) → c.ids ≡ (children_at index r.parent).ids → c.parked ≡ (children_at index r.parent).parked + 1 → length c.ids + c.parked ≤ c.room
     → IsIndex (rows ++ r ∷ []) (grown_index index r.parent c)
 added_index rows shape index r out held above h c ids parked room = record {
-    same = omega (arith, length-append rows (r ∷ []), length-append (set index r.parent c) (no_children ∷ []), length-set index r.parent c, h.same);
-    each = each;
-  }
+  same = omega (arith, length-append rows (r ∷ []), length-append (set index r.parent c) (no_children ∷ []), length-set index r.parent c, h.same);
+  each = each;
+}
   where
     n : ℕ
     n = length rows
@@ -245,12 +245,12 @@ added_index rows shape index r out held above h c ids parked room = record {
 pub forgotten_index : (rows : List Row) (index : List ChildList) (id : ℕ) → IsParkedTop rows id → IsShaped rows → IsIndex rows index
     → IsIndex (without_content rows id) (set index (row_at rows id).parent (record (children_at index (row_at rows id).parent) { parked = (children_at index (row_at rows id).parent).parked - 1 }))
 forgotten_index rows index id top shape h = record {
-    same = length-set index p _ ∙ h.same ∙ sym long;
-    each = λ k l. elim (same_or_not k p) [
-      | inl e ↦ subst (λ m. IsChildList rows' m (children_at (set index p c') m)) (sym e) (subst (IsChildList rows' p) (sym (get_or-set_same index p c' no_children (omega (arith, above, h.same)))) at_parent)
-      | inr d ↦ subst (IsChildList rows' k) (sym (get_or-set_other index p k c' no_children d)) (elsewhere k (children_at index k) (h.each k (omega (arith, l, long))) (λ e. d (sym e)))
-    ];
-  }
+  same = length-set index p _ ∙ h.same ∙ sym long;
+  each = λ k l. elim (same_or_not k p) [
+    | inl e ↦ subst (λ m. IsChildList rows' m (children_at (set index p c') m)) (sym e) (subst (IsChildList rows' p) (sym (get_or-set_same index p c' no_children (omega (arith, above, h.same)))) at_parent)
+    | inr d ↦ subst (IsChildList rows' k) (sym (get_or-set_other index p k c' no_children d)) (elsewhere k (children_at index k) (h.each k (omega (arith, l, long))) (λ e. d (sym e)))
+  ];
+}
   where
     rows' : List Row
     rows' = without_content rows id
@@ -348,7 +348,7 @@ renamed_in rows k name l a =
     let first : row_at (attached_as rows k false) k ≡ record (row_at rows k) { attached = false } = get_or-set_same rows k _ blank l in
     let rows2 = with_name (attached_as rows k false) k name (node_of (attached_as rows k false) k) in
     let two : rows2 ≡ set rows k (record (row_at rows k) { attached = false; name = name }) =
-        ap (λ (r : Row). set (attached_as rows k false) k (record r { name = name; node = r.node })) first ∙ set_twice rows k _ _ in
+    ap (λ (r : Row). set (attached_as rows k false) k (record r { name = name; node = r.node })) first ∙ set_twice rows k _ _ in
     let second : row_at rows2 k ≡ record (row_at rows k) { attached = false; name = name } = ap (λ rs. row_at rs k) two ∙ get_or-set_same rows k _ blank l in
     ap (λ (r : Row). set rows2 k (record r { attached = true })) second
     ∙ ap (λ rs. set rs k (record (row_at rows k) { attached = true; name = name })) two
@@ -404,8 +404,8 @@ pub named_node : (rows rows1 : List Row) (k : ℕ) (name : List ℕ) (n : Node) 
     → (was : Row) → was ≡ get_or rows1 k was → set rows1 k (record was { node = n }) ≡ with_name rows k name n
 named_node rows rows1 k name n l e was is =
     let here : was ≡ record (row_at rows k) { name = name; node = node_of rows k } =
-        read rows1 k was blank (omega (arith, l, ap length e, length-set rows k (record (row_at rows k) { name = name; node = node_of rows k }))) is
-        ∙ ap (λ rs. row_at rs k) e ∙ get_or-set_same rows k _ blank l in
+    read rows1 k was blank (omega (arith, l, ap length e, length-set rows k (record (row_at rows k) { name = name; node = node_of rows k }))) is
+    ∙ ap (λ rs. row_at rs k) e ∙ get_or-set_same rows k _ blank l in
     ap (λ (r : Row). set rows1 k (record r { node = n })) here ∙ ap (λ rs. set rs k (record (row_at rows k) { name = name; node = n })) e ∙ set_twice rows k _ _
 
 pub node_named : (rows rows1 : List Row) (k : ℕ) (name : List ℕ) → k < length rows → rows1 ≡ with_name rows k name (node_of rows k)
@@ -419,7 +419,7 @@ pub shaped-renode : (rows : List Row) (k : ℕ) (name : List ℕ) (n m : Node) �
 shaped-renode rows k name n m l h =
     let here : row_at (with_name rows k name n) k ≡ record (row_at rows k) { name = name; node = n } = get_or-set_same rows k _ blank l in
     let again : with_node (with_name rows k name n) k m ≡ with_name rows k name m =
-        ap (λ (r : Row). set (with_name rows k name n) k (record r { node = m })) here ∙ set_twice rows k _ _ in
+    ap (λ (r : Row). set (with_name rows k name n) k (record r { node = m })) here ∙ set_twice rows k _ _ in
     subst IsShaped again (shaped_alike (with_name rows k name n) (with_node (with_name rows k name n) k m) (node_alike (with_name rows k name n) k m (omega (arith, l, length-set rows k (record (row_at rows k) { name = name; node = n })))) h)
 
 -- rows that lie alike do so both ways
@@ -434,15 +434,15 @@ alike-back rows rows' same = record {
 -- what an Undo that fits puts in
 pub may_put : (rows : List Row) (k : ℕ) → Fits rows (change.PutIn k) → IsPut rows k
 may_put rows k fits = record {
-    inside = fits.inside;
-    below_root = elim (same_or_not k 0) [
-      | inl e ↦ absurd (let no : (row_at (attached_as rows k true) 0).attached ≡ false = fits.sound.shape.fixed in let yes : (row_at (attached_as rows k true) 0).attached ≡ true = ap (λ n. (row_at (attached_as rows k true) n).attached) (sym e) ∙ ap (λ (r : Row). r.attached) here in cc)
-      | inr d ↦ omega (arith, d)
-    ];
-    out = fits.ready;
-    held = sym (set_given_up rows k true fits.inside k) ∙ (fits.sound.each k (omega (arith, fits.inside, set_long rows k true fits.inside))).attached (ap (λ (r : Row). r.attached) here);
-    shaped = fits.sound.shape;
-  }
+  inside = fits.inside;
+  below_root = elim (same_or_not k 0) [
+    | inl e ↦ absurd (let no : (row_at (attached_as rows k true) 0).attached ≡ false = fits.sound.shape.fixed in let yes : (row_at (attached_as rows k true) 0).attached ≡ true = ap (λ n. (row_at (attached_as rows k true) n).attached) (sym e) ∙ ap (λ (r : Row). r.attached) here in cc)
+    | inr d ↦ omega (arith, d)
+  ];
+  out = fits.ready;
+  held = sym (set_given_up rows k true fits.inside k) ∙ (fits.sound.each k (omega (arith, fits.inside, set_long rows k true fits.inside))).attached (ap (λ (r : Row). r.attached) here);
+  shaped = fits.sound.shape;
+}
   where
     here : row_at (attached_as rows k true) k ≡ record (row_at rows k) { attached = true }
     here = set_here rows k true fits.inside

@@ -117,7 +117,7 @@ impl Tree {
     }
 
     /// Gives a node another name, or the one that it has. All that stands below it goes with it. Every node keeps its
-    /// number. It takes no memory, and its time doesn't grow with the tree.
+    /// number. It takes no memory, and its time doesn't grow with the subtree.
     pub fn rename(&mut self, id: NodeId, name: Name) -> Undo
         requires live { IsLive self.old.rows id }
         requires removable { (node_of self.old.rows id).permanent ≡ false }

@@ -22,15 +22,15 @@ rows_are c =
 pub count_in-requires-clause-shaped : goal.count_in-requires-clause-shaped
 count_in-requires-clause-shaped c =
     let rows : c.put_in.new.rows.items ≡ c.args.rows.now.items ++ c.args.row ∷ [] =
-        c.put_in.ensures.rows ∙ ap (λ k. attached_as c.add_row.new.rows.items k true) (c.len-id.ensures ∙ c.args.rows.now.ok.0)
-        ∙ put_last c.args.rows.now.items c.args.row c.requires.attached c.requires.held c.requires.after c.requires.kept.tree.shape.rooted c.add_row.new.rows.items c.in-Ok.ensures.ok in
+    c.put_in.ensures.rows ∙ ap (λ k. attached_as c.add_row.new.rows.items k true) (c.len-id.ensures ∙ c.args.rows.now.ok.0)
+    ∙ put_last c.args.rows.now.items c.args.row c.requires.attached c.requires.held c.requires.after c.requires.kept.tree.shape.rooted c.add_row.new.rows.items c.in-Ok.ensures.ok in
     subst IsShaped (sym (c.deref.ensures.value ∙ rows)) c.requires.after.shape
 
 pub count_in-requires-clause-sizes : goal.count_in-requires-clause-sizes
 count_in-requires-clause-sizes c =
     let rows : c.put_in.new.rows.items ≡ c.args.rows.now.items ++ c.args.row ∷ [] =
-        c.put_in.ensures.rows ∙ ap (λ k. attached_as c.add_row.new.rows.items k true) (c.len-id.ensures ∙ c.args.rows.now.ok.0)
-        ∙ put_last c.args.rows.now.items c.args.row c.requires.attached c.requires.held c.requires.after c.requires.kept.tree.shape.rooted c.add_row.new.rows.items c.in-Ok.ensures.ok in
+    c.put_in.ensures.rows ∙ ap (λ k. attached_as c.add_row.new.rows.items k true) (c.len-id.ensures ∙ c.args.rows.now.ok.0)
+    ∙ put_last c.args.rows.now.items c.args.row c.requires.attached c.requires.held c.requires.after c.requires.kept.tree.shape.rooted c.add_row.new.rows.items c.in-Ok.ensures.ok in
     subst (λ (k : ℕ). IsSized (attached_as c.deref.result.now k false) c.add_row.new.sizes.items) (sym (c.len-id.ensures ∙ c.args.rows.now.ok.0))
     (new_sizes c.args.rows.now.items c.args.row c.requires.attached c.requires.held c.requires.after c.requires.kept.tree.shape.rooted c.requires.kept.tree.shape c.deref.result.now (c.deref.ensures.value ∙ rows)
     c.args.sizes.now.items c.add_row.new.sizes.items c.in-Ok.ensures.sizes c.requires.kept.sizes)

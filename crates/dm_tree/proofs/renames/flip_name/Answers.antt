@@ -21,5 +21,5 @@ returns-clause-rows c =
 pub returns-clause-index : goal.returns-clause-index
 returns-clause-index c =
     let l : c.args.id < length c.swap_name.new.rows.items =
-        omega (arith, c.requires.inside, ap length c.swap_name.ensures.rows, length-set c.args.rows.now.items c.args.id (record (row_at c.args.rows.now.items c.args.id) { name = c.args.name.now; node = node_of c.args.rows.now.items c.args.id })) in
+    omega (arith, c.requires.inside, ap length c.swap_name.ensures.rows, length-set c.args.rows.now.items c.args.id (record (row_at c.args.rows.now.items c.args.id) { name = c.args.name.now; node = node_of c.args.rows.now.items c.args.id })) in
     index-set c.swap_name.new.rows.items c.args.id (record c.index_mut.result.now { node = c.swap_counts.new.node }) c.index_mut.result.now l c.index_mut.ensures.value refl refl refl refl c.swap_name.new.index.items c.swap_name.ensures.index

@@ -64,7 +64,7 @@ count_out-requires-clause-shaped c =
     let now = c.args.self.now.rows in
     let tree : IsTree now = subst (λ (t : Tree). IsTree t.rows) c.self.view_is c.self.invariant.tree in
     let rows : c.deref.result.now ≡ attached_as now c.args.id false =
-        c.deref.ensures.value ∙ c.take_out.ensures.rows ∙ ap (λ (t : Tree). attached_as t.rows c.row.result false) c.self.view_is ∙ ap (λ k. attached_as now k false) c.row.ensures in
+    c.deref.ensures.value ∙ c.take_out.ensures.rows ∙ ap (λ (t : Tree). attached_as t.rows c.row.result false) c.self.view_is ∙ ap (λ k. attached_as now k false) c.row.ensures in
     subst IsShaped (sym rows) (tree-cut now tree c.args.id (isnt_root now tree c.args.id c.requires.removable) c.requires.live).shape
 
 pub count_out-requires-clause-sizes : goal.count_out-requires-clause-sizes
@@ -73,6 +73,6 @@ count_out-requires-clause-sizes c =
     let tree : IsTree now = subst (λ (t : Tree). IsTree t.rows) c.self.view_is c.self.invariant.tree in
     let taken = may_take now tree c.args.id c.requires.live c.requires.removable in
     let rows : c.deref.result.now ≡ attached_as now c.args.id false =
-        c.deref.ensures.value ∙ c.take_out.ensures.rows ∙ ap (λ (t : Tree). attached_as t.rows c.row.result false) c.self.view_is ∙ ap (λ k. attached_as now k false) c.row.ensures in
+    c.deref.ensures.value ∙ c.take_out.ensures.rows ∙ ap (λ (t : Tree). attached_as t.rows c.row.result false) c.self.view_is ∙ ap (λ k. attached_as now k false) c.row.ensures in
     subst (λ (k : ℕ). IsSized (attached_as c.deref.result.now k true) c.self.inside.sizes.items) (sym c.row-2.ensures)
     (subst (λ r. IsSized r c.self.inside.sizes.items) (ap (λ (t : Tree). t.rows) c.self.view_is ∙ sym (back_again now c.deref.result.now c.args.id taken.inside taken.attached rows)) c.self.invariant.sizes)

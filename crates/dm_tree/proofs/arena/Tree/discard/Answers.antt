@@ -27,7 +27,6 @@ pub forget-requires-clause-parked : goal.forget-requires-clause-parked
 forget-requires-clause-parked c =
     subst (λ rows. IsParkedTop rows c.in-PutIn.id) (sym (c.deref.ensures.value ∙ ap (λ (t : Tree). t.rows) c.self.view_is)) (subst (IsHeld c.args.self.now.rows) (sym c.in-PutIn.ensures) c.requires)
 
-
 pub returns-in-PutIn-clause-nodes : goal.returns-in-PutIn-clause-nodes
 returns-in-PutIn-clause-nodes c = ap nodes (rows_are c) ∙ nodes-given_up c.args.self.now.rows c.in-PutIn.id (top c)
 

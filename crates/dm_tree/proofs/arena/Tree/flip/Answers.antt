@@ -26,7 +26,7 @@ recount-requires-clause-fits c =
     let undo = c.args.undo.now in
     let tree : IsTree now = subst (λ (t : Tree). IsTree t.rows) c.self.view_is c.self.invariant.tree in
     let rows : c.deref.result.now ≡ flipped now undo =
-        c.deref.ensures.value ∙ c.flip_row.ensures.rows ∙ ap (λ (t : Tree). flipped t.rows c.undo.inside.change) c.self.view_is ∙ ap (flipped now) c.undo.view_is in
+    c.deref.ensures.value ∙ c.flip_row.ensures.rows ∙ ap (λ (t : Tree). flipped t.rows c.undo.inside.change) c.self.view_is ∙ ap (flipped now) c.undo.view_is in
     let change : c.flip_row.new.change ≡ turned now undo = c.flip_row.ensures.change ∙ ap (λ (t : Tree). turned t.rows c.undo.inside.change) c.self.view_is ∙ ap (turned now) c.undo.view_is in
     subst (λ r. Fits r c.flip_row.new.change) (sym rows) (subst (Fits (flipped now undo)) (sym change) (again now undo tree c.requires).fits)
 
@@ -36,8 +36,8 @@ recount-requires-clause-sizes c =
     let undo = c.args.undo.now in
     let tree : IsTree now = subst (λ (t : Tree). IsTree t.rows) c.self.view_is c.self.invariant.tree in
     let rows : c.deref.result.now ≡ flipped now undo =
-        c.deref.ensures.value ∙ c.flip_row.ensures.rows ∙ ap (λ (t : Tree). flipped t.rows c.undo.inside.change) c.self.view_is ∙ ap (flipped now) c.undo.view_is in
+    c.deref.ensures.value ∙ c.flip_row.ensures.rows ∙ ap (λ (t : Tree). flipped t.rows c.undo.inside.change) c.self.view_is ∙ ap (flipped now) c.undo.view_is in
     let change : c.flip_row.new.change ≡ turned now undo = c.flip_row.ensures.change ∙ ap (λ (t : Tree). turned t.rows c.undo.inside.change) c.self.view_is ∙ ap (turned now) c.undo.view_is in
     let back : flipped c.deref.result.now c.flip_row.new.change ≡ c.self.inside.rows.items =
-        ap (λ r. flipped r c.flip_row.new.change) rows ∙ ap (flipped (flipped now undo)) change ∙ (again now undo tree c.requires).rows ∙ sym (ap (λ (t : Tree). t.rows) c.self.view_is) in
+    ap (λ r. flipped r c.flip_row.new.change) rows ∙ ap (flipped (flipped now undo)) change ∙ (again now undo tree c.requires).rows ∙ sym (ap (λ (t : Tree). t.rows) c.self.view_is) in
     subst (λ r. IsSized r c.self.inside.sizes.items) (sym back) c.self.invariant.sizes

@@ -77,8 +77,8 @@ insert_row-requires-clause-after c =
     let rows = c.deref.ensures.value ∙ ap (λ (t : Tree). t.rows) c.self.view_is in
     let node_is : c.made.result ≡ made now.clock c.args.node = c.made.ensures ∙ ap (λ (t : Tree). made t.clock c.args.node) c.self.view_is in
     let row : c.new_row-row.result ≡ new_row now.rows c.args.parent c.args.name (made now.clock c.args.node) =
-        c.new_row-row.ensures ∙ ap (λ r. new_row r c.row.result c.args.name c.made.result) rows ∙ ap (λ k. new_row now.rows k c.args.name c.made.result) c.row.ensures
-        ∙ ap (new_row now.rows c.args.parent c.args.name) node_is in
+    c.new_row-row.ensures ∙ ap (λ r. new_row r c.row.result c.args.name c.made.result) rows ∙ ap (λ k. new_row now.rows k c.args.name c.made.result) c.row.ensures
+    ∙ ap (new_row now.rows c.args.parent c.args.name) node_is in
     let may : MayCome now.rows c.args.parent c.args.name (made now.clock c.args.node) = record {
       live = c.requires.live;
       interior = c.requires.interior;

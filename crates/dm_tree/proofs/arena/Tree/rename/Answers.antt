@@ -67,7 +67,7 @@ put_name-change-requires-clause-after c =
     let now = c.args.self.now in
     let tree : IsTree now.rows = subst (λ (t : Tree). IsTree t.rows) c.self.view_is c.self.invariant.tree in
     let may : MayRename now.rows c.args.id c.args.name =
-        record { live = c.requires.live; removable = c.requires.removable; free = c.requires.free; fits = c.requires.fits; named = c.as_slice.ensures.name } in
+    record { live = c.requires.live; removable = c.requires.removable; free = c.requires.free; fits = c.requires.fits; named = c.as_slice.ensures.name } in
     subst (λ (t : Tree). IsShaped (with_name t.rows c.row.result c.args.name (changed t.clock (node_of t.rows c.row.result)))) (sym c.self.view_is)
     (subst (λ k. IsShaped (with_name now.rows k c.args.name (changed now.clock (node_of now.rows k)))) (sym c.row.ensures)
     (tree-renamed now.rows tree c.args.id c.args.name now.clock may).shape)
