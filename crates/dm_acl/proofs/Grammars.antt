@@ -9,12 +9,13 @@ use Rattle.dm_acl.specs.declared.values.Entry.{Entry}
 use Rattle.dm_acl.specs.declared.values.Entries.{Entries}
 use Rattle.dm_acl.specs.Grammar.{IsEntry, entry_text, entries_text, IsTextOf, no_entries, meaning, entries_in, printed, IsAcl}
 use Rattle.dm_acl.specs.Reading.{parts_in, after_parts, parse_of, Answers}
-use Rattle.dm_acl.specs.Laws.{WhatIsReadIsMeant, WhatIsWrittenIsRead, has_no, front_text, IsBehind, HasFaultAt, IsRefusedAt, FirstFaultIsTold, OnlyFaultsAreTold, PrintedIsRead, ReadIsAcl, EntriesAllow, EntriesName}
+use Rattle.dm_acl.specs.Laws.{WhatIsReadIsMeant, WhatIsWrittenIsRead, has_no, front_text, IsBehind, HasFaultAt, IsRefusedAt, FirstFaultIsTold, OnlyFaultsAreTold, PrintedIsRead, PrintedIsNoLonger, PrintedIsShort, WhatIsReadIsReadAgain, ReadIsAcl, EntriesAllow, EntriesName}
 use Rattle.dm_acl.proofs.Parts.{some-parts}
 use Rattle.dm_acl.proofs.Splits.{none_passes, split_joined, clear_split, joined_split}
 use Rattle.dm_acl.proofs.Commands.{AreNew, new_of_once, once_from_new, has_from_named, named_of_has}
 use Rattle.dm_acl.proofs.EntryTexts.{clear_entry}
 use Rattle.dm_acl.proofs.Faults.{parts_taken, parts_read, Stops, parts_stop, parts_stopped, parts_told}
+use Rattle.dm_acl.proofs.Lengths.{printed_shorter}
 use Rattle.dm_acl.proofs.Meanings.{acl_of, entries_good, entries_new, entries_mean, entries_some, entries_allow}
 
 -- ---- the length goes first
@@ -75,6 +76,20 @@ read_is_acl text acl h =
     let got = taken text acl h in
     subst IsAcl (sym got.2) (acl_of got.0 got.1.some got.1.good)
 
+pub printed_is_no_longer : PrintedIsNoLonger
+printed_is_no_longer text acl h =
+    let got = taken text acl h in
+    let whole : length text ≡ length (entries_text got.0) = ap length got.1.written in
+    let same : length (printed acl) ≡ length (printed (meaning got.0)) = ap (λ a. length (printed a)) got.2 in
+    let shorter = printed_shorter got.0 in
+    omega (arith, whole, same, shorter)
+
+pub printed_is_short : PrintedIsShort
+printed_is_short text acl h =
+    let no_longer = printed_is_no_longer text acl h in
+    let short = read_short text acl h in
+    omega (arith, no_longer, short)
+
 -- ---- what is in the grammar is read
 
 clear_entries : (es : List Entry) → AllByRecursion IsEntry es → AllByRecursion (λ part. has_no 38 part ≡ true) (map entry_text es)
@@ -100,6 +115,9 @@ unfolding printed
 printed_is_read acl is short =
     written (entries_in acl) (entries_text (entries_in acl)) (entries_some acl is) (entries_good acl is) (entries_new acl is) refl short
     ∙ ap (λ a. Ok a) (entries_mean acl is)
+
+pub what_is_read_is_read_again : WhatIsReadIsReadAgain
+what_is_read_is_read_again text acl h = printed_is_read acl (read_is_acl text acl h) (printed_is_short text acl h)
 
 -- ---- the first fault
 

@@ -7,4 +7,5 @@ pub mod EntryTexts
 pub mod Faults
 pub mod Meanings
 pub mod Sames
+pub mod Lengths
 pub mod Grammars

@@ -63,6 +63,18 @@ OnlyFaultsAreTold = (text : List ℕ) → parse_of text ≡ Err error.Memory →
 abbrev pub PrintedIsRead : Type 0
 PrintedIsRead = (acl : Entries) → IsAcl acl → length (printed acl) ≤ 4096 → parse_of (printed acl) ≡ Ok acl
 
+-- what is read of a text is printed in no more bytes than the text has
+abbrev pub PrintedIsNoLonger : Type 0
+PrintedIsNoLonger = (text : List ℕ) (acl : Entries) → parse_of text ≡ Ok acl → length (printed acl) ≤ length text
+
+-- and so in 4,096 at most
+abbrev pub PrintedIsShort : Type 0
+PrintedIsShort = (text : List ℕ) (acl : Entries) → parse_of text ≡ Ok acl → length (printed acl) ≤ 4096
+
+-- and read again as the same
+abbrev pub WhatIsReadIsReadAgain : Type 0
+WhatIsReadIsReadAgain = (text : List ℕ) (acl : Entries) → parse_of text ≡ Ok acl → parse_of (printed acl) ≡ Ok acl
+
 -- every text that is read means an access list
 abbrev pub ReadIsAcl : Type 0
 ReadIsAcl = (text : List ℕ) (acl : Entries) → parse_of text ≡ Ok acl → IsAcl acl
