@@ -3,6 +3,8 @@
 
 pub mod arena;
 pub mod edits;
+#[cfg(test)]
+mod large_tests;
 pub mod laws;
 mod lays;
 pub mod nodes;
