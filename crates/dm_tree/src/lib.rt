@@ -4,6 +4,8 @@
 pub mod arena;
 pub mod edits;
 mod index;
+#[cfg(test)]
+mod large_tests;
 pub mod laws;
 mod lays;
 pub mod nodes;
