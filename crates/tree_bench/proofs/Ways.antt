@@ -19,7 +19,7 @@ root_begins [] = refl
 root_begins (n ∷ ns) = refl
 
 root_is_there : (m : Nodes) → IsWellFormed m → IsSome (get m [])
-root_is_there m well = ap is_some well.root.1.0
+root_is_there m well = ap is_some well.root.1
 
 all_below : (m : Nodes) → length (below m []) ≡ len m
 all_below m = ap length (all_pass (is_below []) root_begins (keys m)) ∙ length-map (entries m) (λ e. e.0) ∙ sym (len-entries m)

@@ -14,8 +14,8 @@ mod words;
 use build::{build, leaf_paths};
 use fault::told;
 use layout::{Layout, build_order, shuffled_order};
-use measure::{measure_build, measure_calls};
-use rounds::{count_found, detach_each, fold_names, ids_of, set_each, walk};
+use measure::{measure_build, measure_tree};
+use rounds::{count_found, edit_each, fold_names, walk};
 use std::{env, io};
 use times::{Span, Times};
 use words::{Call, Work, work_of};
@@ -61,8 +61,7 @@ fn work_on_tree(rt: &HostRuntime, work: Work) -> io::Result<()> {
     let mut tree = build(alloc, work.layout, order.as_slice()).map_err(told)?;
     let picks = shuffled_order(alloc, work.layout.leaves).map_err(told)?;
     let paths = leaf_paths(alloc, work.layout, picks.as_slice()).map_err(told)?;
-    let ids = ids_of(alloc, &tree, paths.as_slice()).map_err(told)?;
-    let times = measure_calls(rt, work, &mut tree, paths.as_slice(), ids.as_slice())?;
+    let times = measure_tree(rt, work, &mut tree, paths.as_slice())?;
     let calls = match work.call {
         Call::Walk => tree.count(),
         _ => work.layout.leaves,
@@ -84,9 +83,7 @@ fn show(rt: &HostRuntime, name: &str, layout: Layout) -> io::Result<()> {
     let mut tree = build(alloc, layout, order.as_slice()).map_err(told)?;
     let picks = shuffled_order(alloc, layout.leaves).map_err(told)?;
     let paths = leaf_paths(alloc, layout, picks.as_slice()).map_err(told)?;
-    let ids = ids_of(alloc, &tree, paths.as_slice()).map_err(told)?;
-    set_each(alloc, &mut tree, ids.as_slice()).map_err(told)?;
-    detach_each(&mut tree, ids.as_slice()).map_err(told)?;
+    edit_each(alloc, &mut tree, paths.as_slice()).map_err(told)?;
     let found = count_found(&tree, paths.as_slice());
     println!(rt;
         "{name} {} nodes, {found} found, {} walked, sum {}",

@@ -5,7 +5,7 @@ ghost use Rattle.dm_tree.specs.Rows.{IsLive};
 use crate::build::build;
 use crate::fault::{Fault, told};
 use crate::layout::Layout;
-use crate::rounds::{count_found, detach_each, set_each, walk};
+use crate::rounds::{count_found, detach_each, ids_of, set_each, walk};
 use crate::times::{Span, Times};
 use crate::words::{Call, Work};
 use dm_tree::{NodeId, Tree};
@@ -69,8 +69,8 @@ fn turn(
     }
 }
 
-/// Does something again and again to each leaf, or to each node.
-pub fn measure_calls(
+// Does something again and again to each leaf, or to each node.
+fn measure_calls(
     rt: &HostRuntime,
     work: Work,
     tree: &mut Tree,
@@ -89,4 +89,17 @@ pub fn measure_calls(
         times.add(start.elapsed(rt)?.as_nanos());
     }
     Ok(times)
+}
+
+/// Finds the leaves at these paths, and does something again and again to each, or to each node.
+pub fn measure_tree(
+    rt: &HostRuntime,
+    work: Work,
+    tree: &mut Tree,
+    paths: &[Path],
+) -> io::Result<Times> {
+    match ids_of(rt.alloc(), tree, paths) {
+        Ok(ids) => measure_calls(rt, work, tree, paths, ids.as_slice()),
+        Err(fault) => Err(told(fault)),
+    }
 }

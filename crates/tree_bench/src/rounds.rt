@@ -89,6 +89,14 @@ pub fn detach_each(tree: &mut Tree, nodes: &[NodeId]) -> Result<(), Fault>
     Ok(())
 }
 
+/// Sets and takes out each of the leaves at these paths, and takes that back.
+pub fn edit_each(alloc: Global, tree: &mut Tree, paths: &[Path]) -> Result<(), Fault> {
+    let leaves = ids_of(alloc, tree, paths)?;
+    set_each(alloc, tree, leaves.as_slice())?;
+    let nodes = ids_of(alloc, tree, paths)?;
+    detach_each(tree, nodes.as_slice())
+}
+
 /// Goes through the whole tree, in the order of the tree text, and counts the nodes.
 pub fn walk(tree: &Tree) -> usize
     ensures { result ≡ map.len (nodes tree.now.rows) }
