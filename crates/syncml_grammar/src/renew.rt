@@ -1,4 +1,5 @@
-// Drafts that are written over for a new element: where a draft is of the right kind, only its fields are.
+// Drafts that are used again for a new element. What was put into a parent mostly left its draft as a new one, which then need
+// not be written again.
 ghost use Rattle.std.specs.Prelude.{◌≡◌, OnOk, IsTrue};
 ghost use Rattle.syncml_grammar.specs.declared.draft.Draft.TheVariants as drafts;
 ghost use Rattle.syncml_grammar.specs.Drafts.{no_item, no_loc, no_meta, no_plain, no_status, no_results, fresh_draft};
@@ -9,98 +10,90 @@ use crate::draft::{
 use dm_base::Memory;
 use std::alloc::Global;
 use syncml_shape::Kind;
-use syncml_types::{Item, Meta, Plain, ResultsCmd, Verb};
+use syncml_types::{Item, Loc, Meta, Plain, ResultsCmd, Verb};
 use wbxml_tables::Element;
 
-// Whether no child has come. What was taken from a draft left it so, and it need not be written again.
-fn is_blank_meta(meta: &Meta) -> bool
-    ensures { IsTrue result → meta.now ≡ no_meta }
+fn is_new_loc(draft: &Draft) -> bool
+    ensures { IsTrue result → draft.now ≡ drafts.Loc no_loc }
 {
-    match meta {
-        Meta {
-            format: None,
-            media: None,
-            size: None,
-            next_nonce: None,
-            max_msg: None,
-            max_obj: None,
-            mark: None,
-            version: None,
-        } => true,
+    match draft {
+        Draft::Loc(Loc { uri, name: None }) => uri.is_empty(),
         _ => false,
     }
 }
 
-fn is_blank_item(item: &Item) -> bool
-    ensures { IsTrue result → item.now ≡ no_item }
+fn is_new_meta(draft: &Draft) -> bool
+    ensures { IsTrue result → draft.now ≡ drafts.Meta no_meta }
 {
-    match item {
-        Item {
-            target: None,
-            source: None,
-            meta: None,
-            value: None,
-            more: false,
-        } => true,
+    match draft {
+        Draft::Meta(
+            Meta {
+                format: None,
+                media: None,
+                size: None,
+                next_nonce: None,
+                max_msg: None,
+                max_obj: None,
+                mark: None,
+                version: None,
+            },
+        ) => true,
         _ => false,
     }
 }
 
-fn is_blank_plain(plain: &Plain, verb: Verb) -> bool
-    ensures { IsTrue result → plain.now ≡ no_plain verb }
+fn is_new_item(draft: &Draft) -> bool
+    ensures { IsTrue result → draft.now ≡ drafts.Item no_item }
 {
-    match plain {
-        Plain {
-            verb: _,
-            id: 0,
-            no_resp: false,
-            meta: None,
-            correlator: None,
-            items,
-        } => plain.verb == verb && items.is_empty(),
+    match draft {
+        Draft::Item(
+            Item {
+                target: None,
+                source: None,
+                meta: None,
+                value: None,
+                more: false,
+            },
+        ) => true,
         _ => false,
     }
 }
 
-fn is_blank_results(results: &ResultsCmd) -> bool
-    ensures { IsTrue result → results.now ≡ no_results }
+fn is_new_plain(draft: &Draft, wanted: Verb) -> bool
+    ensures { IsTrue result → draft.now ≡ drafts.Plain (no_plain wanted) }
 {
-    match results {
-        ResultsCmd {
-            id: 0,
-            msg_ref: None,
-            cmd_ref: 0,
-            meta: None,
-            target_ref: None,
-            source_ref: None,
-            items,
-        } => items.is_empty(),
+    match draft {
+        Draft::Plain(
+            Plain {
+                verb,
+                id: 0,
+                no_resp: false,
+                meta: None,
+                correlator: None,
+                items,
+            },
+        ) => *verb == wanted && items.is_empty(),
         _ => false,
     }
 }
 
-fn write_meta(meta: &mut Meta)
-    ensures { meta.new ≡ no_meta }
+fn is_new_results(draft: &Draft) -> bool
+    ensures { IsTrue result → draft.now ≡ drafts.Results no_results }
 {
-    *meta = new_meta();
-}
-
-fn write_item(item: &mut Item)
-    ensures { item.new ≡ no_item }
-{
-    *item = new_item();
-}
-
-fn write_plain(plain: &mut Plain, alloc: Global, verb: Verb)
-    ensures { plain.new ≡ no_plain verb }
-{
-    *plain = new_plain(alloc, verb);
-}
-
-fn write_results(results: &mut ResultsCmd, alloc: Global)
-    ensures { results.new ≡ no_results }
-{
-    *results = new_results(alloc);
+    match draft {
+        Draft::Results(
+            ResultsCmd {
+                id: 0,
+                msg_ref: None,
+                cmd_ref: 0,
+                meta: None,
+                target_ref: None,
+                source_ref: None,
+                items,
+            },
+        ) => items.is_empty(),
+        _ => false,
+    }
 }
 
 fn become_loc(draft: &mut Draft, alloc: Global)
@@ -112,9 +105,8 @@ fn become_loc(draft: &mut Draft, alloc: Global)
 fn renew_loc(draft: &mut Draft, alloc: Global)
     ensures { draft.new ≡ drafts.Loc no_loc }
 {
-    match draft {
-        Draft::Loc(loc) => *loc = new_loc(alloc),
-        other => become_loc(other, alloc),
+    if !is_new_loc(draft) {
+        become_loc(draft, alloc);
     }
 }
 
@@ -127,13 +119,8 @@ fn become_meta(draft: &mut Draft)
 fn renew_meta(draft: &mut Draft)
     ensures { draft.new ≡ drafts.Meta no_meta }
 {
-    match draft {
-        Draft::Meta(meta) => {
-            if !is_blank_meta(meta) {
-                write_meta(meta);
-            }
-        }
-        other => become_meta(other),
+    if !is_new_meta(draft) {
+        become_meta(draft);
     }
 }
 
@@ -146,13 +133,8 @@ fn become_item(draft: &mut Draft)
 fn renew_item(draft: &mut Draft)
     ensures { draft.new ≡ drafts.Item no_item }
 {
-    match draft {
-        Draft::Item(item) => {
-            if !is_blank_item(item) {
-                write_item(item);
-            }
-        }
-        other => become_item(other),
+    if !is_new_item(draft) {
+        become_item(draft);
     }
 }
 
@@ -165,13 +147,8 @@ fn become_plain(draft: &mut Draft, alloc: Global, verb: Verb)
 fn renew_plain(draft: &mut Draft, alloc: Global, verb: Verb)
     ensures { draft.new ≡ drafts.Plain (no_plain verb) }
 {
-    match draft {
-        Draft::Plain(plain) => {
-            if !is_blank_plain(plain, verb) {
-                write_plain(plain, alloc, verb);
-            }
-        }
-        other => become_plain(other, alloc, verb),
+    if !is_new_plain(draft, verb) {
+        become_plain(draft, alloc, verb);
     }
 }
 
@@ -184,13 +161,8 @@ fn become_results(draft: &mut Draft, alloc: Global)
 fn renew_results(draft: &mut Draft, alloc: Global)
     ensures { draft.new ≡ drafts.Results no_results }
 {
-    match draft {
-        Draft::Results(results) => {
-            if !is_blank_results(results) {
-                write_results(results, alloc);
-            }
-        }
-        other => become_results(other, alloc),
+    if !is_new_results(draft) {
+        become_results(draft, alloc);
     }
 }
 
@@ -198,15 +170,6 @@ fn become_status(draft: &mut Draft, alloc: Global)
     ensures { draft.new ≡ drafts.Status no_status }
 {
     *draft = Draft::Status(new_status(alloc));
-}
-
-fn renew_status(draft: &mut Draft, alloc: Global)
-    ensures { draft.new ≡ drafts.Status no_status }
-{
-    match draft {
-        Draft::Status(status) => *status = new_status(alloc),
-        other => become_status(other, alloc),
-    }
 }
 
 fn become_other(
@@ -236,7 +199,7 @@ pub(crate) fn renew(
         Kind::Item => renew_item(draft),
         Kind::Plain => renew_plain(draft, alloc, verb_named(element)),
         Kind::Results => renew_results(draft, alloc),
-        Kind::Status => renew_status(draft, alloc),
+        Kind::Status => become_status(draft, alloc),
         other => return become_other(draft, alloc, other, element),
     }
     Ok(())
