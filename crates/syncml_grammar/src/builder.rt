@@ -55,7 +55,11 @@ impl Builder {
         }
         match self.stack.into_parts() {
             None => None,
-            Some(parts) => Some(Message::of_parts(parts.header, parts.body, parts.last)),
+            Some(parts) => Some(Message::of_parts(
+                parts.header.into_header(),
+                parts.body,
+                parts.last,
+            )),
         }
     }
 

@@ -17,7 +17,7 @@ use syncml_types::{
 };
 use wbxml_tables::Element;
 
-/// A header so far. It is boxed, since a draft is moved with each element that it holds, and a message has one header.
+/// A header so far. It is boxed, since a message has one, and no other draft is as large.
 #[derive(Drop)]
 pub struct HeaderDraft {
     pub(crate) header: Box<Header>,
@@ -29,6 +29,15 @@ impl Model for HeaderDraft {
     ghost Value = { Header };
 
     ghost view = { λ d. d.header.value };
+}
+
+impl HeaderDraft {
+    /// The header, out of its box.
+    pub(crate) fn into_header(self) -> Header
+        ensures { result ≡ self }
+    {
+        Box::into_inner(self.header)
+    }
 }
 
 /// The children of a SyncBody so far.
@@ -49,7 +58,7 @@ pub struct MessageDraft {
 /// The parts of a whole message.
 #[derive(Drop)]
 pub struct WholeParts {
-    pub header: Header,
+    pub header: HeaderDraft,
     pub body: List<Command>,
     pub last: bool,
 }
@@ -62,11 +71,7 @@ impl MessageDraft {
         let MessageDraft { header, body, last } = self;
         match header {
             None => None,
-            Some(draft) => Some(WholeParts {
-                header: Box::into_inner(draft.header),
-                body,
-                last,
-            }),
+            Some(header) => Some(WholeParts { header, body, last }),
         }
     }
 }
@@ -107,7 +112,7 @@ impl Draft {
     }
 }
 
-fn new_loc(alloc: Global) -> Loc
+pub(crate) fn new_loc(alloc: Global) -> Loc
     ensures { result ≡ no_loc }
 {
     Loc {
@@ -116,7 +121,7 @@ fn new_loc(alloc: Global) -> Loc
     }
 }
 
-fn new_meta() -> Meta
+pub(crate) fn new_meta() -> Meta
     ensures { result ≡ no_meta }
 {
     Meta {
@@ -131,7 +136,7 @@ fn new_meta() -> Meta
     }
 }
 
-fn new_item() -> Item
+pub(crate) fn new_item() -> Item
     ensures { result ≡ no_item }
 {
     Item {
@@ -188,7 +193,7 @@ fn new_body(alloc: Global) -> BodyDraft
     }
 }
 
-fn new_cred(alloc: Global) -> Cred
+pub(crate) fn new_cred(alloc: Global) -> Cred
     ensures { result ≡ no_cred }
 {
     Cred {
@@ -198,7 +203,7 @@ fn new_cred(alloc: Global) -> Cred
 }
 
 // The verb of a command's element. Other elements than these aren't asked for.
-fn verb_named(element: Element) -> Verb
+pub(crate) fn verb_named(element: Element) -> Verb
     ensures { result ≡ verb_of element }
 {
     match element {
@@ -211,11 +216,11 @@ fn verb_named(element: Element) -> Verb
     }
 }
 
-fn new_plain(alloc: Global, element: Element) -> Plain
-    ensures { result ≡ no_plain (verb_of element) }
+pub(crate) fn new_plain(alloc: Global, verb: Verb) -> Plain
+    ensures { result ≡ no_plain verb }
 {
     Plain {
-        verb: verb_named(element),
+        verb,
         id: 0,
         no_resp: false,
         meta: None,
@@ -224,7 +229,7 @@ fn new_plain(alloc: Global, element: Element) -> Plain
     }
 }
 
-fn new_alert(alloc: Global) -> AlertCmd
+pub(crate) fn new_alert(alloc: Global) -> AlertCmd
     ensures { result ≡ no_alert }
 {
     AlertCmd {
@@ -236,7 +241,7 @@ fn new_alert(alloc: Global) -> AlertCmd
     }
 }
 
-fn new_block(alloc: Global) -> Block
+pub(crate) fn new_block(alloc: Global) -> Block
     ensures { result ≡ no_block }
 {
     Block {
@@ -247,7 +252,7 @@ fn new_block(alloc: Global) -> Block
     }
 }
 
-fn new_sequence(alloc: Global) -> SeqBlock
+pub(crate) fn new_sequence(alloc: Global) -> SeqBlock
     ensures { result ≡ no_sequence }
 {
     SeqBlock {
@@ -258,7 +263,7 @@ fn new_sequence(alloc: Global) -> SeqBlock
     }
 }
 
-fn new_status(alloc: Global) -> StatusCmd
+pub(crate) fn new_status(alloc: Global) -> StatusCmd
     ensures { result ≡ no_status }
 {
     StatusCmd {
@@ -274,7 +279,7 @@ fn new_status(alloc: Global) -> StatusCmd
     }
 }
 
-fn new_results(alloc: Global) -> ResultsCmd
+pub(crate) fn new_results(alloc: Global) -> ResultsCmd
     ensures { result ≡ no_results }
 {
     ResultsCmd {
@@ -302,7 +307,7 @@ pub(crate) fn new_draft(alloc: Global, kind: Kind, element: Element) -> Result<D
         Kind::Message => Draft::Message(new_message(alloc)),
         Kind::Header => return new_header_draft(alloc),
         Kind::Body => Draft::Body(new_body(alloc)),
-        Kind::Plain | Kind::Exec => Draft::Plain(new_plain(alloc, element)),
+        Kind::Plain | Kind::Exec => Draft::Plain(new_plain(alloc, verb_named(element))),
         Kind::Alert => Draft::Alert(new_alert(alloc)),
         Kind::Atomic => Draft::Atomic(new_block(alloc)),
         Kind::Sequence => Draft::Sequence(new_sequence(alloc)),

@@ -4,6 +4,7 @@
 pub mod builder;
 pub mod digits;
 pub mod draft;
+mod few;
 pub mod laws;
 pub mod leaf;
 #[cfg(test)]
@@ -11,6 +12,8 @@ mod message_tests;
 pub mod open;
 mod put_node;
 mod put_simple;
+mod renew;
+mod spare;
 mod stack;
 #[cfg(test)]
 mod tests;

@@ -1,16 +1,19 @@
 // Open elements, and what ends them.
-ghost use Rattle.std.specs.Prelude.{◌≡◌, ◌∷◌, [], true, false, IfOk, option_map};
+ghost use Rattle.std.specs.Prelude.{◌≡◌, ◌∷◌, [], true, false, OnOk, option_map};
 ghost use Rattle.syncml_shape.specs.Rows.{takes_text as has_text};
 ghost use Rattle.syncml_grammar.specs.Values.{holds_leaf};
-ghost use Rattle.syncml_grammar.specs.Machine.{began, on_end, on_text, finished};
+ghost use Rattle.syncml_grammar.specs.Machine.{root, began, on_end, on_text, finished};
 ghost use Rattle.syncml_grammar.specs.Opens.{frame_of, leaf_frame, leaf_content, GivesFrame, parts_of};
 
-use crate::draft::{Draft, WholeParts, new_draft};
+use crate::draft::{Draft, WholeParts};
 use crate::leaf::{Leaf, new_leaf};
 use crate::put_node::put_node;
 use crate::put_simple::put_simple;
+use crate::renew::renew;
 use dm_base::Memory;
 use std::alloc::Global;
+use std::mem;
+use syncml_shape::rows::DOCUMENT;
 use syncml_shape::{Kind, Progress};
 use wbxml_tables::Element;
 use wbxml_tokens::Reason;
@@ -31,7 +34,7 @@ pub struct Open {
     pub draft: Draft,
 }
 
-/// An open element without children. It stands beside the others, so that these aren't moved for it.
+/// An open element without children. It stands beside the others, and takes no box.
 #[derive(Drop)]
 pub struct OpenLeaf {
     pub element: Element,
@@ -84,12 +87,12 @@ impl OpenLeaf {
     }
 
     // The element ends, and what it holds is put into its parent.
-    pub(crate) fn end_into(self, parent: &mut Open) -> Result<(), Stop>
+    pub(crate) fn end_into(self, alloc: Global, parent: &mut Open) -> Result<(), Stop>
         ensures { GivesFrame result (frame_of parent.new) (on_end (leaf_frame self) (frame_of parent.old)) }
     {
         match self.leaf.close(self.kind) {
             Err(reason) => Err(Stop::Refused(reason)),
-            Ok(simple) => match put_simple(&mut parent.draft, self.element, simple) {
+            Ok(simple) => match put_simple(alloc, &mut parent.draft, self.element, simple) {
                 Ok(()) => Ok(()),
                 Err(_) => Err(Stop::Memory),
             },
@@ -98,56 +101,60 @@ impl OpenLeaf {
 }
 
 impl Open {
-    pub(crate) fn new(alloc: Global, element: Element, kind: Kind) -> Result<Open, Memory>
-        requires { holds_leaf kind ≡ false }
-        ensures { IfOk result (λ o. frame_of o ≡ began element kind) }
+    // The document, before its SyncML.
+    pub(crate) fn document() -> Open
+        ensures { frame_of result ≡ root }
     {
-        Ok(Open {
-            element: Some(element),
-            kind,
-            progress: Progress::start(kind),
-            draft: new_draft(alloc, kind, element)?,
-        })
+        Open {
+            element: None,
+            kind: Kind::Message,
+            progress: Progress::InOrder {
+                came: false,
+                rows: &DOCUMENT,
+            },
+            draft: Draft::Document,
+        }
     }
 
-    // The element ends, and what it holds is put into its parent.
-    pub(crate) fn end_into(self, parent: &mut Open) -> Result<(), Stop>
-        ensures { GivesFrame result (frame_of parent.new) (on_end (frame_of self) (frame_of parent.old)) }
+    // Has it be a new element.
+    pub(crate) fn begin(
+        &mut self,
+        alloc: Global,
+        element: Element,
+        kind: Kind,
+    ) -> Result<(), Memory>
+        requires { holds_leaf kind ≡ false }
+        ensures { OnOk result (frame_of self.new ≡ began element kind) }
     {
-        let Open {
-            element,
-            kind: _,
-            progress,
-            draft,
-        } = self;
-        if !progress.is_complete() {
-            drop(draft);
+        self.element = Some(element);
+        self.kind = kind;
+        self.progress = Progress::start(kind);
+        renew(&mut self.draft, alloc, kind, element)
+    }
+
+    // The element ends, and what it holds is put into its parent. It is left with anything.
+    pub(crate) fn end_into(&mut self, alloc: Global, parent: &mut Open) -> Result<(), Stop>
+        ensures { GivesFrame result (frame_of parent.new) (on_end (frame_of self.old) (frame_of parent.old)) }
+    {
+        if !self.progress.is_complete() {
             return Err(Stop::Refused(Reason::Misplaced));
         }
-        let Some(element) = element else {
-            drop(draft);
+        let Some(element) = self.element else {
             return Err(Stop::Refused(Reason::Misplaced));
         };
-        match put_node(&mut parent.draft, element, draft) {
+        match put_node(alloc, &mut parent.draft, element, &mut self.draft) {
             Ok(()) => Ok(()),
             Err(_) => Err(Stop::Memory),
         }
     }
 
-    /// The parts of the message that a document holds.
-    pub(crate) fn into_parts(self) -> Option<WholeParts>
-        ensures { option_map parts_of result ≡ finished (frame_of self ∷ []) }
+    /// The parts of the message that a document holds, which are taken out of it.
+    pub(crate) fn take_parts(&mut self) -> Option<WholeParts>
+        ensures { option_map parts_of result ≡ finished (frame_of self.old ∷ []) }
     {
-        let Open {
-            element: _,
-            kind: _,
-            progress,
-            draft,
-        } = self;
-        if progress.is_complete() {
-            draft.into_parts()
+        if self.progress.is_complete() {
+            mem::replace(&mut self.draft, Draft::Document).into_parts()
         } else {
-            drop(draft);
             None
         }
     }

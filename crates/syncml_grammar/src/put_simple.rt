@@ -3,8 +3,10 @@ ghost use Rattle.std.specs.Prelude.{◌≡◌, true, OnOk};
 ghost use Rattle.syncml_grammar.specs.Simples.{loc_with_text, meta_with_text, header_with_text, status_with_text, results_with_text, with_text, alert_with_number, status_with_number, results_with_number, with_short, meta_with_size, with_long, with_flag, with_simple};
 
 use crate::draft::{Draft, HeaderDraft};
+use crate::few::push_few;
 use crate::leaf::Simple;
 use dm_base::{Bytes, Memory};
+use std::alloc::Global;
 use syncml_types::{AlertCmd, Loc, Meta, ResultsCmd, StatusCmd};
 use wbxml_tables::Element;
 
@@ -43,7 +45,12 @@ fn put_header(draft: &mut HeaderDraft, element: Element, text: Bytes)
     }
 }
 
-fn put_status(status: &mut StatusCmd, element: Element, text: Bytes) -> Result<(), Memory>
+fn put_status(
+    alloc: Global,
+    status: &mut StatusCmd,
+    element: Element,
+    text: Bytes,
+) -> Result<(), Memory>
     ensures { OnOk result (status.new ≡ status_with_text status.old element text) }
 {
     match element {
@@ -51,8 +58,8 @@ fn put_status(status: &mut StatusCmd, element: Element, text: Bytes) -> Result<(
             status.cmd = text;
             Ok(())
         }
-        Element::ETargetRef => status.target_refs.push(text),
-        Element::ESourceRef => status.source_refs.push(text),
+        Element::ETargetRef => push_few(alloc, &mut status.target_refs, text),
+        Element::ESourceRef => push_few(alloc, &mut status.source_refs, text),
         _ => Ok(()),
     }
 }
@@ -67,14 +74,14 @@ fn put_results(results: &mut ResultsCmd, element: Element, text: Bytes)
     }
 }
 
-fn put_text(draft: &mut Draft, element: Element, text: Bytes) -> Result<(), Memory>
+fn put_text(alloc: Global, draft: &mut Draft, element: Element, text: Bytes) -> Result<(), Memory>
     ensures { OnOk result (draft.new ≡ with_text draft.old element text) }
 {
     match draft {
         Draft::Loc(loc) => put_loc(loc, element, text),
         Draft::Meta(meta) => put_meta(meta, element, text),
         Draft::Header(header) => put_header(header, element, text),
-        Draft::Status(status) => return put_status(status, element, text),
+        Draft::Status(status) => return put_status(alloc, status, element, text),
         Draft::Results(results) => put_results(results, element, text),
         Draft::Item(item) => item.value = Some(text),
         Draft::Cred(cred) => cred.value = text,
@@ -177,11 +184,16 @@ fn put_flag(draft: &mut Draft)
 }
 
 /// Puts what a child without children holds into its parent.
-pub(crate) fn put_simple(draft: &mut Draft, element: Element, simple: Simple) -> Result<(), Memory>
+pub(crate) fn put_simple(
+    alloc: Global,
+    draft: &mut Draft,
+    element: Element,
+    simple: Simple,
+) -> Result<(), Memory>
     ensures { OnOk result (draft.new ≡ with_simple draft.old element simple) }
 {
     match simple {
-        Simple::Text(text) => return put_text(draft, element, text),
+        Simple::Text(text) => return put_text(alloc, draft, element, text),
         Simple::Short(number) => put_short(draft, element, number),
         Simple::Long(number) => put_long(draft, element, number),
         Simple::Flag => put_flag(draft),

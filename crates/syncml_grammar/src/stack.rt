@@ -1,26 +1,28 @@
 // The open elements, and the tokens that they take.
-ghost use Rattle.std.specs.Prelude.{◌≡◌, ◌+◌, ◌∷◌, [], None, Ok, Err, Bool, false, ℕ, length, OnOk, option_map, List as ListOf};
+ghost use Rattle.std.specs.Prelude.{◌≡◌, ◌+◌, ◌∷◌, [], None, Ok, Err, Bool, false, ℕ, length, OnOk, IfOk, option_map, List as ListOf};
 ghost use Rattle.wbxml_tokens.specs.declared.token.Token.TheVariants.{Tag, End, Text, Opaque};
-ghost use Rattle.syncml_grammar.specs.Machine.{Frame, root, step, on_kind, finished};
+ghost use Rattle.syncml_grammar.specs.Machine.{Frame, root, step, on_end, on_kind, finished};
 ghost use Rattle.syncml_grammar.specs.Values.{holds_leaf};
-ghost use Rattle.syncml_grammar.specs.Opens.{frame_of, frames_of, leaf_frame, with_leaf, GivesFrames, parts_of};
+ghost use Rattle.syncml_grammar.specs.Opens.{frame_of, frames_of, leaf_frame, with_leaf, or_root, GivesFrame, GivesFrames, parts_of};
 
-use crate::draft::{Draft, WholeParts};
-use crate::open::{Open, OpenLeaf, Stop, has_leaf};
-use dm_base::List;
+use crate::draft::WholeParts;
+use crate::few::with_room;
+use crate::open::{OpenLeaf, Stop, has_leaf};
+use crate::spare::{Boxed, Spares};
+use dm_base::{List, Memory};
 use std::alloc::Global;
 use std::marker::Model;
 use std::mem;
-use syncml_shape::rows::DOCUMENT;
-use syncml_shape::{Kind, Progress, tag_fault};
+use syncml_shape::{Kind, tag_fault};
 use wbxml_tables::Element;
 use wbxml_tokens::Reason;
 
 /// The open elements with children, and the document below them.
 #[derive(Drop)]
 pub(crate) struct Nest {
-    top: Open,
-    below: List<Open>,
+    top: Boxed,
+    below: List<Boxed>,
+    spares: Spares,
 }
 
 impl Model for Nest {
@@ -34,7 +36,7 @@ impl Model for Nest {
 }
 
 // Opens a child of the innermost element.
-fn push(top: &mut Open, below: &mut List<Open>, child: Open) -> Result<(), Stop>
+fn push(top: &mut Boxed, below: &mut List<Boxed>, child: Boxed) -> Result<(), Stop>
     ensures { GivesFrames result (frames_of top.new below.new) (Ok (frame_of child ∷ frames_of top.old below.old)) }
 {
     let parent = mem::replace(top, child);
@@ -44,22 +46,37 @@ fn push(top: &mut Open, below: &mut List<Open>, child: Open) -> Result<(), Stop>
     }
 }
 
-impl Nest {
-    fn new(alloc: Global) -> Nest
-        ensures { result ≡ root ∷ [] }
-    {
-        Nest {
-            top: Open {
-                element: None,
-                kind: Kind::Message,
-                progress: Progress::InOrder {
-                    came: false,
-                    rows: &DOCUMENT,
-                },
-                draft: Draft::Document,
-            },
-            below: List::new(alloc),
+// Ends a child, and keeps its box.
+fn end_child(
+    alloc: Global,
+    spares: &mut Spares,
+    mut child: Boxed,
+    parent: &mut Boxed,
+) -> Result<(), Stop>
+    ensures { GivesFrame result (frame_of parent.new) (on_end (frame_of child) (frame_of parent.old)) }
+{
+    let kind = child.open.kind;
+    match child.open.end_into(alloc, &mut parent.open) {
+        Ok(()) => match spares.keep(kind, child) {
+            Ok(()) => Ok(()),
+            Err(_) => Err(Stop::Memory),
+        },
+        Err(stop) => {
+            drop(child);
+            Err(stop)
         }
+    }
+}
+
+impl Nest {
+    fn new(alloc: Global) -> Result<Nest, Memory>
+        ensures { IfOk result (λ n. n ≡ root ∷ []) }
+    {
+        Ok(Nest {
+            top: Boxed::new(alloc)?,
+            below: with_room(alloc, 8)?,
+            spares: Spares::new(alloc),
+        })
     }
 
     // The tag of a child with children.
@@ -73,13 +90,13 @@ impl Nest {
         requires { holds_leaf kind ≡ false }
         ensures { GivesFrames result self.new (on_kind self.old element content kind) }
     {
-        let Ok(child) = Open::new(alloc, element, kind) else {
+        let Ok(child) = self.spares.open(element, kind) else {
             return Err(Stop::Memory);
         };
         if content {
             push(&mut self.top, &mut self.below, child)
         } else {
-            child.end_into(&mut self.top)
+            end_child(alloc, &mut self.spares, child, &mut self.top)
         }
     }
 
@@ -103,7 +120,7 @@ impl Nest {
             *leaf = Some(child);
             Ok(())
         } else {
-            child.end_into(&mut self.top)
+            child.end_into(alloc, &mut self.top.open)
         }
     }
 
@@ -118,10 +135,10 @@ impl Nest {
         requires { leaf.old ≡ None }
         ensures { GivesFrames result (with_leaf leaf.new self.new) (step self.old (Tag element content)) }
     {
-        if let Some(reason) = tag_fault(self.top.element, element) {
+        if let Some(reason) = tag_fault(self.top.open.element, element) {
             return Err(Stop::Refused(reason));
         }
-        match self.top.progress.next(element) {
+        match self.top.open.progress.next(element) {
             None => Err(Stop::Refused(Reason::Misplaced)),
             Some(kind) => self.child(alloc, leaf, element, kind, content),
         }
@@ -132,7 +149,7 @@ impl Nest {
         ensures text { (bytes : ListOf ℕ) → GivesFrames result self.now (step self.now (Text bytes)) }
         ensures opaque { (bytes : ListOf ℕ) → GivesFrames result self.now (step self.now (Opaque bytes)) }
     {
-        if self.top.progress.takes_text() {
+        if self.top.open.progress.takes_text() {
             Ok(())
         } else {
             Err(Stop::Refused(Reason::Misplaced))
@@ -142,25 +159,35 @@ impl Nest {
     fn into_parts(self) -> Option<WholeParts>
         ensures { option_map parts_of result ≡ finished self }
     {
-        let Nest { top, below } = self;
+        let Nest {
+            mut top,
+            below,
+            spares: _,
+        } = self;
         if below.is_empty() {
-            top.into_parts()
+            top.open.take_parts()
         } else {
-            drop(top);
             None
         }
     }
 
-    fn end(&mut self) -> Result<(), Stop>
+    fn end(&mut self, alloc: Global) -> Result<(), Stop>
         ensures { GivesFrames result self.new (step self.old End) }
     {
         match self.below.pop() {
             None => Err(Stop::Refused(Reason::Misplaced)),
             Some(parent) => {
                 let child = mem::replace(&mut self.top, parent);
-                child.end_into(&mut self.top)
+                end_child(alloc, &mut self.spares, child, &mut self.top)
             }
         }
+    }
+
+    // The end of a child without children.
+    fn end_leaf(&mut self, alloc: Global, leaf: OpenLeaf) -> Result<(), Stop>
+        ensures { GivesFrames result self.new (step (leaf_frame leaf ∷ self.old) End) }
+    {
+        leaf.end_into(alloc, &mut self.top.open)
     }
 }
 
@@ -174,22 +201,66 @@ fn tag_in_leaf(leaf: &OpenLeaf, element: Element) -> Reason
     }
 }
 
-/// The open elements of a document, with what they hold so far.
+/// The open elements of a document, with what they hold so far. Before the first tag there is the document alone, and nothing
+/// is taken for it.
 #[derive(Drop)]
 pub(crate) struct Stack {
     alloc: Global,
     leaf: Option<OpenLeaf>,
-    nest: Nest,
+    nest: Option<Nest>,
 }
 
 impl Model for Stack {
     ghost use Rattle.std.specs.Prelude.{List};
     ghost use Rattle.syncml_grammar.specs.Machine.{Frame};
-    ghost use Rattle.syncml_grammar.specs.Opens.{with_leaf};
+    ghost use Rattle.syncml_grammar.specs.Opens.{with_leaf, or_root};
 
     ghost Value = { List Frame };
 
-    ghost view = { λ s. with_leaf s.leaf s.nest };
+    ghost view = { λ s. with_leaf s.leaf (or_root s.nest) };
+}
+
+// Has the document stand in its box.
+fn begin(alloc: Global, nest: &mut Option<Nest>) -> Result<(), Memory>
+    ensures { OnOk result (or_root nest.new ≡ or_root nest.old) }
+{
+    if nest.is_none() {
+        *nest = Some(Nest::new(alloc)?);
+    }
+    Ok(())
+}
+
+// A tag in the innermost element with children.
+fn tag_in(
+    alloc: Global,
+    nest: &mut Option<Nest>,
+    leaf: &mut Option<OpenLeaf>,
+    element: Element,
+    content: bool,
+) -> Result<(), Stop>
+    requires { leaf.old ≡ None }
+    ensures { GivesFrames result (with_leaf leaf.new (or_root nest.new)) (step (or_root nest.old) (Tag element content)) }
+{
+    let Ok(()) = begin(alloc, nest) else {
+        return Err(Stop::Memory);
+    };
+    match nest {
+        Some(nest) => nest.tag(alloc, leaf, element, content),
+        None => Err(Stop::Memory),
+    }
+}
+
+// The end of an element without children.
+fn end_leaf_in(alloc: Global, nest: &mut Option<Nest>, leaf: OpenLeaf) -> Result<(), Stop>
+    ensures { GivesFrames result (or_root nest.new) (step (leaf_frame leaf ∷ or_root nest.old) End) }
+{
+    match nest {
+        Some(nest) => nest.end_leaf(alloc, leaf),
+        None => {
+            drop(leaf);
+            Err(Stop::Memory)
+        }
+    }
 }
 
 impl Stack {
@@ -199,7 +270,7 @@ impl Stack {
         Stack {
             alloc,
             leaf: None,
-            nest: Nest::new(alloc),
+            nest: None,
         }
     }
 
@@ -208,7 +279,7 @@ impl Stack {
     {
         match &self.leaf {
             Some(leaf) => Err(Stop::Refused(tag_in_leaf(leaf, element))),
-            None => self.nest.tag(self.alloc, &mut self.leaf, element, content),
+            None => tag_in(self.alloc, &mut self.nest, &mut self.leaf, element, content),
         }
     }
 
@@ -216,8 +287,11 @@ impl Stack {
         ensures { GivesFrames result self.new (step self.old End) }
     {
         match self.leaf.take() {
-            Some(leaf) => leaf.end_into(&mut self.nest.top),
-            None => self.nest.end(),
+            Some(leaf) => end_leaf_in(self.alloc, &mut self.nest, leaf),
+            None => match &mut self.nest {
+                None => Err(Stop::Refused(Reason::Misplaced)),
+                Some(nest) => nest.end(self.alloc),
+            },
         }
     }
 
@@ -226,8 +300,11 @@ impl Stack {
         ensures opaque { GivesFrames result self.new (step self.old (Opaque bytes.now)) }
     {
         match &mut self.leaf {
-            None => self.nest.piece(),
             Some(leaf) => leaf.push(bytes),
+            None => match &self.nest {
+                Some(nest) => nest.piece(),
+                None => Err(Stop::Refused(Reason::Misplaced)),
+            },
         }
     }
 
@@ -260,7 +337,10 @@ impl Stack {
                 drop(nest);
                 None
             }
-            None => nest.into_parts(),
+            None => match nest {
+                None => None,
+                Some(nest) => nest.into_parts(),
+            },
         }
     }
 }
