@@ -34,7 +34,7 @@ pub struct Open {
     pub draft: Draft,
 }
 
-/// An open element without children. It stands beside the others, and takes no box.
+/// An open element without children. It stands beside the others, so that these aren't moved for it.
 #[derive(Drop)]
 pub struct OpenLeaf {
     pub element: Element,

@@ -1,4 +1,4 @@
-// Boxes of open elements. They are used again, so that a message takes a few of them for its depth, and none for an element.
+// Boxes of open elements. They are used again, so that a message takes no more of them than its depth.
 ghost use Rattle.std.specs.Prelude.{◌≡◌, false, IfOk, OnOk};
 ghost use Rattle.syncml_grammar.specs.Values.{holds_leaf};
 ghost use Rattle.syncml_grammar.specs.Machine.{root, began};
@@ -47,7 +47,7 @@ impl Boxed {
 }
 
 /// Boxes of elements that have ended. Those of a Loc and of a Meta have places of their own, since the next of their kind comes
-/// soon. The others come off in the order in which elements nest, so that each mostly finds a draft of its kind.
+/// soon, and finds its fields in place.
 #[derive(Drop)]
 pub(crate) struct Spares {
     alloc: Global,
