@@ -1,10 +1,10 @@
 -- A path of at most three names keeps to the limits, however long they are.
-use Rattle.std.proofs.Common.{◌≡◌, ◌≤◌, ℕ, Bool, true, false, List, [], ◌∷◌, ◌++◌, length, codes, arith, length-append, refl}
+use Rattle.std.proofs.Common.{◌≡◌, ◌≤◌, ℕ, true, List, [], ◌∷◌, ◌++◌, length, codes, arith, length-append, refl}
 use Rattle.std.specs.Prelude.{◌&&◌, nat_le}
 use Rattle.std.specs.List.{list_all}
 use Rattle.std.proofs.lemmas.Bool.{and_from, and_parts}
 use Rattle.std.proofs.lemmas.Bool.Decides.{nat_tests}
-use Rattle.dm_uri.specs.Names.{IsPath, has_name_form, is_name, is_short, is_within_limits, joined, printed_path}
+use Rattle.dm_uri.specs.Names.{IsPath, has_name_form, is_name, is_short, is_within_limits, printed_path}
 
 at_most : (m n : ℕ) → nat_le m n ≡ true → m ≤ n
 at_most m n e = grind arith

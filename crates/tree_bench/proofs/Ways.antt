@@ -1,5 +1,5 @@
 -- Each node of a tree comes once on the way through it.
-use Rattle.std.proofs.Common.{◌≡◌, ℕ, suc, Bool, true, false, List, [], ◌∷◌, length, map, refl, sym, ◌∙◌, ap, Option, Some, None}
+use Rattle.std.proofs.Common.{◌≡◌, ℕ, suc, Bool, true, false, List, [], ◌∷◌, length, refl, sym, ◌∙◌, ap, Some}
 use Rattle.std.specs.Prelude.{filter, is_some, IsSome}
 use Rattle.std.specs.FinMap.{get, len, keys, entries, len-entries}
 use Rattle.std.proofs.lemmas.List.{length-map}

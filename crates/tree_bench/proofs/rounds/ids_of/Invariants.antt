@@ -1,4 +1,3 @@
-use Rattle.std.proofs.Common.{◌≡◌}
 use Rattle.std.specs.Prelude.{All}
 use Rattle.dm_tree.specs.Rows.{IsLive}
 use Rattle.tree_bench.proofs.rounds.ids_of.Given as goal
