@@ -1,5 +1,5 @@
 -- Where names stand among the children of a row, and what is found there.
-use Rattle.std.proofs.Common.{◌≡◌, ℕ, ◌+◌, ◌<◌, ◌≤◌, Bool, true, false, nat_eq, List, length, get_or, Option, None, Some, refl, sym, ◌∙◌, ap, subst, arith, inl, inr}
+use Rattle.std.proofs.Common.{◌≡◌, ℕ, ◌+◌, ◌-◌, ◌<◌, ◌≤◌, Bool, true, false, nat_eq, List, length, get_or, Option, None, Some, refl, sym, ◌∙◌, ap, subst, arith, inl, inr}
 use Rattle.std.specs.Prelude.{◌&&◌, nat_lt, not, slice_get, bytes_eq}
 use Rattle.std.specs.Ordering.{is_lt, ordering_reverse}
 use Rattle.std.specs.declared.cmp.Ordering.{Ordering}
@@ -18,6 +18,7 @@ use Rattle.dm_tree.proofs.Paths.{below_or_not, same_or_not}
 use Rattle.dm_tree.proofs.Climbs.{Child, attached_row, same_number}
 use Rattle.dm_tree.proofs.Finds.{position_found, position_none, position_is, child_test, child_tested}
 use Rattle.dm_tree.proofs.Forks.{name_order, name_total, name_exact, is_less}
+use Rattle.dm_tree.proofs.Ordered.{other_side}
 use Rattle.dm_tree.proofs.Leasts.{HasNoChild, IsLeast, IsLeastChild, least-is, itself_not_less, not_before_less}
 
 -- ---- names
@@ -51,14 +52,8 @@ module _ (rows : List Row) (ids : List ℕ) (name : List ℕ) (inside : AreRows 
   abbrev pub before : ℕ → Bool
   before id = nat_lt id (length rows) && is_before rows name id
 
-  abbrev pub not_behind : ℕ → Bool
-  not_behind id = not (nat_lt id (length rows) && is_behind rows name id)
-
   before_at : (i : ℕ) → i < length ids → (b : Bool) → before (get_or ids i 0) ≡ b → is_before rows name (get_or ids i 0) ≡ b
   before_at i l b e = ap (λ t. t && is_before rows name (get_or ids i 0)) (sym (stands i l)) ∙ e
-
-  behind_at : (i : ℕ) → i < length ids → (b : Bool) → not_behind (get_or ids i 0) ≡ b → not (is_behind rows name (get_or ids i 0)) ≡ b
-  behind_at i l b e = ap (λ t. not (t && is_behind rows name (get_or ids i 0))) (sym (stands i l)) ∙ e
 
   before_first : (i j : ℕ) → i ≤ j → j < length ids → before (get_or ids j 0) ≡ true → before (get_or ids i 0) ≡ true
   before_first i j le l h =
@@ -70,26 +65,8 @@ module _ (rows : List Row) (ids : List ℕ) (name : List ℕ) (inside : AreRows 
             (less_less (row_at rows (get_or ids i 0)).name (row_at rows (get_or ids j 0)).name name (order i j (omega arith) l) late)
       ]
 
-  not_behind_first : (i j : ℕ) → i ≤ j → j < length ids → not_behind (get_or ids j 0) ≡ true → not_behind (get_or ids i 0) ≡ true
-  not_behind_first i j le l h =
-      elim (same_or_not i j) [
-        | inl same ↦ ap (λ k. not_behind (get_or ids k 0)) same ∙ h
-        | inr other ↦
-            let late = from_not (is_behind rows name (get_or ids j 0)) (behind_at j l true h) in
-            let early : is_behind rows name (get_or ids i 0) ≡ false = to_false (is_behind rows name (get_or ids i 0)) (λ is.
-            let yes = less_less name (row_at rows (get_or ids i 0)).name (row_at rows (get_or ids j 0)).name is (order i j (omega arith) l) in absurd (cc)) in
-            ap (λ t. not (nat_lt (get_or ids i 0) (length rows) && t)) early ∙ by_test (nat_lt (get_or ids i 0) (length rows))
-      ]
-    where
-      by_test : (b : Bool) → not (b && false) ≡ true
-      by_test true = refl
-      by_test false = refl
-
   pub before_parted : IsPartitionedBy before ids
   before_parted i j d le l h = ap before (at i d (omega arith)) ∙ before_first i j le l (ap before (sym (at j d l)) ∙ h)
-
-  pub not_behind_parted : IsPartitionedBy not_behind ids
-  not_behind_parted i j d le l h = ap not_behind (at i d (omega arith)) ∙ not_behind_first i j le l (ap not_behind (sym (at j d l)) ∙ h)
 
   pub place_is : (place : ℕ) → place ≤ length ids → IsPartitionPoint (λ y. before y ≡ true) (λ y. before y ≡ false) ids place → IsPlace rows ids name place
   place_is place within point = record {
@@ -98,16 +75,72 @@ module _ (rows : List Row) (ids : List ℕ) (name : List ℕ) (inside : AreRows 
     behind = λ i g l. before_at i l false (point.1 i 0 g l);
   }
 
-  pub place_past_is : (place : ℕ) → place ≤ length ids → IsPartitionPoint (λ y. not_behind y ≡ true) (λ y. not_behind y ≡ false) ids place → IsPlacePast rows ids name place
-  place_past_is place within point = record {
-    within = within;
-    before = λ i l. from_not _ (behind_at i (omega (arith, l, within)) true (point.0 i 0 (omega arith) l));
-    behind = λ i g l. is_true _ (behind_at i l false (point.1 i 0 g l));
+  -- two names confirm a place
+  pub confirmed : (place : ℕ) → place ≤ length ids → (0 < place → is_before rows name (get_or ids (place - 1) 0) ≡ true) → (place < length ids → is_before rows name (get_or ids place 0) ≡ false)
+      → IsPlace rows ids name place
+  confirmed place within first second = record { within = within; before = before_it; behind = behind_it }
+    where
+      before_it : (i : ℕ) → i < place → is_before rows name (get_or ids i 0) ≡ true
+      before_it i l =
+          let last_one : is_before rows name (get_or ids (place - 1) 0) ≡ true = first (omega (arith, l)) in
+          elim (same_or_not i (place - 1)) [
+            | inl e ↦ ap (λ k. is_before rows name (get_or ids k 0)) e ∙ last_one
+            | inr d ↦ less_less (row_at rows (get_or ids i 0)).name (row_at rows (get_or ids (place - 1) 0)).name name (order i (place - 1) (omega (arith, l, d)) (omega (arith, l, within))) last_one
+          ]
+
+      behind_it : (i : ℕ) → place ≤ i → i < length ids → is_before rows name (get_or ids i 0) ≡ false
+      behind_it i g l =
+          let here : is_before rows name (get_or ids place 0) ≡ false = second (omega (arith, g, l)) in
+          elim (same_or_not i place) [
+            | inl e ↦ ap (λ k. is_before rows name (get_or ids k 0)) e ∙ here
+            | inr d ↦ to_false (is_before rows name (get_or ids i 0)) (λ yes.
+                let no = less_less (row_at rows (get_or ids place 0)).name (row_at rows (get_or ids i 0)).name name (order place i (omega (arith, g, d)) l) yes in absurd (cc))
+          ]
+
+  earlier : (place : ℕ) → IsPlace rows ids name place → (i : ℕ) → i < place → is_behind rows name (get_or ids i 0) ≡ false
+  earlier place at i l = not_less_back (row_at rows (get_or ids i 0)).name name (at.before i l)
+
+  -- behind the child that bears the name
+  pub past_named : (place id : ℕ) → IsPlace rows ids name place → slice_get ids place ≡ Some id → bytes_eq (row_at rows id).name name ≡ true → IsPlacePast rows ids name (place + 1)
+  past_named place id at e same = record {
+    within = omega (arith, l);
+    before = λ i m. elim (same_or_not i place) [
+      | inl h ↦ ap (λ k. is_behind rows name (get_or ids k 0)) h ∙ ap (λ n. is_lt (name_order name n)) named ∙ itself_not_less name
+      | inr d ↦ earlier place at i (omega (arith, m, d))
+    ];
+    behind = λ i g m. ap (λ n. is_lt (name_order n (row_at rows (get_or ids i 0)).name)) (sym named) ∙ order place i (omega (arith, g)) m;
   }
     where
-      is_true : (b : Bool) → not b ≡ false → b ≡ true
-      is_true true e = refl
-      is_true false e = absurd (cc)
+      l : place < length ids
+      l = slice_get_within ids place id e
+
+      named : (row_at rows (get_or ids place 0)).name ≡ name
+      named = ap (λ k. (row_at rows k).name) (get_or_from_slice_get ids place id 0 e) ∙ same_text (row_at rows id).name name (sym same)
+
+  -- no child bears it
+  unnamed : (place : ℕ) → IsPlace rows ids name place → (place < length ids → (row_at rows (get_or ids place 0)).name ≡ name → ⊥) → IsPlacePast rows ids name place
+  unnamed place at other = record {
+    within = at.within;
+    before = earlier place at;
+    behind = λ i g l. other_side (row_at rows (get_or ids i 0)).name name (at.behind i g l) (differs i g l);
+  }
+    where
+      differs : (i : ℕ) → place ≤ i → i < length ids → (row_at rows (get_or ids i 0)).name ≡ name → ⊥
+      differs i g l e = elim (same_or_not i place) [
+        | inl h ↦ other (omega (arith, g, l)) (ap (λ k. (row_at rows (get_or ids k 0)).name) (sym h) ∙ e)
+        | inr d ↦
+            let no : is_before rows name (get_or ids place 0) ≡ false = at.behind place (omega arith) (omega (arith, g, l)) in
+            let yes : is_before rows name (get_or ids place 0) ≡ true = ap (λ n. is_before rows n (get_or ids place 0)) (sym e) ∙ order place i (omega (arith, g, d)) l in
+            cc
+      ]
+
+  pub past_other : (place id : ℕ) → IsPlace rows ids name place → slice_get ids place ≡ Some id → bytes_eq (row_at rows id).name name ≡ false → IsPlacePast rows ids name place
+  past_other place id at e other = unnamed place at (λ l named.
+      let here : (row_at rows id).name ≡ name = ap (λ k. (row_at rows k).name) (sym (get_or_from_slice_get ids place id 0 e)) ∙ named in
+      let same : bytes_eq (row_at rows id).name name ≡ true = ap (λ n. bytes_eq n name) here ∙ nat_list_eq_equiv.refl name in cc)
+
+  pub past_all : (place : ℕ) → IsPlace rows ids name place → slice_get ids place ≡ None → IsPlacePast rows ids name place
+  past_all place at e = unnamed place at (λ l named. let there = slice_get-get_or ids place 0 l in cc)
 
 -- ---- the child of a name
 

@@ -1,11 +1,12 @@
 // The children of each row in the byte order of their names, so that no search looks at every row.
-ghost use Rattle.std.specs.Prelude.{◌≡◌, ◌<◌, ◌≤◌, ◌&&◌, ◌+◌, ◌-◌, ◌^◌, ◌++◌, ◌∷◌, [], length, nat_lt, slice_get, true, false, OnOk, OnErr};
+ghost use Rattle.std.specs.Prelude.{◌≡◌, ◌<◌, ◌≤◌, ◌&&◌, ◌+◌, ◌-◌, ◌^◌, ◌++◌, ◌∷◌, [], length, nat_lt, get_or, slice_get, true, false, OnOk, OnErr};
 ghost use Rattle.std.specs.List.{insert, remove};
 ghost use Rattle.dm_tree.specs.Rows.{row_at, node_of, IsShaped, IsTree, IsParkedTop};
 ghost use Rattle.dm_tree.specs.Edits.{attached_as, with_name, without_content};
-ghost use Rattle.dm_tree.specs.Index.{no_children, is_before as is_named_before, is_behind as is_named_behind, AreRows, IsInOrder, IsIndex, IsPut, IsTaken, IsPlace, IsPlacePast};
+ghost use Rattle.dm_tree.specs.Index.{no_children, is_before as is_named_before, AreRows, IsInOrder, IsIndex, IsPut, IsTaken, IsPlace, IsPlacePast};
 
 use crate::rows::Row;
+use crate::walks::is_named;
 use dm_base::Memory;
 use dm_uri::Name;
 use std::alloc::Global;
@@ -13,10 +14,11 @@ use std::cmp::Ordering;
 use std::marker::Model;
 use std::mem;
 
-/// The rows right below a row, and how many may be put in there again.
+/// The rows right below a row, with the keys of their names beside them, and how many may be put in there again.
 #[derive(Drop)]
 pub struct Children {
     ids: Vec<u32>,
+    keys: Vec<u64>,
     parked: u32,
 }
 
@@ -35,6 +37,7 @@ impl Children {
     {
         Children {
             ids: Vec::new(alloc),
+            keys: Vec::new(alloc),
             parked: 0,
         }
     }
@@ -43,6 +46,11 @@ impl Children {
         ensures { result.now ≡ self.now.ids }
     {
         self.ids.as_slice()
+    }
+
+    // Where a key lies among these, a name mostly stands. No clause speaks of them: the search looks at the names too.
+    pub(crate) fn keys(&self) -> &[u64] {
+        self.keys.as_slice()
     }
 
     // One more row may be put in, and there is room for it.
@@ -54,17 +62,22 @@ impl Children {
         ensures err { OnErr result (self.new ≡ self.old) }
     {
         let parked = self.parked + 1;
+        self.keys.reserve(parked as usize)?;
         self.ids.reserve(parked as usize)?;
         self.parked = parked;
         Ok(())
     }
 
-    pub(crate) fn put_in(&mut self, at: usize, id: u32)
+    pub(crate) fn put_in(&mut self, at: usize, id: u32, key: u64)
         requires place { at ≤ length self.old.ids }
         requires parked { 0 < self.old.parked }
         requires room { length self.old.ids + self.old.parked ≤ self.old.room }
         ensures { self.new ≡ record self.old { ids = insert self.old.ids at id; parked = self.old.parked - 1 } }
     {
+        if at <= self.keys.len() {
+            // There is room for it; without its key a name would be found more slowly.
+            let _ = self.keys.insert(at, key);
+        }
         match self.ids.insert(at, id) {
             Ok(()) => self.parked -= 1,
             Err(_) => unreachable!(),
@@ -76,6 +89,9 @@ impl Children {
         requires parked { self.old.parked + 1 < 2 ^ 32 }
         ensures { self.new ≡ record self.old { ids = remove self.old.ids at; parked = self.old.parked + 1 } }
     {
+        if at < self.keys.len() {
+            self.keys.remove(at);
+        }
         self.ids.remove(at);
         self.parked += 1;
     }
@@ -88,6 +104,16 @@ impl Children {
     }
 }
 
+// The first eight bytes of a name, as a number. Names stand in the order of these numbers, but for those that begin alike.
+fn key_of(name: &Name) -> u64 {
+    let mut key = 0u64;
+    for at in 0..8 {
+        let byte = name.as_slice().get(at).copied().unwrap_or(0);
+        key = key << 8 | u64::from(byte);
+    }
+    key
+}
+
 fn is_before(rows: &[Row], id: u32, name: &Name) -> bool
     ensures { result ≡ (nat_lt id (length rows.now) && is_named_before rows.now name.now id) }
 {
@@ -95,29 +121,57 @@ fn is_before(rows: &[Row], id: u32, name: &Name) -> bool
     at < rows.len() && rows[at].name.compare(name) == Ordering::Less
 }
 
-fn is_behind(rows: &[Row], id: u32, name: &Name) -> bool
-    ensures { result ≡ (nat_lt id (length rows.now) && is_named_behind rows.now name.now id) }
+// Whether the child before a place stands before a name.
+fn follows(rows: &[Row], ids: &[u32], place: usize, name: &Name) -> bool
+    requires inside { AreRows rows.now ids.now }
+    requires within { place ≤ length ids.now }
+    ensures { result ≡ true → 0 < place → is_named_before rows.now name.now (get_or ids.now (place - 1) 0) ≡ true }
 {
-    let at = id as usize;
-    at < rows.len() && name.compare(&rows[at].name) == Ordering::Less
+    if place == 0 {
+        return true;
+    }
+    is_before(rows, ids[place - 1], name)
 }
 
-/// Where a name stands among the children of a row, or where it would.
-pub(crate) fn place_of(rows: &[Row], ids: &[u32], name: &Name) -> usize
+// Whether the child at a place doesn't stand before a name.
+fn precedes(rows: &[Row], ids: &[u32], place: usize, name: &Name) -> bool
+    requires inside { AreRows rows.now ids.now }
+    requires within { place ≤ length ids.now }
+    ensures { result ≡ true → place < length ids.now → is_named_before rows.now name.now (get_or ids.now place 0) ≡ false }
+{
+    if place == ids.len() {
+        return true;
+    }
+    !is_before(rows, ids[place], name)
+}
+
+/// Where a name stands among the children of a row, or where it would. The keys tell the place, and two names confirm it; where
+/// other names begin alike, the names alone tell it.
+pub(crate) fn place_of(rows: &[Row], ids: &[u32], keys: &[u64], name: &Name) -> usize
     requires inside { AreRows rows.now ids.now }
     requires order { IsInOrder rows.now ids.now }
     ensures { IsPlace rows.now ids.now name.now result }
 {
+    let wanted = key_of(name);
+    let guess = keys.partition_point(|key| *key < wanted);
+    let within = guess <= ids.len();
+    if within && follows(rows, ids, guess, name) && precedes(rows, ids, guess, name) {
+        return guess;
+    }
     ids.partition_point(|id| is_before(rows, *id, name))
 }
 
 /// The place of the first child whose name stands behind this one.
-pub(crate) fn place_past(rows: &[Row], ids: &[u32], name: &Name) -> usize
+pub(crate) fn place_past(rows: &[Row], ids: &[u32], keys: &[u64], name: &Name) -> usize
     requires inside { AreRows rows.now ids.now }
     requires order { IsInOrder rows.now ids.now }
     ensures { IsPlacePast rows.now ids.now name.now result }
 {
-    ids.partition_point(|id| !is_behind(rows, *id, name))
+    let place = place_of(rows, ids, keys, name);
+    match id_at(ids, place) {
+        Some(id) if is_named(rows, id, name) => place + 1,
+        _ => place,
+    }
 }
 
 /// The row at a place; none at the end.
@@ -135,8 +189,13 @@ fn link(rows: &[Row], index: &mut Vec<Children>, id: u32)
 {
     let row = &rows[id as usize];
     let parent = row.parent as usize;
-    let place = place_of(rows, index[parent].as_slice(), &row.name);
-    index[parent].put_in(place, id);
+    let place = place_of(
+        rows,
+        index[parent].as_slice(),
+        index[parent].keys(),
+        &row.name,
+    );
+    index[parent].put_in(place, id, key_of(&row.name));
 }
 
 // Takes a row out from among its parent's children. It takes no memory, and leaves room for it.
@@ -147,7 +206,12 @@ fn unlink(rows: &[Row], index: &mut Vec<Children>, id: u32)
 {
     let row = &rows[id as usize];
     let parent = row.parent as usize;
-    let place = place_of(rows, index[parent].as_slice(), &row.name);
+    let place = place_of(
+        rows,
+        index[parent].as_slice(),
+        index[parent].keys(),
+        &row.name,
+    );
     index[parent].take_out(place);
 }
 

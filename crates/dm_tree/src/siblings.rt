@@ -23,7 +23,15 @@ fn least_child(rows: &[Row], index: &[Children], id: u32, after: Option<u32>) ->
     let ids = index[id as usize].as_slice();
     match after {
         None => id_at(ids, 0),
-        Some(row) => id_at(ids, place_past(rows, ids, &rows[row as usize].name)),
+        Some(row) => id_at(
+            ids,
+            place_past(
+                rows,
+                ids,
+                index[id as usize].keys(),
+                &rows[row as usize].name,
+            ),
+        ),
     }
 }
 

@@ -12,7 +12,7 @@ use dm_uri::{Name, Path};
 use std::alloc::Global;
 
 // Whether a row bears the name.
-fn is_named(rows: &[Row], id: u32, name: &Name) -> bool
+pub(crate) fn is_named(rows: &[Row], id: u32, name: &Name) -> bool
     requires { id < length rows.now }
     ensures { result ≡ bytes_eq (row_at rows.now id).name name.now }
 {
@@ -26,7 +26,7 @@ pub(crate) fn child_row(rows: &[Row], index: &[Children], id: u32, name: &Name) 
     ensures { result ≡ child_of rows.now id name.now }
 {
     let ids = index[id as usize].as_slice();
-    match id_at(ids, place_of(rows, ids, name)) {
+    match id_at(ids, place_of(rows, ids, index[id as usize].keys(), name)) {
         Some(child) if is_named(rows, child, name) => Some(child),
         _ => None,
     }

@@ -8,6 +8,11 @@ index-requires c =
     let x : HasRead c.args.rows.now c.args.index.now.items c.args.id c.index-rows-id.result = record { inside = c.requires.out.inside; is = c.index-rows-id.is; above = parent_inside c.args.rows.now c.args.id c.requires.out; known = c.requires.index } in
     omega (arith, read_above _ _ _ _ x, c.args.index.now.ok.0)
 
+pub index-requires-2 : goal.index-requires-2
+index-requires-2 c =
+    let x : HasRead c.args.rows.now c.args.index.now.items c.args.id c.index-rows-id.result = record { inside = c.requires.out.inside; is = c.index-rows-id.is; above = parent_inside c.args.rows.now c.args.id c.requires.out; known = c.requires.index } in
+    omega (arith, read_above _ _ _ _ x, c.args.index.now.ok.0)
+
 pub place_of-place-requires-clause-inside : goal.place_of-place-requires-clause-inside
 place_of-place-requires-clause-inside c =
     let x : HasRead c.args.rows.now c.args.index.now.items c.args.id c.index-rows-id.result = record { inside = c.requires.out.inside; is = c.index-rows-id.is; above = parent_inside c.args.rows.now c.args.id c.requires.out; known = c.requires.index } in

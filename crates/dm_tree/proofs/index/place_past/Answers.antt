@@ -1,9 +1,15 @@
-use Rattle.std.proofs.Common.{rules, of_calls}
-use Rattle.std.proofs.lemmas.Fn.{always_returns_same}
-use Rattle.dm_tree.proofs.Places.{not_behind, not_behind_parted, place_past_is}
+use Rattle.std.proofs.Common.{sym}
+use Rattle.dm_tree.proofs.Places.{past_named, past_other, past_all}
 use Rattle.dm_tree.proofs.index.place_past.Goals as goal
 
-pub returns : goal.returns
-returns c =
-    let point = c.partition_point.ensures.partitioned (not_behind c.args.rows.now c.args.ids.now c.args.name.now c.requires.inside c.requires.order) (always_returns_same _ _ _ (λ a r f k. search (rules, of_calls))) (not_behind_parted c.args.rows.now c.args.ids.now c.args.name.now c.requires.inside c.requires.order) in
-    place_past_is c.args.rows.now c.args.ids.now c.args.name.now c.requires.inside c.requires.order c.partition_point.result c.partition_point.ensures.bound point
+pub returns-in-Some : goal.returns-in-Some
+returns-in-Some c =
+    past_named c.args.rows.now c.args.ids.now c.args.name.now c.requires.inside c.requires.order c.place_of-place.result c.in-Some.id c.place_of-place.ensures (sym c.in-Some.ensures) (sym c.if-is_named.ensures)
+
+pub returns-in_default : goal.returns-in_default
+returns-in_default c =
+    past_other c.args.rows.now c.args.ids.now c.args.name.now c.requires.inside c.requires.order c.place_of-place.result c.in-Some.id c.place_of-place.ensures (sym c.in-Some.ensures) (sym c.if-is_named.ensures)
+
+pub returns-in_default-2 : goal.returns-in_default-2
+returns-in_default-2 c =
+    past_all c.args.rows.now c.args.ids.now c.args.name.now c.requires.inside c.requires.order c.place_of-place.result c.place_of-place.ensures (sym c.in_default.ensures)
