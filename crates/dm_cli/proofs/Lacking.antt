@@ -1,12 +1,15 @@
 -- A run that ends before its form is known puts nothing, which is a prefix of every text.
-use Rattle.std.proofs.Common.{ℕ, List, sym}
+use Rattle.std.proofs.Common.{ℕ, List, [], refl, sym, arith}
+use Rattle.std.specs.Io.KnownBytes.{Consumes}
 use Rattle.std.specs.Prelude.{Option, Some, None}
 use Rattle.std.proofs.lemmas.List.{append-nil}
 use Rattle.dm_replay.specs.Output.{PutsPrefix}
 use Rattle.dm_replay.specs.declared.exit.Exit.TheVariants as exit
 use Rattle.dm_words.specs.declared.forms.Form.{Form}
 use Rattle.dm_words.specs.declared.forms.Form.TheVariants as forms
-use Rattle.dm_cli.specs.Forms.{Runs}
+use Rattle.dm_check.specs.Receiving.{TakesNoMore}
+use Rattle.dm_check.proofs.Taking.{nothing_settled}
+use Rattle.dm_cli.specs.Forms.{Runs, TakesFor}
 
 nothing : (old : Option (List ℕ)) (text : List ℕ) → PutsPrefix old old text
 nothing None text = (0, tt)
@@ -20,3 +23,17 @@ lacking (Some forms.Check) None old = tt
 lacking (Some forms.Replay) (Some bytes) old = nothing old _
 lacking (Some forms.Show) (Some bytes) old = nothing old _
 lacking (Some forms.Check) (Some bytes) old = nothing old _
+
+consumes_nothing : (left : Option (List ℕ)) → Consumes left left []
+consumes_nothing None = tt
+consumes_nothing (Some bytes) = refl
+
+takes_nothing : (left : Option (List ℕ)) → TakesNoMore left left
+takes_nothing left = ([], [], consumes_nothing left, nothing_settled, omega arith, omega arith)
+
+-- and takes nothing
+pub untaken : {S : Type 0} (left : S → Option (List ℕ)) (form : Option Form) (src : S) → TakesFor left form src src
+untaken left None src = refl
+untaken left (Some forms.Replay) src = tt
+untaken left (Some forms.Show) src = takes_nothing (left src)
+untaken left (Some forms.Check) src = takes_nothing (left src)

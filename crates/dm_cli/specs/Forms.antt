@@ -1,5 +1,5 @@
 -- What a run puts, by the form of its words.
-use Rattle.std.specs.Prelude.{◌≡◌, ℕ, codes, List, [], ◌∷◌, ◌++◌, Option, Some, None}
+use Rattle.std.specs.Prelude.{◌≡◌, ℕ, codes, List, [], ◌∷◌, ◌++◌, Option, Some, None, ⊤}
 use Rattle.std.specs.Io.KnownBytes.{Appends}
 use Rattle.dm_base.specs.Outside.{OfKnown}
 use Rattle.dm_replay.specs.Output.{Replays, PutsPrefix}
@@ -7,6 +7,7 @@ use Rattle.dm_replay.specs.From.{Ends}
 use Rattle.dm_replay.specs.declared.exit.Exit.{Exit}
 use Rattle.dm_replay.specs.declared.exit.Exit.TheVariants as exit
 use Rattle.dm_check.specs.Answers.{show_text, check_text, message_exit}
+use Rattle.dm_check.specs.Receiving.{TakesNoMore}
 use Rattle.dm_words.specs.declared.forms.Form.{Form}
 use Rattle.dm_words.specs.declared.forms.Form.TheVariants as forms
 
@@ -34,6 +35,13 @@ Runs (Some forms.Check) left old new e = OfKnown left (λ bytes. Ends (check_tex
 -- whatever the source tells, Usage is answered only to words of no form
 abbrev pub UsageMeansNoForm : Option Form → Exit → Type 0
 UsageMeansNoForm form e = e ≡ exit.Usage → form ≡ None
+
+-- what a run takes of its source: nothing where its words have no form, and of one message no more than settles it
+abbrev pub TakesFor : {S : Type 0} → (S → Option (List ℕ)) → Option Form → S → S → Type 0
+TakesFor left None old new = new ≡ old
+TakesFor left (Some forms.Replay) old new = ⊤
+TakesFor left (Some forms.Show) old new = TakesNoMore (left old) (left new)
+TakesFor left (Some forms.Check) old new = TakesNoMore (left old) (left new)
 
 -- the status that the program ends with
 abbrev pub status_of : Exit → ℕ

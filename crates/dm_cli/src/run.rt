@@ -2,7 +2,7 @@
 ghost use Rattle.std.specs.Prelude.{◌≡◌, map, string_bytes};
 ghost use Rattle.dm_replay.specs.Causes.{SourceCause, SinkCause};
 ghost use Rattle.dm_words.specs.Forms.{form_of};
-ghost use Rattle.dm_cli.specs.Forms.{Runs, PutsUsage, UsageMeansNoForm, status_of};
+ghost use Rattle.dm_cli.specs.Forms.{Runs, PutsUsage, TakesFor, UsageMeansNoForm, status_of};
 
 use dm_base::{Fault, Memory, Sink, Source, put_all};
 use dm_check::{check, show};
@@ -23,11 +23,13 @@ fn put_usage<K: Sink>(out: &mut K) -> Exit
 }
 
 /// Does all that the tool does: reads the source, writes to the sink, and answers how the run ended. Want of memory
-/// ends it by `NoMemory` at any place; what was written is a prefix of the defined text then.
+/// ends it by `NoMemory` at any place; what was written is a prefix of the defined text then. Words of no form take nothing
+/// of the source, and one message is taken no further than to the piece that settles its refusal, or to its end.
 pub fn run<S: Source, K: Sink>(alloc: Global, words: &[String], src: &mut S, out: &mut K) -> Exit
     ensures output { Runs (form_of (map string_bytes words.now)) (S.left src.old) (K.got out.old)
         (K.got out.new) result }
     ensures usage { UsageMeansNoForm (form_of (map string_bytes words.now)) result }
+    ensures taken { TakesFor S.left (form_of (map string_bytes words.now)) src.old src.new }
     ensures source { SourceCause (S.faults src.old) (S.faults src.new) result }
     ensures sink { SinkCause (K.faults out.old) (K.faults out.new) result }
 {
