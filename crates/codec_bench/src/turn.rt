@@ -100,15 +100,15 @@ fn decode_in_pieces(alloc: Global, bytes: &[u8], size: usize) -> Result<Message,
 }
 
 // Folds how many commands the message has that an answer gives.
-fn fold_message(answer: Result<Message, DecodeError>, fold: &mut Fold) -> Result<(), FeedError>
-    ensures { FoldsMessage result fold.old fold.new answer }
+fn fold_message(answer: &Result<Message, DecodeError>, fold: &mut Fold) -> Result<(), FeedError>
+    ensures { FoldsMessage result fold.old fold.new answer.now }
 {
     match answer {
         Ok(message) => {
             fold.add(message.body().len() as u64);
             Ok(())
         }
-        Err(DecodeError::Refused(refusal)) => Err(FeedError::Refused(refusal)),
+        Err(DecodeError::Refused(refusal)) => Err(FeedError::Refused(*refusal)),
         Err(DecodeError::Memory) => Err(FeedError::Memory),
     }
 }
@@ -127,7 +127,7 @@ pub fn turn(
         Way::Engine if bytes.len() <= size => read_at_once(alloc, bytes, fold),
         Way::Engine => read_in_pieces(alloc, bytes, size, fold),
         Way::Tokens => read_by_tokens(alloc, bytes, size, fold),
-        Way::Message if bytes.len() <= size => fold_message(decode(alloc, bytes), fold),
-        Way::Message => fold_message(decode_in_pieces(alloc, bytes, size), fold),
+        Way::Message if bytes.len() <= size => fold_message(&decode(alloc, bytes), fold),
+        Way::Message => fold_message(&decode_in_pieces(alloc, bytes, size), fold),
     }
 }

@@ -1,7 +1,7 @@
 -- A decoder that is fed pieces stands behind their bytes.
 use Rattle.std.proofs.Common.{ℕ, suc, ◌≡◌, ◌<◌, ◌+◌, ◌-◌, ◌^◌, min, List, [], ◌∷◌, ◌++◌, length, length-append, refl, sym, ap, ◌∙◌, subst, arith, inl, inr}
 use Rattle.std.proofs.lemmas.List.{append-nil}
-use Rattle.std.specs.Prelude.{Option, Some, None, Result, Ok, Err, get_or}
+use Rattle.std.specs.Prelude.{Option, Some, None, Result, Ok, Err, ok_or, get_or}
 use Rattle.wbxml_ints.specs.Multibyte.{AreBytes}
 use Rattle.wbxml_tokens.specs.declared.reason.Refusal.{Refusal}
 use Rattle.wbxml_tokens.specs.declared.reason.Reason.TheVariants as reasons
@@ -131,6 +131,19 @@ pub finished_cut : (d : Decoding) (bytes : List ℕ) → HasDecoded d bytes → 
 finished_cut d bytes h going is =
     let s = stands_by d bytes going h in
     read_when_open d bytes None s (sym is) ∙ ap (λ n. Err (record { at = n; reason = reasons.Truncated })) (sym s.3)
+
+-- what a decoder that nothing has stopped answers at its end
+abbrev pub cut : Decoding → DecodeError
+cut d = errors.Refused (record { at = d.length; reason = reasons.Truncated })
+
+either : (d : Decoding) (bytes : List ℕ) → HasDecoded d bytes → d.stopped ≡ None → (found : Option Parts) → found ≡ built_by d.building
+    → IsRead (ok_or found (cut d)) (read_of bytes)
+either d bytes h going None is = finished_cut d bytes h going is
+either d bytes h going (Some parts) is = finished_whole d bytes parts h going is
+
+pub finished : (d : Decoding) (bytes : List ℕ) (r : Result Parts DecodeError) → HasDecoded d bytes → d.stopped ≡ None
+    → r ≡ ok_or (built_by d.building) (cut d) → IsRead r (read_of bytes)
+finished d bytes r h going is = subst (λ answer. IsRead answer (read_of bytes)) (sym is) (either d bytes h going (built_by d.building) refl)
 
 -- ---- what an answer means
 

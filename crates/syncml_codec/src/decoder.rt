@@ -99,13 +99,10 @@ impl Decoder {
             drop(self);
             return Err(error);
         }
-        match self.builder.finish() {
-            Some(message) => Ok(message),
-            None => Err(DecodeError::Refused(Refusal {
-                at: self.length,
-                reason: Reason::Truncated,
-            })),
-        }
+        self.builder.finish_or(DecodeError::Refused(Refusal {
+            at: self.length,
+            reason: Reason::Truncated,
+        }))
     }
 }
 

@@ -1,5 +1,7 @@
 -- What the public calls answer, from the steps that the builder takes.
 use Rattle.std.proofs.Common.{arith, ◌≡◌, ◌↔◌, ◌≤◌, List, Option, Some, None, Result, Ok, Err, OnOk, IfOk, refl, sym, ap, subst, ◌∙◌}
+use Rattle.std.specs.Prelude.{ok_or}
+use Rattle.std.specs.Result.{result_ok}
 use Rattle.dm_base.specs.declared.bytes.Memory.{Memory}
 use Rattle.wbxml_tokens.specs.declared.reason.Reason.{Reason}
 use Rattle.wbxml_tokens.specs.declared.token.Token.{Token}
@@ -34,6 +36,11 @@ fit_behind law b parts is_building going fin =
     let short : text_length (spelling spells.0) ≤ most_text = subst (λ tokens. text_length tokens ≤ most_text) shape.spelled (omega (arith, was.2)) in
     let fit = law spells.0 read.0 read.1 shape.fitting read.2 short in
     subst (λ (p : Parts). IsFit p.header p.body) (same_parts (parts_in read.0) fit.1 read.3) fit.2
+
+-- what stands for nothing, and is left out again
+pub found_again : {E : Type 0} (found : Option Parts) (e : E) → result_ok (ok_or found e) ≡ found
+found_again None e = refl
+found_again (Some x) e = refl
 
 pub finish_spelled : (r : Option Parts) (b : Building) (tokens : List Token) (parts : Parts) → r ≡ built_by b → HasBuilt b tokens
     → (r ≡ Some parts) ↔ SpellsParts tokens parts

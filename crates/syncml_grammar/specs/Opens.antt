@@ -12,7 +12,7 @@ use Rattle.syncml_grammar.specs.declared.open.OpenLeaf.{OpenLeaf}
 use Rattle.syncml_grammar.specs.declared.open.Stop.{Stop}
 use Rattle.syncml_grammar.specs.declared.open.Stop.TheVariants as stops
 use Rattle.syncml_grammar.specs.Values.{of_leaf, of_draft}
-use Rattle.syncml_grammar.specs.Machine.{Frame, root}
+use Rattle.syncml_grammar.specs.Machine.{Frame}
 
 abbrev pub frame_of : Open → Frame
 frame_of o = record { element = o.element; kind = o.kind; content = content_of o.progress; value = of_draft o.draft }
@@ -33,11 +33,6 @@ frames_of top below = frame_of top ∷ reverse (map frame_of below)
 abbrev pub with_leaf : Option OpenLeaf → List Frame → List Frame
 with_leaf None frames = frames
 with_leaf (Some o) frames = leaf_frame o ∷ frames
-
--- before the first tag there is the document alone
-abbrev pub or_root : Option (List Frame) → List Frame
-or_root None = root ∷ []
-or_root (Some frames) = frames
 
 -- what was left is what the definition gives, or why it stopped; after want of memory nothing is said
 abbrev pub Stops : {A : Type 0} → Stop → Result A Reason → Type 0

@@ -1,5 +1,5 @@
 // The builder: it takes the tokens of a body one after the other, and has the message at the end.
-ghost use Rattle.std.specs.Prelude.{◌≡◌, ◌↔◌, Some, List as ListOf};
+ghost use Rattle.std.specs.Prelude.{◌≡◌, ◌↔◌, Some, ok_or, List as ListOf};
 ghost use Rattle.wbxml_tokens.specs.declared.token.Token.{Token as Piece};
 ghost use Rattle.syncml_types.specs.Message.{Parts};
 ghost use Rattle.syncml_grammar.specs.Reads.{SpellsParts};
@@ -46,20 +46,17 @@ impl Builder {
         }
     }
 
-    fn message(self) -> Option<Message>
-        ensures { result ≡ built_by self }
+    /// The message of the tokens that were taken, as `finish` gives it, and this error in place of None.
+    pub fn finish_or<E: Drop>(self, error: E) -> Result<Message, E>
+        ensures { result ≡ ok_or (built_by self) error }
     {
         if let Some(_) = self.stopped {
             drop(self);
-            return None;
+            return Err(error);
         }
         match self.stack.into_parts() {
-            None => None,
-            Some(parts) => Some(Message::of_parts(
-                parts.header.into_header(),
-                parts.body,
-                parts.last,
-            )),
+            None => Err(error),
+            Some(parts) => Ok(Message::of_parts(parts.header.into_inner(), parts.body, parts.last)),
         }
     }
 
@@ -69,7 +66,7 @@ impl Builder {
         ensures message { (tokens : ListOf Piece) (parts : Parts) → HasBuilt self tokens
             → (result ≡ Some parts) ↔ SpellsParts tokens parts }
     {
-        self.message()
+        self.finish_or(()).ok()
     }
 }
 

@@ -6,39 +6,14 @@ ghost use Rattle.syncml_grammar.specs.Reads.{parts_from, parts_in};
 ghost use Rattle.syncml_grammar.specs.Opens.{parts_of};
 ghost use Rattle.syncml_grammar.specs.Drafts.{no_meta, no_item, no_loc, no_header, no_message, no_body, no_cred, no_plain, no_alert, no_block, no_sequence, no_status, no_results, verb_of, fresh_draft};
 
-use dm_base::{Bytes, List, Memory};
+use crate::boxed::Boxed;
+use dm_base::{Bytes, List};
 use std::alloc::Global;
-use std::boxed::Box;
-use std::marker::Model;
-use syncml_shape::Kind;
 use syncml_types::{
     AlertCmd, Block, Command, Cred, Header, Item, Loc, Meta, Plain, ResultsCmd, SeqBlock,
     StatusCmd, Verb,
 };
 use wbxml_tables::Element;
-
-/// A header so far. It is boxed, since a message has one, and no other draft is as large.
-#[derive(Drop)]
-pub struct HeaderDraft {
-    pub(crate) header: Box<Header>,
-}
-
-impl Model for HeaderDraft {
-    ghost use Rattle.syncml_types.specs.declared.values.Header.{Header};
-
-    ghost Value = { Header };
-
-    ghost view = { λ d. d.header.value };
-}
-
-impl HeaderDraft {
-    /// The header, out of its box.
-    pub(crate) fn into_header(self) -> Header
-        ensures { result ≡ self }
-    {
-        Box::into_inner(self.header)
-    }
-}
 
 /// The children of a SyncBody so far.
 #[derive(Drop)]
@@ -50,7 +25,7 @@ pub struct BodyDraft {
 /// The children of a SyncML so far.
 #[derive(Drop)]
 pub struct MessageDraft {
-    pub header: Option<HeaderDraft>,
+    pub header: Option<Boxed<Header>>,
     pub body: List<Command>,
     pub last: bool,
 }
@@ -58,7 +33,7 @@ pub struct MessageDraft {
 /// The parts of a whole message.
 #[derive(Drop)]
 pub struct WholeParts {
-    pub header: HeaderDraft,
+    pub header: Boxed<Header>,
     pub body: List<Command>,
     pub last: bool,
 }
@@ -76,25 +51,26 @@ impl MessageDraft {
     }
 }
 
-/// What has been read of an element with children.
+/// What has been read of an element with children. Each stands in a box, so that only a pointer is moved where its element opens
+/// and ends.
 #[derive(Drop)]
 pub enum Draft {
     /// A document before its SyncML.
     Document,
-    Message(MessageDraft),
-    Header(HeaderDraft),
-    Body(BodyDraft),
-    Plain(Plain),
-    Alert(AlertCmd),
-    Atomic(Block),
-    Sequence(SeqBlock),
-    Status(StatusCmd),
-    Results(ResultsCmd),
-    Item(Item),
-    Loc(Loc),
-    Cred(Cred),
-    Chal(Meta),
-    Meta(Meta),
+    Message(Boxed<MessageDraft>),
+    Header(Boxed<Header>),
+    Body(Boxed<BodyDraft>),
+    Plain(Boxed<Plain>),
+    Alert(Boxed<AlertCmd>),
+    Atomic(Boxed<Block>),
+    Sequence(Boxed<SeqBlock>),
+    Status(Boxed<StatusCmd>),
+    Results(Boxed<ResultsCmd>),
+    Item(Boxed<Item>),
+    Loc(Boxed<Loc>),
+    Cred(Boxed<Cred>),
+    Chal(Boxed<Meta>),
+    Meta(Boxed<Meta>),
 }
 
 impl Draft {
@@ -103,7 +79,7 @@ impl Draft {
         ensures { option_map parts_of result ≡ parts_in (of_draft self) }
     {
         match self {
-            Draft::Message(message) => message.into_parts(),
+            Draft::Message(message) => message.into_inner().into_parts(),
             other => {
                 drop(other);
                 None
@@ -148,7 +124,7 @@ pub(crate) fn new_item() -> Item
     }
 }
 
-fn blank_header(alloc: Global) -> Header
+pub(crate) fn new_header(alloc: Global) -> Header
     ensures { result ≡ no_header }
 {
     Header {
@@ -165,16 +141,7 @@ fn blank_header(alloc: Global) -> Header
     }
 }
 
-fn new_header(alloc: Global) -> Result<HeaderDraft, Memory>
-    ensures { IfOk result (λ d. d ≡ no_header) }
-{
-    match Box::new(alloc, blank_header(alloc)) {
-        Ok(header) => Ok(HeaderDraft { header }),
-        Err(_) => Err(Memory),
-    }
-}
-
-fn new_message(alloc: Global) -> MessageDraft
+pub(crate) fn new_message(alloc: Global) -> MessageDraft
     ensures { result ≡ no_message }
 {
     MessageDraft {
@@ -184,7 +151,7 @@ fn new_message(alloc: Global) -> MessageDraft
     }
 }
 
-fn new_body(alloc: Global) -> BodyDraft
+pub(crate) fn new_body(alloc: Global) -> BodyDraft
     ensures { result ≡ no_body }
 {
     BodyDraft {
@@ -291,32 +258,4 @@ pub(crate) fn new_results(alloc: Global) -> ResultsCmd
         source_ref: None,
         items: List::new(alloc),
     }
-}
-
-fn new_header_draft(alloc: Global) -> Result<Draft, Memory>
-    ensures { IfOk result (λ d. d ≡ draft.Header no_header) }
-{
-    Ok(Draft::Header(new_header(alloc)?))
-}
-
-/// What an element with children holds before the first of them. Only a header takes memory.
-pub(crate) fn new_draft(alloc: Global, kind: Kind, element: Element) -> Result<Draft, Memory>
-    ensures { IfOk result (λ d. d ≡ fresh_draft kind element) }
-{
-    Ok(match kind {
-        Kind::Message => Draft::Message(new_message(alloc)),
-        Kind::Header => return new_header_draft(alloc),
-        Kind::Body => Draft::Body(new_body(alloc)),
-        Kind::Plain | Kind::Exec => Draft::Plain(new_plain(alloc, verb_named(element))),
-        Kind::Alert => Draft::Alert(new_alert(alloc)),
-        Kind::Atomic => Draft::Atomic(new_block(alloc)),
-        Kind::Sequence => Draft::Sequence(new_sequence(alloc)),
-        Kind::Status => Draft::Status(new_status(alloc)),
-        Kind::Results => Draft::Results(new_results(alloc)),
-        Kind::Item => Draft::Item(new_item()),
-        Kind::Loc => Draft::Loc(new_loc(alloc)),
-        Kind::Cred => Draft::Cred(new_cred(alloc)),
-        Kind::Chal => Draft::Chal(new_meta()),
-        _ => Draft::Meta(new_meta()),
-    })
 }

@@ -7,6 +7,7 @@ ghost use Rattle.syncml_grammar.specs.Numbers.{number_in};
 use crate::digits::Digits;
 use dm_base::{Bytes, Memory};
 use std::alloc::Global;
+use std::mem;
 use syncml_shape::Kind;
 use syncml_types::put_value::is_plain_text;
 use wbxml_tokens::Reason;
@@ -103,13 +104,13 @@ impl Leaf {
     }
 
     /// What it reads as at its end: Text for a text that isn't UTF-8 without byte 00, Number for a number that isn't decimal
-    /// without leading zeros or not in its range.
-    pub fn close(self, kind: Kind) -> Result<Simple, Reason>
-        ensures { result ≡ closed_leaf kind self }
+    /// without leading zeros or not in its range. It is left with anything.
+    pub fn close(&mut self, alloc: Global, kind: Kind) -> Result<Simple, Reason>
+        ensures { result ≡ closed_leaf kind self.old }
     {
         match self {
-            Leaf::Text(text) => close_text(kind, text),
-            Leaf::Number(digits) => close_number(kind, digits),
+            Leaf::Text(text) => close_text(kind, mem::replace(text, Bytes::new(alloc))),
+            Leaf::Number(digits) => close_number(kind, *digits),
             Leaf::Flag => Ok(Simple::Flag),
         }
     }

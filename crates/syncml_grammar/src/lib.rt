@@ -1,6 +1,7 @@
 //! The message grammar: from the tokens of a body to the message that they spell, or the first refusal.
 #![tactic(auto)]
 
+mod boxed;
 pub mod builder;
 pub mod digits;
 pub mod draft;
@@ -10,6 +11,7 @@ pub mod leaf;
 #[cfg(test)]
 mod message_tests;
 pub mod open;
+mod put_command;
 mod put_node;
 mod put_simple;
 mod renew;

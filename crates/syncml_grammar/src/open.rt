@@ -9,7 +9,7 @@ use crate::draft::{Draft, WholeParts};
 use crate::leaf::{Leaf, new_leaf};
 use crate::put_node::put_node;
 use crate::put_simple::put_simple;
-use crate::renew::renew;
+use crate::spare::Spares;
 use dm_base::Memory;
 use std::alloc::Global;
 use std::mem;
@@ -25,7 +25,7 @@ pub enum Stop {
     Refused(Reason),
 }
 
-/// An open element with children. The document has no name.
+/// An open element with children. The document has no name. It is small, since what it holds stands in a box.
 #[derive(Drop)]
 pub struct Open {
     pub element: Option<Element>,
@@ -34,7 +34,7 @@ pub struct Open {
     pub draft: Draft,
 }
 
-/// An open element without children. It stands beside the others, so that these aren't moved for it.
+/// An open element without children. It stands apart from those with children, which take no text.
 #[derive(Drop)]
 pub struct OpenLeaf {
     pub element: Element,
@@ -87,10 +87,10 @@ impl OpenLeaf {
     }
 
     // The element ends, and what it holds is put into its parent.
-    pub(crate) fn end_into(self, alloc: Global, parent: &mut Open) -> Result<(), Stop>
-        ensures { GivesFrame result (frame_of parent.new) (on_end (leaf_frame self) (frame_of parent.old)) }
+    pub(crate) fn end_into(&mut self, alloc: Global, parent: &mut Open) -> Result<(), Stop>
+        ensures { GivesFrame result (frame_of parent.new) (on_end (leaf_frame self.old) (frame_of parent.old)) }
     {
-        match self.leaf.close(self.kind) {
+        match self.leaf.close(alloc, self.kind) {
             Err(reason) => Err(Stop::Refused(reason)),
             Ok(simple) => match put_simple(alloc, &mut parent.draft, self.element, simple) {
                 Ok(()) => Ok(()),
@@ -119,7 +119,7 @@ impl Open {
     // Has it be a new element.
     pub(crate) fn begin(
         &mut self,
-        alloc: Global,
+        spares: &mut Spares,
         element: Element,
         kind: Kind,
     ) -> Result<(), Memory>
@@ -129,23 +129,8 @@ impl Open {
         self.element = Some(element);
         self.kind = kind;
         self.progress = Progress::start(kind);
-        renew(&mut self.draft, alloc, kind, element)
-    }
-
-    // The element ends, and what it holds is put into its parent. It is left with anything.
-    pub(crate) fn end_into(&mut self, alloc: Global, parent: &mut Open) -> Result<(), Stop>
-        ensures { GivesFrame result (frame_of parent.new) (on_end (frame_of self.old) (frame_of parent.old)) }
-    {
-        if !self.progress.is_complete() {
-            return Err(Stop::Refused(Reason::Misplaced));
-        }
-        let Some(element) = self.element else {
-            return Err(Stop::Refused(Reason::Misplaced));
-        };
-        match put_node(alloc, &mut parent.draft, element, &mut self.draft) {
-            Ok(()) => Ok(()),
-            Err(_) => Err(Stop::Memory),
-        }
+        self.draft = spares.draft(kind, element)?;
+        Ok(())
     }
 
     /// The parts of the message that a document holds, which are taken out of it.

@@ -1,205 +1,48 @@
-// What a child with children puts into its parent. What a call takes from the child it replaces by what a new one has, in a
+// What a child with children puts into its parent. What a call takes from the child's box it replaces by what a new one has, in a
 // function of its own, since each function pays at its entry for its largest locals.
 ghost use Rattle.std.specs.Prelude.{◌≡◌, ◌∷◌, ◌++◌, [], false, Some, OnOk};
 ghost use Rattle.syncml_types.specs.declared.values.Header.{Header};
-ghost use Rattle.syncml_types.specs.declared.command.Command.TheVariants as command;
-ghost use Rattle.syncml_types.specs.declared.command.Member.TheVariants as member;
-ghost use Rattle.syncml_types.specs.declared.command.SeqMember.TheVariants as seq_member;
 ghost use Rattle.syncml_grammar.specs.declared.draft.Draft.TheVariants as drafts;
 ghost use Rattle.syncml_grammar.specs.Nodes.{header_with_loc, item_with_loc, with_node, is_document};
 
-use crate::draft::{
-    BodyDraft, Draft, HeaderDraft, new_alert, new_block, new_cred, new_item, new_loc, new_meta,
-    new_plain, new_results, new_sequence, new_status,
-};
+use crate::boxed::Boxed;
+use crate::draft::{BodyDraft, Draft, new_item, new_loc, new_meta};
 use crate::few::push_few;
+use crate::put_command::{put_alert, put_atomic, put_plain, put_results, put_sequence, put_status};
+use crate::spare::Spares;
 use dm_base::{List, Memory};
 use std::alloc::Global;
 use std::mem;
-use syncml_types::{
-    AlertCmd, Block, Command, Cred, Item, Loc, Member, Meta, Plain, ResultsCmd, SeqBlock,
-    SeqMember, StatusCmd,
-};
+use syncml_types::{Cred, Header, Item, Loc, Meta};
 use wbxml_tables::Element;
 
-fn push_plain(alloc: Global, commands: &mut List<Command>, plain: &mut Plain) -> Result<(), Memory>
-    ensures { OnOk result (commands.new ≡ commands.old ++ command.Plain plain.old ∷ []) }
-{
-    let verb = plain.verb;
-    commands.push(Command::Plain(mem::replace(plain, new_plain(alloc, verb))))
-}
-
-fn push_one(alloc: Global, members: &mut List<Member>, plain: &mut Plain) -> Result<(), Memory>
-    ensures { OnOk result (members.new ≡ members.old ++ member.One plain.old ∷ []) }
-{
-    let verb = plain.verb;
-    members.push(Member::One(mem::replace(plain, new_plain(alloc, verb))))
-}
-
-fn push_single(
-    alloc: Global,
-    members: &mut List<SeqMember>,
-    plain: &mut Plain,
-) -> Result<(), Memory>
-    ensures { OnOk result (members.new ≡ members.old ++ seq_member.Single (member.One plain.old) ∷ []) }
-{
-    let verb = plain.verb;
-    let plain = mem::replace(plain, new_plain(alloc, verb));
-    members.push(SeqMember::Single(Member::One(plain)))
-}
-
-fn push_atomic(alloc: Global, commands: &mut List<Command>, block: &mut Block) -> Result<(), Memory>
-    ensures { OnOk result (commands.new ≡ commands.old ++ command.Atomic block.old ∷ []) }
-{
-    commands.push(Command::Atomic(mem::replace(block, new_block(alloc))))
-}
-
-fn push_atomic_member(
-    alloc: Global,
-    members: &mut List<SeqMember>,
-    block: &mut Block,
-) -> Result<(), Memory>
-    ensures { OnOk result (members.new ≡ members.old ++ seq_member.Atomic block.old ∷ []) }
-{
-    members.push(SeqMember::Atomic(mem::replace(block, new_block(alloc))))
-}
-
-fn put_whole_header(draft: &mut Draft, element: Element, header: HeaderDraft)
+fn put_header(draft: &mut Draft, element: Element, header: Boxed<Header>)
     requires { is_document draft.old ≡ false }
     ensures { draft.new ≡ with_node draft.old element (drafts.Header header) }
 {
     match draft {
-        Draft::Message(message) => message.header = Some(header),
-        _ => {}
+        Draft::Message(message) => message.inner.header = Some(header),
+        _ => drop(header),
     }
 }
 
-// A header is in a box of its own, which goes on into the message.
-fn put_header(draft: &mut Draft, element: Element, child: &mut Draft)
+fn put_body(
+    spares: &mut Spares,
+    draft: &mut Draft,
+    element: Element,
+    mut body: Boxed<BodyDraft>,
+) -> Result<(), Memory>
     requires { is_document draft.old ≡ false }
-    ensures { (header : Header) → child.old ≡ drafts.Header header
-        → draft.new ≡ with_node draft.old element child.old }
-{
-    match mem::replace(child, Draft::Document) {
-        Draft::Header(header) => put_whole_header(draft, element, header),
-        other => drop(other),
-    }
-}
-
-fn put_body(alloc: Global, draft: &mut Draft, element: Element, body: &mut BodyDraft)
-    requires { is_document draft.old ≡ false }
-    ensures { draft.new ≡ with_node draft.old element (drafts.Body body.old) }
+    ensures { OnOk result (draft.new ≡ with_node draft.old element (drafts.Body body)) }
 {
     match draft {
         Draft::Message(message) => {
-            message.body = mem::replace(&mut body.commands, List::new(alloc));
-            message.last = body.last;
+            message.inner.body = mem::replace(&mut body.inner.commands, List::new(spares.alloc));
+            message.inner.last = body.inner.last;
         }
         _ => {}
     }
-}
-
-fn put_plain(
-    alloc: Global,
-    draft: &mut Draft,
-    element: Element,
-    plain: &mut Plain,
-) -> Result<(), Memory>
-    requires { is_document draft.old ≡ false }
-    ensures { OnOk result (draft.new ≡ with_node draft.old element (drafts.Plain plain.old)) }
-{
-    match draft {
-        Draft::Body(body) => push_plain(alloc, &mut body.commands, plain),
-        Draft::Atomic(block) => push_one(alloc, &mut block.members, plain),
-        Draft::Sequence(block) => push_single(alloc, &mut block.members, plain),
-        _ => Ok(()),
-    }
-}
-
-fn put_alert(
-    alloc: Global,
-    draft: &mut Draft,
-    element: Element,
-    alert: &mut AlertCmd,
-) -> Result<(), Memory>
-    requires { is_document draft.old ≡ false }
-    ensures { OnOk result (draft.new ≡ with_node draft.old element (drafts.Alert alert.old)) }
-{
-    let alert = mem::replace(alert, new_alert(alloc));
-    match draft {
-        Draft::Body(body) => body.commands.push(Command::Alert(alert)),
-        Draft::Atomic(block) => block.members.push(Member::Alert(alert)),
-        Draft::Sequence(block) => block.members.push(SeqMember::Single(Member::Alert(alert))),
-        _ => Ok(()),
-    }
-}
-
-fn put_atomic(
-    alloc: Global,
-    draft: &mut Draft,
-    element: Element,
-    block: &mut Block,
-) -> Result<(), Memory>
-    requires { is_document draft.old ≡ false }
-    ensures { OnOk result (draft.new ≡ with_node draft.old element (drafts.Atomic block.old)) }
-{
-    match draft {
-        Draft::Body(body) => push_atomic(alloc, &mut body.commands, block),
-        Draft::Sequence(sequence) => push_atomic_member(alloc, &mut sequence.members, block),
-        _ => Ok(()),
-    }
-}
-
-fn put_sequence(
-    alloc: Global,
-    draft: &mut Draft,
-    element: Element,
-    block: &mut SeqBlock,
-) -> Result<(), Memory>
-    requires { is_document draft.old ≡ false }
-    ensures { OnOk result (draft.new ≡ with_node draft.old element (drafts.Sequence block.old)) }
-{
-    match draft {
-        Draft::Body(body) => {
-            body.commands.push(Command::Sequence(mem::replace(block, new_sequence(alloc))))
-        }
-        _ => Ok(()),
-    }
-}
-
-fn put_status(
-    alloc: Global,
-    draft: &mut Draft,
-    element: Element,
-    status: &mut StatusCmd,
-) -> Result<(), Memory>
-    requires { is_document draft.old ≡ false }
-    ensures { OnOk result (draft.new ≡ with_node draft.old element (drafts.Status status.old)) }
-{
-    match draft {
-        Draft::Body(body) => {
-            body.commands
-                .push(Command::Status(mem::replace(status, new_status(alloc))))
-        }
-        _ => Ok(()),
-    }
-}
-
-fn put_results(
-    alloc: Global,
-    draft: &mut Draft,
-    element: Element,
-    results: &mut ResultsCmd,
-) -> Result<(), Memory>
-    requires { is_document draft.old ≡ false }
-    ensures { OnOk result (draft.new ≡ with_node draft.old element (drafts.Results results.old)) }
-{
-    match draft {
-        Draft::Body(body) => {
-            body.commands.push(Command::Results(mem::replace(results, new_results(alloc))))
-        }
-        _ => Ok(()),
-    }
+    spares.ended.push(Draft::Body(body))
 }
 
 fn push_item(alloc: Global, items: &mut List<Item>, item: &mut Item) -> Result<(), Memory>
@@ -209,29 +52,32 @@ fn push_item(alloc: Global, items: &mut List<Item>, item: &mut Item) -> Result<(
 }
 
 fn put_item(
-    alloc: Global,
+    spares: &mut Spares,
     draft: &mut Draft,
     element: Element,
-    item: &mut Item,
+    mut item: Boxed<Item>,
 ) -> Result<(), Memory>
     requires { is_document draft.old ≡ false }
-    ensures { OnOk result (draft.new ≡ with_node draft.old element (drafts.Item item.old)) }
+    ensures { OnOk result (draft.new ≡ with_node draft.old element (drafts.Item item)) }
 {
+    let alloc = spares.alloc;
     match draft {
-        Draft::Plain(plain) => push_item(alloc, &mut plain.items, item),
-        Draft::Alert(alert) => push_item(alloc, &mut alert.items, item),
-        Draft::Status(status) => push_item(alloc, &mut status.items, item),
-        Draft::Results(results) => push_item(alloc, &mut results.items, item),
-        _ => Ok(()),
+        Draft::Plain(plain) => push_item(alloc, &mut plain.inner.items, &mut item.inner)?,
+        Draft::Alert(alert) => push_item(alloc, &mut alert.inner.items, &mut item.inner)?,
+        Draft::Status(status) => push_item(alloc, &mut status.inner.items, &mut item.inner)?,
+        Draft::Results(results) => push_item(alloc, &mut results.inner.items, &mut item.inner)?,
+        _ => {}
     }
+    spares.item = Some(item);
+    Ok(())
 }
 
-fn put_loc_in_header(draft: &mut HeaderDraft, element: Element, loc: Loc)
+fn put_loc_in_header(draft: &mut Boxed<Header>, element: Element, loc: Loc)
     ensures { draft.new ≡ header_with_loc draft.old element loc }
 {
     match element {
-        Element::ETarget => draft.header.target = loc,
-        _ => draft.header.source = loc,
+        Element::ETarget => draft.inner.target = loc,
+        _ => draft.inner.source = loc,
     }
 }
 
@@ -244,41 +90,32 @@ fn put_loc_in_item(item: &mut Item, element: Element, loc: Loc)
     }
 }
 
-fn put_loc(alloc: Global, draft: &mut Draft, element: Element, loc: &mut Loc)
-    requires { is_document draft.old ≡ false }
-    ensures { draft.new ≡ with_node draft.old element (drafts.Loc loc.old) }
+fn take_loc(alloc: Global, loc: &mut Loc) -> Loc
+    ensures { result ≡ loc.old }
 {
-    let loc = mem::replace(loc, new_loc(alloc));
+    mem::replace(loc, new_loc(alloc))
+}
+
+fn put_loc(spares: &mut Spares, draft: &mut Draft, element: Element, mut place: Boxed<Loc>)
+    requires { is_document draft.old ≡ false }
+    ensures { draft.new ≡ with_node draft.old element (drafts.Loc place) }
+{
+    let loc = take_loc(spares.alloc, &mut place.inner);
     match draft {
         Draft::Header(header) => put_loc_in_header(header, element, loc),
-        Draft::Item(item) => put_loc_in_item(item, element, loc),
-        _ => {}
+        Draft::Item(item) => put_loc_in_item(&mut item.inner, element, loc),
+        _ => drop(loc),
     }
+    spares.loc = Some(place);
 }
 
-fn put_cred_in_header(alloc: Global, draft: &mut HeaderDraft, cred: &mut Cred)
-    ensures { draft.new ≡ record draft.old { cred = Some cred.old } }
-{
-    draft.header.cred = Some(mem::replace(cred, new_cred(alloc)));
-}
-
-fn put_cred(alloc: Global, draft: &mut Draft, element: Element, cred: &mut Cred)
+fn put_cred(draft: &mut Draft, element: Element, cred: Boxed<Cred>)
     requires { is_document draft.old ≡ false }
-    ensures { draft.new ≡ with_node draft.old element (drafts.Cred cred.old) }
+    ensures { draft.new ≡ with_node draft.old element (drafts.Cred cred) }
 {
     match draft {
-        Draft::Header(header) => put_cred_in_header(alloc, header, cred),
-        _ => {}
-    }
-}
-
-fn put_chal(draft: &mut Draft, element: Element, meta: &mut Meta)
-    requires { is_document draft.old ≡ false }
-    ensures { draft.new ≡ with_node draft.old element (drafts.Chal meta.old) }
-{
-    match draft {
-        Draft::Status(status) => set_meta(&mut status.chal, meta),
-        _ => {}
+        Draft::Header(header) => header.inner.cred = Some(cred.into_inner()),
+        _ => drop(cred),
     }
 }
 
@@ -288,57 +125,76 @@ fn set_meta(slot: &mut Option<Meta>, meta: &mut Meta)
     *slot = Some(mem::replace(meta, new_meta()));
 }
 
-fn put_meta_in_header(draft: &mut HeaderDraft, meta: &mut Meta)
+fn put_chal(spares: &mut Spares, draft: &mut Draft, element: Element, mut meta: Boxed<Meta>)
+    requires { is_document draft.old ≡ false }
+    ensures { draft.new ≡ with_node draft.old element (drafts.Chal meta) }
+{
+    match draft {
+        Draft::Status(status) => set_meta(&mut status.inner.chal, &mut meta.inner),
+        _ => {}
+    }
+    spares.chal = Some(meta);
+}
+
+fn put_meta_in_header(draft: &mut Boxed<Header>, meta: &mut Meta)
     ensures { draft.new ≡ record draft.old { meta = Some meta.old } }
 {
-    set_meta(&mut draft.header.meta, meta);
+    set_meta(&mut draft.inner.meta, meta);
+}
+
+fn swap_meta(old: &mut Meta, meta: &mut Meta)
+    ensures { old.new ≡ meta.old }
+{
+    mem::swap(old, meta);
 }
 
 // The Meta of a Chal, or the MetInf of a Meta, stands for the whole.
-fn put_meta(draft: &mut Draft, element: Element, meta: &mut Meta)
+fn put_meta(spares: &mut Spares, draft: &mut Draft, element: Element, mut child: Boxed<Meta>)
     requires { is_document draft.old ≡ false }
-    ensures { draft.new ≡ with_node draft.old element (drafts.Meta meta.old) }
+    ensures { draft.new ≡ with_node draft.old element (drafts.Meta child) }
 {
+    let meta = &mut child.inner;
     match draft {
         Draft::Header(header) => put_meta_in_header(header, meta),
-        Draft::Plain(plain) => set_meta(&mut plain.meta, meta),
-        Draft::Atomic(block) => set_meta(&mut block.meta, meta),
-        Draft::Sequence(block) => set_meta(&mut block.meta, meta),
-        Draft::Results(results) => set_meta(&mut results.meta, meta),
-        Draft::Item(item) => set_meta(&mut item.meta, meta),
-        Draft::Cred(cred) => set_meta(&mut cred.meta, meta),
-        Draft::Chal(old) => mem::swap(old, meta),
-        Draft::Meta(old) => mem::swap(old, meta),
+        Draft::Plain(plain) => set_meta(&mut plain.inner.meta, meta),
+        Draft::Atomic(block) => set_meta(&mut block.inner.meta, meta),
+        Draft::Sequence(block) => set_meta(&mut block.inner.meta, meta),
+        Draft::Results(results) => set_meta(&mut results.inner.meta, meta),
+        Draft::Item(item) => set_meta(&mut item.inner.meta, meta),
+        Draft::Cred(cred) => set_meta(&mut cred.inner.meta, meta),
+        Draft::Chal(old) => swap_meta(&mut old.inner, meta),
+        Draft::Meta(old) => swap_meta(&mut old.inner, meta),
         _ => {}
     }
+    spares.keep_meta(child);
 }
 
 #[tactic(auto, using(crate::proofs::Left::left_document, crate::proofs::Left::left_message))]
 fn put_part(
-    alloc: Global,
+    spares: &mut Spares,
     draft: &mut Draft,
     element: Element,
-    child: &mut Draft,
+    child: Draft,
 ) -> Result<(), Memory>
     requires { is_document draft.old ≡ false }
-    ensures { OnOk result (draft.new ≡ with_node draft.old element child.old) }
+    ensures { OnOk result (draft.new ≡ with_node draft.old element child) }
 {
     match child {
         Draft::Document => {}
-        Draft::Message(_message) => {}
-        Draft::Header(_header) => put_header(draft, element, child),
-        Draft::Body(body) => put_body(alloc, draft, element, body),
-        Draft::Plain(plain) => return put_plain(alloc, draft, element, plain),
-        Draft::Alert(alert) => return put_alert(alloc, draft, element, alert),
-        Draft::Atomic(block) => return put_atomic(alloc, draft, element, block),
-        Draft::Sequence(block) => return put_sequence(alloc, draft, element, block),
-        Draft::Status(status) => return put_status(alloc, draft, element, status),
-        Draft::Results(results) => return put_results(alloc, draft, element, results),
-        Draft::Item(item) => return put_item(alloc, draft, element, item),
-        Draft::Loc(loc) => put_loc(alloc, draft, element, loc),
-        Draft::Cred(cred) => put_cred(alloc, draft, element, cred),
-        Draft::Chal(meta) => put_chal(draft, element, meta),
-        Draft::Meta(meta) => put_meta(draft, element, meta),
+        Draft::Message(message) => drop(message),
+        Draft::Header(header) => put_header(draft, element, header),
+        Draft::Body(body) => return put_body(spares, draft, element, body),
+        Draft::Plain(plain) => return put_plain(spares, draft, element, plain),
+        Draft::Alert(alert) => return put_alert(spares, draft, element, alert),
+        Draft::Atomic(block) => return put_atomic(spares, draft, element, block),
+        Draft::Sequence(block) => return put_sequence(spares, draft, element, block),
+        Draft::Status(status) => return put_status(spares, draft, element, status),
+        Draft::Results(results) => return put_results(spares, draft, element, results),
+        Draft::Item(item) => return put_item(spares, draft, element, item),
+        Draft::Loc(place) => put_loc(spares, draft, element, place),
+        Draft::Cred(cred) => put_cred(draft, element, cred),
+        Draft::Chal(meta) => put_chal(spares, draft, element, meta),
+        Draft::Meta(meta) => put_meta(spares, draft, element, meta),
     }
     Ok(())
 }
@@ -351,19 +207,19 @@ impl Draft {
     }
 }
 
-/// Puts what a child with children holds into its parent. The child is left with anything.
+/// Puts what a child with children holds into its parent, and keeps its box.
 #[tactic(auto, using(crate::proofs::Left::whole_child))]
 pub(crate) fn put_node(
-    alloc: Global,
+    spares: &mut Spares,
     draft: &mut Draft,
     element: Element,
-    child: &mut Draft,
+    child: Draft,
 ) -> Result<(), Memory>
-    ensures { OnOk result (draft.new ≡ with_node draft.old element child.old) }
+    ensures { OnOk result (draft.new ≡ with_node draft.old element child) }
 {
     if draft.is_document() {
-        mem::swap(draft, child);
+        *draft = child;
         return Ok(());
     }
-    put_part(alloc, draft, element, child)
+    put_part(spares, draft, element, child)
 }

@@ -2,12 +2,13 @@
 ghost use Rattle.std.specs.Prelude.{◌≡◌, true, OnOk};
 ghost use Rattle.syncml_grammar.specs.Simples.{loc_with_text, meta_with_text, header_with_text, status_with_text, results_with_text, with_text, alert_with_number, status_with_number, results_with_number, with_short, meta_with_size, with_long, with_flag, with_simple};
 
-use crate::draft::{Draft, HeaderDraft};
+use crate::boxed::Boxed;
+use crate::draft::Draft;
 use crate::few::push_few;
 use crate::leaf::Simple;
 use dm_base::{Bytes, Memory};
 use std::alloc::Global;
-use syncml_types::{AlertCmd, Loc, Meta, ResultsCmd, StatusCmd};
+use syncml_types::{AlertCmd, Header, Loc, Meta, ResultsCmd, StatusCmd};
 use wbxml_tables::Element;
 
 fn put_loc(loc: &mut Loc, element: Element, text: Bytes)
@@ -33,14 +34,14 @@ fn put_meta(meta: &mut Meta, element: Element, text: Bytes)
     }
 }
 
-fn put_header(draft: &mut HeaderDraft, element: Element, text: Bytes)
+fn put_header(draft: &mut Boxed<Header>, element: Element, text: Bytes)
     ensures { draft.new ≡ header_with_text draft.old element text }
 {
     match element {
-        Element::EVerDTD => draft.header.dtd = text,
-        Element::EVerProto => draft.header.proto = text,
-        Element::ESessionID => draft.header.session = text,
-        Element::ERespURI => draft.header.resp_uri = Some(text),
+        Element::EVerDTD => draft.inner.dtd = text,
+        Element::EVerProto => draft.inner.proto = text,
+        Element::ESessionID => draft.inner.session = text,
+        Element::ERespURI => draft.inner.resp_uri = Some(text),
         _ => {}
     }
 }
@@ -78,15 +79,15 @@ fn put_text(alloc: Global, draft: &mut Draft, element: Element, text: Bytes) -> 
     ensures { OnOk result (draft.new ≡ with_text draft.old element text) }
 {
     match draft {
-        Draft::Loc(loc) => put_loc(loc, element, text),
-        Draft::Meta(meta) => put_meta(meta, element, text),
+        Draft::Loc(loc) => put_loc(&mut loc.inner, element, text),
+        Draft::Meta(meta) => put_meta(&mut meta.inner, element, text),
         Draft::Header(header) => put_header(header, element, text),
-        Draft::Status(status) => return put_status(alloc, status, element, text),
-        Draft::Results(results) => put_results(results, element, text),
-        Draft::Item(item) => item.value = Some(text),
-        Draft::Cred(cred) => cred.value = text,
-        Draft::Plain(plain) => plain.correlator = Some(text),
-        Draft::Alert(alert) => alert.correlator = Some(text),
+        Draft::Status(status) => return put_status(alloc, &mut status.inner, element, text),
+        Draft::Results(results) => put_results(&mut results.inner, element, text),
+        Draft::Item(item) => item.inner.value = Some(text),
+        Draft::Cred(cred) => cred.inner.value = text,
+        Draft::Plain(plain) => plain.inner.correlator = Some(text),
+        Draft::Alert(alert) => alert.inner.correlator = Some(text),
         _ => {}
     }
     Ok(())
@@ -122,10 +123,10 @@ fn put_results_number(results: &mut ResultsCmd, element: Element, number: u32)
     }
 }
 
-fn put_msg(draft: &mut HeaderDraft, number: u32)
+fn put_msg(draft: &mut Boxed<Header>, number: u32)
     ensures { draft.new ≡ record draft.old { msg = number } }
 {
-    draft.header.msg = number;
+    draft.inner.msg = number;
 }
 
 fn put_short(draft: &mut Draft, element: Element, number: u32)
@@ -133,12 +134,12 @@ fn put_short(draft: &mut Draft, element: Element, number: u32)
 {
     match draft {
         Draft::Header(header) => put_msg(header, number),
-        Draft::Plain(plain) => plain.id = number,
-        Draft::Alert(alert) => put_alert_number(alert, element, number),
-        Draft::Atomic(block) => block.id = number,
-        Draft::Sequence(block) => block.id = number,
-        Draft::Status(status) => put_status_number(status, element, number),
-        Draft::Results(results) => put_results_number(results, element, number),
+        Draft::Plain(plain) => plain.inner.id = number,
+        Draft::Alert(alert) => put_alert_number(&mut alert.inner, element, number),
+        Draft::Atomic(block) => block.inner.id = number,
+        Draft::Sequence(block) => block.inner.id = number,
+        Draft::Status(status) => put_status_number(&mut status.inner, element, number),
+        Draft::Results(results) => put_results_number(&mut results.inner, element, number),
         _ => {}
     }
 }
@@ -157,28 +158,28 @@ fn put_long(draft: &mut Draft, element: Element, number: u64)
     ensures { draft.new ≡ with_long draft.old element number }
 {
     match draft {
-        Draft::Meta(meta) => put_size(meta, element, number),
+        Draft::Meta(meta) => put_size(&mut meta.inner, element, number),
         _ => {}
     }
 }
 
-fn mark_no_resp(draft: &mut HeaderDraft)
+fn mark_no_resp(draft: &mut Boxed<Header>)
     ensures { draft.new ≡ record draft.old { no_resp = true } }
 {
-    draft.header.no_resp = true;
+    draft.inner.no_resp = true;
 }
 
 fn put_flag(draft: &mut Draft)
     ensures { draft.new ≡ with_flag draft.old }
 {
     match draft {
-        Draft::Body(body) => body.last = true,
-        Draft::Item(item) => item.more = true,
+        Draft::Body(body) => body.inner.last = true,
+        Draft::Item(item) => item.inner.more = true,
         Draft::Header(header) => mark_no_resp(header),
-        Draft::Plain(plain) => plain.no_resp = true,
-        Draft::Alert(alert) => alert.no_resp = true,
-        Draft::Atomic(block) => block.no_resp = true,
-        Draft::Sequence(block) => block.no_resp = true,
+        Draft::Plain(plain) => plain.inner.no_resp = true,
+        Draft::Alert(alert) => alert.inner.no_resp = true,
+        Draft::Atomic(block) => block.inner.no_resp = true,
+        Draft::Sequence(block) => block.inner.no_resp = true,
         _ => {}
     }
 }

@@ -1,112 +1,92 @@
-// Boxes of open elements. They are used again, so that a message takes no more of them than its depth.
-ghost use Rattle.std.specs.Prelude.{◌≡◌, false, IfOk, OnOk};
-ghost use Rattle.syncml_grammar.specs.Values.{holds_leaf};
-ghost use Rattle.syncml_grammar.specs.Machine.{root, began};
-ghost use Rattle.syncml_grammar.specs.Opens.{frame_of};
+// Boxes of elements that have ended, which the next of their kind takes.
+ghost use Rattle.std.specs.Prelude.{◌≡◌, IfOk};
+ghost use Rattle.syncml_grammar.specs.Drafts.{fresh_draft};
 
-use crate::open::Open;
+use crate::boxed::Boxed;
+use crate::draft::{Draft, verb_named};
+use crate::renew::{
+    first_body, first_cred, first_header, first_message, renewed_alert, renewed_atomic,
+    renewed_item, renewed_loc, renewed_meta, renewed_plain, renewed_results, renewed_sequence,
+    renewed_status,
+};
 use dm_base::{List, Memory};
 use std::alloc::Global;
-use std::boxed::Box;
-use std::marker::Model;
 use syncml_shape::Kind;
+use syncml_types::{AlertCmd, Block, Item, Loc, Meta, Plain, ResultsCmd, SeqBlock, StatusCmd};
 use wbxml_tables::Element;
 
-/// An open element in a box, so that only a pointer is moved where it opens and ends.
-#[derive(Drop)]
-pub(crate) struct Boxed {
-    pub(crate) open: Box<Open>,
-}
-
-impl Model for Boxed {
-    ghost use Rattle.syncml_grammar.specs.declared.open.Open.{Open};
-
-    ghost Value = { Open };
-
-    ghost view = { λ b. b.open.value };
-}
-
-impl Boxed {
-    /// The document, before its SyncML.
-    pub(crate) fn new(alloc: Global) -> Result<Boxed, Memory>
-        ensures { IfOk result (λ b. frame_of b ≡ root) }
-    {
-        match Box::new(alloc, Open::document()) {
-            Ok(open) => Ok(Boxed { open }),
-            Err(_) => Err(Memory),
-        }
-    }
-
-    // Has the box hold a new element.
-    fn begin(&mut self, alloc: Global, element: Element, kind: Kind) -> Result<(), Memory>
-        requires { holds_leaf kind ≡ false }
-        ensures { OnOk result (frame_of self.new ≡ began element kind) }
-    {
-        self.open.begin(alloc, element, kind)
-    }
-}
-
-/// Boxes of elements that have ended. Those of a Loc and of a Meta have places of their own, since the next of their kind comes
-/// soon, and finds its fields in place.
+/// The boxes of elements that have ended, with anything in them. No more elements of a kind are open at once than have places here,
+/// so that no element takes memory but for what the message keeps, the first of each kind aside.
 #[derive(Drop)]
 pub(crate) struct Spares {
-    alloc: Global,
-    loc: Option<Boxed>,
-    meta: Option<Boxed>,
-    others: List<Boxed>,
+    pub(crate) alloc: Global,
+    pub(crate) plain: Option<Boxed<Plain>>,
+    pub(crate) alert: Option<Boxed<AlertCmd>>,
+    pub(crate) atomic: Option<Boxed<Block>>,
+    pub(crate) sequence: Option<Boxed<SeqBlock>>,
+    pub(crate) status: Option<Boxed<StatusCmd>>,
+    pub(crate) results: Option<Boxed<ResultsCmd>>,
+    pub(crate) item: Option<Boxed<Item>>,
+    pub(crate) loc: Option<Boxed<Loc>>,
+    pub(crate) chal: Option<Boxed<Meta>>,
+    pub(crate) meta: Option<Boxed<Meta>>,
+    pub(crate) met_inf: Option<Boxed<Meta>>,
+    // The box of the body, kept until the message is finished. The list that holds it is taken behind nearly all of the message and
+    // given back before it, so that the heap's end stays in use: glibc else gives its pages back to the kernel with each large
+    // message, and the kernel clears them anew for the next, which takes up to a quarter of the time.
+    pub(crate) ended: List<Draft>,
 }
 
 impl Spares {
     pub(crate) fn new(alloc: Global) -> Spares {
         Spares {
             alloc,
+            plain: None,
+            alert: None,
+            atomic: None,
+            sequence: None,
+            status: None,
+            results: None,
+            item: None,
             loc: None,
+            chal: None,
             meta: None,
-            others: List::new(alloc),
+            met_inf: None,
+            ended: List::new(alloc),
         }
     }
 
-    fn take(&mut self, kind: Kind) -> Option<Boxed> {
-        let kept = match kind {
-            Kind::Loc => self.loc.take(),
-            Kind::Meta => self.meta.take(),
-            _ => None,
-        };
-        match kept {
-            Some(spare) => Some(spare),
-            None => self.others.pop(),
-        }
-    }
-
-    fn take_or_new(&mut self, kind: Kind) -> Result<Boxed, Memory> {
-        match self.take(kind) {
-            Some(spare) => Ok(spare),
-            None => Boxed::new(self.alloc),
-        }
-    }
-
-    /// A new element in a box.
-    pub(crate) fn open(&mut self, element: Element, kind: Kind) -> Result<Boxed, Memory>
-        requires { holds_leaf kind ≡ false }
-        ensures { IfOk result (λ b. frame_of b ≡ began element kind) }
+    /// What an element with children holds before the first of them.
+    pub(crate) fn draft(&mut self, kind: Kind, element: Element) -> Result<Draft, Memory>
+        ensures { IfOk result (λ d. d ≡ fresh_draft kind element) }
     {
-        let mut spare = self.take_or_new(kind)?;
-        match spare.begin(self.alloc, element, kind) {
-            Ok(()) => Ok(spare),
-            Err(Memory) => {
-                drop(spare);
-                Err(Memory)
+        let alloc = self.alloc;
+        Ok(match kind {
+            Kind::Message => Draft::Message(first_message(alloc)?),
+            Kind::Header => Draft::Header(first_header(alloc)?),
+            Kind::Body => Draft::Body(first_body(alloc)?),
+            Kind::Plain | Kind::Exec => {
+                Draft::Plain(renewed_plain(alloc, self.plain.take(), verb_named(element))?)
             }
-        }
+            Kind::Alert => Draft::Alert(renewed_alert(alloc, self.alert.take())?),
+            Kind::Atomic => Draft::Atomic(renewed_atomic(alloc, self.atomic.take())?),
+            Kind::Sequence => Draft::Sequence(renewed_sequence(alloc, self.sequence.take())?),
+            Kind::Status => Draft::Status(renewed_status(alloc, self.status.take())?),
+            Kind::Results => Draft::Results(renewed_results(alloc, self.results.take())?),
+            Kind::Item => Draft::Item(renewed_item(alloc, self.item.take())?),
+            Kind::Loc => Draft::Loc(renewed_loc(alloc, self.loc.take())?),
+            Kind::Cred => Draft::Cred(first_cred(alloc)?),
+            Kind::Chal => Draft::Chal(renewed_meta(alloc, self.chal.take())?),
+            Kind::MetInf => Draft::Meta(renewed_meta(alloc, self.met_inf.take())?),
+            _ => Draft::Meta(renewed_meta(alloc, self.meta.take())?),
+        })
     }
 
-    /// Keeps the box of an element that has ended.
-    pub(crate) fn keep(&mut self, kind: Kind, spare: Boxed) -> Result<(), Memory> {
-        match kind {
-            Kind::Loc if self.loc.is_none() => self.loc = Some(spare),
-            Kind::Meta if self.meta.is_none() => self.meta = Some(spare),
-            _ => return self.others.push(spare),
+    /// Keeps the box of a Meta or a MetInf. A MetInf ends before its Meta, so both find a place.
+    pub(crate) fn keep_meta(&mut self, meta: Boxed<Meta>) {
+        match &self.meta {
+            None => self.meta = Some(meta),
+            Some(_) => self.met_inf = Some(meta),
         }
-        Ok(())
     }
 }

@@ -1,14 +1,15 @@
 // The open elements, and the tokens that they take.
-ghost use Rattle.std.specs.Prelude.{◌≡◌, ◌+◌, ◌∷◌, [], None, Ok, Err, Bool, false, ℕ, length, OnOk, IfOk, option_map, List as ListOf};
+ghost use Rattle.std.specs.Prelude.{◌≡◌, ◌+◌, ◌∷◌, [], None, Ok, Err, Bool, true, false, ℕ, length, OnOk, IfOk, option_map, List as ListOf};
 ghost use Rattle.wbxml_tokens.specs.declared.token.Token.TheVariants.{Tag, End, Text, Opaque};
-ghost use Rattle.syncml_grammar.specs.Machine.{Frame, root, step, on_end, on_kind, finished};
+ghost use Rattle.syncml_grammar.specs.Machine.{Frame, root, step, on_kind, finished};
 ghost use Rattle.syncml_grammar.specs.Values.{holds_leaf};
-ghost use Rattle.syncml_grammar.specs.Opens.{frame_of, frames_of, leaf_frame, with_leaf, or_root, GivesFrame, GivesFrames, parts_of};
+ghost use Rattle.syncml_grammar.specs.Opens.{frame_of, frames_of, leaf_frame, with_leaf, GivesFrame, GivesFrames, parts_of};
 
 use crate::draft::WholeParts;
 use crate::few::with_room;
-use crate::open::{OpenLeaf, Stop, has_leaf};
-use crate::spare::{Boxed, Spares};
+use crate::open::{Open, OpenLeaf, Stop, has_leaf};
+use crate::put_node::put_node;
+use crate::spare::Spares;
 use dm_base::{List, Memory};
 use std::alloc::Global;
 use std::marker::Model;
@@ -20,8 +21,8 @@ use wbxml_tokens::Reason;
 /// The open elements with children, and the document below them.
 #[derive(Drop)]
 pub(crate) struct Nest {
-    top: Boxed,
-    below: List<Boxed>,
+    top: Open,
+    below: List<Open>,
     spares: Spares,
 }
 
@@ -35,68 +36,48 @@ impl Model for Nest {
     ghost view = { λ n. frames_of n.top n.below };
 }
 
-// Opens a child of the innermost element.
-fn push(top: &mut Boxed, below: &mut List<Boxed>, child: Boxed) -> Result<(), Stop>
-    ensures { GivesFrames result (frames_of top.new below.new) (Ok (frame_of child ∷ frames_of top.old below.old)) }
+// Has room for the open elements of most messages, so that the list need not grow.
+fn make_room(alloc: Global, opened: &mut List<Open>) -> Result<(), Memory>
+    ensures { OnOk result (opened.new ≡ opened.old) }
 {
-    let parent = mem::replace(top, child);
-    match below.push(parent) {
-        Ok(()) => Ok(()),
-        Err(_) => Err(Stop::Memory),
+    if opened.is_empty() {
+        *opened = with_room(alloc, 8)?;
     }
-}
-
-// Ends a child, and keeps its box.
-fn end_child(
-    alloc: Global,
-    spares: &mut Spares,
-    mut child: Boxed,
-    parent: &mut Boxed,
-) -> Result<(), Stop>
-    ensures { GivesFrame result (frame_of parent.new) (on_end (frame_of child) (frame_of parent.old)) }
-{
-    let kind = child.open.kind;
-    match child.open.end_into(alloc, &mut parent.open) {
-        Ok(()) => match spares.keep(kind, child) {
-            Ok(()) => Ok(()),
-            Err(_) => Err(Stop::Memory),
-        },
-        Err(stop) => {
-            drop(child);
-            Err(stop)
-        }
-    }
+    Ok(())
 }
 
 impl Nest {
-    fn new(alloc: Global) -> Result<Nest, Memory>
-        ensures { IfOk result (λ n. n ≡ root ∷ []) }
+    fn new(alloc: Global) -> Nest
+        ensures { result ≡ root ∷ [] }
     {
-        Ok(Nest {
-            top: Boxed::new(alloc)?,
-            below: with_room(alloc, 8)?,
+        Nest {
+            top: Open::document(),
+            below: List::new(alloc),
             spares: Spares::new(alloc),
-        })
+        }
+    }
+
+    // Opens a child with children.
+    fn open(&mut self, element: Element, kind: Kind) -> Result<(), Memory>
+        requires { holds_leaf kind ≡ false }
+        ensures content { OnOk result (on_kind self.old element true kind ≡ Ok self.new) }
+        ensures empty { OnOk result (on_kind self.old element false kind ≡ step self.new End) }
+    {
+        make_room(self.spares.alloc, &mut self.below)?;
+        self.below
+            .push(mem::replace(&mut self.top, Open::document()))?;
+        self.top.begin(&mut self.spares, element, kind)
     }
 
     // The tag of a child with children.
-    fn draft(
-        &mut self,
-        alloc: Global,
-        element: Element,
-        kind: Kind,
-        content: bool,
-    ) -> Result<(), Stop>
+    fn draft(&mut self, element: Element, kind: Kind, content: bool) -> Result<(), Stop>
         requires { holds_leaf kind ≡ false }
         ensures { GivesFrames result self.new (on_kind self.old element content kind) }
     {
-        let Ok(child) = self.spares.open(element, kind) else {
-            return Err(Stop::Memory);
-        };
-        if content {
-            push(&mut self.top, &mut self.below, child)
-        } else {
-            end_child(alloc, &mut self.spares, child, &mut self.top)
+        match self.open(element, kind) {
+            Err(Memory) => Err(Stop::Memory),
+            Ok(()) if content => Ok(()),
+            Ok(()) => self.end(),
         }
     }
 
@@ -113,14 +94,14 @@ impl Nest {
         ensures { GivesFrames result (with_leaf leaf.new self.new) (on_kind self.old element content kind) }
     {
         if !has_leaf(kind) {
-            return self.draft(alloc, element, kind, content);
+            return self.draft(element, kind, content);
         }
-        let child = OpenLeaf::new(alloc, element, kind);
+        let mut child = OpenLeaf::new(alloc, element, kind);
         if content {
             *leaf = Some(child);
             Ok(())
         } else {
-            child.end_into(alloc, &mut self.top.open)
+            child.end_into(alloc, &mut self.top)
         }
     }
 
@@ -135,10 +116,10 @@ impl Nest {
         requires { leaf.old ≡ None }
         ensures { GivesFrames result (with_leaf leaf.new self.new) (step self.old (Tag element content)) }
     {
-        if let Some(reason) = tag_fault(self.top.open.element, element) {
+        if let Some(reason) = tag_fault(self.top.element, element) {
             return Err(Stop::Refused(reason));
         }
-        match self.top.open.progress.next(element) {
+        match self.top.progress.next(element) {
             None => Err(Stop::Refused(Reason::Misplaced)),
             Some(kind) => self.child(alloc, leaf, element, kind, content),
         }
@@ -149,7 +130,7 @@ impl Nest {
         ensures text { (bytes : ListOf ℕ) → GivesFrames result self.now (step self.now (Text bytes)) }
         ensures opaque { (bytes : ListOf ℕ) → GivesFrames result self.now (step self.now (Opaque bytes)) }
     {
-        if self.top.open.progress.takes_text() {
+        if self.top.progress.takes_text() {
             Ok(())
         } else {
             Err(Stop::Refused(Reason::Misplaced))
@@ -165,29 +146,37 @@ impl Nest {
             spares: _,
         } = self;
         if below.is_empty() {
-            top.open.take_parts()
+            top.take_parts()
         } else {
             None
         }
     }
 
-    fn end(&mut self, alloc: Global) -> Result<(), Stop>
+    // The end of the innermost element.
+    fn end(&mut self) -> Result<(), Stop>
         ensures { GivesFrames result self.new (step self.old End) }
     {
-        match self.below.pop() {
-            None => Err(Stop::Refused(Reason::Misplaced)),
-            Some(parent) => {
-                let child = mem::replace(&mut self.top, parent);
-                end_child(alloc, &mut self.spares, child, &mut self.top)
-            }
+        let Some(element) = self.top.element else {
+            return Err(Stop::Refused(Reason::Misplaced));
+        };
+        if !self.top.progress.is_complete() {
+            return Err(Stop::Refused(Reason::Misplaced));
+        }
+        let Some(parent) = self.below.pop() else {
+            return Err(Stop::Refused(Reason::Misplaced));
+        };
+        let child = mem::replace(&mut self.top, parent);
+        match put_node(&mut self.spares, &mut self.top.draft, element, child.draft) {
+            Ok(()) => Ok(()),
+            Err(Memory) => Err(Stop::Memory),
         }
     }
 
     // The end of a child without children.
-    fn end_leaf(&mut self, alloc: Global, leaf: OpenLeaf) -> Result<(), Stop>
-        ensures { GivesFrames result self.new (step (leaf_frame leaf ∷ self.old) End) }
+    fn end_leaf(&mut self, alloc: Global, leaf: &mut OpenLeaf) -> Result<(), Stop>
+        ensures { GivesFrames result self.new (step (leaf_frame leaf.old ∷ self.old) End) }
     {
-        leaf.end_into(alloc, &mut self.top.open)
+        leaf.end_into(alloc, &mut self.top)
     }
 }
 
@@ -201,66 +190,22 @@ fn tag_in_leaf(leaf: &OpenLeaf, element: Element) -> Reason
     }
 }
 
-/// The open elements of a document, with what they hold so far. Before the first tag there is the document alone, and nothing
-/// is taken for it.
+/// The open elements of a document, with what they hold so far. Before the first tag there is the document alone.
 #[derive(Drop)]
 pub(crate) struct Stack {
     alloc: Global,
     leaf: Option<OpenLeaf>,
-    nest: Option<Nest>,
+    nest: Nest,
 }
 
 impl Model for Stack {
     ghost use Rattle.std.specs.Prelude.{List};
     ghost use Rattle.syncml_grammar.specs.Machine.{Frame};
-    ghost use Rattle.syncml_grammar.specs.Opens.{with_leaf, or_root};
+    ghost use Rattle.syncml_grammar.specs.Opens.{with_leaf};
 
     ghost Value = { List Frame };
 
-    ghost view = { λ s. with_leaf s.leaf (or_root s.nest) };
-}
-
-// Has the document stand in its box.
-fn begin(alloc: Global, nest: &mut Option<Nest>) -> Result<(), Memory>
-    ensures { OnOk result (or_root nest.new ≡ or_root nest.old) }
-{
-    if nest.is_none() {
-        *nest = Some(Nest::new(alloc)?);
-    }
-    Ok(())
-}
-
-// A tag in the innermost element with children.
-fn tag_in(
-    alloc: Global,
-    nest: &mut Option<Nest>,
-    leaf: &mut Option<OpenLeaf>,
-    element: Element,
-    content: bool,
-) -> Result<(), Stop>
-    requires { leaf.old ≡ None }
-    ensures { GivesFrames result (with_leaf leaf.new (or_root nest.new)) (step (or_root nest.old) (Tag element content)) }
-{
-    let Ok(()) = begin(alloc, nest) else {
-        return Err(Stop::Memory);
-    };
-    match nest {
-        Some(nest) => nest.tag(alloc, leaf, element, content),
-        None => Err(Stop::Memory),
-    }
-}
-
-// The end of an element without children.
-fn end_leaf_in(alloc: Global, nest: &mut Option<Nest>, leaf: OpenLeaf) -> Result<(), Stop>
-    ensures { GivesFrames result (or_root nest.new) (step (leaf_frame leaf ∷ or_root nest.old) End) }
-{
-    match nest {
-        Some(nest) => nest.end_leaf(alloc, leaf),
-        None => {
-            drop(leaf);
-            Err(Stop::Memory)
-        }
-    }
+    ghost view = { λ s. with_leaf s.leaf s.nest };
 }
 
 impl Stack {
@@ -270,7 +215,7 @@ impl Stack {
         Stack {
             alloc,
             leaf: None,
-            nest: None,
+            nest: Nest::new(alloc),
         }
     }
 
@@ -279,19 +224,20 @@ impl Stack {
     {
         match &self.leaf {
             Some(leaf) => Err(Stop::Refused(tag_in_leaf(leaf, element))),
-            None => tag_in(self.alloc, &mut self.nest, &mut self.leaf, element, content),
+            None => self.nest.tag(self.alloc, &mut self.leaf, element, content),
         }
     }
 
     pub fn end(&mut self) -> Result<(), Stop>
         ensures { GivesFrames result self.new (step self.old End) }
     {
-        match self.leaf.take() {
-            Some(leaf) => end_leaf_in(self.alloc, &mut self.nest, leaf),
-            None => match &mut self.nest {
-                None => Err(Stop::Refused(Reason::Misplaced)),
-                Some(nest) => nest.end(self.alloc),
-            },
+        match &mut self.leaf {
+            Some(leaf) => {
+                self.nest.end_leaf(self.alloc, leaf)?;
+                self.leaf = None;
+                Ok(())
+            }
+            None => self.nest.end(),
         }
     }
 
@@ -301,10 +247,7 @@ impl Stack {
     {
         match &mut self.leaf {
             Some(leaf) => leaf.push(bytes),
-            None => match &self.nest {
-                Some(nest) => nest.piece(),
-                None => Err(Stop::Refused(Reason::Misplaced)),
-            },
+            None => self.nest.piece(),
         }
     }
 
@@ -337,10 +280,7 @@ impl Stack {
                 drop(nest);
                 None
             }
-            None => match nest {
-                None => None,
-                Some(nest) => nest.into_parts(),
-            },
+            None => nest.into_parts(),
         }
     }
 }
