@@ -1,9 +1,9 @@
 -- What was taken of a source says what all of its bytes are.
 use Rattle.std.proofs.Common.{ℕ, ◌≡◌, ◌≤◌, ◌+◌, List, [], ◌++◌, length, take, refl, sym, ap, ◌∙◌, subst, arith}
 use Rattle.std.proofs.lemmas.List.{append-nil, length-append, length-take}
-use Rattle.std.proofs.KnownBytes.{Consumes-trans}
+use Rattle.std.proofs.KnownBytes.{Consumes-nil, Consumes-kept, Consumes-trans}
 use Rattle.std.specs.Prelude.{Option, Some, None, Result, Ok, Err}
-use Rattle.std.specs.Io.KnownBytes.{Consumes, IsAtEnd}
+use Rattle.std.specs.Io.KnownBytes.{Consumes, IsAtEnd, Keeps}
 use Rattle.dm_base.specs.Outside.{OfKnown}
 use Rattle.dm_base.specs.declared.outside.Fault.{Fault}
 use Rattle.wbxml_tokens.specs.declared.reason.Refusal.{Refusal}
@@ -15,7 +15,6 @@ use Rattle.syncml_codec.specs.Decoding.{settled, built, first_of, read_of, Tells
 use Rattle.syncml_codec.proofs.Unrefused.{sound_within}
 use Rattle.syncml_codec.proofs.Decoded.{settled_more, settled_read}
 use Rattle.dm_check.specs.declared.message.Received.{Received}
-use Rattle.dm_check.specs.declared.message.Received.TheVariants as received
 use Rattle.dm_check.specs.Kept.{answer_to}
 use Rattle.dm_check.specs.Receiving.{Receives, TakesNoMore}
 
@@ -67,6 +66,12 @@ pub took_piece : (old mid new : Option (List ℕ)) (before buf : List ℕ) (n ro
 took_piece old mid new before buf n room first unsettled then_ short few within =
     let front = length-take n buf in
     took old mid new before (take n buf) first unsettled then_ (omega (arith, front, short, few)) (omega (arith, front, short, within))
+
+-- nothing behind them, where the source failed
+pub took_none : (old mid new : Option (List ℕ)) (before : List ℕ) → Consumes old mid before → settled before ≡ None → Keeps mid new → length before ≤ 65536
+    → TakesNoMore old new
+took_none old mid new before first unsettled keeps within =
+    took old mid new before [] first unsettled (Consumes-kept mid mid new [] (Consumes-nil mid) keeps) (omega (arith)) (omega (arith, within))
 
 -- nothing was taken yet
 pub none_taken : (known : Option (List ℕ)) (bytes : List ℕ) → bytes ≡ [] → Consumes known known bytes

@@ -4,7 +4,7 @@ use Rattle.std.proofs.KnownBytes.{Consumes-trans}
 use Rattle.std.specs.Io.KnownBytes.{Consumes}
 use Rattle.syncml_codec.specs.Decoding.{settled, HasDecoded}
 use Rattle.dm_check.specs.Receiving.{ReceiveCounts}
-use Rattle.dm_check.proofs.Taking.{nothing_settled, unsettled_within, none_taken, took_piece, stopped_received}
+use Rattle.dm_check.proofs.Taking.{nothing_settled, unsettled_within, none_taken, took_none, took_piece, stopped_received}
 use Rattle.dm_check.proofs.message.receive.Goals as goal
 
 pub pieces-init : goal.pieces-init
@@ -66,3 +66,7 @@ returns-in-Err-keep-clause-taken g c =
     let room = length-take c.min-room.result c.pieces.buf in
     took_piece _ _ _ c.pieces.bytes c.take.new.buf c.in-Ok.count c.min-room.result c.pieces.invariant.taken c.pieces.invariant.unsettled c.in-Ok.ensures.bytes.1
     (omega (arith, room, c.take.auto.buf)) (omega (arith, c.min-room.ensures)) (omega (arith, c.min-room.ensures, c.len.ensures, c.pieces.invariant.within))
+
+pub returns-in-Err-clause-taken : goal.returns-in-Err-clause-taken
+returns-in-Err-clause-taken g c =
+    took_none _ _ _ c.pieces.bytes c.pieces.invariant.taken c.pieces.invariant.unsettled c.in-Err.ensures.bytes c.pieces.invariant.within
