@@ -1,3 +1,4 @@
 pub mod Known
 pub mod Numbers
 pub mod Pending
+mod FieldValues

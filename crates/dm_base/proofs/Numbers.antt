@@ -7,7 +7,7 @@ use Rattle.std.proofs.lemmas.Str.Parse.{IsNumeralModel, numerals_by_value, tells
 use Rattle.std.specs.Str.{all_ascii_digits, IsUtf8}
 use Rattle.std.specs.Str.Parse.{ParsesUnsigned, digits_value}
 use Rattle.std.specs.Result.{result_ok}
-use Rattle.dm_base.specs.Fields.{is_num, num_of}
+use Rattle.dm_base.specs.Fields.{is_numeral, num_of}
 
 own : IsNumeralModel (λ ds. all_ascii_digits ds ≡ true) (digits_value 10)
 own = numerals_by_value _ tells_all_ascii_digits
@@ -21,10 +21,10 @@ middle true true c h = refl
 middle true false c h = cc
 middle false b c h = cc
 
-pub digits_of_number : (text : List ℕ) → is_num text ≡ true → all_ascii_digits text ≡ true
+pub digits_of_number : (text : List ℕ) → is_numeral text ≡ true → all_ascii_digits text ≡ true
 digits_of_number text holds = middle _ (all_ascii_digits text) _ holds
 
-pub number_utf8 : (text : List ℕ) → is_num text ≡ true → IsUtf8 text
+pub number_utf8 : (text : List ℕ) → is_numeral text ≡ true → IsUtf8 text
 number_utf8 text holds =
     let digits = own.to text (digits_of_number text holds) in
     IsUtf8-from_ascii text (IsAscii-from_reads text (length text) (omega arith) (λ k low. let d = digit_at text k digits low in omega (arith, d.1)))
@@ -37,11 +37,11 @@ refused true true v never = absurd (never refl)
 refused true false v never = refl
 refused false c v never = refl
 
-pub number_read : {E : Type 0} (text digits : List ℕ) (r : Result ℕ E) → digits ≡ text → is_num text ≡ true → ParsesUnsigned 64 10 digits r → result_ok r ≡ num_of text
+pub number_read : {E : Type 0} (text digits : List ℕ) (r : Result ℕ E) → digits ≡ text → is_numeral text ≡ true → ParsesUnsigned 64 10 digits r → result_ok r ≡ num_of text
 number_read {E} text digits (Ok x) is holds h =
     let read = parse_digits own {E = E} 64 text (Ok x) (rw is at h) (digits_of_number text holds) in
-    ap Some read.1 ∙ sym (chosen (is_num text) (ltb (digits_value 10 text) (2 ^ 64)) _ holds (lt-ltb _ _ read.0.1))
+    ap Some read.1 ∙ sym (chosen (is_numeral text) (ltb (digits_value 10 text) (2 ^ 64)) _ holds (lt-ltb _ _ read.0.1))
 number_read {E} text digits (Err e) is holds h =
     let read = parse_digits own {E = E} 64 text (Err e) (rw is at h) (digits_of_number text holds) in
     let some : 0 < length text = ltb-true 0 (length text) (first _ (all_ascii_digits text) _ holds) in
-    sym (refused (is_num text) (ltb (digits_value 10 text) (2 ^ 64)) _ (λ low. read (some, ltb-true _ _ low)))
+    sym (refused (is_numeral text) (ltb (digits_value 10 text) (2 ^ 64)) _ (λ low. read (some, ltb-true _ _ low)))

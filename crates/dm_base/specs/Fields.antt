@@ -62,12 +62,15 @@ abbrev pub nonce_of : List ℕ → Option Challenge
 nonce_of text = option_map (λ bytes. record { bytes = bytes }) (result_ok (decode_sized text 16))
 
 -- decimal digits without a sign or a leading zero
-abbrev pub is_num : List ℕ → Bool
-is_num text = nat_lt 0 (length text) && all_ascii_digits text && (length text == 1 || not (slice_index text 0 == 48))
+abbrev pub is_numeral : List ℕ → Bool
+is_numeral text = nat_lt 0 (length text) && all_ascii_digits text && (length text == 1 || not (slice_index text 0 == 48))
 
--- the number of a NUM, where it fits 64 bits
+-- NUM: such digits, of a number that fits 64 bits
+abbrev pub is_num : List ℕ → Bool
+is_num text = is_numeral text && nat_lt (digits_value 10 text) (2 ^ 64)
+
 abbrev pub num_of : List ℕ → Option ℕ
-num_of text = if is_num text && nat_lt (digits_value 10 text) (2 ^ 64) then Some (digits_value 10 text) else None
+num_of text = if is_num text then Some (digits_value 10 text) else None
 
 -- whether a text is of a form
 abbrev pub is_form : Form → List ℕ → Bool

@@ -3,3 +3,4 @@ pub mod Memory
 pub mod Lines
 pub mod Fields
 pub mod Lends
+pub mod Laws

@@ -59,6 +59,12 @@ ReadsLine room old new (Err take_error.TooLong) = OfKnown old (IsPastRoom room)
 ReadsLine room old new (Err take_error.Read) = Keeps old new
 ReadsLine room old new (Err take_error.Memory) = ⊤
 
+-- an answer other than a line leaves all that is to come, and how much of it a run looks at; want of memory may not
+abbrev pub StaysUnlessLine : Option (List ℕ) → Option (List ℕ) → ℕ → ℕ → Result LineOut TakeError → Type 0
+StaysUnlessLine old new before now (Ok (line_out.Line line)) = ⊤
+StaysUnlessLine old new before now (Err take_error.Memory) = ⊤
+StaysUnlessLine old new before now other = Keeps old new × (now ≡ before)
+
 -- bytes that were taken are counted
 abbrev pub CountsTaken : Option (List ℕ) → Option (List ℕ) → ℕ → ℕ → Type 0
 CountsTaken old new before now = (bytes : List ℕ) × Consumes old new bytes × (now ≡ before + length bytes)
@@ -75,5 +81,6 @@ FillsPending old new left rest (Ok true) =
 FillsPending old new left rest (Ok false) = (new ≡ old) × Keeps left rest × (old.past ≡ []) × IsAtEnd left
 FillsPending old new left rest (Err take_error.TooLong) =
     CountsTaken left rest old.taken new.taken × (67108864 ≤ old.taken) × OfKnown (behind old left) (λ bytes. 0 < length bytes)
+    × (new.pending ≡ old.pending) × Keeps (behind old left) (behind new rest)
 FillsPending old new left rest (Err take_error.Read) = (new ≡ old) × Keeps left rest
 FillsPending old new left rest (Err take_error.Memory) = CountsTaken left rest old.taken new.taken

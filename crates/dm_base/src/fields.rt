@@ -3,7 +3,7 @@ ghost use Rattle.std.specs.Prelude.{◌≡◌, ◌++◌, ◌∷◌, [], ◌<◌,
 ghost use Rattle.std.specs.List.{list_all};
 ghost use Rattle.std.specs.Char.{is_ascii_digit};
 ghost use Rattle.hex.specs.Hex.{is_hex_digit};
-ghost use Rattle.dm_base.specs.Fields.{field_of, parts, is_form, is_visible, is_word, is_short, is_acl_sign, is_id, is_hex, is_num, num_of, nonce_of, hex_of, hex_text};
+ghost use Rattle.dm_base.specs.Fields.{field_of, parts, is_form, is_visible, is_word, is_short, is_acl_sign, is_id, is_hex, is_numeral, num_of, nonce_of, hex_of, hex_text};
 
 use crate::bytes::{Bytes, Memory};
 use crate::values::Nonce;
@@ -26,7 +26,7 @@ pub enum Form {
     Key,
     /// 32 hexadecimal digits.
     Nonce,
-    /// Decimal digits without sign or leading zero.
+    /// Decimal digits without sign or leading zero, whose number is at most 18,446,744,073,709,551,615.
     Num,
 }
 
@@ -91,8 +91,8 @@ fn all_digits(text: &[u8]) -> bool
     text.iter().all(|b| b.is_ascii_digit())
 }
 
-fn is_num(text: &[u8]) -> bool
-    ensures { result ≡ is_num text.now }
+fn is_numeral(text: &[u8]) -> bool
+    ensures { result ≡ is_numeral text.now }
 {
     !text.is_empty() && all_digits(text) && (text.len() == 1 || text[0] != b'0')
 }
@@ -116,15 +116,15 @@ pub fn is_field(form: Form, text: &[u8]) -> bool
         Form::Hex => is_hex(text),
         Form::Key => is_hex(text) && text.len() <= 128,
         Form::Nonce => text.len() == 32 && all_hex(text),
-        Form::Num => is_num(text),
+        Form::Num => num(text).is_some(),
     }
 }
 
-/// The number of a `Num`. None comes exactly where the text isn't one or passes 18,446,744,073,709,551,615.
+/// The number of a `Num`. None comes exactly where the text isn't one.
 pub fn num(text: &[u8]) -> Option<u64>
     ensures { result ≡ num_of text.now }
 {
-    if !is_num(text) {
+    if !is_numeral(text) {
         return None;
     }
     match str::from_utf8(text) {

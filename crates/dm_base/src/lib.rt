@@ -5,6 +5,7 @@
 pub mod bytes;
 pub mod fields;
 pub mod first;
+pub mod laws;
 pub mod lines;
 pub mod list;
 pub mod memory;

@@ -1,7 +1,7 @@
 // A source line by line. What was taken and not yet given as a line is pending.
 ghost use Rattle.std.specs.Prelude.{◌≡◌, ◌≢◌, ◌<◌, ◌≤◌, ◌+◌, ◌∷◌, ◌++◌, List, [], ℕ, length, take, drop, slice_index, MatchOption, IfOk, OnOk, OnErr, IsErrOf, true, false};
 ghost use Rattle.dm_base.specs.Outside.{ReadCounts};
-ghost use Rattle.dm_base.specs.Lines.{LinesState, ReadsLine, CountsTaken, FillsPending, ahead, IsFeedless, room, bytes_given};
+ghost use Rattle.dm_base.specs.Lines.{LinesState, ReadsLine, StaysUnlessLine, CountsTaken, FillsPending, ahead, IsFeedless, room, bytes_given};
 
 use crate::bytes::{Bytes, Memory};
 use crate::outside::{Failed, Source, TakeError};
@@ -144,6 +144,8 @@ impl Lines {
     pub fn next<S: Source>(&mut self, src: &mut S) -> Result<LineOut, TakeError>
         ensures line { ReadsLine (room self.old) (ahead self.old (S.left src.old))
             (ahead self.new (S.left src.new)) result }
+        ensures again { StaysUnlessLine (ahead self.old (S.left src.old)) (ahead self.new (S.left src.new))
+            (room self.old) (room self.new) result }
         ensures taken { CountsTaken (S.left src.old) (S.left src.new) self.old.taken self.new.taken }
         ensures room { IfOk result (λ out. room self.new + bytes_given out ≡ room self.old) }
         ensures count { ReadCounts (S.faults src.old) (S.faults src.new) result }

@@ -100,6 +100,15 @@ impl<T: Drop> List<T> {
         Ok(())
     }
 
+    /// Adds a value in front of all others, which takes time linear in their number. After `Memory` the value is given up.
+    pub fn push_front(&mut self, value: T) -> Result<(), Memory>
+        ensures ok { OnOk result (self.new ≡ value ∷ self.old) }
+        ensures err { OnErr result (self.new ≡ self.old) }
+    {
+        self.items.insert(0, value)?;
+        Ok(())
+    }
+
     /// Moves all values of another list behind those of this one. After `Memory` the other list is given up.
     pub fn append(&mut self, other: List<T>) -> Result<(), Memory>
         ensures ok { OnOk result (self.new ≡ self.old ++ other) }

@@ -1,13 +1,11 @@
-ghost use Rattle.std.specs.Prelude.{◌≤◌};
-
-use crate::bytes::Bytes;
+use crate::bytes::{Bytes, Memory};
 use crate::fields::{Form, field, hex_bytes, hex_into, is_field, nonce, num};
 use crate::lines::{LineOut, LineReason, Lines};
 use crate::list::List;
 use crate::memory::{MemSink, MemSource};
-use crate::outside::TakeError;
+use crate::outside::{Failed, Fault, TakeError};
 use crate::wholes::{put_all, take_all};
-use std::alloc::Global;
+use std::alloc::{AllocError, Global};
 use std::test::Fail;
 
 // Each of the helpers below that looks for a wrong row answers the text of the first, for the test to show.
@@ -59,7 +57,7 @@ struct FormRow {
     want: bool,
 }
 
-const FORMS: [FormRow; 9] = [
+const FORMS: [FormRow; 11] = [
     FormRow {
         form: Form::Word,
         text: "",
@@ -103,6 +101,16 @@ const FORMS: [FormRow; 9] = [
     FormRow {
         form: Form::Num,
         text: "00",
+        want: false,
+    },
+    FormRow {
+        form: Form::Num,
+        text: "18446744073709551615",
+        want: true,
+    },
+    FormRow {
+        form: Form::Num,
+        text: "18446744073709551616",
         want: false,
     },
 ];
@@ -161,6 +169,67 @@ fn wrong_hex(alloc: Global) -> Option<&'static str> {
     None
 }
 
+enum AnyError {
+    Memory(Memory),
+    Failed(Failed),
+    Fault(Fault),
+    Take(TakeError),
+}
+
+struct ErrorRow {
+    error: AnyError,
+    text: &'static str,
+}
+
+const ERRORS: [ErrorRow; 7] = [
+    ErrorRow {
+        error: AnyError::Memory(Memory),
+        text: "out of memory",
+    },
+    ErrorRow {
+        error: AnyError::Failed(Failed),
+        text: "a fault of what is outside",
+    },
+    ErrorRow {
+        error: AnyError::Fault(Fault::Failed),
+        text: "a fault of what is outside",
+    },
+    ErrorRow {
+        error: AnyError::Fault(Fault::Memory),
+        text: "out of memory",
+    },
+    ErrorRow {
+        error: AnyError::Take(TakeError::Read),
+        text: "the source failed",
+    },
+    ErrorRow {
+        error: AnyError::Take(TakeError::TooLong),
+        text: "more bytes than are taken",
+    },
+    ErrorRow {
+        error: AnyError::Take(TakeError::Memory),
+        text: "out of memory",
+    },
+];
+
+fn error_text(alloc: Global, error: &AnyError) -> Result<String, AllocError> {
+    match error {
+        AnyError::Memory(error) => format!(in alloc; "{error}"),
+        AnyError::Failed(error) => format!(in alloc; "{error}"),
+        AnyError::Fault(error) => format!(in alloc; "{error}"),
+        AnyError::Take(error) => format!(in alloc; "{error}"),
+    }
+}
+
+fn wrong_error(alloc: Global) -> Result<Option<&'static str>, AllocError> {
+    for row in &ERRORS {
+        if error_text(alloc, &row.error)?.as_str() != row.text {
+            return Ok(Some(row.text));
+        }
+    }
+    Ok(None)
+}
+
 // A source of the bytes, three at a time, whose call with the number `failing` fails.
 fn source(alloc: Global, bytes: &[u8], failing: u64) -> Result<MemSource, Fail> {
     let mut fails = List::new(alloc);
@@ -194,9 +263,7 @@ fn wrong_line(
     Ok(None)
 }
 
-fn taken(alloc: Global, limit: u64, failing: u64) -> Result<Option<TakeError>, Fail>
-    requires { limit ≤ 100 }
-{
+fn taken(alloc: Global, limit: u64, failing: u64) -> Result<Option<TakeError>, Fail> {
     let mut src = source(alloc, b"abcd", failing)?;
     Ok(take_all(alloc, &mut src, limit).err())
 }
@@ -213,9 +280,11 @@ fn keeps_lists(rt: HostRuntime) -> Result<(), Fail> {
     assert_eq!(rt; bytes.as_slice(), b"b".as_slice());
     let mut list = List::of_vec(vec![in rt.alloc(); 5u8, 6, 7]?);
     list.push(8)?;
-    list.take_out(1, 2);
+    list.push_front(4)?;
+    list.take_out(2, 2);
     assert_eq!(rt; list.pop(), Some(8));
     assert_eq!(rt; list.pop(), Some(5));
+    assert_eq!(rt; list.pop(), Some(4));
     assert_eq!(rt; list.pop(), None);
     Ok(())
 }
@@ -245,8 +314,15 @@ fn takes_and_puts(rt: HostRuntime) -> Result<(), Fail> {
     assert_eq!(rt; taken(rt.alloc(), 2, 0)?, Some(TakeError::TooLong));
     assert_eq!(rt; taken(rt.alloc(), 9, 2)?, Some(TakeError::Read));
     assert_eq!(rt; taken(rt.alloc(), 4, 0)?, None);
+    assert_eq!(rt; taken(rt.alloc(), u64::MAX, 0)?, None);
     let wants = ["ab", "Read", "", "Cut", "Cut"];
     assert_eq!(rt; wrong_line(rt.alloc(), b"ab\n\ncd", &wants)?, None);
     assert_eq!(rt; wrong_line(rt.alloc(), b"", &["End"])?, None);
+    Ok(())
+}
+
+#[test]
+fn errors_are_told(rt: HostRuntime) -> Result<(), Fail> {
+    assert_eq!(rt; wrong_error(rt.alloc())?, None);
     Ok(())
 }

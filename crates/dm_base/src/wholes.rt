@@ -1,5 +1,5 @@
 // All bytes of a source, and all bytes to a sink. What the object is besides stays as it is.
-ghost use Rattle.std.specs.Prelude.{◌≡◌, ◌<◌, ◌^◌, List, ℕ, length};
+ghost use Rattle.std.specs.Prelude.{◌≡◌, ◌<◌, List, ℕ, length};
 ghost use Rattle.dm_base.specs.Outside.{PutCounts, PutsAll, TakesAll, ReadCounts};
 
 use crate::bytes::Bytes;
@@ -27,7 +27,6 @@ pub fn put_all<K: Sink>(out: &mut K, bytes: &[u8]) -> Result<(), Fault>
 /// Takes all bytes up to the end, where they are at most `limit`. `TooLong` comes exactly where `limit` bytes were
 /// taken and another came.
 pub fn take_all<S: Source>(alloc: Global, src: &mut S, limit: u64) -> Result<Bytes, TakeError>
-    requires { limit < 2 ^ 63 }
     ensures bytes { TakesAll (S.left src.old) (S.left src.new) limit result }
     ensures count { ReadCounts (S.faults src.old) (S.faults src.new) result }
     ensures sink { S.as_sink src.new ≡ S.as_sink src.old }
@@ -36,7 +35,7 @@ pub fn take_all<S: Source>(alloc: Global, src: &mut S, limit: u64) -> Result<Byt
     let mut bytes = Bytes::new(alloc);
     let mut buf = [0u8; PIECE];
     while bytes.len() <= limit {
-        let room = (limit + 1 - bytes.len()).min(PIECE);
+        let room = (limit - bytes.len()).min(PIECE - 1) + 1;
         match src.take(&mut buf[..room]) {
             Ok(0) => return Ok(bytes),
             Ok(count) => match bytes.extend(&buf[..count]) {

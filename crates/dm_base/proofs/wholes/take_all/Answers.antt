@@ -8,7 +8,7 @@ returns-in-Err-extend-clause-bytes g c =
     let piece = take c.in-Ok.count c.take.new.buf in
     let all = length-append c.loop-buf.bytes piece in
     let one = length-take-le c.in-Ok.count c.take.new.buf c.in-Ok.ensures.bytes.0 in
-    let room = length-take c.min-room.result c.loop-buf.buf in
+    let room = length-take (c.min-room.result + 1) c.loop-buf.buf in
     let within : length (c.loop-buf.bytes ++ piece) ≤ c.args.limit + 1 =
     omega (arith, all, one, room, c.take.auto.buf, c.in-Ok.ensures.bytes.0) in
     (c.loop-buf.bytes ++ piece, within, takes_more _ _ _ _ _ c.loop-buf.invariant.taken c.in-Ok.ensures.bytes.1)
