@@ -16,3 +16,4 @@ pub mod Prologues
 pub mod Unfinished
 pub mod Refusals
 pub mod Elements
+pub mod Written

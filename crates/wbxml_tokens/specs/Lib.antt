@@ -7,3 +7,4 @@ pub mod Parts
 pub mod Waiting
 pub mod Spelled
 pub mod Whole
+pub mod Written

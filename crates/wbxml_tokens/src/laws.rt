@@ -1,6 +1,7 @@
-// What is read of bytes, and what they spell.
+// What is read of bytes, what they spell, and what is written.
 ghost use Rattle.wbxml_tokens.specs.Spelled.{SpelledIsRead, ReadIsSpelled, WrongIsRefused, WrongPrologueIsRefused, UnfinishedPrologueWaits, UnfinishedPartWaits, RefusedIsTold};
 ghost use Rattle.wbxml_tokens.specs.Whole.{ElementIsWhole, DocumentIsElement, CutIsTruncated};
+ghost use Rattle.wbxml_tokens.specs.Written.{WrittenIsSpelled, WrittenIsRead};
 
 /// A law: of a document that has at most 65,536 bytes, and whose prologue and body spell tokens with their places, exactly
 /// these are read, and nothing is refused.
@@ -60,4 +61,16 @@ pub fn document_is_element()
 /// their length.
 pub fn cut_is_truncated()
     ensures { CutIsTruncated }
+{}
+
+/// A law: what a `TokenWriter` has written is a prologue and a body that spells the tokens it was given, where no text has
+/// the byte 00, each opaque is shorter than 4,294,967,296 bytes, and no token comes behind the whole element.
+#[tactic(auto, using(crate::proofs::Written::written_is_spelled))]
+pub fn written_is_spelled()
+    ensures { WrittenIsSpelled }
+{}
+
+/// A law: what a `TokenWriter` has written of one element is a whole document, and is read as the tokens it was given.
+pub fn written_is_read()
+    ensures { WrittenIsRead }
 {}

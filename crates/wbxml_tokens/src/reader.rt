@@ -227,7 +227,8 @@ impl Reader {
 
     /// Reads the next piece of the document, and hands on each token that ends in it. The work is linear in the piece.
     /// `Refused` comes with the first refusal, whether the taker's or the reader's own: the taker has the tokens before it.
-    /// After `Memory` the reader is as before the piece.
+    /// After `Memory` the reader is as before the piece. A refusal isn't kept here: what feeds a reader keeps it, and feeds
+    /// no more, as `Tokens` does.
     pub fn feed<T: Taker>(&mut self, piece: &[u8], taker: &mut T) -> Result<(), FeedError>
         ensures feeds { Feeds (taking T.placed T.after T.refusal) T.left result taker.old taker.new (reads (begun_by self.old) piece.now) }
         ensures ok { OnOk result (self.new ≡ (reads (begun_by self.old) piece.now).reader) }

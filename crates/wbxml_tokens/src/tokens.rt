@@ -1,5 +1,7 @@
 // The tokens of a document that comes in pieces.
-ghost use Rattle.std.specs.Prelude.{◌≡◌, ◌++◌, ◌∷◌, [], ℕ, List, None as Nothing, MatchOption};
+ghost use Rattle.std.specs.Prelude.{◌≡◌, ◌++◌, ◌∷◌, [], ℕ, List, None as Nothing, Some as Just, Err as Bad, MatchOption, IfSome};
+ghost use Rattle.wbxml_tokens.specs.declared.reason.FeedError.TheVariants as errors;
+ghost use Rattle.wbxml_tokens.specs.declared.reason.Refusal.{Refusal as ARefusal};
 ghost use Rattle.wbxml_tokens.specs.declared.token.Placed.{Placed as APlaced};
 ghost use Rattle.wbxml_tokens.specs.Reading.{reading, refusal_of};
 ghost use Rattle.wbxml_tokens.specs.Waiting.{HasRead, TellsRefusal, Leaves, IsRefusal};
@@ -44,6 +46,8 @@ impl Tokens {
         requires { self.old.refused ≡ Nothing }
         ensures refused { (bytes : List ℕ) (given : List APlaced) → HasRead self.old bytes given → TellsRefusal result (reading (bytes ++ piece.now)).refused }
         ensures read { (bytes : List ℕ) (given : List APlaced) → HasRead self.old bytes given → Leaves result self.old self.new (bytes ++ piece.now) given }
+        ensures kept { (refusal : ARefusal) → result ≡ Bad (errors.Refused refusal) → self.new.refused ≡ Just refusal }
+        ensures memory { result ≡ Bad errors.Memory → self.new ≡ self.old }
     {
         let waiting = self.queue.len();
         match self.reader.feed(piece, &mut self.queue) {
@@ -66,6 +70,10 @@ impl Tokens {
     pub fn feed(&mut self, piece: &[u8]) -> Result<(), FeedError>
         ensures refused { (bytes : List ℕ) (given : List APlaced) → HasRead self.old bytes given → TellsRefusal result (reading (bytes ++ piece.now)).refused }
         ensures read { (bytes : List ℕ) (given : List APlaced) → HasRead self.old bytes given → Leaves result self.old self.new (bytes ++ piece.now) given }
+        ensures kept { (refusal : ARefusal) → result ≡ Bad (errors.Refused refusal) → self.new.refused ≡ Just refusal }
+        ensures again { IfSome self.old.refused (λ refusal.
+            (result ≡ Bad (errors.Refused refusal)) × (self.new ≡ self.old)) }
+        ensures memory { result ≡ Bad errors.Memory → self.new ≡ self.old }
     {
         match self.refused {
             Some(refusal) => Err(FeedError::Refused(refusal)),
@@ -75,15 +83,18 @@ impl Tokens {
 
     /// The next token. None comes exactly where no whole token waits.
     pub fn next(&mut self) -> Option<Placed>
-        ensures { (bytes : List ℕ) (given : List APlaced) → HasRead self.old bytes given → MatchOption result
+        ensures next { (bytes : List ℕ) (given : List APlaced) → HasRead self.old bytes given → MatchOption result
             (((reading bytes).tokens ≡ given) × HasRead self.new bytes given) (λ p. HasRead self.new bytes (given ++ p ∷ [])) }
+        ensures refused { self.new.refused ≡ self.old.refused }
     {
         self.queue.next()
     }
 
-    /// Refuses exactly where the document was refused, or isn't whole: then the place is the length, and the reason `Truncated`.
+    /// Refuses exactly where the document was refused, with that refusal, or isn't whole: then the place is the length, and
+    /// the reason `Truncated`. It takes no memory.
     pub fn finish(self) -> Result<(), Refusal>
-        ensures { (bytes : List ℕ) (given : List APlaced) → HasRead self bytes given → IsRefusal result (refusal_of bytes) }
+        ensures exact { (bytes : List ℕ) (given : List APlaced) → HasRead self bytes given → IsRefusal result (refusal_of bytes) }
+        ensures refused { IfSome self.refused (λ refusal. result ≡ Bad refusal) }
     {
         if let Some(refusal) = self.refused {
             return Err(refusal);

@@ -1,4 +1,4 @@
-use Rattle.std.proofs.Common.{sym, ap, ◌∙◌, ◌≡◌, subst, take, ◌++◌}
+use Rattle.std.proofs.Common.{refl, sym, ap, ◌∙◌, ◌≡◌, subst, take, ◌++◌}
 use Rattle.std.specs.Prelude.{Ok, Err, None}
 use Rattle.wbxml_tokens.specs.declared.reason.FeedError.TheVariants as errors
 use Rattle.wbxml_tokens.specs.Reading.{begun_by, reads}
@@ -39,8 +39,8 @@ returns-in-Err-Refused-clause-read c bytes given r =
     (subst (λ e. Stops queueing is_same e c.self.inside.queue c.feed.new.taker (reads (begun_by c.self.inside.reader) c.args.piece.now)) c.in-Err-Refused.field-0-is
     c.in-Err-Refused.ensures.feeds))).1
 
-pub returns-in-Err-Memory-clause-read : goal.returns-in-Err-Memory-clause-read
-returns-in-Err-Memory-clause-read c bytes given r =
+pub returns-in-Err-Memory-clause-memory : goal.returns-in-Err-Memory-clause-memory
+returns-in-Err-Memory-clause-memory c lacks =
     ap (λ t. record { waiting = t; refused = c.self.inside.refused; reader = c.feed.new.self })
     (c.cut_to.ensures ∙ ap (λ n. take n c.feed.new.taker.tokens) c.len-waiting.ensures
     ∙ waiting_kept c.self.inside.queue c.feed.new.taker (reads (begun_by c.self.inside.reader) c.args.piece.now).tokens
@@ -48,3 +48,6 @@ returns-in-Err-Memory-clause-read c bytes given r =
     c.in-Err-Memory.ensures.feeds))
     ∙ ap (λ x. record { waiting = c.self.inside.queue.tokens; refused = c.self.inside.refused; reader = x }) (c.in-Err-Memory.ensures.memory (ap Err c.in-Err-Memory.field-0-is))
     ∙ c.self.view_is
+
+pub returns-in-Err-Memory-clause-read : goal.returns-in-Err-Memory-clause-read
+returns-in-Err-Memory-clause-read c bytes given r = returns-in-Err-Memory-clause-memory c refl
