@@ -7,7 +7,7 @@ use Rattle.syncml_shape.specs.declared.rows.Kind.TheVariants as kinds
 use Rattle.syncml_shape.specs.declared.rows.Choice.{Choice}
 use Rattle.syncml_shape.specs.declared.rows.Row.{Row}
 use Rattle.syncml_shape.specs.declared.rows.MetaRow.{MetaRow}
-use Rattle.syncml_shape.specs.declared.rows.TheConstants as table
+use Rattle.syncml_shape.specs.Table as table
 use Rattle.syncml_shape.specs.Forest.{Forest, nothing, text, opaque, bare, full}
 use Rattle.syncml_shape.specs.Rows.{same, kind_in, start}
 use Rattle.syncml_shape.specs.Shape.{fits}
@@ -58,7 +58,7 @@ meta_kind (row ∷ rows) e = if same row.element e then Some row.kind else meta_
 
 -- the child is one of a Meta's, and what stands in it fits what it holds
 abbrev pub IsOfMeta : Child → Type 0
-IsOfMeta child = (kind : Kind) × (meta_kind table.META child.element ≡ Some kind) × IsTrue (fits (start kind) child.inner)
+IsOfMeta child = (kind : Kind) × (meta_kind table.meta child.element ≡ Some kind) × IsTrue (fits (start kind) child.inner)
 
 abbrev pub AllOfMeta : List Child → Type 0
 AllOfMeta [] = ⊤

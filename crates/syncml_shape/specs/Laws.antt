@@ -6,7 +6,7 @@ use Rattle.wbxml_tokens.specs.declared.token.Token.{Token}
 use Rattle.wbxml_tokens.specs.declared.token.Token.TheVariants.{Tag, End}
 use Rattle.syncml_shape.specs.declared.rows.Kind.{Kind}
 use Rattle.syncml_shape.specs.declared.rows.Kind.TheVariants as kinds
-use Rattle.syncml_shape.specs.declared.rows.TheConstants as table
+use Rattle.syncml_shape.specs.Table as table
 use Rattle.syncml_shape.specs.declared.rows.Row.{Row}
 use Rattle.syncml_shape.specs.declared.outline.Verdict.{Verdict}
 use Rattle.syncml_shape.specs.Forest.{Forest, spelling}
@@ -31,7 +31,7 @@ FitsInOrder =
 -- so it is of a document, which is one SyncML
 abbrev pub DocumentInOrder : Type 0
 DocumentInOrder =
-    (tree : Forest) → IsTrue (fits document tree) ↔ ((has_text tree ≡ false) × FollowRows table.DOCUMENT (children tree))
+    (tree : Forest) → IsTrue (fits document tree) ↔ ((has_text tree ≡ false) × FollowRows table.document (children tree))
 
 -- what fits a MetInf is children of a Meta, in any order, no two of one element
 abbrev pub FitsInAnyOrder : Type 0

@@ -3,31 +3,31 @@ use Rattle.std.specs.Prelude.{◌≡◌, ℕ, ◌+◌, Bool, false, if◌then◌
 use Rattle.wbxml_tables.specs.declared.Element.{Element}
 use Rattle.wbxml_tables.specs.declared.Element.TheVariants.{EAdd, EAlert, EAtomic, EChal, ECopy, ECred, EDelete, EExec, EGet, EItem, EReplace, EResults, ESequence, ESource, EStatus, ESyncBody, ESyncHdr, ESyncML, ETarget}
 use Rattle.syncml_shape.specs.declared.rows.Row.{Row}
-use Rattle.syncml_shape.specs.declared.rows.TheConstants as table
+use Rattle.syncml_shape.specs.Table as table
 use Rattle.syncml_shape.specs.declared.place.Place.{Place}
 use Rattle.syncml_shape.specs.Rows.{kind_in}
 
 -- the rows of an element's children; elements that hold a text or a number, and Meta and MetInf, have none
 abbrev pub rows_of : Element → List Row
-rows_of ESyncML = table.MESSAGE
-rows_of ESyncHdr = table.HEADER
-rows_of ESyncBody = table.BODY
-rows_of EAdd = table.PLAIN
-rows_of ECopy = table.PLAIN
-rows_of EDelete = table.PLAIN
-rows_of EGet = table.PLAIN
-rows_of EReplace = table.PLAIN
-rows_of EExec = table.EXEC
-rows_of EAlert = table.ALERT
-rows_of EAtomic = table.ATOMIC
-rows_of ESequence = table.SEQUENCE
-rows_of EStatus = table.STATUS
-rows_of EResults = table.RESULTS
-rows_of EItem = table.ITEM
-rows_of ETarget = table.LOC
-rows_of ESource = table.LOC
-rows_of ECred = table.CRED
-rows_of EChal = table.CHAL
+rows_of ESyncML = table.message
+rows_of ESyncHdr = table.header
+rows_of ESyncBody = table.body
+rows_of EAdd = table.plain
+rows_of ECopy = table.plain
+rows_of EDelete = table.plain
+rows_of EGet = table.plain
+rows_of EReplace = table.plain
+rows_of EExec = table.exec
+rows_of EAlert = table.alert
+rows_of EAtomic = table.atomic
+rows_of ESequence = table.sequence
+rows_of EStatus = table.status
+rows_of EResults = table.results
+rows_of EItem = table.item
+rows_of ETarget = table.loc
+rows_of ESource = table.loc
+rows_of ECred = table.cred
+rows_of EChal = table.chal
 rows_of other = []
 
 abbrev pub names : Row → Element → Bool

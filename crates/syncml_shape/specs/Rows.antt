@@ -10,7 +10,7 @@ use Rattle.syncml_shape.specs.declared.rows.Choice.{Choice}
 use Rattle.syncml_shape.specs.declared.rows.Choice.TheVariants.{One, Commands, AtomicMembers, SequenceMembers}
 use Rattle.syncml_shape.specs.declared.rows.Row.{Row}
 use Rattle.syncml_shape.specs.declared.rows.MetaRow.{MetaRow}
-use Rattle.syncml_shape.specs.declared.rows.TheConstants as table
+use Rattle.syncml_shape.specs.Table as table
 
 abbrev pub same : Element → Element → Bool
 same a b = sameb the_type a b
@@ -60,20 +60,20 @@ none_came = false ∷ false ∷ false ∷ false ∷ false ∷ false ∷ false �
 
 -- what may come in an element that has just begun
 abbrev pub start : Kind → Content
-start kinds.Message = in_order false table.MESSAGE
-start kinds.Header = in_order false table.HEADER
-start kinds.Body = in_order false table.BODY
-start kinds.Plain = in_order false table.PLAIN
-start kinds.Exec = in_order false table.EXEC
-start kinds.Alert = in_order false table.ALERT
-start kinds.Atomic = in_order false table.ATOMIC
-start kinds.Sequence = in_order false table.SEQUENCE
-start kinds.Status = in_order false table.STATUS
-start kinds.Results = in_order false table.RESULTS
-start kinds.Item = in_order false table.ITEM
-start kinds.Loc = in_order false table.LOC
-start kinds.Cred = in_order false table.CRED
-start kinds.Chal = in_order false table.CHAL
+start kinds.Message = in_order false table.message
+start kinds.Header = in_order false table.header
+start kinds.Body = in_order false table.body
+start kinds.Plain = in_order false table.plain
+start kinds.Exec = in_order false table.exec
+start kinds.Alert = in_order false table.alert
+start kinds.Atomic = in_order false table.atomic
+start kinds.Sequence = in_order false table.sequence
+start kinds.Status = in_order false table.status
+start kinds.Results = in_order false table.results
+start kinds.Item = in_order false table.item
+start kinds.Loc = in_order false table.loc
+start kinds.Cred = in_order false table.cred
+start kinds.Chal = in_order false table.chal
 start kinds.Meta = in_any_order true none_came
 start kinds.MetInf = in_any_order false none_came
 start kinds.Text = pieces
@@ -85,7 +85,7 @@ start kinds.Flag = in_order false []
 
 -- what may come in a document
 abbrev pub document : Content
-document = in_order false table.DOCUMENT
+document = in_order false table.document
 
 -- A child that the first row has or hasn't: what it holds and the rows from its row on, or what the later rows say.
 -- A row of which no child has come must not be passed over where it is required.
@@ -116,7 +116,7 @@ after_meta came (Some x) = Some (x.0, in_any_order false (set came x.1 true))
 abbrev pub next : Content → Element → Option (Kind × Content)
 next (in_order came rows) e = after_row (next_row came rows e)
 next (in_any_order wrap came) e =
-    if wrap && same e EMetInf then Some (kinds.MetInf, in_order false []) else after_meta came (meta_place 0 table.META came e)
+    if wrap && same e EMetInf then Some (kinds.MetInf, in_order false []) else after_meta came (meta_place 0 table.meta came e)
 next pieces e = None
 
 abbrev pub all_optional : List Row → Bool

@@ -1,4 +1,4 @@
-// The children of each element: the one table, which code and definitions share.
+// The children of each element: the one table of the code, which a law holds to that of the definitions.
 use wbxml_tables::Element;
 
 /// What an element holds. It depends on the element and its parent: Data in an Item holds bytes, in an Alert a number.
