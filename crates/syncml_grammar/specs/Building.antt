@@ -71,6 +71,10 @@ told (stops.Refused reason) = Some reason
 abbrev pub IsLacking : Building → Building → Type 0
 IsLacking old new = new.stopped ≡ Some stops.Memory
 
+-- why it takes no more tokens: it has answered this
+abbrev pub HasStopped : Building → Stop → Type 0
+HasStopped b stop = b.stopped ≡ Some stop
+
 -- it has taken these tokens, and none of them was refused
 abbrev pub HasBuilt : Building → List Token → Type 0
 HasBuilt b tokens = (b.stopped ≡ None) × HasTaken b.frames tokens

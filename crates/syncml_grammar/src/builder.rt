@@ -1,9 +1,12 @@
 // The builder: it takes the tokens of a body one after the other, and has the message at the end.
-ghost use Rattle.std.specs.Prelude.{◌≡◌, ◌↔◌, Some, ok_or, List as ListOf};
+ghost use Rattle.std.specs.Prelude.{◌≡◌, ◌↔◌, Some, None as Nothing, Err as Bad, IfErr, OnOk, ok_or, List as ListOf};
 ghost use Rattle.wbxml_tokens.specs.declared.token.Token.{Token as Piece};
+ghost use Rattle.wbxml_tokens.specs.declared.token.Token.TheVariants.{Tag, End, Text, Opaque};
+ghost use Rattle.wbxml_tokens.specs.Taking.{Takes};
 ghost use Rattle.syncml_types.specs.Message.{Parts};
 ghost use Rattle.syncml_grammar.specs.Reads.{SpellsParts};
-ghost use Rattle.syncml_grammar.specs.Building.{no_building, built_by, HasBuilt};
+ghost use Rattle.syncml_grammar.specs.declared.open.Stop.{Stop as Cause};
+ghost use Rattle.syncml_grammar.specs.Building.{no_building, built_by, building_after, refusal_of, told as told_by, HasBuilt, HasStopped, IsLacking};
 
 use crate::open::Stop;
 use crate::stack::Stack;
@@ -16,7 +19,8 @@ use wbxml_tokens::{Reason, Taker, Writer};
 /// The bytes of text that all tokens together may have. The tokens of a message have far fewer.
 pub const MOST_TEXT: usize = 2_147_483_648;
 
-/// What has been built of the tokens that were taken. After an error it answers the same error for good.
+/// What has been built of the tokens that were taken. After an error it answers the same error for good. Want of memory may come
+/// in place of a refusal, since what a token holds is kept before it is known whether the next is taken.
 #[derive(Drop)]
 pub struct Builder {
     stack: Stack,
@@ -43,6 +47,17 @@ impl Builder {
             stack: Stack::new(alloc),
             room: MOST_TEXT,
             stopped: None,
+        }
+    }
+
+    // Answers again the error that has stopped it.
+    fn go_on(&self) -> Result<(), Stop>
+        ensures going { OnOk result (self.now.stopped ≡ Nothing) }
+        ensures stopped { IfErr result (λ stop. HasStopped self.now stop) }
+    {
+        match self.stopped {
+            Some(stop) => Err(stop),
+            None => Ok(()),
         }
     }
 
@@ -83,10 +98,13 @@ impl Writer for Builder {
 
     ghost left = { IsLacking };
 
-    fn tag(&mut self, element: Element, content: bool) -> Result<(), Stop> {
-        if let Some(stop) = self.stopped {
-            return Err(stop);
-        }
+    fn tag(&mut self, element: Element, content: bool) -> Result<(), Stop>
+        ensures ok { OnOk result (self.new ≡ building_after self.old (Tag element content)) }
+        ensures taken { Takes told_by IsLacking result self.old self.new (refusal_of self.old (Tag element content)) }
+        ensures stops { IfErr result (λ stop. HasStopped self.new stop) }
+        ensures again { (stop : Cause) → HasStopped self.old stop → result ≡ Bad stop }
+    {
+        self.go_on()?;
         match self.stack.tag(element, content) {
             Ok(()) => Ok(()),
             Err(stop) => {
@@ -96,10 +114,13 @@ impl Writer for Builder {
         }
     }
 
-    fn end(&mut self) -> Result<(), Stop> {
-        if let Some(stop) = self.stopped {
-            return Err(stop);
-        }
+    fn end(&mut self) -> Result<(), Stop>
+        ensures ok { OnOk result (self.new ≡ building_after self.old End) }
+        ensures taken { Takes told_by IsLacking result self.old self.new (refusal_of self.old End) }
+        ensures stops { IfErr result (λ stop. HasStopped self.new stop) }
+        ensures again { (stop : Cause) → HasStopped self.old stop → result ≡ Bad stop }
+    {
+        self.go_on()?;
         match self.stack.end() {
             Ok(()) => Ok(()),
             Err(stop) => {
@@ -109,10 +130,13 @@ impl Writer for Builder {
         }
     }
 
-    fn text(&mut self, text: &[u8]) -> Result<(), Stop> {
-        if let Some(stop) = self.stopped {
-            return Err(stop);
-        }
+    fn text(&mut self, text: &[u8]) -> Result<(), Stop>
+        ensures ok { OnOk result (self.new ≡ building_after self.old (Text text.now)) }
+        ensures taken { Takes told_by IsLacking result self.old self.new (refusal_of self.old (Text text.now)) }
+        ensures stops { IfErr result (λ stop. HasStopped self.new stop) }
+        ensures again { (stop : Cause) → HasStopped self.old stop → result ≡ Bad stop }
+    {
+        self.go_on()?;
         match self.stack.piece(&mut self.room, text) {
             Ok(()) => Ok(()),
             Err(stop) => {
@@ -122,10 +146,13 @@ impl Writer for Builder {
         }
     }
 
-    fn opaque(&mut self, bytes: &[u8]) -> Result<(), Stop> {
-        if let Some(stop) = self.stopped {
-            return Err(stop);
-        }
+    fn opaque(&mut self, bytes: &[u8]) -> Result<(), Stop>
+        ensures ok { OnOk result (self.new ≡ building_after self.old (Opaque bytes.now)) }
+        ensures taken { Takes told_by IsLacking result self.old self.new (refusal_of self.old (Opaque bytes.now)) }
+        ensures stops { IfErr result (λ stop. HasStopped self.new stop) }
+        ensures again { (stop : Cause) → HasStopped self.old stop → result ≡ Bad stop }
+    {
+        self.go_on()?;
         match self.stack.piece(&mut self.room, bytes) {
             Ok(()) => Ok(()),
             Err(stop) => {

@@ -58,7 +58,8 @@ fn judged(alloc: Global, tokens: &[Token]) -> Result<Verdict, Memory>
 
 /// Says of tokens which message they spell, or that they begin one, or which is refused first and why: Leftout, Nested or
 /// Misplaced where no document goes on with it, and Text or Number where it closes what doesn't read. Exactly one of these is
-/// so. The work is linear in the tokens and their texts.
+/// so. `Memory` may come in place of any of these, since the message is built as its tokens are judged. The work is linear in the
+/// tokens and their texts.
 pub fn judge(alloc: Global, tokens: &[Token]) -> Result<Verdict, Memory>
     ensures exact { IfOk result (λ verdict. Judges tokens.now (judgement verdict)) }
     ensures only { (other : Judgement) → Judges tokens.now other → IfOk result (λ verdict. judgement verdict ≡ other) }
