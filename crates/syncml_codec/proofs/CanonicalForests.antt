@@ -1,5 +1,5 @@
 -- Trees that tokens spell, each put before a rest: where they fit, and what they are read as.
-use Rattle.std.specs.Prelude.{◌≡◌, ◌<◌, ◌+◌, ◌^◌, ◌&&◌, ◌||◌, ℕ, Bool, true, false, not, if◌then◌else◌, List, [], ◌∷◌, ◌++◌, length, Option, Some, None, IfSome, Result, Ok, Err, IsTrue, ⊤, refl}
+use Rattle.std.specs.Prelude.{◌≡◌, ◌<◌, ◌+◌, ◌^◌, ◌&&◌, ◌||◌, ℕ, Bool, true, false, not, if◌then◌else◌, List, [], ◌∷◌, ◌++◌, length, Option, Some, None, IfSome, Result, Ok, Err, IsTrue, refl}
 use Rattle.std.proofs.Common.{sym, ap, subst, ◌∙◌, append_assoc}
 use Rattle.std.proofs.lemmas.List.{append-nil}
 use Rattle.std.specs.List.{AllByRecursion, flat_map, list_all}
@@ -11,6 +11,7 @@ use Rattle.wbxml_tokens.specs.declared.reason.Reason.TheVariants.{Misplaced}
 use Rattle.wbxml_tokens.specs.declared.token.Token.{Token}
 use Rattle.wbxml_tokens.specs.declared.token.Token.TheVariants.{Tag, End, Text, Opaque}
 use Rattle.wbxml_tokens.specs.Spelled.{HasNoZero}
+use Rattle.wbxml_tokens.specs.Written.{CanBeSpelled}
 use Rattle.syncml_shape.specs.declared.rows.Kind.{Kind}
 use Rattle.syncml_shape.specs.declared.rows.Kind.TheVariants as kinds
 use Rattle.syncml_shape.specs.declared.rows.Choice.TheVariants.{One}
@@ -29,18 +30,11 @@ use Rattle.syncml_grammar.specs.Reads.{Unread, ◌then◌, at_place, read}
 
 -- ---- trees before a rest
 
--- a text has no byte 00, and an opaque a length of 32 bits
-abbrev pub CanBeWritten : Token → Type 0
-CanBeWritten (Tag e content) = ⊤
-CanBeWritten End = ⊤
-CanBeWritten (Text bytes) = HasNoZero bytes
-CanBeWritten (Opaque bytes) = length bytes < 2 ^ 32
-
 -- Before a rest stand trees that the tokens spell. They fit where the rest fits, and lead from one content and value to another.
 pub record Puts (c : Content) (v : Value) (tokens : List Token) (d : Content) (w : Value) : Type 0 where
   pub front : Forest → Forest
   pub place : ℕ → ℕ
-  pub written : AllByRecursion CanBeWritten tokens
+  pub written : AllByRecursion CanBeSpelled tokens
   pub spells : (rest : Forest) → spelling (front rest) ≡ tokens ++ spelling rest
   pub fit : (rest : Forest) → IsTrue (fits d rest) → IsTrue (fits c (front rest))
   pub reads : (at : ℕ) (rest : Forest) → IsTrue (fits d rest) → read at v c (front rest) ≡ read (place at) w d rest
@@ -64,7 +58,7 @@ pub ◌behind◌ : {c d f : Content} {v w x : Value} {ts us : List Token} → Pu
 ◌behind◌ {ts = ts} {us = us} a b = record {
   front = λ rest. a.front (b.front rest);
   place = λ at. b.place (a.place at);
-  written = all_append CanBeWritten ts us a.written b.written;
+  written = all_append CanBeSpelled ts us a.written b.written;
   spells = λ rest. a.spells (b.front rest) ∙ ap (λ l. ts ++ l) (b.spells rest) ∙ sym (append_assoc ts us (spelling rest));
   fit = λ rest h. a.fit (b.front rest) (b.fit rest h);
   reads = λ at rest h. a.reads at (b.front rest) (b.fit rest h) ∙ b.reads (a.place at) rest h;
@@ -95,7 +89,7 @@ pub puts_full : {c d f : Content} {v w : Value} {ts : List Token} (e : Element) 
 puts_full {c} {d} {f} {v} {w} {ts} e k whole n inner done is = record {
   front = λ rest. full e (inner.front nothing) rest;
   place = λ at. inner.place (at + 1) + 1;
-  written = (tt, all_append CanBeWritten ts (End ∷ []) inner.written (tt, tt));
+  written = (tt, all_append CanBeSpelled ts (End ∷ []) inner.written (tt, tt));
   spells = λ rest.
       ap (λ l. Tag e true ∷ (l ++ End ∷ spelling rest)) (inner.spells nothing ∙ append-nil ts)
       ∙ ap (λ l. Tag e true ∷ l) (sym (append_assoc ts (End ∷ []) (spelling rest)));

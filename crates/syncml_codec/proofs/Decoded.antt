@@ -26,7 +26,7 @@ use Rattle.syncml_grammar.proofs.Judging.{spelled_taken, finished_spelled}
 use Rattle.syncml_grammar.proofs.Taken.{built_is_taken}
 use Rattle.syncml_codec.specs.Messages.{Spells, TokenRefusedAt, NoTokenRefused, MessageRefusedAt, by_grammar, by_reader, cut}
 use Rattle.syncml_codec.specs.Decoding.{built, first_of, settled, parts_of, read_by, read_of}
-use Rattle.syncml_codec.specs.Laws.{SpelledIsRead, RefusedIsRead, OneIsSpelled, NoneGoesOn, SettledIsRefused}
+use Rattle.syncml_codec.specs.Laws.{SpelledIsRead, RefusedIsRead, OneIsSpelled, NoneGoesOn}
 use Rattle.syncml_codec.proofs.Unrefused.{some_not_none, HasFront, front_of, sound_within, read_more, refused_more, begins_with}
 use Rattle.syncml_codec.proofs.Documents.{element_of_parts}
 
@@ -124,7 +124,7 @@ spelled_is_read bytes parts fit = (
 -- ---- tokens that the grammar refuses
 
 -- where a token is refused, so are the tokens that are read
-token_unbuilt : (bytes : List ℕ) (at : ℕ) (reason : Reason) → TokenRefusedAt bytes at reason → built bytes ≡ Err (record { at = at; reason = reason })
+pub token_unbuilt : (bytes : List ℕ) (at : ℕ) (reason : Reason) → TokenRefusedAt bytes at reason → built bytes ≡ Err (record { at = at; reason = reason })
 token_unbuilt bytes at reason t =
     let q : Placed = record { at = at; token = t.token } in
     let first : List ℕ = t.prologue ++ t.body in
@@ -154,7 +154,7 @@ none_refused : (bytes : List ℕ) (b : Building) → built bytes ≡ Ok b → No
 none_refused bytes b is at reason t = ok_not_err b (record { at = at; reason = reason }) (sym is ∙ token_unbuilt bytes at reason t)
 
 -- the first bytes of some that begin with others
-take_over : (n : ℕ) (a b : List ℕ) → length a ≤ n → take n (a ++ b) ≡ a ++ take (n - length a) b
+pub take_over : (n : ℕ) (a b : List ℕ) → length a ≤ n → take n (a ++ b) ≡ a ++ take (n - length a) b
 take_over n [] b few = let same : n ≡ n - 0 = omega arith in ap (λ m. take m b) same
 take_over zero (x ∷ a) b few = absurd (omega (arith, few))
 take_over (suc n) (x ∷ a) b few =
@@ -196,11 +196,11 @@ token_by bytes f h (before, p, later, split, refused, place) (inr (none_read, is
     some_token [] p later e = cc
     some_token (b ∷ before) p later e = cc
 
-bytes_of_front : (a b : List ℕ) → AreBytes (a ++ b) → AreBytes a
+pub bytes_of_front : (a b : List ℕ) → AreBytes (a ++ b) → AreBytes a
 bytes_of_front [] b h = tt
 bytes_of_front (x ∷ a) b h = (h.0, bytes_of_front a b h.1)
 
-refused_token : (bytes : List ℕ) (f : Refusal) → AreBytes bytes → built bytes ≡ Err f → TokenRefusedAt bytes f.at f.reason
+pub refused_token : (bytes : List ℕ) (f : Refusal) → AreBytes bytes → built bytes ≡ Err f → TokenRefusedAt bytes f.at f.reason
 refused_token bytes f fit is =
     let h : HasFront (begun_by at_start) bytes = front_of bytes (begun_by at_start) refl in
     token_by bytes f h ((built_is_taken.refused (reading bytes).tokens f).0 is)
@@ -297,6 +297,3 @@ settled_more bytes later f h = settled_by bytes later f (built bytes) (reading b
 pub settled_read : (bytes : List ℕ) (f : Refusal) → settled bytes ≡ Some f → read_of bytes ≡ Err f
 unfolding read_of
 settled_read bytes f h = ap (λ o. read_by o (parts_of (built bytes)) (length bytes)) h
-
-pub settled_is_refused : SettledIsRefused
-settled_is_refused bytes later f h = settled_read (bytes ++ later) f (settled_more bytes later f h)

@@ -16,3 +16,7 @@ pub mod CanonicalValues
 pub mod CanonicalCommands
 pub mod CanonicalMessages
 pub mod CanonicalBytes
+pub mod InRange
+pub mod Walks
+pub mod Settling
+pub mod SettledParts

@@ -9,7 +9,7 @@ use Rattle.std.specs.Fmt.{decimal}
 use Rattle.std.specs.List.{list_all}
 use Rattle.std.specs.Str.{all_ascii_digits}
 use Rattle.std.specs.Str.Parse.{digits_value}
-use Rattle.dm_base.specs.Fields.{is_num}
+use Rattle.dm_base.specs.Fields.{is_numeral}
 use Rattle.syncml_codec.specs.FirstGet.{is_not_zero, is_id_number, number_in, small_or_zero}
 
 own : IsNumeralModel (λ ds. all_ascii_digits ds ≡ true) (digits_value 10)
@@ -33,8 +33,8 @@ num_chosen : (a b c e : Bool) → a ≡ true → b ≡ true → e ≡ false → 
 num_chosen a b true e p q r = rw (p, q) refl
 num_chosen a b false e p q r = rw (p, q, r) refl
 
-is_num-decimal : (n : ℕ) → 0 < n → n < 2 ^ 64 → is_num (decimal n) ≡ true
-is_num-decimal n some small =
+is_numeral-decimal : (n : ℕ) → 0 < n → n < 2 ^ 64 → is_numeral (decimal n) ≡ true
+is_numeral-decimal n some small =
     let first = first_decimal n some small in
     num_chosen (ltb 0 (length (decimal n))) (all_ascii_digits (decimal n)) (eqb (length (decimal n)) 1)
     (eqb (get_or (decimal n) 0 0) 48) (lt-ltb _ _ (decimal_nonempty n small)) (digits_decimal own n small)
@@ -51,8 +51,8 @@ number_in-decimal n h =
     let low = ltb-true n (2 ^ 32) parts.1 in
     let small : n < 2 ^ 64 = omega (arith, low) in
     let value = (decimal_is_IsNumeral n small).1 in
-    number_chosen (is_num (decimal n)) (ltb (digits_value 10 (decimal n)) (2 ^ 64)) (digits_value 10 (decimal n)) n
-    (is_num-decimal n some small) (lt-ltb _ _ (omega (arith, value, small))) value parts.1
+    number_chosen (is_numeral (decimal n)) (ltb (digits_value 10 (decimal n)) (2 ^ 64)) (digits_value 10 (decimal n)) n
+    (is_numeral-decimal n some small) (lt-ltb _ _ (omega (arith, value, small))) value parts.1
 
 pub decimal_of_id_clear : (n : ℕ) → is_id_number n ≡ true → list_all is_not_zero (decimal n) ≡ true
 decimal_of_id_clear n h =

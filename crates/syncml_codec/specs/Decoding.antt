@@ -77,10 +77,10 @@ StandsBehind (Some errors.Memory) d bytes = ⊤
 unfoldable pub HasDecoded : Decoding → List ℕ → Type 0
 HasDecoded d bytes = StandsBehind d.stopped d bytes
 
--- want of memory stopped it
-abbrev pub Lacks : Decoding → Type 0
-Lacks d = d.stopped ≡ Some errors.Memory
+-- nothing has stopped it
+abbrev pub IsGoing : Decoding → Type 0
+IsGoing d = d.stopped ≡ None
 
--- it lacks memory where that was answered, and for good
-abbrev pub LacksAfter : Result Unit DecodeError → Decoding → Decoding → Type 0
-LacksAfter answer old new = (answer ≡ Err errors.Memory → Lacks new) × (Lacks old → answer ≡ Err errors.Memory)
+-- it has answered this, and reads no more
+abbrev pub HasStopped : Decoding → DecodeError → Type 0
+HasStopped d error = d.stopped ≡ Some error

@@ -1,10 +1,11 @@
 // Bytes to messages, in pieces and at once.
-ghost use Rattle.std.specs.Prelude.{◌≡◌, ◌++◌, ℕ, [], List as ListOf, Ok as Good, Err as Bad, None as Nothing};
+ghost use Rattle.std.specs.Prelude.{◌≡◌, ◌++◌, ℕ, [], IfErr, OnOk, List as ListOf, Ok as Good, Err as Bad};
 ghost use Rattle.wbxml_tokens.specs.declared.reason.Refusal.{Refusal as ARefusal};
 ghost use Rattle.syncml_types.specs.Message.{Parts};
+ghost use Rattle.syncml_codec.specs.declared.decoder.DecodeError.{DecodeError as Why};
 ghost use Rattle.syncml_codec.specs.declared.decoder.DecodeError.TheVariants as errors;
 ghost use Rattle.syncml_codec.specs.Messages.{Spells, MessageRefusedAt};
-ghost use Rattle.syncml_codec.specs.Decoding.{read_of, settled, IsRead, Decodes, TellsSettled, HasDecoded, Lacks, LacksAfter};
+ghost use Rattle.syncml_codec.specs.Decoding.{read_of, settled, IsRead, Decodes, TellsSettled, HasDecoded, IsGoing, HasStopped};
 
 use std::alloc::Global;
 use std::marker::Model;
@@ -42,7 +43,8 @@ impl Decoder {
     /// No byte was fed.
     #[tactic(auto, using(crate::proofs::Feeding::nothing_fed))]
     pub fn new(alloc: Global) -> Decoder
-        ensures { HasDecoded result [] }
+        ensures decoded { HasDecoded result [] }
+        ensures going { IsGoing result }
     {
         Decoder {
             reader: Reader::new(alloc),
@@ -54,10 +56,11 @@ impl Decoder {
 
     // Reads a piece where nothing has stopped the decoder.
     fn read(&mut self, piece: &[u8]) -> Result<(), DecodeError>
-        requires { self.old.stopped ≡ Nothing }
+        requires { IsGoing self.old }
         ensures told { (bytes : ListOf ℕ) → HasDecoded self.old bytes → TellsSettled result (settled (bytes ++ piece.now)) }
         ensures decoded { (bytes : ListOf ℕ) → HasDecoded self.old bytes → HasDecoded self.new (bytes ++ piece.now) }
-        ensures memory { result ≡ Bad errors.Memory → Lacks self.new }
+        ensures going { OnOk result (IsGoing self.new) }
+        ensures stops { IfErr result (λ error. HasStopped self.new error) }
     {
         match self.reader.feed(piece, &mut self.builder) {
             Ok(()) => {
@@ -76,12 +79,14 @@ impl Decoder {
     }
 
     /// Reads the next piece of the message, in work linear in it and in the texts that it stands for. A refusal is answered
-    /// exactly where the bytes so far settle it, whatever follows, and again by each later call. After `Memory` each later
-    /// call answers `Memory`.
+    /// exactly where the bytes so far settle it, whatever follows. `Memory` may come in its place, since the message is built
+    /// while its bytes are read. After either, each later call answers the same.
     pub fn feed(&mut self, piece: &[u8]) -> Result<(), DecodeError>
         ensures told { (bytes : ListOf ℕ) → HasDecoded self.old bytes → TellsSettled result (settled (bytes ++ piece.now)) }
         ensures decoded { (bytes : ListOf ℕ) → HasDecoded self.old bytes → HasDecoded self.new (bytes ++ piece.now) }
-        ensures memory { LacksAfter result self.old self.new }
+        ensures going { OnOk result (IsGoing self.new) }
+        ensures stops { IfErr result (λ error. HasStopped self.new error) }
+        ensures again { (error : Why) → HasStopped self.old error → result ≡ Bad error }
     {
         match self.stopped {
             Some(error) => Err(error),
@@ -89,11 +94,12 @@ impl Decoder {
         }
     }
 
-    /// The message of the bytes that were fed, or their first refusal; `Truncated` comes from here alone. After want of memory
-    /// it answers `Memory`.
+    /// The message of the bytes that were fed, or their first refusal; `Truncated` comes from here alone. It takes no memory:
+    /// `Memory` comes where a feed has answered it.
     pub fn finish(self) -> Result<Message, DecodeError>
         ensures read { (bytes : ListOf ℕ) → HasDecoded self bytes → IsRead result (read_of bytes) }
-        ensures memory { Lacks self → result ≡ Bad errors.Memory }
+        ensures again { (error : Why) → HasStopped self error → result ≡ Bad error }
+        ensures memory { result ≡ Bad errors.Memory → HasStopped self errors.Memory }
     {
         if let Some(error) = self.stopped {
             drop(self);
@@ -117,8 +123,8 @@ fn decoded(alloc: Global, bytes: &[u8]) -> Result<Message, DecodeError>
 }
 
 /// Reads a message: Ok exactly where the bytes spell it, and Refused exactly at the place and for the reason of the first
-/// refusal. The work is linear in the bytes and in the texts that they stand for, where a string of the table counts at each
-/// use.
+/// refusal. `Memory` may come in place of either, since the message is built while its bytes are read. The work is linear in the
+/// bytes and in the texts that they stand for, where a string of the table counts at each use.
 pub fn decode(alloc: Global, bytes: &[u8]) -> Result<Message, DecodeError>
     ensures read { IsRead result (read_of bytes.now) }
     ensures exact { Decodes result bytes.now }

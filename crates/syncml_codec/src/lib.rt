@@ -15,6 +15,7 @@ pub mod laws;
 pub mod lister;
 pub mod names;
 mod parts;
+pub mod ranges;
 #[cfg(test)]
 mod tests;
 
