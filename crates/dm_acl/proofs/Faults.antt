@@ -1,14 +1,17 @@
 -- A text is read part by part up to its first fault.
 use Rattle.std.proofs.Common.{◌≡◌, ◌⊎◌, inl, inr, ◌+◌, ℕ, List, [], ◌∷◌, ◌++◌, length, map, refl, ap, sym, ◌∙◌, subst, Bool, true, false, is_some, arith, Option, Some, None, Result, Ok, Err, length-append}
+use Rattle.std.specs.Prelude.{option_map}
 use Rattle.std.specs.List.{AllByRecursion}
+use Rattle.dm_acl.specs.declared.values.Right.{Right}
+use Rattle.dm_acl.specs.declared.values.Servers.{Servers}
 use Rattle.dm_acl.specs.declared.values.AclError.{AclError}
 use Rattle.dm_acl.specs.declared.values.AclError.TheVariants as error
 use Rattle.dm_acl.specs.declared.values.Entry.{Entry}
 use Rattle.dm_acl.specs.declared.values.Entries.{Entries}
-use Rattle.dm_acl.specs.Grammar.{IsEntry, entry_text, entry_of, with_entry, with_entries, meant_entry}
+use Rattle.dm_acl.specs.Grammar.{IsEntry, entry_text, entry_of, with_servers, with_entry, with_entries, meant_entry}
 use Rattle.dm_acl.specs.Reading.{entry_in, put_new, put_entry, after_part, go_on, after_parts}
 use Rattle.dm_acl.specs.Laws.{front_text}
-use Rattle.dm_acl.proofs.Commands.{AreNew}
+use Rattle.dm_acl.proofs.Commands.{AreNew, put, put_here}
 use Rattle.dm_acl.proofs.EntryTexts.{entry_read, entry_from}
 
 ok≢err : {A : Type 0} (x : A) (e : AclError) → Ok x ≡ Err e → ⊥
@@ -230,3 +233,42 @@ parts_told (part ∷ parts) acl at h =
         → (after_part acl at part ≡ Err error.Memory) ⊎ ((next : Entries) × (after_part acl at part ≡ Ok next) × (after_parts next (at + (length part + 1)) parts ≡ Err error.Memory)) → ⊥
     told_by rest (inl here) = part_told acl at part here
     told_by rest (inr there) = rest there.0 there.2
+
+-- ---- by the commands alone that have an entry
+
+-- two lists have entries for the same commands
+abbrev pub AreNamedAlike : Entries → Entries → Type 0
+AreNamedAlike acl named = (r : Right) → is_some (entry_of acl r) ≡ is_some (entry_of named r)
+
+has_here : (acl : Entries) (a r : Right) (s : Servers) → a ≡ r → is_some (entry_of (with_servers acl a s) r) ≡ true
+has_here acl a r s same = subst (λ r. is_some (entry_of (with_servers acl a s) r) ≡ true) same (ap is_some (put_here acl a s))
+
+pub named_more : (acl named : Entries) (a : Right) (s t : Servers) → AreNamedAlike acl named → AreNamedAlike (with_servers acl a s) (with_servers named a t)
+named_more acl named a s t alike r = by_put (put acl a r s) (put named a r t)
+  where
+    by_put : ((a ≡ r) × (entry_of (with_servers acl a s) r ≡ Some s)) ⊎ (entry_of (with_servers acl a s) r ≡ entry_of acl r)
+        → ((a ≡ r) × (entry_of (with_servers named a t) r ≡ Some t)) ⊎ (entry_of (with_servers named a t) r ≡ entry_of named r)
+        → is_some (entry_of (with_servers acl a s) r) ≡ is_some (entry_of (with_servers named a t) r)
+    by_put (inl same) other = has_here acl a r s same.0 ∙ sym (has_here named a r t same.0)
+    by_put (inr kept) (inl same) = has_here acl a r s same.0 ∙ sym (has_here named a r t same.0)
+    by_put (inr kept) (inr also) = ap is_some kept ∙ alike r ∙ sym (ap is_some also)
+
+pub alike_taken : (acl named : Entries) (at : ℕ) (part : List ℕ) (e : Entry) → AreNamedAlike acl named → entry_in part ≡ Some e
+    → entry_of named e.right ≡ None → after_part acl at part ≡ Ok (with_entry acl e)
+unfolding after_part
+alike_taken acl named at part e alike is free =
+    ap (put_entry acl at) is ∙ ap (λ t. put_new t acl at e) (alike e.right ∙ ap is_some free)
+
+pub alike_refused : (acl named : Entries) (at : ℕ) (part : List ℕ) → AreNamedAlike acl named
+    → ((e : Entry) → entry_in part ≡ Some e → is_some (entry_of named e.right) ≡ true) → after_part acl at part ≡ Err (error.Malformed at)
+unfolding after_part
+alike_refused acl named at part alike has = fault_in (entry_in part) acl at (λ e is. alike e.right ∙ has e is)
+
+-- a part that is an entry of a command that has none yet
+pub entry_named : (o : Option Entry) (named : Entries) (right : Right) → option_map (λ (e : Entry). e.right) o ≡ Some right
+    → is_some (entry_of named right) ≡ false
+    → (e : Entry) × (o ≡ Some e) × (entry_of named e.right ≡ None) × (e.right ≡ right)
+entry_named None named right is free = cc
+entry_named (Some e) named right is free =
+    let same : e.right ≡ right = cc in
+    (e, refl, subst (λ r. entry_of named r ≡ None) (sym same) (not_some (entry_of named right) free), same)

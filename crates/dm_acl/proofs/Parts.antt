@@ -1,5 +1,6 @@
 -- What stands between the signs of a text, part by part.
 use Rattle.std.proofs.Common.{◌≡◌, ◌<◌, ◌≤◌, ◌+◌, ◌==◌, ℕ, List, [], ◌∷◌, length, drop, get_or, arith, refl, ap, sym, ◌∙◌, subst, Bool, true, false, cond, Result, Ok, Err}
+use Rattle.std.specs.Prelude.{IsOk}
 use Rattle.std.specs.List.{slice_split, onto_first, sum_by}
 use Rattle.std.proofs.lemmas.List.{at_drop_more, at_drop_all}
 use Rattle.std.proofs.lemmas.List.Sums.{sum_by-cons, sum_by-drop_more}
@@ -54,10 +55,9 @@ took : (acl new : Entries) (at : ℕ) (u : Unit {0}) (part : List ℕ) (parts : 
     → after_parts acl at (part ∷ parts) ≡ after_parts new (at + (length part + 1)) parts
 took acl new at u part parts h = ap (λ r. go_on r (λ next. after_parts next (at + (length part + 1)) parts)) h
 
-stopped : (e : AclError) (acl new : Entries) (at : ℕ) (part : List ℕ) (parts : List (List ℕ)) → Leaves (Err e) new (after_part acl at part)
-    → Answers {T = Entries} (Err e) (after_parts acl at (part ∷ parts))
-stopped (error.Malformed bad) acl new at part parts h = ap (λ r. go_on r (λ next. after_parts next (at + (length part + 1)) parts)) h
-stopped error.Memory acl new at part parts h = tt
+stopped : (bad : ℕ) (acl : Entries) (at : ℕ) (part : List ℕ) (parts : List (List ℕ)) → after_part acl at part ≡ Err (error.Malformed bad)
+    → after_parts acl at (part ∷ parts) ≡ Err (error.Malformed bad)
+stopped bad acl at part parts h = ap (λ r. go_on r (λ next. after_parts next (at + (length part + 1)) parts)) h
 
 next_is : (parts : List (List ℕ)) (n : ℕ) (part : List ℕ) (acl : Entries) (at : ℕ) → (n < length parts) × (part ≡ get_or parts n part)
     → after_parts acl at (drop n parts) ≡ after_parts acl at (part ∷ drop (n + 1) parts)
@@ -73,11 +73,17 @@ kept_more parts n m part acl new at u whole is turn h kept =
     ∙ sym (next_is parts n part acl at turn)
     ∙ kept
 
+pub fault_at : (parts : List (List ℕ)) (n : ℕ) (part : List ℕ) (bad : ℕ) (acl : Entries) (at : ℕ) (whole : Result Entries AclError)
+    → (n < length parts) × (part ≡ get_or parts n part) → after_part acl at part ≡ Err (error.Malformed bad)
+    → after_parts acl at (drop n parts) ≡ whole → whole ≡ Err (error.Malformed bad)
+fault_at parts n part bad acl at whole turn h kept =
+    sym kept ∙ next_is parts n part acl at turn ∙ stopped bad acl at part (drop (n + 1) parts) h
+
 pub stopped_at : (parts : List (List ℕ)) (n : ℕ) (part : List ℕ) (e : AclError) (acl new : Entries) (at : ℕ) (whole : Result Entries AclError)
     → (n < length parts) × (part ≡ get_or parts n part) → Leaves (Err e) new (after_part acl at part)
-    → after_parts acl at (drop n parts) ≡ whole → Answers {T = Entries} (Err e) whole
-stopped_at parts n part e acl new at whole turn h kept =
-    subst (Answers {T = Entries} (Err e)) (sym (next_is parts n part acl at turn) ∙ kept) (stopped e acl new at part (drop (n + 1) parts) h)
+    → after_parts acl at (drop n parts) ≡ whole → IsOk whole → Answers {T = Entries} (Err e) whole
+stopped_at parts n part (error.Malformed bad) acl new at whole turn h kept good = fault_at parts n part bad acl at whole turn h kept
+stopped_at parts n part error.Memory acl new at whole turn h kept good = good
 
 pub room_more : (parts : List (List ℕ)) (n m : ℕ) (part : List ℕ) (at limit : ℕ)
     → m ≡ n + 1 → (n < length parts) × (part ≡ get_or parts n part) → at + room (drop n parts) ≤ limit
@@ -91,3 +97,7 @@ room_more parts n m part at limit is turn h =
 pub kept_all : (parts : List (List ℕ)) (n : ℕ) (acl : Entries) (at : ℕ) (whole : Result Entries AclError)
     → n ≡ length parts → after_parts acl at (drop n parts) ≡ whole → whole ≡ Ok acl
 kept_all parts n acl at whole is kept = sym kept ∙ at_drop_all (after_parts acl at) parts n (omega arith)
+
+pub good_all : (parts : List (List ℕ)) (n : ℕ) (acl : Entries) (at : ℕ) (whole : Result Entries AclError)
+    → n ≡ length parts → after_parts acl at (drop n parts) ≡ whole → IsOk whole
+good_all parts n acl at whole is kept = subst IsOk (sym (kept_all parts n acl at whole is kept)) refl

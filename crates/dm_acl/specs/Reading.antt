@@ -1,5 +1,5 @@
 -- How a text is read: the value that it means, or the place of the first entry that is bad or names a command again.
-use Rattle.std.specs.Prelude.{◌≡◌, ◌==◌, ◌+◌, ℕ, Bool, true, false, if◌then◌else◌, nat_lt, nat_eq, List, [], ◌∷◌, length, drop, codes, bytes_eq, Option, Some, None, is_some, Result, Ok, Err, ⊤}
+use Rattle.std.specs.Prelude.{◌≡◌, ◌==◌, ◌+◌, ℕ, Bool, true, false, if◌then◌else◌, nat_lt, nat_eq, List, [], ◌∷◌, length, drop, codes, bytes_eq, Option, Some, None, is_some, Result, Ok, Err, IsOk, ⊤}
 use Rattle.std.specs.List.{list_all, slice_split, starts_with}
 use Rattle.dm_acl.specs.declared.values.Right.{Right}
 use Rattle.dm_acl.specs.declared.values.Right.TheVariants as right
@@ -82,13 +82,13 @@ unfoldable pub parse_of : List ℕ → Result Entries AclError
 parse_of text =
     if nat_lt 4096 (length text) then Err (error.Malformed 4096) else after_parts no_entries 0 (parts_in text)
 
--- an answer is the one that is wanted, or there was no memory for it
+-- an answer is the one that is wanted; want of memory comes only in place of a value
 abbrev pub Answers : {T : Type 0} → Result T AclError → Result T AclError → Type 0
 Answers (Ok x) wanted = wanted ≡ Ok x
 Answers (Err (error.Malformed at)) wanted = wanted ≡ Err (error.Malformed at)
-Answers (Err error.Memory) wanted = ⊤
+Answers (Err error.Memory) wanted = IsOk wanted
 
--- the same of a call that leaves the value in its place
+-- a call leaves the value that is wanted in its place, or answers the fault, or wants memory
 abbrev pub Leaves : Result (Unit {0}) AclError → Entries → Result Entries AclError → Type 0
 Leaves (Ok u) acl wanted = wanted ≡ Ok acl
 Leaves (Err (error.Malformed at)) acl wanted = wanted ≡ Err (error.Malformed at)

@@ -6,6 +6,7 @@ ghost use Rattle.dm_acl.specs.Reading.{parse_of, Answers};
 ghost use Rattle.dm_acl.specs.Same.{same_entries};
 
 use crate::copies::copy_entries;
+use crate::judging::first_fault;
 use crate::printing::put_entries;
 use crate::reading::{is_among, read_parts};
 use crate::same::same_entries;
@@ -41,11 +42,15 @@ impl Acl {
     /// those before it in its entry.
     ///
     /// `Malformed` tells the first byte of the first entry that is bad or names a command again, 4,096 for a longer text.
+    /// `Memory` comes only in place of an access list: a text that is refused is refused without memory.
     pub fn parse(alloc: Global, text: &[u8]) -> Result<Acl, AclError>
         ensures { Answers result (parse_of text.now) }
     {
         if text.len() > TEXT_LIMIT {
             return Err(AclError::Malformed(TEXT_LIMIT));
+        }
+        if let Some(at) = first_fault(text) {
+            return Err(AclError::Malformed(at));
         }
         match read_parts(alloc, text) {
             Ok(entries) => Ok(Acl { entries }),

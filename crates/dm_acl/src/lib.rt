@@ -3,6 +3,7 @@
 
 pub mod acl;
 mod copies;
+mod judging;
 pub mod laws;
 mod printing;
 mod reading;

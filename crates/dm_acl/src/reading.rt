@@ -1,5 +1,5 @@
 // Texts are read entry by entry.
-ghost use Rattle.std.specs.Prelude.{◌≡◌, ◌≤◌, length, bytes_eq, IsTrue, IfSome, IfOk, OnOk};
+ghost use Rattle.std.specs.Prelude.{◌≡◌, ◌≤◌, length, bytes_eq, IsTrue, IsOk, IfSome, IfOk, OnOk};
 ghost use Rattle.std.specs.List.{list_all, list_any};
 ghost use Rattle.dm_acl.specs.Grammar.{is_name_byte, is_server_name, head_of, with_name, unrepeated, no_entries, has_entry};
 ghost use Rattle.dm_acl.specs.Reading.{names_in, parts_in, servers_in, begins, right_in, entry_in, put_new, after_part, after_parts, Answers, Leaves};
@@ -26,7 +26,7 @@ fn is_server_name(name: &[u8]) -> bool
     !name.is_empty() && name.len() <= 64 && all_name_bytes(name)
 }
 
-fn are_server_names(list: &[u8]) -> bool
+pub(crate) fn are_server_names(list: &[u8]) -> bool
     ensures { result ≡ list_all is_server_name (names_in list.now) }
 {
     list.split(|b| *b == b'+').all(is_server_name)
@@ -84,7 +84,7 @@ fn begins(part: &[u8], right: Right) -> bool
 }
 
 // The command with which a part begins.
-fn right_in(part: &[u8]) -> Option<Right>
+pub(crate) fn right_in(part: &[u8]) -> Option<Right>
     ensures value { result ≡ right_in part.now }
     ensures fits { IfSome result (λ right. length (head_of right) ≤ length part.now) }
 {
@@ -143,9 +143,10 @@ fn read_part(alloc: Global, entries: &mut Entries, at: usize, part: &[u8]) -> Re
     }
 }
 
-// The entries of a text of at most 4,096 bytes.
+// The entries of a text of at most 4,096 bytes that has no fault.
 pub(crate) fn read_parts(alloc: Global, text: &[u8]) -> Result<Entries, AclError>
-    requires { length text.now ≤ 4096 }
+    requires short { length text.now ≤ 4096 }
+    requires faultless { IsOk (after_parts no_entries 0 (parts_in text.now)) }
     ensures { Answers result (after_parts no_entries 0 (parts_in text.now)) }
 {
     let mut entries = Entries::none();

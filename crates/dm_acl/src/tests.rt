@@ -4,7 +4,7 @@ use crate::acl::Acl;
 use crate::tests::rows::{ALLOWED, FAULTS, NAMED, PRINTED, PrintRow};
 use crate::values::AclError;
 use dm_base::{Bytes, Memory};
-use std::alloc::Global;
+use std::alloc::{AllocError, Global};
 use std::test::Fail;
 
 // Each of the helpers below that looks for a wrong row answers the text of the first, for the test to show.
@@ -129,5 +129,40 @@ fn copies_are_the_same(rt: HostRuntime) -> Result<(), Fail> {
     assert!(rt; !are_same(alloc, b"Add=a+b", b"Add=b+a")?);
     assert!(rt; !are_same(alloc, b"Add=a", b"Add=a&Get=")?);
     assert!(rt; !are_same(alloc, b"Add=*", b"Add=")?);
+    Ok(())
+}
+
+struct ErrorRow {
+    error: AclError,
+    text: &'static str,
+}
+
+const ERRORS: [ErrorRow; 2] = [
+    ErrorRow {
+        error: AclError::Malformed(7),
+        text: "no access list from byte 7 on",
+    },
+    ErrorRow {
+        error: AclError::Memory,
+        text: "out of memory",
+    },
+];
+
+fn error_text(alloc: Global, error: &AclError) -> Result<String, AllocError> {
+    format!(in alloc; "{error}")
+}
+
+fn wrong_error(alloc: Global) -> Result<Option<&'static str>, AllocError> {
+    for row in &ERRORS {
+        if error_text(alloc, &row.error)?.as_str() != row.text {
+            return Ok(Some(row.text));
+        }
+    }
+    Ok(None)
+}
+
+#[test]
+fn errors_are_told(rt: HostRuntime) -> Result<(), Fail> {
+    assert_eq!(rt; wrong_error(rt.alloc())?, None);
     Ok(())
 }

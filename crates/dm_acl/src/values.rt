@@ -5,7 +5,7 @@ ghost use Rattle.dm_acl.specs.Grammar.{entry_of, with_entry, no_entries, head_of
 use dm_base::{Bytes, List};
 use thiserror::Error;
 
-/// The commands that an access list speaks of. A Copy needs the rights of a Get and of an Add.
+/// The commands that an access list speaks of. Copy has none: the profile answers it with 406.
 #[derive(Clone, Copy, Debug, PartialEq, Eq)]
 pub enum Right {
     Add,

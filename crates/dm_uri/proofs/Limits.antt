@@ -1,11 +1,12 @@
 -- Names of the form that are within the limits make a path.
-use Rattle.std.proofs.Common.{ℕ, ◌≡◌, ◌≤◌, ◌+◌, List, [], ◌∷◌, ◌++◌, length, arith, refl, ap}
+use Rattle.std.proofs.Common.{ℕ, ◌≡◌, ◌≤◌, ◌+◌, List, [], ◌∷◌, ◌++◌, length, arith, refl, ap, sym, subst, ◌∙◌, Bool, false, not, if◌then◌else◌, Ok, Err}
 use Rattle.std.specs.Prelude.{true, ◌&&◌, nat_le, codes}
 use Rattle.std.specs.List.{list_all, slice_split}
 use Rattle.std.proofs.lemmas.Bool.{and_parts, and_from}
 use Rattle.std.proofs.lemmas.List.Splits.{length-slice_split, join_with_byte-slice_split}
 use Rattle.dm_uri.specs.Names.{has_name_form, is_short, is_name, is_within_limits, IsPath, joined, printed_path}
-use Rattle.dm_uri.specs.Reading.{is_slash}
+use Rattle.dm_uri.specs.Reading.{is_slash, is_root, without_front, names_in, read_path}
+use Rattle.dm_uri.specs.declared.uri.UriError.TheVariants as error
 
 at_most : (m n : ℕ) → nat_le m n ≡ true → m ≤ n
 at_most m n e = grind arith
@@ -64,3 +65,26 @@ printed-split text = printed_some (slice_split is_slash text) text (some_parts t
 
 pub length_printed_split : (text : List ℕ) → length (printed_path (slice_split is_slash text)) ≡ length text + 2
 length_printed_split text = rw (printed-split text) (omega arith)
+
+-- ---- the names of a path that is read
+
+judged : (form within : Bool) (names : List (List ℕ))
+    → (if not form then Err error.Malformed else if not within then Err error.TooLong else Ok names) ≡ Ok names
+    → (form ≡ true) × (within ≡ true)
+judged true true names h = (refl, refl)
+judged true false names h = cc
+judged false within names h = cc
+
+pub path_of_read : (names : List (List ℕ)) → read_path names ≡ Ok names → IsPath names
+path_of_read names h =
+    let both = judged (list_all has_name_form names) (is_within_limits names) names h in
+    path_of_limits names both.0 both.1
+
+-- what stands between the slashes of a path part that isn't the root's
+pub names_here : (part text : List ℕ) → is_root part ≡ false → text ≡ without_front part → names_in part ≡ slice_split is_slash text
+names_here part text other is =
+    ap (λ b. if b then [] else slice_split is_slash (without_front part)) other ∙ ap (slice_split is_slash) (sym is)
+
+pub path_here : (part text : List ℕ) → is_root part ≡ false → text ≡ without_front part → read_path (names_in part) ≡ Ok (names_in part)
+    → IsPath (slice_split is_slash text)
+path_here part text other is read = subst IsPath (names_here part text other is) (path_of_read (names_in part) read)

@@ -1,5 +1,5 @@
 -- How a text is read: the value, or the first refusal.
-use Rattle.std.specs.Prelude.{◌≡◌, ◌<◌, ◌==◌, ◌||◌, ℕ, Bool, not, nat_lt, nat_eq, if◌then◌else◌, List, [], ◌∷◌, length, drop, bytes_eq, codes, ⊤, Option, Some, None, Result, Ok, Err}
+use Rattle.std.specs.Prelude.{◌≡◌, ◌<◌, ◌==◌, ◌||◌, ℕ, Bool, not, nat_lt, nat_eq, if◌then◌else◌, List, [], ◌∷◌, length, drop, bytes_eq, codes, Option, Some, None, Result, Ok, Err, IsOk}
 use Rattle.std.specs.List.{list_all, slice_split, starts_with, find}
 use Rattle.dm_uri.specs.Names.{has_name_form, is_short, is_within_limits}
 use Rattle.dm_uri.specs.Grammar.{query_text}
@@ -62,10 +62,10 @@ parse_name_of text =
     else if not (is_short text) then Err error.TooLong
     else Ok text
 
--- an answer is the one that is read, unless memory ran out
+-- an answer is the one that is read; want of memory comes only in place of a value
 abbrev pub Gives : {T : Type 0} → Result T UriError → Result T UriError → Type 0
 Gives (Ok value) read = read ≡ Ok value
-Gives (Err error.Memory) read = ⊤
+Gives (Err error.Memory) read = IsOk read
 Gives (Err error.Malformed) read = read ≡ Err error.Malformed
 Gives (Err error.TooLong) read = read ≡ Err error.TooLong
 Gives (Err error.UnknownQuery) read = read ≡ Err error.UnknownQuery

@@ -12,6 +12,6 @@ pub mod writing;
 
 pub use name::{Name, parse_name};
 pub use path::Path;
-pub use reading::parse;
+pub use reading::{is_uri, parse};
 pub use uri::{Prop, Query, Uri, UriError};
 pub use writing::print;

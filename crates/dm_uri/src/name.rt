@@ -54,7 +54,7 @@ pub(crate) fn is_short(text: &[u8]) -> bool
 }
 
 /// The name that a text is. Malformed comes exactly where it isn't of the form, its length aside; TooLong exactly
-/// where it is, and has more than 64 bytes.
+/// where it is, and has more than 64 bytes. Memory comes only in place of a name.
 #[tactic(auto, unfolding(crate::specs::Reading::parse_name_of))]
 pub fn parse_name(alloc: Global, text: &[u8]) -> Result<Name, UriError>
     ensures exact { Gives result (parse_name_of text.now) }

@@ -1,5 +1,5 @@
 // A text is read.
-ghost use Rattle.std.specs.Prelude.{◌≡◌, ◌≢◌, ◌≤◌, ◌&&◌, ◌∷◌, [], IsTrue, Ok, IfOk, IfErr, MatchOption, nat_le, length};
+ghost use Rattle.std.specs.Prelude.{◌≡◌, ◌≢◌, ◌≤◌, ◌&&◌, ◌∷◌, [], IsTrue, Ok, IfOk, IfErr, MatchOption, is_ok, nat_le, length};
 ghost use Rattle.std.specs.List.{list_all, slice_split, position_or_len};
 ghost use Rattle.dm_uri.specs.Names.{has_name_form, is_short, is_name, is_within_limits};
 ghost use Rattle.dm_uri.specs.Grammar.{IsUriText};
@@ -110,25 +110,34 @@ fn is_within_limits(text: &[u8]) -> bool
     all_short(text) && count_of(text) <= 16 && text.len() + 2 <= 255
 }
 
-// The path that a path part spells.
-fn read_path(alloc: Global, part: &[u8]) -> Result<Path, UriError>
+// Why a path part spells no path. It takes no memory.
+fn path_refusal(part: &[u8]) -> Option<UriError>
     requires { length part.now ≤ 255 }
-    ensures { Gives result (read_path (names_in part.now)) }
+    ensures { MatchOption result (read_path (names_in part.now) ≡ Ok (names_in part.now))
+        (λ e. read_path (names_in part.now) ≡ Err e) }
+{
+    if is_root(part) {
+        return None;
+    }
+    let text = without_front(part);
+    if !all_have_form(text) {
+        return Some(UriError::Malformed);
+    }
+    if !is_within_limits(text) {
+        return Some(UriError::TooLong);
+    }
+    None
+}
+
+// The path that a path part spells.
+fn path_of(alloc: Global, part: &[u8]) -> Result<Path, Memory>
+    requires { read_path (names_in part.now) ≡ Ok (names_in part.now) }
+    ensures { IfOk result (λ path. path ≡ names_in part.now) }
 {
     if is_root(part) {
         return Ok(Path::new(alloc));
     }
-    let text = without_front(part);
-    if !all_have_form(text) {
-        return Err(UriError::Malformed);
-    }
-    if !is_within_limits(text) {
-        return Err(UriError::TooLong);
-    }
-    match names_of(alloc, text) {
-        Ok(names) => Ok(Path::of(names)),
-        Err(Memory) => Err(UriError::Memory),
-    }
+    Ok(Path::of(names_of(alloc, without_front(part))?))
 }
 
 // The value of a text, or its first refusal.
@@ -140,13 +149,25 @@ fn read(alloc: Global, text: &[u8]) -> Result<Uri, UriError>
         return Err(UriError::TooLong);
     }
     let (part, query) = text.split_at(path_end(text));
-    match read_path(alloc, part) {
-        Err(error) => Err(error),
-        Ok(path) => match query_of(query) {
-            Some(query) => Ok(Uri { path, query }),
-            None => Err(UriError::UnknownQuery),
-        },
+    if let Some(refusal) = path_refusal(part) {
+        return Err(refusal);
     }
+    let Some(query) = query_of(query) else {
+        return Err(UriError::UnknownQuery);
+    };
+    match path_of(alloc, part) {
+        Ok(path) => Ok(Uri { path, query }),
+        Err(Memory) => Err(UriError::Memory),
+    }
+}
+
+/// Whether a text is read as a URI. It takes no memory.
+#[tactic(auto, unfolding(crate::specs::Reading::parse_of))]
+pub fn is_uri(text: &[u8]) -> bool
+    ensures { result ≡ is_ok (parse_of text.now) }
+{
+    let (part, query) = text.split_at(path_end(text));
+    text.len() <= 255 && path_refusal(part).is_none() && query_of(query).is_some()
 }
 
 /// The URI that a text spells, or the first refusal that holds.
@@ -157,7 +178,7 @@ fn read(alloc: Global, text: &[u8]) -> Result<Uri, UriError>
 ///   255 bytes.
 /// - UnknownQuery: a `?` stands there, and what follows isn't a query.
 ///
-/// Memory may come in place of any value, and of UnknownQuery.
+/// Memory comes only in place of a value: a text that is refused is refused without memory.
 pub fn parse(alloc: Global, text: &[u8]) -> Result<Uri, UriError>
     ensures exact { Gives result (parse_of text.now) }
     ensures ok { IfOk result (λ uri. IsUriText text.now uri) }

@@ -1,8 +1,8 @@
 ghost use Rattle.std.specs.Prelude.{◌<◌, ◌≤◌, ◌+◌, length};
 
-use crate::{Path, Prop, Query, Uri, UriError, parse, parse_name, print};
+use crate::{Path, Prop, Query, Uri, UriError, is_uri, parse, parse_name, print};
 use dm_base::Bytes;
-use std::alloc::Global;
+use std::alloc::{AllocError, Global};
 use std::cmp::Ordering;
 use std::test::Fail;
 
@@ -196,6 +196,9 @@ fn is_written(alloc: Global, uri: &Uri, want: &[u8]) -> bool {
 }
 
 fn is_row(alloc: Global, row: &Row) -> bool {
+    if is_uri(row.0.as_bytes()) != row.1.is_ok() {
+        return false;
+    }
     match (parse(alloc, row.0.as_bytes()), row.1) {
         (Ok(uri), Ok(want)) => is_written(alloc, &uri, want.as_bytes()),
         (Err(error), Err(want)) => error == want,
@@ -377,5 +380,48 @@ fn edits_paths(rt: HostRuntime) -> Result<(), Fail> {
     path.clear();
     assert!(rt; path.pop().is_none());
     assert!(rt; is_written_path(rt.alloc(), path, b".?prop=TStamp"));
+    Ok(())
+}
+
+struct ErrorRow {
+    error: UriError,
+    text: &'static str,
+}
+
+const ERRORS: [ErrorRow; 4] = [
+    ErrorRow {
+        error: UriError::Malformed,
+        text: "malformed URI",
+    },
+    ErrorRow {
+        error: UriError::TooLong,
+        text: "URI too long",
+    },
+    ErrorRow {
+        error: UriError::UnknownQuery,
+        text: "unknown query",
+    },
+    ErrorRow {
+        error: UriError::Memory,
+        text: "out of memory",
+    },
+];
+
+fn error_text(alloc: Global, error: &UriError) -> Result<String, AllocError> {
+    format!(in alloc; "{error}")
+}
+
+fn wrong_error(alloc: Global) -> Result<Option<&'static str>, AllocError> {
+    for row in &ERRORS {
+        if error_text(alloc, &row.error)?.as_str() != row.text {
+            return Ok(Some(row.text));
+        }
+    }
+    Ok(None)
+}
+
+#[test]
+fn errors_are_told(rt: HostRuntime) -> Result<(), Fail> {
+    assert_eq!(rt; wrong_error(rt.alloc())?, None);
     Ok(())
 }

@@ -11,7 +11,7 @@ pub loop-part-init : goal.loop-part-init
 loop-part-init c =
     let e = room-parts c.args.text.now in
     record {
-      room = omega (arith, e, c.requires);
+      room = omega (arith, e, c.requires.short);
       kept = ap (λ acl. after_parts acl 0 (parts_in c.args.text.now)) c.none-entries.ensures;
     }
 
@@ -28,7 +28,7 @@ pub returns-in-Err : goal.returns-in-Err
 returns-in-Err c =
     let turn = YieldsList-turn (YieldsList-at c.into_iter-part-iterator.ensures.into_iter_gives (YieldsList-from_slice_split _ _ c.args.text.now c.split-part-items.ensures.rest c.split-part-items.ensures.done c.split-part-items.ensures.closure (λ x b q h. search (rules, tests))))
     c.loop-part.yielded c.loop-part.part-iterator c.loop-part.yielded_by c.next.result c.next.new.self c.in-Some.part c.in-Some.is c.next.ensures.steps in
-    stopped_at _ (length c.loop-part.yielded) _ _ _ _ c.loop-part.at _ turn c.in-Err.ensures c.loop-part.invariant.kept
+    stopped_at _ (length c.loop-part.yielded) _ _ _ _ c.loop-part.at _ turn c.in-Err.ensures c.loop-part.invariant.kept c.requires.faultless
 
 pub returns : goal.returns
 returns c =

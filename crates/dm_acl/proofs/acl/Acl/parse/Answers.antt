@@ -5,6 +5,9 @@ use Rattle.dm_acl.proofs.acl.Acl.parse.Goals as goal
 pub returns-then-text-gt-TEXT_LIMIT : goal.returns-then-text-gt-TEXT_LIMIT
 returns-then-text-gt-TEXT_LIMIT c = parse_long c.args.text.now (omega arith)
 
+pub returns-in-Some : goal.returns-in-Some
+returns-in-Some c = parse_short c.args.text.now c.if-text-gt-TEXT_LIMIT.false ∙ c.in-Some.ensures
+
 pub invariant_of-result : goal.invariant_of-result
 invariant_of-result c = read_acl c.args.text.now c.in-Ok.entries c.if-text-gt-TEXT_LIMIT.false c.in-Ok.ensures
 
