@@ -93,7 +93,7 @@ attached_row rows shape k at = (
 )
 
 pub attached_falls : (rows : List Row) → IsShaped rows → (k : ℕ) → (row_at rows k).attached ≡ true → (row_at rows k).depth ≡ suc (row_at rows (row_at rows k).parent).depth
-attached_falls rows shape k at = let r = attached_row rows shape k at in shape.falls k r.0 r.1
+attached_falls rows shape k at = shape.falls k at
 
 -- what a child is
 pub record Child (rows : List Row) (id : ℕ) (name : List ℕ) (j : ℕ) : Type 0 where

@@ -351,31 +351,19 @@ lack-first rows shape id l is sizes sized = record {
     long : length (attached_as rows id false) ≡ length rows
     long = length-set rows id _
 
-taken_out : (rows : List Row) → IsShaped rows → (id : ℕ) → 0 < id → id < length rows → (row_at rows id).attached ≡ false → IsPutIn rows (attached_as rows id true) id
-taken_out rows shape id z l out = record {
-  parent = λ k. sym (parent k);
-  depth = λ k. sym (depth k);
+taken_out : (rows : List Row) → (id : ℕ) → id < length rows → (row_at rows id).attached ≡ false → IsShaped (attached_as rows id true) → IsPutIn rows (attached_as rows id true) id
+taken_out rows id l out before = record {
+  parent = λ k. sym (of_both rows id _ (λ r. r.parent) refl k l);
+  depth = λ k. sym (of_both rows id _ (λ r. r.depth) refl k l);
   others = λ k h. sym (ap (λ (r : Row). r.attached) (get_or-set_other rows id k _ blank h));
   out = out;
   is = ap (λ (r : Row). r.attached) (get_or-set_same rows id (record (row_at rows id) { attached = true }) blank l);
-  fall = λ k at. depth k ∙ falls k at ∙ ap suc (ap (λ i. (row_at rows i).depth) (sym (parent k)) ∙ sym (depth _));
+  fall = attached_falls (attached_as rows id true) before;
 }
-  where
-    parent : (k : ℕ) → (row_at (attached_as rows id true) k).parent ≡ (row_at rows k).parent
-    parent k = of_both rows id _ (λ r. r.parent) refl k l
 
-    depth : (k : ℕ) → (row_at (attached_as rows id true) k).depth ≡ (row_at rows k).depth
-    depth k = of_both rows id _ (λ r. r.depth) refl k l
-
-    falls : (k : ℕ) → (row_at (attached_as rows id true) k).attached ≡ true → (row_at rows k).depth ≡ suc (row_at rows (row_at rows k).parent).depth
-    falls k at = elim (same_or_not k id) [
-      | inl h ↦ shape.falls k (omega (arith, h, z)) (omega (arith, h, l))
-      | inr h ↦ attached_falls rows shape k (sym (ap (λ (r : Row). r.attached) (get_or-set_other rows id k _ blank h)) ∙ at)
-    ]
-
-pub exceed-first : (rows : List Row) → IsShaped rows → (id : ℕ) → 0 < id → id < length rows → (row_at rows id).attached ≡ false
+pub exceed-first : (rows : List Row) → (id : ℕ) → id < length rows → (row_at rows id).attached ≡ false → IsShaped (attached_as rows id true)
     → (sizes : List ℕ) → IsSized (attached_as rows id true) sizes → Exceed rows (get_or sizes id 0) sizes (row_at rows id).parent
-exceed-first rows shape id z l out sizes sized = record {
+exceed-first rows id l out before sizes sized = record {
   same = sized.same ∙ long;
   each = λ k kl.
       let size : length (ids_below rows id (length rows)) ≡ get_or sizes id 0 =
@@ -390,7 +378,7 @@ exceed-first rows shape id z l out sizes sized = record {
     long = length-set rows id _
 
     put : IsPutIn rows (attached_as rows id true) id
-    put = taken_out rows shape id z l out
+    put = taken_out rows id l out before
 
 -- ---- names and nodes don't matter
 

@@ -8,6 +8,7 @@ use Rattle.std.specs.FinMap.{get-retain_keys, FinMap, get, same_map}
 use Rattle.std.proofs.lemmas.List.{get_or-set_same, get_or-set_other}
 use Rattle.std.proofs.Math.ListN.{length-set}
 use Rattle.std.specs.Option.{option_map}
+use Rattle.std.specs.Prelude.{unwrap_or}
 use Rattle.dm_tree.proofs.Paths.{below_last, below_longer, below_none, below_self, same_or_not, tree_exact, tree_total}
 use Rattle.dm_tree.proofs.Climbs.{at_bottom, at_top, attached_falls, depth_is, not_zero, one_row, same_number, some_path, walk_up}
 use Rattle.dm_tree.proofs.Maps.{get_nodes, id_is, id_of}
@@ -33,7 +34,7 @@ shaped-detached rows shape k z l =
       at_root = depth 0 ∙ shape.at_root;
       fixed = ap (λ (r : Row). r.attached) (get_or-set_other rows k 0 (record (row_at rows k) { attached = false }) blank apart) ∙ shape.fixed;
       inside = λ j h. omega (arith, long, parent j, shape.inside j (omega (arith, long)));
-      falls = λ j a b. depth j ∙ shape.falls j a (omega (arith, long)) ∙ ap suc (ap (λ i. (row_at rows i).depth) (sym (parent j)) ∙ sym (depth _));
+      falls = λ j a. depth j ∙ shape.falls j (still_attached rows k j l a).1 ∙ ap suc (ap (λ i. (row_at rows i).depth) (sym (parent j)) ∙ sym (depth _));
       shallow = λ j. omega (arith, depth j, shape.shallow j);
       no_twins = λ i j a b p n. shape.no_twins i j (still_attached rows k i l a).1 (still_attached rows k j l b).1 (sym (parent i) ∙ p ∙ parent j) (sym (name i) ∙ n ∙ name j);
     }
@@ -67,12 +68,23 @@ kept_walk rows shape k p l at (suc d) i q deep e f =
       | false ↦ λ is. is
     ] refl
 
+-- a live row that is no root is attached
+pub live_attached : (rows : List Row) → IsShaped rows → (k : ℕ) → 0 < k → IsLive rows k → (row_at rows k).attached ≡ true
+live_attached rows shape k z live = by_depth (row_at rows k).depth refl
+  where
+    by_depth : (d : ℕ) → (row_at rows k).depth ≡ d → (row_at rows k).attached ≡ true
+    by_depth zero deep =
+        let is : nat_eq k 0 ≡ true = at_bottom rows 0 k (path_of rows k) (subst (λ e. walk rows e 0 k ≡ Some (path_of rows k)) deep live) in
+        let other : nat_eq k 0 ≡ false = not_zero k (omega arith) in
+        absurd (cc)
+    by_depth (suc d) deep = (walk_up rows d 0 k (path_of rows k) (not_zero k (omega arith)) (subst (λ e. walk rows e 0 k ≡ Some (path_of rows k)) deep live)).attached
+
 -- going up in the rows after, one goes as before, and not through the subtree
 pub cut_walk : (rows : List Row) → IsShaped rows → (k : ℕ) (p : Path) → 0 < k → k < length rows → path_below rows 0 k ≡ Some p
     → (d i : ℕ) (q : Path) → (row_at rows i).depth ≡ d → walk (attached_as rows k false) d 0 i ≡ Some q → (walk rows d 0 i ≡ Some q) × (is_below p q ≡ false)
 cut_walk rows shape k p z l at zero i q deep e =
     let none = at_top rows zero 0 i q (at_bottom rows 0 i q e) e in
-    let long : length p ≡ suc (row_at rows (row_at rows k).parent).depth = depth_is rows shape (row_at rows k).depth k p refl at ∙ shape.falls k z l in
+    let long : length p ≡ suc (row_at rows (row_at rows k).parent).depth = depth_is rows shape (row_at rows k).depth k p refl at ∙ shape.falls k (live_attached rows shape k z (at ∙ ap (λ q. Some q) (sym (ap (λ o. unwrap_or o []) at)))) in
     (e, ap (is_below p) none ∙ below_none p (λ h. let short : length p ≡ 0 = ap length h in omega arith))
 cut_walk rows shape k p z l at (suc d) i q deep e =
     elim (nat_eq i 0) as (λ b. nat_eq i 0 ≡ b → (walk rows (suc d) 0 i ≡ Some q) × (is_below p q ≡ false)) [
@@ -146,11 +158,3 @@ nodes-detached rows shape k z live = same_map tree_total tree_exact _ _ (λ q.
     same_nodes true o = refl
     same_nodes false None = refl
     same_nodes false (Some j) = ap (λ n. Some n) (of_both rows k (record (row_at rows k) { attached = false }) (λ r. r.node) refl j (live_row rows shape k live))
-
--- a live row that is no root is attached
-pub live_attached : (rows : List Row) → IsShaped rows → (k : ℕ) → 0 < k → IsLive rows k → (row_at rows k).attached ≡ true
-live_attached rows shape k z live =
-    let l = live_row rows shape k live in
-    let deep = shape.falls k z l in
-    let other : nat_eq k 0 ≡ false = not_zero k (omega arith) in
-    (walk_up rows _ 0 k (path_of rows k) other (subst (λ d. walk rows d 0 k ≡ Some (path_of rows k)) deep live)).attached

@@ -121,9 +121,13 @@ decides-ids rows shape right k live =
     by_answer None h is = refl
     by_answer (Some j) h is = sym (id_of rows shape j (path_of rows j) (h j is))
 
-pub decided_live : (rows : List Row) → IsShaped rows → (right : Right) (k : ℕ) → IsLive rows k → (o : Option ℕ) → o ≡ deciding_row rows right (row_at rows k).depth k → IfSome o (λ j. IsLive rows j)
+pub decided_live : (rows : List Row) → IsShaped rows → (right : Right) (k : ℕ) → IsLive rows k → (o : Option ℕ) → o ≡ deciding_row rows right (row_at rows k).depth k
+    → IfSome o (λ j. IsLive rows j × (effective_path (nodes rows) (path_of rows k) right ≡ Some (path_of rows j)))
 decided_live rows shape right k live None e = tt
-decided_live rows shape right k live (Some j) e = (decided rows shape right (row_at rows k).depth k (path_of rows k) refl live j (sym e)).live
+decided_live rows shape right k live (Some j) e = (
+  (decided rows shape right (row_at rows k).depth k (path_of rows k) refl live j (sym e)).live,
+  decides rows shape right (row_at rows k).depth k (path_of rows k) refl live ∙ ap (option_map (path_of rows)) (sym e),
+)
 
 -- ---- what the deciding row allows
 

@@ -18,7 +18,7 @@ value_of q es = map.find tree_order q es
 abbrev pub names_of : {X : Type 0} → List (Path × X) → List Path
 names_of es = map (λ e. e.0) es
 
-is_true : (b : Bool) → T b → b ≡ true
+pub is_true : (b : Bool) → T b → b ≡ true
 is_true true t = refl
 is_true false t = absurd t
 
@@ -165,7 +165,7 @@ key_there {X} (e ∷ es) f q h =
     ] refl h
 
 -- what stands behind the first key stands there with it
-behind_first : {X : Type 0} (e : Path × X) (es : List (Path × X)) → below_all tree_order e.0 es ≡ true → (r : Path) (y : X) → value_of r es ≡ Some y → value_of r (e ∷ es) ≡ Some y
+pub behind_first : {X : Type 0} (e : Path × X) (es : List (Path × X)) → below_all tree_order e.0 es ≡ true → (r : Path) (y : X) → value_of r es ≡ Some y → value_of r (e ∷ es) ≡ Some y
 behind_first e es low r y h = rw (not_tied (rises e.0 es low r y h)) h
   where
     not_tied : is_before e.0 r ≡ true → eq_by_cmp tree_order r e.0 ≡ false

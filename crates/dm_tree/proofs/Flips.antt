@@ -1,13 +1,13 @@
 -- A flip, and a flip of what it turned the Undo into.
-use Rattle.std.proofs.Common.{◌≡◌, ℕ, ◌<◌, true, false, List, length, refl, sym, ◌∙◌, ap, arith}
+use Rattle.std.proofs.Common.{◌≡◌, ℕ, zero, suc, ◌<◌, true, false, List, length, refl, sym, ◌∙◌, ap, arith}
 use Rattle.std.proofs.Math.ListN.{set, length-set}
 use Rattle.std.proofs.lemmas.List.{set-get_or, get_or-set_same}
 use Rattle.dm_tree.specs.declared.rows.Row.{Row}
 use Rattle.dm_tree.specs.declared.rows.Change.{Change}
 use Rattle.dm_tree.specs.declared.rows.Change.TheVariants as change
 use Rattle.dm_tree.specs.Nodes.{counted, with_value, with_acl, with_title}
-use Rattle.dm_tree.specs.Rows.{blank, row_at, node_of, IsTree}
-use Rattle.dm_tree.specs.Undos.{row_of, flipped, turned, IsReady, Fits, TakesBack}
+use Rattle.dm_tree.specs.Rows.{blank, row_at, node_of, IsTree, IsParkedTop}
+use Rattle.dm_tree.specs.Undos.{row_of, flipped, turned, IsReady, Fits, IsHeld, TakesBack}
 use Rattle.dm_tree.proofs.Grows.{set_twice}
 use Rattle.dm_tree.proofs.Trees.{takes_back, back-node}
 
@@ -70,3 +70,28 @@ ready_again rows (change.PutIn k) l = ap (λ (r : Row). r.attached) (get_or-set_
 pub again : (rows : List Row) (u : Change) → IsTree rows → Fits rows u → TakesBack (turned rows u) rows (flipped rows u)
 again rows u tree fits =
     takes_back rows (flipped rows u) (turned rows u) tree (omega (arith, fits.inside, row_turned rows u, length-flipped rows u)) (ready_again rows u fits.inside) (flipped_twice rows u fits.inside fits.ready)
+
+-- ---- what may be discarded
+
+no_root : (rows : List Row) → IsTree rows → (k : ℕ) → (row_at rows k).attached ≡ true → 0 < k
+no_root rows tree zero at = absurd (let out = tree.shape.fixed in cc)
+no_root rows tree (suc k) at = omega arith
+
+parked_out : (rows : List Row) (k : ℕ) → IsTree rows → Fits rows (change.TakeOut k) → IsParkedTop (flipped rows (change.TakeOut k)) k
+parked_out rows k tree fits =
+    let here = get_or-set_same rows k (record (row_at rows k) { attached = false }) blank fits.inside in
+    record {
+      below_root = no_root rows tree k fits.ready;
+      inside = omega (arith, fits.inside, length-set rows k (record (row_at rows k) { attached = false }));
+      out = ap (λ (r : Row). r.attached) here;
+      held = ap (λ (r : Row). r.given_up) here ∙ (tree.each k fits.inside).attached fits.ready;
+    }
+
+-- what a flip has turned an Undo into holds what was taken out
+pub held_then : (rows : List Row) (u : Change) → IsTree rows → Fits rows u → IsHeld (flipped rows u) (turned rows u)
+held_then rows (change.Value k value verno stamp) tree fits = tt
+held_then rows (change.Acl k acl verno stamp) tree fits = tt
+held_then rows (change.Title k title verno stamp) tree fits = tt
+held_then rows (change.Name k name verno stamp) tree fits = tt
+held_then rows (change.TakeOut k) tree fits = parked_out rows k tree fits
+held_then rows (change.PutIn k) tree fits = tt

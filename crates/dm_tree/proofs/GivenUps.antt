@@ -38,11 +38,11 @@ one_top rows (suc d) j s t p q a b x y = by_tests (nat_eq j s) (nat_eq j t) refl
         let up' = walk_up rows d t j q is' y in
         rec up.above up'.above up.found up'.found
 
-self_below : (rows : List Row) (d k : ℕ) → walk rows d k k ≡ Some []
+pub self_below : (rows : List Row) (d k : ℕ) → walk rows d k k ≡ Some []
 self_below rows zero k = let is : nat_eq k k ≡ true = grind (arith, nat_tests) in rw is refl
 self_below rows (suc d) k = let is : nat_eq k k ≡ true = grind (arith, nat_tests) in rw is refl
 
-alike : (rows : List Row) (k : ℕ) → k < length rows → IsAlike rows (without_content rows k)
+pub alike : (rows : List Row) (k : ℕ) → k < length rows → IsAlike rows (without_content rows k)
 alike rows k l = record {
   parent = λ j. of_both rows k _ (λ s. s.parent) refl j l;
   depth = λ j. of_both rows k _ (λ s. s.depth) refl j l;
@@ -52,7 +52,7 @@ alike rows k l = record {
 }
 
 empty_held : (n : Node) → IsNode n → IsNode (emptied n)
-empty_held n h = record { value = record { format = h.value.format; kind = h.value.kind; empty = λ _. refl; media = omega arith }; acl = tt; title = omega arith }
+empty_held n h = record { value = record { format = h.value.format; kind = h.value.kind; empty = λ _. refl; media = omega arith; short = omega arith }; acl = tt; title = omega arith; verno = h.verno; stamp = h.stamp }
 
 still-given_up : (rows : List Row) → IsTree rows → (k : ℕ) → IsParkedTop rows k → IsStill rows (without_content rows k)
 still-given_up rows tree k top = record {
@@ -82,7 +82,7 @@ pub ids-given_up : (rows : List Row) (k : ℕ) → IsParkedTop rows k → ids (w
 ids-given_up rows k top = same_ids rows _ (alike rows k top.inside)
 
 -- what is parked isn't in the tree
-not_live : (rows : List Row) (k : ℕ) → IsParkedTop rows k → (p : Path) → path_below rows 0 k ≡ Some p → ⊥
+pub not_live : (rows : List Row) (k : ℕ) → IsParkedTop rows k → (p : Path) → path_below rows 0 k ≡ Some p → ⊥
 not_live rows k top p e =
     let out : is_some (path_below rows 0 k) ≡ false = not_in rows (row_at rows k).depth k (not_zero k (λ z. omega (arith, z, top.below_root))) top.out in
     let there : is_some (path_below rows 0 k) ≡ true = ap is_some e in

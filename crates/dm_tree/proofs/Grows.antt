@@ -12,7 +12,7 @@ use Rattle.std.proofs.Math.Seq.{get_or-append_seam}
 use Rattle.std.proofs.lemmas.List.{get_or_past}
 use Rattle.std.specs.FinMap.{get, insert}
 use Rattle.dm_tree.proofs.Paths.{below_or_not}
-use Rattle.dm_tree.proofs.Climbs.{Child, child_below, depth_is, not_zero}
+use Rattle.dm_tree.proofs.Climbs.{Child, attached_row, child_below, depth_is, not_zero}
 use Rattle.dm_tree.proofs.Maps.{id_of}
 use Rattle.dm_tree.proofs.Nodewise.{live_row}
 
@@ -80,9 +80,11 @@ shaped-append rows shape k live name node free short room =
       at_root = ap (λ (s : Row). s.depth) (before_end rows r 0 shape.rooted) ∙ shape.at_root;
       fixed = ap (λ (s : Row). s.attached) (before_end rows r 0 shape.rooted) ∙ shape.fixed;
       inside = λ j l. at_each j l (λ (s : Row). s.parent < length (rows ++ r ∷ [])) (λ h. omega (arith, long, shape.inside j h)) (omega (arith, long, inside));
-      falls = λ j a b. at_each j b (λ (s : Row). s.depth ≡ suc (row_at (rows ++ r ∷ []) s.parent).depth)
-          (λ h. shape.falls j a h ∙ ap (λ (s : Row). suc s.depth) (sym (before_end rows r (row_at rows j).parent (shape.inside j h))))
-          (ap (λ (s : Row). suc s.depth) (sym (before_end rows r k inside)));
+      falls = λ j a. elim (old_or_new j a) [
+        | inl x ↦ subst (λ (s : Row). s.depth ≡ suc (row_at (rows ++ r ∷ []) s.parent).depth) (sym x.0)
+            (shape.falls j x.1 ∙ ap (λ (s : Row). suc s.depth) (sym (before_end rows r (row_at rows j).parent (shape.inside j (attached_row rows shape j x.1).1))))
+        | inr y ↦ subst (λ (s : Row). s.depth ≡ suc (row_at (rows ++ r ∷ []) s.parent).depth) (sym y.1) (ap (λ (s : Row). suc s.depth) (sym (before_end rows r k inside)))
+      ];
       shallow = λ j. elim (below_or_not j (suc (length rows))) [
         | inl h ↦ at_each j (omega (arith, long, h)) (λ (s : Row). s.depth ≤ 16) (λ _. shape.shallow j) (omega arith)
         | inr h ↦ let past : row_at (rows ++ r ∷ []) j ≡ blank = get_or_past (rows ++ r ∷ []) j blank (omega (arith, long, h)) in subst (λ (s : Row). s.depth ≤ 16) (sym past) (omega arith)
@@ -163,9 +165,11 @@ shaped-parked rows shape r out inside deep shallow room =
       at_root = ap (λ (s : Row). s.depth) (before_end rows r 0 shape.rooted) ∙ shape.at_root;
       fixed = ap (λ (s : Row). s.attached) (before_end rows r 0 shape.rooted) ∙ shape.fixed;
       inside = λ j l. at_each j (omega (arith, long, l)) (λ (s : Row). s.parent < length (rows ++ r ∷ [])) (λ h. omega (arith, long, shape.inside j h)) (omega (arith, long, inside));
-      falls = λ j a b. at_each j (omega (arith, long, b)) (λ (s : Row). s.depth ≡ suc (row_at (rows ++ r ∷ []) s.parent).depth)
-          (λ h. shape.falls j a h ∙ ap (λ (s : Row). suc s.depth) (sym (before_end rows r (row_at rows j).parent (shape.inside j h))))
-          (deep ∙ ap (λ (s : Row). suc s.depth) (sym (before_end rows r r.parent inside)));
+      falls = λ j a.
+          let x = old j a in
+          let was : (row_at rows j).attached ≡ true = ap (λ (s : Row). s.attached) (sym x) ∙ a in
+          subst (λ (s : Row). s.depth ≡ suc (row_at (rows ++ r ∷ []) s.parent).depth) (sym x)
+          (shape.falls j was ∙ ap (λ (s : Row). suc s.depth) (sym (before_end rows r (row_at rows j).parent (shape.inside j (attached_row rows shape j was).1))));
       shallow = λ j. elim (below_or_not j (suc (length rows))) [
         | inl h ↦ at_each j h (λ (s : Row). s.depth ≤ 16) (λ _. shape.shallow j) shallow
         | inr h ↦ let past : row_at (rows ++ r ∷ []) j ≡ blank = get_or_past (rows ++ r ∷ []) j blank (omega (arith, long, h)) in subst (λ (s : Row). s.depth ≤ 16) (sym past) (omega arith)

@@ -67,7 +67,7 @@ module _ (rows : List Row) (r : Row) (attached : r.attached ≡ true) (held : r.
   parent_known = omega (arith, after.shape.inside (length rows) (omega (arith, long)), ap (λ (s : Row). s.parent) (at_end_of rows r), long)
 
   deeper : r.depth ≡ suc (row_at (rows ++ r ∷ []) r.parent).depth
-  deeper = ap (λ (s : Row). s.depth) (sym (at_end_of rows r)) ∙ after.shape.falls (length rows) rooted (omega (arith, long)) ∙ ap (λ (s : Row). suc (row_at (rows ++ r ∷ []) s.parent).depth) (at_end_of rows r)
+  deeper = ap (λ (s : Row). s.depth) (sym (at_end_of rows r)) ∙ after.shape.falls (length rows) (ap (λ (s : Row). s.attached) (at_end_of rows r) ∙ attached) ∙ ap (λ (s : Row). suc (row_at (rows ++ r ∷ []) s.parent).depth) (at_end_of rows r)
 
   pub new_parent : r.parent < length rows
   new_parent = elim (same_or_not r.parent (length rows)) [

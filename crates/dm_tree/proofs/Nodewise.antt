@@ -75,7 +75,7 @@ shaped_alike rows rows' same shape = record {
   at_root = same.depth 0 ∙ shape.at_root;
   fixed = same.attached 0 ∙ shape.fixed;
   inside = λ k l. omega (arith, same.long, same.parent k, shape.inside k (omega (arith, same.long)));
-  falls = λ k z l. same.depth k ∙ shape.falls k z (omega (arith, same.long)) ∙ ap suc (ap (λ j. (row_at rows j).depth) (sym (same.parent k)) ∙ sym (same.depth _));
+  falls = λ k at. same.depth k ∙ shape.falls k (sym (same.attached k) ∙ at) ∙ ap suc (ap (λ j. (row_at rows j).depth) (sym (same.parent k)) ∙ sym (same.depth _));
   shallow = λ k. omega (arith, same.depth k, shape.shallow k);
   no_twins = λ i j a b p n. shape.no_twins i j (sym (same.attached i) ∙ a) (sym (same.attached j) ∙ b) (sym (same.parent i) ∙ p ∙ same.parent j) (sym (same.name i) ∙ n ∙ same.name j);
 }

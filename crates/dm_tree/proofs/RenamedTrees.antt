@@ -11,7 +11,7 @@ use Rattle.dm_uri.specs.Names.{has_name_form, is_name, is_short, printed_path, i
 use Rattle.dm_tree.specs.declared.nodes.Stamp.{Stamp}
 use Rattle.dm_tree.specs.declared.rows.Row.{Row}
 use Rattle.dm_tree.specs.declared.rows.Change.TheVariants as change
-use Rattle.dm_tree.specs.Nodes.{Path, above, changed, IsRoot}
+use Rattle.dm_tree.specs.Nodes.{Path, above, changed, IsRoot, IsStamp}
 use Rattle.dm_tree.specs.Rows.{row_at, node_of, path_below, placed, ids_below, ids, nodes, IsShaped, IsRow, IsTree, IsLive, path_of}
 use Rattle.dm_tree.specs.Edits.{with_name, rekeyed, fits}
 use Rattle.dm_tree.specs.Undos.{TakesBack}
@@ -21,16 +21,18 @@ use Rattle.dm_tree.proofs.Climbs.{child_below, depth_is, not_zero}
 use Rattle.dm_tree.proofs.Maps.{id_of}
 use Rattle.dm_tree.proofs.Nodewise.{of_both, live_row}
 use Rattle.dm_tree.proofs.Seen.{HasParent, has_parent, above-append, live_at, len-nodes, all_named, node_there}
+use Rattle.dm_tree.proofs.Contents.{held_changed}
 use Rattle.dm_tree.proofs.Flips.{again}
 use Rattle.dm_tree.proofs.Rekeyed.{parent_then, depth_then, attached_then, here_then, other_then, path_then, lies_then}
 
 -- what a rename asks for
-pub record MayRename (rows : List Row) (k : ℕ) (name : List ℕ) : Type 0 where
+pub record MayRename (rows : List Row) (k : ℕ) (name : List ℕ) (clock : Stamp) : Type 0 where
   pub live : IsLive rows k
   pub removable : (node_of rows k).permanent ≡ false
   pub free : IfSome (get (ids rows) (above (path_of rows k) ++ name ∷ [])) (λ other. other ≡ k)
   pub fits : fits (nodes rows) (path_of rows k) name ≡ true
   pub named : is_name name ≡ true
+  pub stamp : IsStamp clock
 
 all_short : (p : Path) → list_all is_name p ≡ true → list_all is_short p ≡ true
 all_short [] h = refl
@@ -42,7 +44,7 @@ all_short (n ∷ ns) h =
 few_names : (n : ℕ) → n ≤ 16 → nat_le n 16 ≡ true
 few_names n h = grind (arith, nat_tests)
 
-module _ (rows : List Row) (tree : IsTree rows) (k : ℕ) (name : List ℕ) (clock : Stamp) (may : MayRename rows k name) where
+module _ (rows : List Row) (tree : IsTree rows) (k : ℕ) (name : List ℕ) (clock : Stamp) (may : MayRename rows k name clock) where
   abbrev now : List Row
   now = with_name rows k name (changed clock (node_of rows k))
 
@@ -112,7 +114,7 @@ module _ (rows : List Row) (tree : IsTree rows) (k : ℕ) (name : List ℕ) (clo
     at_root = depth 0 ∙ tree.shape.at_root;
     fixed = attached 0 ∙ tree.shape.fixed;
     inside = λ j h. omega (arith, long, parent j, tree.shape.inside j (omega (arith, long)));
-    falls = λ j a b. depth j ∙ tree.shape.falls j a (omega (arith, long)) ∙ ap suc (ap (λ i. (row_at rows i).depth) (sym (parent j)) ∙ sym (depth _));
+    falls = λ j a. depth j ∙ tree.shape.falls j (sym (attached j) ∙ a) ∙ ap suc (ap (λ i. (row_at rows i).depth) (sym (parent j)) ∙ sym (depth _));
     shallow = λ j. omega (arith, depth j, tree.shape.shallow j);
     no_twins = λ i j a b p n. twins i j (sym (attached i) ∙ a) (sym (attached j) ∙ b) (sym (parent i) ∙ p ∙ parent j) n;
   }
@@ -121,7 +123,7 @@ module _ (rows : List Row) (tree : IsTree rows) (k : ℕ) (name : List ℕ) (clo
   row_is j jl = elim (same_or_not j k) [
     | inl h ↦ subst (λ i. IsRow (row_at now i)) (sym h) (subst IsRow (sym here) (record {
       name = may.named;
-      node = record { value = (tree.each k l).node.value; acl = (tree.each k l).node.acl; title = (tree.each k l).node.title };
+      node = let held = (tree.each k l).node in held_changed clock (node_of rows k) may.stamp held.value held.acl held.title;
       attached = (tree.each k l).attached;
     }))
     | inr h ↦ subst IsRow (sym (other j h)) (tree.each j jl)

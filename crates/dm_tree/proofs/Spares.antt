@@ -9,7 +9,7 @@ use Rattle.dm_tree.specs.declared.rows.Change.TheVariants as change
 use Rattle.dm_tree.specs.Nodes.{counted, with_value, with_acl, with_title}
 use Rattle.dm_tree.specs.Rows.{row_at, ids, nodes, IsTree, path_of}
 use Rattle.dm_tree.specs.Edits.{attached_as, new_row}
-use Rattle.dm_tree.specs.Undos.{TakesOut, IsInserted, Fits, IsReady, FitAll, GoesBackAlike, row_of, flipped, all_flipped}
+use Rattle.dm_tree.specs.Undos.{TakesOut, IsInserted, Fits, IsReady, FitAll, row_of, flipped, all_flipped}
 use Rattle.dm_tree.proofs.Nodewise.{of_both, live_row}
 use Rattle.dm_tree.proofs.Grows.{at_end_of, before_end, nodes-append, ids-append, with_row-end, nodes-parked, ids-parked, set_last}
 use Rattle.dm_tree.proofs.Seen.{stay_live-insert}
@@ -21,7 +21,7 @@ use Rattle.dm_tree.proofs.Flips.{length-flipped}
 one_row_set : (rows : List Row) (r : Row) (k : ℕ) (f : Row → Row) → k < length rows → set (rows ++ r ∷ []) k (f (row_at (rows ++ r ∷ []) k)) ≡ set rows k (f (row_at rows k)) ++ r ∷ []
 one_row_set rows r k f l = ap (λ s. set (rows ++ r ∷ []) k (f s)) (before_end rows r k l) ∙ set-append_left rows (r ∷ []) k (f (row_at rows k)) l
 
-flipped-spare : (rows : List Row) (r : Row) (u : Change) → row_of u < length rows → flipped (rows ++ r ∷ []) u ≡ flipped rows u ++ r ∷ []
+pub flipped-spare : (rows : List Row) (r : Row) (u : Change) → row_of u < length rows → flipped (rows ++ r ∷ []) u ≡ flipped rows u ++ r ∷ []
 flipped-spare rows r (change.Value k value verno stamp) l = one_row_set rows r k (λ (s : Row). record s { node = counted (with_value s.node value) verno stamp }) l
 flipped-spare rows r (change.Acl k acl verno stamp) l = one_row_set rows r k (λ (s : Row). record s { node = counted (with_acl s.node acl) verno stamp }) l
 flipped-spare rows r (change.Title k title verno stamp) l = one_row_set rows r k (λ (s : Row). record s { node = counted (with_title s.node title) verno stamp }) l
@@ -64,33 +64,26 @@ fits-spare rows r u spare fits = record {
 
 -- ---- many flips beside it
 
-all_fit : (rows : List Row) (r : Row) (us : List Change) → IsSpare rows r → FitAll rows us → FitAll (rows ++ r ∷ []) us
+pub all_fit : (rows : List Row) (r : Row) (us : List Change) → IsSpare rows r → FitAll rows us → FitAll (rows ++ r ∷ []) us
 all_fit rows r [] spare fits = tt
 all_fit rows r (u ∷ us) spare fits =
     (fits-spare rows r u spare fits.0, subst (λ s. FitAll s us) (sym (flipped-spare rows r u fits.0.inside)) (all_fit (flipped rows u) r us (still_spare rows r u fits.0.inside spare) fits.1))
 
-all_flipped-spare : (rows : List Row) (r : Row) (us : List Change) → FitAll rows us → all_flipped (rows ++ r ∷ []) us ≡ all_flipped rows us ++ r ∷ []
+pub all_flipped-spare : (rows : List Row) (r : Row) (us : List Change) → FitAll rows us → all_flipped (rows ++ r ∷ []) us ≡ all_flipped rows us ++ r ∷ []
 all_flipped-spare rows r [] fits = refl
 all_flipped-spare rows r (u ∷ us) fits = ap (λ s. all_flipped s us) (flipped-spare rows r u fits.0.inside) ∙ all_flipped-spare (flipped rows u) r us fits.1
 
-tree-flipped : (rows : List Row) → IsTree rows → (us : List Change) → FitAll rows us → IsTree (all_flipped rows us)
+pub tree-flipped : (rows : List Row) → IsTree rows → (us : List Change) → FitAll rows us → IsTree (all_flipped rows us)
 tree-flipped rows tree [] fits = tree
 tree-flipped rows tree (u ∷ us) fits = tree-flipped (flipped rows u) fits.0.sound us fits.1
-
-back_alike : (rows : List Row) → IsTree rows → (r : Row) → IsSpare rows r → GoesBackAlike rows (rows ++ r ∷ [])
-back_alike rows tree r spare = record {
-  fit = λ us fits. all_fit rows r us spare fits;
-  nodes = λ us fits. ap nodes (all_flipped-spare rows r us fits) ∙ nodes-parked (all_flipped rows us) (tree-flipped rows tree us fits).shape r spare.out;
-  ids = λ us fits. ap ids (all_flipped-spare rows r us fits) ∙ ids-parked (all_flipped rows us) (tree-flipped rows tree us fits).shape r spare.out;
-}
 
 -- ---- an insert that is taken back
 
 -- the same row, out of the tree
-pub parked : List Row → ℕ → List ℕ → Node → Row
+unfoldable pub parked : List Row → ℕ → List ℕ → Node → Row
 parked rows k name node = record (new_row rows k name node) { attached = false }
 
-spare-parked : (rows : List Row) → IsTree rows → (k : ℕ) (name : List ℕ) (node : Node) → MayCome rows k name node → IsSpare rows (parked rows k name node)
+pub spare-parked : (rows : List Row) → IsTree rows → (k : ℕ) (name : List ℕ) (node : Node) → MayCome rows k name node → IsSpare rows (parked rows k name node)
 unfolding parked
 spare-parked rows tree k name node may = record {
   out = refl;
@@ -102,7 +95,7 @@ spare-parked rows tree k name node may = record {
 }
 
 -- what an insert's Undo gives
-unparked : (rows : List Row) (k : ℕ) (name : List ℕ) (node : Node) → attached_as (rows ++ new_row rows k name node ∷ []) (length rows) false ≡ rows ++ parked rows k name node ∷ []
+pub unparked : (rows : List Row) (k : ℕ) (name : List ℕ) (node : Node) → attached_as (rows ++ new_row rows k name node ∷ []) (length rows) false ≡ rows ++ parked rows k name node ∷ []
 unfolding parked
 unparked rows k name node =
     ap (λ (r : Row). set (rows ++ new_row rows k name node ∷ []) (length rows) (record r { attached = false })) (at_end_of rows (new_row rows k name node))
@@ -123,7 +116,6 @@ takes_out rows tree k name node may =
       };
       nodes = ap nodes e ∙ nodes-parked rows tree.shape (parked rows k name node) refl;
       ids = ap ids e ∙ ids-parked rows tree.shape (parked rows k name node) refl;
-      alike = subst (GoesBackAlike rows) (sym e) (back_alike rows tree (parked rows k name node) (spare-parked rows tree k name node may));
     }
 
 pub inserted : (rows : List Row) → IsTree rows → (k : ℕ) (name : List ℕ) (node : Node) → MayCome rows k name node

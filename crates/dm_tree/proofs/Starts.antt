@@ -1,11 +1,15 @@
 -- The tree that is its root.
-use Rattle.std.proofs.Common.{◌≡◌, ℕ, zero, suc, ◌<◌, ◌≤◌, true, false, List, [], ◌∷◌, refl, arith}
+use Rattle.std.proofs.Common.{◌≡◌, ℕ, zero, suc, ◌<◌, ◌≤◌, true, false, List, [], ◌∷◌, length, get_or, refl, arith}
+use Rattle.std.specs.Prelude.{nat_lt}
+use Rattle.std.specs.List.{list_all}
+use Rattle.std.proofs.lemmas.Bool.{and_parts}
+use Rattle.std.proofs.lemmas.Bool.Decides.{nat_tests}
 use Rattle.std.specs.FinMap.{insert, empty}
 use Rattle.dm_acl.specs.declared.values.Entries.{Entries}
 use Rattle.dm_uri.specs.Names.{is_name, is_within_limits}
 use Rattle.dm_tree.specs.declared.nodes.Node.{Node}
 use Rattle.dm_tree.specs.declared.rows.Row.{Row}
-use Rattle.dm_tree.specs.Nodes.{tree_order, root_node, IsShortAcl}
+use Rattle.dm_tree.specs.Nodes.{tree_order, root_node, first_stamp, IsReadAgain, IsStamp}
 use Rattle.dm_tree.specs.Rows.{row_at, IsShaped, IsRow, IsTree, IsLive, nodes, path_of}
 use Rattle.dm_tree.proofs.Nodewise.{live_row}
 use Rattle.dm_tree.proofs.Seen.{len-nodes}
@@ -26,7 +30,7 @@ shaped name acl = record {
   at_root = refl;
   fixed = refl;
   inside = λ k l. one k l;
-  falls = λ k a b. absurd (omega (arith, a, b));
+  falls = λ k at. absurd (not_attached name acl k at);
   shallow = λ k. flat k;
   no_twins = λ i j a b p n. absurd (not_attached name acl i a);
 }
@@ -43,9 +47,17 @@ pub nodes-root : (name : List ℕ) (acl : Entries) → nodes (root_row name acl 
 unfolding root_row nodes
 nodes-root name acl = refl
 
-pub starts : (name : List ℕ) (acl : Entries) → is_name name ≡ true → IsShortAcl acl → IsTree (root_row name acl ∷ [])
+below : (bytes : List ℕ) → list_all (λ b. nat_lt b 256) bytes ≡ true → (k : ℕ) → k < length bytes → get_or bytes k 0 < 256
+below [] h k l = absurd (omega (arith, l))
+below (b ∷ bs) h zero l = grind (arith, nat_tests, (and_parts (nat_lt b 256) (list_all (λ b. nat_lt b 256) bs) h).0)
+below (b ∷ bs) h (suc k) l = below bs (and_parts (nat_lt b 256) (list_all (λ b. nat_lt b 256) bs) h).1 k (omega (arith, l))
+
+starts_at : IsStamp first_stamp
+starts_at = record { long = refl; bytes = below first_stamp.bytes refl }
+
+pub starts : (name : List ℕ) (acl : Entries) → is_name name ≡ true → IsReadAgain acl → IsTree (root_row name acl ∷ [])
 unfolding root_row
-starts name acl n short = record {
+starts name acl n again = record {
   shape = shaped name acl;
   each = λ k l. one k l;
   root = record { interior = refl; permanent = refl; acl = refl; media = refl; role = refl };
@@ -59,5 +71,5 @@ starts name acl n short = record {
     at_root (suc k) live = absurd (omega (arith, live_row (root_row name acl ∷ []) (shaped name acl) (suc k) live))
 
     one : (k : ℕ) → k < 1 → IsRow (row_at (root_row name acl ∷ []) k)
-    one zero l = record { name = n; node = record { value = record { format = refl; kind = refl; empty = λ _. refl; media = omega arith }; acl = short; title = omega arith }; attached = λ e. refl }
+    one zero l = record { name = n; node = record { value = record { format = refl; kind = refl; empty = λ _. refl; media = omega arith; short = omega arith }; acl = again; title = omega arith; verno = omega arith; stamp = starts_at }; attached = λ e. refl }
     one (suc k) l = absurd (omega (arith, l))

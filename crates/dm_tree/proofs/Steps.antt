@@ -68,10 +68,10 @@ fork_behind a x y ys h f = by_order (name_order x y) refl (sym (ap is_lt (fork a
 one_longer : (a : Path) (m : List ℕ) → (length (a ++ m ∷ []) == length a + 1) ≡ true
 one_longer a m = let e : length (a ++ m ∷ []) ≡ length a + 1 = length-append a (m ∷ []) in grind (arith, nat_tests, e)
 
-child_passes : (a : Path) (m : List ℕ) → is_child_of a (a ++ m ∷ []) ≡ true
+pub child_passes : (a : Path) (m : List ℕ) → is_child_of a (a ++ m ∷ []) ≡ true
 child_passes a m = and_from (length (a ++ m ∷ []) == length a + 1) (is_below a (a ++ m ∷ [])) (one_longer a m) (below_append a (m ∷ []))
 
-child_is : (a q : Path) → is_child_of a q ≡ true → (m : List ℕ) × (q ≡ a ++ m ∷ [])
+pub child_is : (a q : Path) → is_child_of a q ≡ true → (m : List ℕ) × (q ≡ a ++ m ∷ [])
 child_is a q h =
     let both = and_parts (length q == length a + 1) (is_below a q) h in
     let long : length q ≡ length a + 1 = grind (arith, nat_tests, both.0) in
@@ -100,7 +100,7 @@ on_below p r b h = by_rest (drop (length p) r) (rest_below p r b)
 abbrev is_sibling : Path → List ℕ → Path → Bool
 is_sibling a n q = not (length (a ++ n ∷ []) == 0) && is_child_of (above (a ++ n ∷ [])) q && is_before (a ++ n ∷ []) q
 
-some_length : (a : Path) (n : List ℕ) → not (length (a ++ n ∷ []) == 0) ≡ true
+pub some_length : (a : Path) (n : List ℕ) → not (length (a ++ n ∷ []) == 0) ≡ true
 some_length a n = let some : 0 < length (a ++ n ∷ []) = omega (arith, length-append a (n ∷ [])) in grind (arith, nat_tests)
 
 sibling_passes : (a : Path) (n m : List ℕ) → is_lt (name_order n m) ≡ true → is_sibling a n (a ++ m ∷ []) ≡ true

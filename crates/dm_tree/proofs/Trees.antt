@@ -94,7 +94,7 @@ tree-with_mark rows tree k l above = tree-still rows _ tree (record {
   each = λ j jl. elim (same_or_not j k) [
     | inl h ↦ subst (λ i. IsRow (row_at (with_node rows k n) i)) (sym h) (subst IsRow (sym here) (record {
       name = (tree.each k l).name;
-      node = record { value = (tree.each k l).node.value; acl = (tree.each k l).node.acl; title = (tree.each k l).node.title };
+      node = record { value = (tree.each k l).node.value; acl = (tree.each k l).node.acl; title = (tree.each k l).node.title; verno = (tree.each k l).node.verno; stamp = (tree.each k l).node.stamp };
       attached = (tree.each k l).attached;
     }))
     | inr h ↦ subst IsRow (sym (get_or-set_other rows k j _ blank h)) (tree.each j jl)

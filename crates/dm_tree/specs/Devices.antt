@@ -1,13 +1,17 @@
 -- The parts of a tree that have a role: the device's information and its update.
-use Rattle.std.specs.Prelude.{◌≡◌, ◌⊎◌, ◌==◌, ℕ, Bool, true, false, not, IsTrue, List, [], ◌∷◌, ◌++◌, map, codes, bytes_eq, Option, Some, unwrap_or, option_map, find}
+use Rattle.std.specs.Prelude.{◌≡◌, ◌⊎◌, ◌==◌, ℕ, Bool, true, false, not, IsTrue, List, [], ◌∷◌, ◌++◌, map, codes, bytes_eq, Option, Some, None, unwrap_or, option_map, option_and_then, find}
+use Rattle.std.specs.Option.{option_map_or}
 use Rattle.std.specs.List.{list_any, list_all}
 use Rattle.std.specs.Str.{IsUtf8}
-use Rattle.std.specs.FinMap.{get, entries}
+use Rattle.std.specs.FinMap.{empty, get, insert, entries}
+use Rattle.dm_acl.specs.declared.values.Entries.{Entries}
 use Rattle.dm_base.specs.Fields.{is_short}
 use Rattle.dm_tree.specs.declared.nodes.Node.{Node}
 use Rattle.dm_tree.specs.declared.nodes.Role.{Role}
+use Rattle.dm_tree.specs.declared.nodes.Value.{Value}
 use Rattle.dm_tree.specs.declared.nodes.Role.TheVariants as role
-use Rattle.dm_tree.specs.Nodes.{Path, Nodes}
+use Rattle.dm_tree.specs.Nodes.{Path, Nodes, above, first_stamp, root_node}
+use Rattle.dm_tree.specs.Order.{children}
 
 -- ---- the update
 
@@ -17,6 +21,17 @@ is_update_node role.Plain = false
 is_update_node role.ReadOnly = false
 is_update_node role.PkgData = false
 is_update_node role.State = false
+
+-- the roles told apart
+abbrev pub role_number : Role → ℕ
+role_number role.Plain = 0
+role_number role.ReadOnly = 1
+role_number role.UpdateNode = 2
+role_number role.PkgData = 3
+role_number role.State = 4
+
+abbrev pub is_role : Role → Role → Bool
+is_role a b = role_number a == role_number b
 
 -- a role that belongs to the update
 abbrev pub is_of_update : Role → Bool
@@ -29,6 +44,22 @@ is_of_update role.ReadOnly = false
 -- the path of the first node whose role is that of an update node
 abbrev pub update_node : Nodes → Option Path
 update_node m = option_map (λ e. e.0) (find (λ e. is_update_node e.1.role) (entries m))
+
+-- a node of this role stands at the path
+abbrev pub has_role : Nodes → Role → Path → Bool
+has_role m r q = option_map_or (λ (n : Node). is_role n.role r) (get m q) false
+
+-- of the children of p, the first of this role
+abbrev pub child_of_role : Nodes → Path → Role → Option Path
+child_of_role m p r = find (λ q. has_role m r q) (children m p)
+
+-- the path of PkgData, right below the update node
+abbrev pub pkg_data : Nodes → Option Path
+pkg_data m = option_and_then (λ p. child_of_role m p role.PkgData) (update_node m)
+
+-- the path of State, right beside it
+abbrev pub state_node : Nodes → Option Path
+state_node m = option_and_then (λ p. child_of_role m (above p) role.State) (update_node m)
 
 -- idle, ready to update, update progressing, update failed, update successful
 abbrev pub is_update_state : List ℕ → Bool
@@ -76,6 +107,10 @@ value_at m p = unwrap_or (option_map (λ (n : Node). n.value.bytes) (get m p)) [
 abbrev pub device_values : Nodes → List (List ℕ)
 device_values m = map (λ name. value_at m (device_path name)) device_leaves
 
+-- the device's id, which is the first of these
+abbrev pub device_id : Nodes → List ℕ
+device_id m = value_at m (device_path (codes "DevId"))
+
 -- such a leaf is permanent and only read, a text of 1 to 64 bytes of 21 to 7E
 pub record IsDeviceLeaf (m : Nodes) (name : List ℕ) : Type 0 where
   pub node : Node
@@ -96,3 +131,64 @@ pub record IsDeviceTree (m : Nodes) : Type 0 where
   pub model : IsDeviceLeaf m (codes "Mod")
   pub dm_v : IsDeviceLeaf m (codes "DmV")
   pub lang : IsDeviceLeaf m (codes "Lang")
+
+-- ---- what edits leave of them
+
+-- a node of this role may be given the value: it isn't only read, a state is one of the five, and the Type is a text
+pub record MayTake (r : Role) (value : Value) : Type 0 where
+  pub written : r ≡ role.ReadOnly → ⊥
+  pub state : r ≡ role.State → IsTrue (is_update_state value.bytes)
+  pub media : IsText value.media
+
+-- a node has become another one, which is of the same kind and for the same, and permanent where that was; its value is the
+-- same or one that it may be given
+pub record StaysAlike (old new : Node) : Type 0 where
+  pub interior : new.interior ≡ old.interior
+  pub permanent : old.permanent ≡ true → new.permanent ≡ true
+  pub role : new.role ≡ old.role
+  pub value : (new.value ≡ old.value) ⊎ MayTake old.role new.value
+
+-- a tree of a device has become another one, with the same values, and the update part at the same place
+pub record KeepsDevice (old new : Nodes) : Type 0 where
+  pub tree : IsDeviceTree new
+  pub values : device_values new ≡ device_values old
+  pub id : device_id new ≡ device_id old
+  pub update : (p : Path) → HasUpdate old p → HasUpdate new p
+  pub no_update : HasNoUpdate old → HasNoUpdate new
+
+-- ---- a tree of a device
+
+-- `./DevInfo`
+abbrev pub device_node : Node
+device_node = record {
+  interior = true;
+  value = record { format = codes "node"; media = []; bytes = [] };
+  acl = None;
+  title = [];
+  verno = 0;
+  stamp = first_stamp;
+  permanent = true;
+  role = role.Plain;
+}
+
+abbrev pub device_leaf : List ℕ → Node
+device_leaf value = record {
+  interior = false;
+  value = record { format = codes "chr"; media = codes "text/plain"; bytes = value };
+  acl = None;
+  title = [];
+  verno = 0;
+  stamp = first_stamp;
+  permanent = true;
+  role = role.ReadOnly;
+}
+
+-- the root, and what the device tells of itself
+abbrev pub bare_device : Entries → List ℕ → List ℕ → List ℕ → List ℕ → List ℕ → Nodes
+bare_device acl dev_id man model dm_v lang =
+    insert (insert (insert (insert (insert (insert (insert empty [] (root_node acl)) (codes "DevInfo" ∷ []) device_node)
+    (device_path (codes "DevId")) (device_leaf dev_id))
+    (device_path (codes "Man")) (device_leaf man))
+    (device_path (codes "Mod")) (device_leaf model))
+    (device_path (codes "DmV")) (device_leaf dm_v))
+    (device_path (codes "Lang")) (device_leaf lang)

@@ -1,8 +1,11 @@
 pub mod FirstTree
+pub mod Frees
 pub mod Nodes
 pub mod Rows
 pub mod Edits
 pub mod Undos
+pub mod Notes
+pub mod Reuse
 pub mod Rights
 pub mod Order
 pub mod Devices

@@ -1,5 +1,5 @@
 -- What a node may hold, and the tree as a map from paths to nodes.
-use Rattle.std.specs.Prelude.{◌≡◌, ◌≤◌, ◌+◌, ◌%◌, ◌^◌, ℕ, Bool, true, IsTrue, IsSome, List, [], ◌∷◌, ◌++◌, length, codes, bytes_eq, Option, Some, None, IfSome}
+use Rattle.std.specs.Prelude.{◌≡◌, ◌≤◌, ◌<◌, ◌+◌, ◌%◌, ◌^◌, ℕ, Bool, true, IsTrue, IsSome, List, [], ◌∷◌, ◌++◌, length, codes, bytes_eq, get_or, Option, Some, None, IfSome, Ok}
 use Rattle.std.specs.List.{list_any}
 use Rattle.std.specs.Ordering.{nat_cmp, eq_by_cmp}
 use Rattle.std.specs.Cmp.Lexicographic.{slice_cmp}
@@ -8,6 +8,7 @@ use Rattle.std.specs.Prelude.{take}
 use Rattle.std.specs.declared.cmp.Ordering.{Ordering}
 use Rattle.dm_acl.specs.declared.values.Entries.{Entries}
 use Rattle.dm_acl.specs.Grammar.{printed}
+use Rattle.dm_acl.specs.Reading.{parse_of}
 use Rattle.dm_uri.specs.Names.{IsPath, is_within_limits}
 use Rattle.dm_tree.specs.declared.nodes.Node.{Node}
 use Rattle.dm_tree.specs.declared.nodes.NewNode.{NewNode}
@@ -28,22 +29,37 @@ is_format text = list_any (bytes_eq text) formats
 abbrev pub is_node_format : List ℕ → Bool
 is_node_format text = bytes_eq text (codes "node")
 
--- one of the eight Formats, `node` exactly at an interior node, which has no bytes; a Type of at most 255 bytes
+-- one of the eight Formats, `node` exactly at an interior node, which has no bytes; a Type of at most 255 bytes, and at
+-- most 4,194,304 bytes
 pub record IsValue (interior : Bool) (value : Value) : Type 0 where
   pub format : IsTrue (is_format value.format)
   pub kind : is_node_format value.format ≡ interior
   pub empty : interior ≡ true → value.bytes ≡ []
   pub media : length value.media ≤ 255
+  pub short : length value.bytes ≤ 4194304
 
--- an access list whose text has at most 4,096 bytes
-abbrev pub IsShortAcl : Entries → Type 0
-IsShortAcl acl = length (printed acl) ≤ 4096
+-- an access list that is read again from its text, which so has at most 4,096 bytes
+abbrev pub IsReadAgain : Entries → Type 0
+IsReadAgain acl = parse_of (printed acl) ≡ Ok acl
+
+-- sixteen bytes
+pub record IsStamp (stamp : Stamp) : Type 0 where
+  pub long : length stamp.bytes ≡ 16
+  pub bytes : (k : ℕ) → k < 16 → get_or stamp.bytes k 0 < 256
 
 -- what a node may hold, wherever it stands
 pub record IsNode (node : Node) : Type 0 where
   pub value : IsValue node.interior node.value
-  pub acl : IfSome node.acl IsShortAcl
+  pub acl : IfSome node.acl IsReadAgain
   pub title : length node.title ≤ 255
+  pub verno : node.verno < 2 ^ 16
+  pub stamp : IsStamp node.stamp
+
+-- what a node may be made of
+pub record IsNewNode (new : NewNode) : Type 0 where
+  pub value : IsValue new.interior new.value
+  pub acl : IfSome new.acl IsReadAgain
+  pub title : length new.title ≤ 255
 
 -- the node that an insert makes at a clock
 abbrev pub made : Stamp → NewNode → Node

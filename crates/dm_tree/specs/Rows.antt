@@ -99,14 +99,15 @@ ids rows = from_entries (ids_below rows 0 (length rows))
 
 -- ---- what holds of the rows of every tree
 
--- each row lies one deeper than its parent; no two rows that are attached have one parent and one name
+-- each row that is attached lies one deeper than its parent; no two rows that are attached have one parent and one name
 pub record IsShaped (rows : List Row) : Type 0 where
   pub rooted : 0 < length rows
   pub few : length rows < 2 ^ 32
   pub at_root : (row_at rows 0).depth ≡ 0
   pub fixed : (row_at rows 0).attached ≡ false
   pub inside : (k : ℕ) → k < length rows → (row_at rows k).parent < length rows
-  pub falls : (k : ℕ) → 0 < k → k < length rows → (row_at rows k).depth ≡ suc (row_at rows (row_at rows k).parent).depth
+  pub falls : (k : ℕ) → (row_at rows k).attached ≡ true
+      → (row_at rows k).depth ≡ suc (row_at rows (row_at rows k).parent).depth
   pub shallow : (k : ℕ) → (row_at rows k).depth ≤ 16
   pub no_twins : (i j : ℕ) → (row_at rows i).attached ≡ true → (row_at rows j).attached ≡ true → (row_at rows i).parent ≡ (row_at rows j).parent → (row_at rows i).name ≡ (row_at rows j).name → i ≡ j
 

@@ -84,20 +84,12 @@ abbrev pub all_flipped : List Row → List Change → List Row
 all_flipped rows [] = rows
 all_flipped rows (u ∷ us) = all_flipped (flipped rows u) us
 
--- whatever Undos may be flipped one after another in the old rows may be in the new ones, and give the same tree
-pub record GoesBackAlike (old new : List Row) : Type 0 where
-  pub fit : (us : List Change) → FitAll old us → FitAll new us
-  pub nodes : (us : List Change) → FitAll old us → nodes (all_flipped new us) ≡ nodes (all_flipped old us)
-  pub ids : (us : List Change) → FitAll old us → ids (all_flipped new us) ≡ ids (all_flipped old us)
-
--- an insert's Undo: flipped after it, it gives the tree before it, and earlier Undos fit as they did then; the new row is
--- parked
+-- an insert's Undo: flipped after it, it gives the tree before it
 pub record TakesOut (undo : Change) (id : ℕ) (old new : List Row) : Type 0 where
   pub change : undo ≡ change.TakeOut id
   pub fits : Fits new undo
   pub nodes : nodes (flipped new undo) ≡ nodes old
   pub ids : ids (flipped new undo) ≡ ids old
-  pub alike : GoesBackAlike old (flipped new undo)
 
 -- a node has come in below `parent`, under the number id: in both maps, in a row of its own, and with an Undo that takes
 -- it out

@@ -9,7 +9,6 @@ use Rattle.dm_acl.specs.Grammar.{has_entry, allowed}
 use Rattle.dm_tree.specs.declared.rows.Row.{Row}
 use Rattle.dm_tree.specs.Nodes.{Path}
 use Rattle.dm_tree.specs.Rows.{row_at, node_of, path_below}
-use Rattle.dm_tree.specs.Devices.{is_update_node}
 
 abbrev pub is_child : ℕ → List ℕ → Row → Bool
 is_child id name r = r.attached && (nat_eq r.parent id && bytes_eq r.name name)
@@ -90,7 +89,3 @@ abbrev pub next_row : List Row → ℕ → ℕ → Bool → Option ℕ
 next_row rows top k true = next_past rows top (row_at rows k).depth k
 next_row rows top k false =
     option_or (least_child rows k None (length rows)) (next_past rows top (row_at rows k).depth k)
-
--- a row below the root whose role is that of an update node
-abbrev pub is_update_row : List Row → ℕ → Bool
-is_update_row rows k = is_update_node (node_of rows k).role && is_some (path_below rows 0 k)

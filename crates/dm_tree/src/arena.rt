@@ -2,11 +2,12 @@
 ghost use Rattle.std.specs.Prelude.{◌≡◌, ◌<◌, ◌≤◌, ◌++◌, ◌∷◌, [], Some, None, if◌then◌else◌, IfOk, IfSome, option_map, option_and_then};
 ghost use Rattle.std.specs.Option.{option_copied};
 ghost use Rattle.std.specs.FinMap as map;
-ghost use Rattle.dm_tree.specs.Nodes.{first_stamp, root_node, above, last_name, tree_order, Nodes, IsShortAcl, IsWellFormed};
-ghost use Rattle.dm_tree.specs.Rows.{nodes, ids, node_of, path_of, IsLive};
+ghost use Rattle.dm_tree.specs.Nodes.{first_stamp, root_node, above, last_name, tree_order, Nodes, IsReadAgain, IsStamp, IsWellFormed};
+ghost use Rattle.dm_tree.specs.Rows.{nodes, ids, node_of, path_of, IsLive, IsTree};
 ghost use Rattle.dm_tree.specs.Rights.{effective_path, allows};
 ghost use Rattle.dm_tree.specs.Views.{shown};
 
+use crate::clock::Clock;
 use crate::index::Children;
 use crate::nodes::{Node, Role, Stamp, Value, View};
 use crate::rows::{NodeId, Row};
@@ -33,7 +34,9 @@ pub struct Tree {
     /// The children of each row, and how many rows lie at and below it.
     pub(crate) index: Vec<Children>,
     pub(crate) sizes: Vec<u32>,
-    pub(crate) clock: Stamp,
+    /// The row that a new node may take, or 0. The next one stands with its children.
+    pub(crate) free: u32,
+    pub(crate) clock: Clock,
 }
 
 impl Model for Tree {
@@ -70,7 +73,7 @@ fn root_of(alloc: Global, acl: Acl) -> Result<Node, Memory>
 impl Tree {
     /// A tree that is its root, with this access list. Its clock is `00000000T000000Z`.
     pub fn new(alloc: Global, root_acl: Acl) -> Result<Tree, Memory>
-        requires { IsShortAcl root_acl }
+        requires { IsReadAgain root_acl }
         ensures nodes { IfOk result (λ tree.
             nodes tree.rows ≡ map.insert map.empty [] (root_node root_acl)) }
         ensures clock { IfOk result (λ tree. tree.clock ≡ first_stamp) }
@@ -98,7 +101,8 @@ impl Tree {
             rows,
             index,
             sizes,
-            clock: FIRST_STAMP,
+            free: 0,
+            clock: Clock::at(FIRST_STAMP),
         })
     }
 
@@ -117,6 +121,7 @@ impl Tree {
         ensures id { Some result ≡ map.get (ids self.now.rows) [] }
         ensures live { IsLive self.now.rows result × (path_of self.now.rows result ≡ []) }
         ensures well_formed { IsWellFormed (nodes self.now.rows) }
+        ensures sound { IsTree self.now.rows }
     {
         let _ = &self.rows;
         NodeId::of(0)
@@ -193,7 +198,9 @@ impl Tree {
         requires { IsLive self.now.rows id }
         ensures found { result ≡ option_and_then (map.get (ids self.now.rows))
             (effective_path (nodes self.now.rows) (path_of self.now.rows id) right) }
-        ensures live { IfSome result (λ decides. IsLive self.now.rows decides) }
+        ensures live { IfSome result (λ decides. IsLive self.now.rows decides
+            × (effective_path (nodes self.now.rows) (path_of self.now.rows id) right
+            ≡ Some (path_of self.now.rows decides))) }
     {
         NodeId::of_row(deciding_row(&self.rows, id.row(), right))
     }
@@ -209,9 +216,11 @@ impl Tree {
         }
     }
 
+    /// The stamp that was set last.
     pub fn clock(&self) -> Stamp
-        ensures { result ≡ self.now.clock }
+        ensures value { result ≡ self.now.clock }
+        ensures kept { IsStamp result }
     {
-        self.clock
+        self.clock.stamp()
     }
 }

@@ -1,17 +1,23 @@
 // What changes the tree.
-ghost use Rattle.std.specs.Prelude.{◌≡◌, ◌<◌, ◌≤◌, ◌+◌, ◌%◌, ◌^◌, ◌↔◌, ◌++◌, ◌∷◌, [], true, false, length, IsTrue, IsSome, Option, None, Err, IfOk, IfErr, IfSome, OnOk, OnErr};
+ghost use Rattle.std.specs.Prelude.{ℕ, ◌≡◌, ◌<◌, ◌≤◌, ◌+◌, ◌%◌, ◌^◌, ◌↔◌, ◌++◌, ◌∷◌, [], set, true, false, length, IsTrue, IsSome, Option, None, Err, IfOk, IfErr, IfSome, OnOk, OnErr};
 ghost use Rattle.std.specs.FinMap as map;
 ghost use Rattle.dm_uri.specs.Names.{is_within_limits};
 ghost use Rattle.dm_tree.specs.declared.rows.Change.TheVariants as change;
 ghost use Rattle.dm_tree.specs.declared.edits.TreeError.TheVariants as error;
-ghost use Rattle.dm_tree.specs.Nodes.{made as made_node, changed, counted, with_value, with_acl, with_title, IsNode, IsValue, IsShortAcl, tree_order};
+ghost use Rattle.dm_tree.specs.Nodes.{made as made_node, changed, counted, with_value, with_acl, with_title, IsNewNode, IsValue, IsReadAgain, tree_order};
 ghost use Rattle.dm_tree.specs.Rows.{nodes, ids, row_at, node_of, path_of, IsLive, IsTree, IsParkedTop, StayLive};
 ghost use Rattle.dm_tree.specs.Index.{IsIndex, IsSized, IsKept};
 ghost use Rattle.dm_tree.specs.Edits.{with_node, attached_as, new_row as new_row_below, pruned, without_content};
 ghost use Rattle.dm_tree.specs.Undos.{Fits, TakesBack, IsInserted, IsHeld, IsDiscarded, flipped, turned};
+ghost use Rattle.dm_tree.specs.Reuse.{IsUsed, IsFreeRow, IsPlaced};
+ghost use Rattle.dm_tree.specs.Notes.{GoesAlike, TakesEditBack, Stays};
+ghost use Rattle.dm_tree.specs.Frees.{IsGivenBack};
 
 use crate::arena::Tree;
-use crate::index::{Children, add_row, forget, put_in, take_out};
+use crate::clock::Clock;
+use crate::discards::{free_subtree, offer_above};
+use crate::index::{Children, put_in, take_out};
+use crate::new_rows::{new_row, place_row};
 use crate::nodes::{NewNode, Node, Stamp, Value};
 use crate::renames::flip_name;
 use crate::rows::{Change, NodeId, Row, Undo};
@@ -32,8 +38,7 @@ pub enum TreeError {
     /// The tree has 65,536 nodes.
     #[error("tree full")]
     Full,
-    /// Want of memory. It also comes once 4,294,967,295 nodes were made, since the numbers of nodes that were given up
-    /// aren't used again.
+    /// Want of memory. It also comes where 4,294,967,295 numbers are taken and none of them is at hand again.
     #[error("out of memory")]
     Memory,
 }
@@ -102,52 +107,6 @@ fn put_title(rows: &mut Vec<Row>, id: u32, title: Bytes, clock: Stamp) -> Change
     Change::Title(id, mem::replace(&mut row.node.title, title), verno, stamp)
 }
 
-fn new_row(rows: &[Row], parent: u32, name: Name, node: Node) -> Row
-    requires inside { parent < length rows.now }
-    requires shallow { (row_at rows.now parent).depth < 16 }
-    ensures { result ≡ new_row_below rows.now parent name node }
-{
-    Row {
-        parent,
-        depth: rows[parent as usize].depth + 1,
-        attached: true,
-        given_up: false,
-        name,
-        node,
-    }
-}
-
-// Adds a row, which is put in at once, and counted above it.
-fn insert_row(
-    alloc: Global,
-    rows: &mut Vec<Row>,
-    index: &mut Vec<Children>,
-    sizes: &mut Vec<u32>,
-    row: Row,
-) -> Result<(), TreeError>
-    requires attached { row.attached ≡ true }
-    requires held { row.given_up ≡ false }
-    requires few { length rows.old.items + 1 < 2 ^ 32 }
-    requires after { IsTree (rows.old.items ++ row ∷ []) }
-    requires kept { IsKept rows.old.items index.old.items sizes.old.items }
-    ensures ok { OnOk result (rows.new.items ≡ rows.old.items ++ row ∷ []) }
-    ensures err { OnErr result (rows.new.items ≡ rows.old.items) }
-    ensures memory { IfErr result (λ e. e ≡ error.Memory) }
-    ensures kept { IsKept rows.new.items index.new.items sizes.new.items }
-{
-    let id = rows.len() as u32;
-    let mut row = row;
-    row.attached = false;
-    match add_row(alloc, rows, index, sizes, row) {
-        Err(_) => Err(TreeError::Memory),
-        Ok(()) => {
-            put_in(rows, index, id);
-            count_in(rows, sizes, id);
-            Ok(())
-        }
-    }
-}
-
 // Exchanges a node's VerNo and stamp with those that an Undo keeps.
 pub(crate) fn swap_counts(node: &mut Node, verno: &mut u16, stamp: &mut Stamp)
     ensures node { node.new ≡ counted node.old verno.old stamp.old }
@@ -212,21 +171,9 @@ fn recount(rows: &[Row], sizes: &mut Vec<u32>, change: &Change)
     }
 }
 
-fn give_up(alloc: Global, rows: &mut Vec<Row>, id: u32)
-    requires { id < length rows.old.items }
-    ensures { rows.new.items ≡ without_content rows.old.items id }
-{
-    let row = &mut rows[id as usize];
-    row.given_up = true;
-    row.node.value.media = Bytes::new(alloc);
-    row.node.value.bytes = Bytes::new(alloc);
-    row.node.acl = None;
-    row.node.title = Bytes::new(alloc);
-}
-
 impl Tree {
     /// Adds a node below an interior one. Its VerNo is 0, and its stamp the clock. Which number it gets is left open: one
-    /// that no node has that is in the tree or held by an Undo.
+    /// that no node has that is in the tree or held by an Undo. It may be that of a node that was discarded.
     pub fn insert(
         &mut self,
         parent: NodeId,
@@ -238,9 +185,12 @@ impl Tree {
         requires free { map.get (nodes self.old.rows) (path_of self.old.rows parent ++ name ∷ []) ≡ None }
         requires within { IsTrue (is_within_limits (path_of self.old.rows parent ++ name ∷ [])) }
         requires permanent { node.permanent ≡ true → (node_of self.old.rows parent).permanent ≡ true }
-        requires node { IsNode (made_node self.old.clock node) }
+        requires node { IsNewNode node }
         ensures ok { IfOk result (λ r.
             IsInserted self.old.rows self.new.rows parent name (made_node self.old.clock node) r.0 r.1) }
+        ensures live { IfOk result (λ r. IsLive self.new.rows r.0
+            × (path_of self.new.rows r.0 ≡ path_of self.old.rows parent ++ name ∷ [])) }
+        ensures edit { IfOk result (λ r. TakesEditBack r.1 self.old.rows self.new.rows) }
         ensures clock { self.new.clock ≡ self.old.clock }
         ensures full { (result ≡ Err error.Full) ↔ (map.len (nodes self.old.rows) ≡ 65536) }
         ensures err { OnErr result (self.new ≡ self.old) }
@@ -250,13 +200,14 @@ impl Tree {
         if self.count() >= NODE_LIMIT {
             return Err(TreeError::Full);
         }
-        if self.rows.len() >= u32::MAX as usize {
-            return Err(TreeError::Memory);
-        }
-        let id = self.rows.len() as u32;
-        let row = new_row(&self.rows, parent.row(), name, made(node, self.clock));
+        let row = new_row(
+            &self.rows,
+            parent.row(),
+            name,
+            made(node, self.clock.stamp()),
+        );
         let (rows, index, sizes) = (&mut self.rows, &mut self.index, &mut self.sizes);
-        insert_row(self.alloc, rows, index, sizes, row)?;
+        let id = place_row(self.alloc, rows, index, sizes, &mut self.free, row)?;
         Ok((NodeId::of(id), Undo::of(Change::TakeOut(id))))
     }
 
@@ -270,6 +221,7 @@ impl Tree {
         ensures rows { self.new ≡ record self.old { rows = attached_as self.old.rows id false } }
         ensures undo { TakesBack result self.old.rows self.new.rows }
         ensures parked { (result ≡ change.PutIn id) × IsParkedTop self.new.rows id }
+        ensures edit { TakesEditBack result self.old.rows self.new.rows }
     {
         take_out(&mut self.rows, &mut self.index, id.row());
         count_out(&self.rows, &mut self.sizes, id.row());
@@ -290,8 +242,9 @@ impl Tree {
               (changed self.old.clock (with_value (node_of self.old.rows id) value));
         } }
         ensures undo { TakesBack result self.old.rows self.new.rows }
+        ensures edit { TakesEditBack result self.old.rows self.new.rows }
     {
-        let change = put_value(&mut self.rows, id.row(), value, self.clock);
+        let change = put_value(&mut self.rows, id.row(), value, self.clock.stamp());
         Undo::of(change)
     }
 
@@ -299,7 +252,7 @@ impl Tree {
     pub fn set_acl(&mut self, id: NodeId, acl: Option<Acl>) -> Undo
         requires live { IsLive self.old.rows id }
         requires root { path_of self.old.rows id ≡ [] → IsSome acl }
-        requires short { IfSome acl IsShortAcl }
+        requires again { IfSome acl IsReadAgain }
         ensures nodes { nodes self.new.rows ≡ map.insert (nodes self.old.rows) (path_of self.old.rows id)
             (changed self.old.clock (with_acl (node_of self.old.rows id) acl)) }
         ensures ids { ids self.new.rows ≡ ids self.old.rows }
@@ -309,8 +262,9 @@ impl Tree {
               (changed self.old.clock (with_acl (node_of self.old.rows id) acl));
         } }
         ensures undo { TakesBack result self.old.rows self.new.rows }
+        ensures edit { TakesEditBack result self.old.rows self.new.rows }
     {
-        let change = put_acl(&mut self.rows, id.row(), acl, self.clock);
+        let change = put_acl(&mut self.rows, id.row(), acl, self.clock.stamp());
         Undo::of(change)
     }
 
@@ -327,8 +281,9 @@ impl Tree {
               (changed self.old.clock (with_title (node_of self.old.rows id) title));
         } }
         ensures undo { TakesBack result self.old.rows self.new.rows }
+        ensures edit { TakesEditBack result self.old.rows self.new.rows }
     {
-        let change = put_title(&mut self.rows, id.row(), title, self.clock);
+        let change = put_title(&mut self.rows, id.row(), title, self.clock.stamp());
         Undo::of(change)
     }
 
@@ -339,24 +294,32 @@ impl Tree {
         ensures rows { self.new ≡ record self.old { rows = flipped self.old.rows undo.old } }
         ensures undo { undo.new ≡ turned self.old.rows undo.old }
         ensures again { TakesBack undo.new self.old.rows self.new.rows × (turned self.new.rows undo.new ≡ undo.old) }
+        ensures held { IsHeld self.new.rows undo.new }
     {
         flip_row(&mut self.rows, &mut self.index, &mut undo.change);
         recount(&self.rows, &mut self.sizes, &undo.change);
     }
 
-    /// Gives up what the Undo holds: its subtree, where it holds one. All other rows that are in the tree or parked stay as
-    /// they are. What the subtree's top holds is freed at once, what stands below it with the tree. It takes no memory.
+    /// Gives up what the Undo holds: its subtree, where it holds one. What its nodes held is freed at once, but for
+    /// their names and Formats, and their numbers may come again, that of a node once no Undo holds one below it. All
+    /// other rows that are in the tree or parked stay as they are. It takes no memory, and its time grows with the
+    /// subtree alone.
     pub fn discard(&mut self, undo: Undo)
         requires { IsHeld self.old.rows undo }
         ensures nodes { nodes self.new.rows ≡ nodes self.old.rows }
         ensures ids { ids self.new.rows ≡ ids self.old.rows }
         ensures stays { StayLive self.old.rows self.new.rows }
         ensures rows { IsDiscarded undo self.old.rows self.new.rows }
+        ensures alike { GoesAlike (Stays self.old.rows undo) self.old.rows self.new.rows }
+        ensures parked { (k : ℕ) → IsParkedTop self.new.rows k → IsParkedTop self.old.rows k × Stays self.old.rows undo k }
+        ensures used { (k : ℕ) → IsUsed self.old.rows k → Stays self.old.rows undo k → IsUsed self.new.rows k }
+        ensures given_back { IsGivenBack undo self.old.rows self.new.rows }
         ensures clock { self.new.clock ≡ self.old.clock }
     {
         if let Change::PutIn(id) = undo.into_change() {
-            forget(&self.rows, &mut self.index, id);
-            give_up(self.alloc, &mut self.rows, id);
+            let (rows, index, sizes) = (&mut self.rows, &mut self.index, &mut self.sizes);
+            free_subtree(self.alloc, rows, index, sizes, &mut self.free, id);
+            offer_above(self.alloc, rows, index, &mut self.free, id);
         }
     }
 
@@ -364,6 +327,6 @@ impl Tree {
     pub fn set_clock(&mut self, now: Stamp)
         ensures { self.new ≡ record self.old { clock = now } }
     {
-        self.clock = now;
+        self.clock = Clock::at(now);
     }
 }

@@ -1,8 +1,9 @@
 // The children of each row in the byte order of their names, so that no search looks at every row.
-ghost use Rattle.std.specs.Prelude.{◌≡◌, ◌<◌, ◌≤◌, ◌&&◌, ◌+◌, ◌-◌, ◌^◌, ◌++◌, ◌∷◌, [], length, nat_lt, get_or, slice_get, true, false, OnOk, OnErr};
+ghost use Rattle.std.specs.Prelude.{◌≡◌, ◌<◌, ◌≤◌, ◌&&◌, ◌+◌, ◌-◌, ◌^◌, ◌++◌, ◌∷◌, [], length, nat_lt, get_or, slice_get, set, true, false, OnOk, OnErr, IfSome};
 ghost use Rattle.std.specs.List.{insert, remove};
 ghost use Rattle.dm_tree.specs.Rows.{row_at, node_of, IsShaped, IsTree, IsParkedTop};
 ghost use Rattle.dm_tree.specs.Edits.{attached_as, with_name, without_content};
+ghost use Rattle.dm_tree.specs.Reuse.{IsFreeRow};
 ghost use Rattle.dm_tree.specs.Index.{no_children, is_before as is_named_before, AreRows, IsInOrder, IsIndex, IsPut, IsTaken, IsPlace, IsPlacePast};
 
 use crate::rows::Row;
@@ -20,6 +21,7 @@ pub struct Children {
     ids: Vec<u32>,
     keys: Vec<u64>,
     parked: u32,
+    next: u32,
 }
 
 impl Model for Children {
@@ -39,7 +41,29 @@ impl Children {
             ids: Vec::new(alloc),
             keys: Vec::new(alloc),
             parked: 0,
+            next: 0,
         }
+    }
+
+    // Whether no row stands below it, and none may be put in there again.
+    pub(crate) fn is_bare(&self) -> bool
+        ensures ids { result ≡ true → length self.now.ids ≡ 0 }
+        ensures parked { result ≡ true → self.now.parked ≡ 0 }
+    {
+        self.ids.len() == 0 && self.parked == 0
+    }
+
+    // The free row behind this one. No clause speaks of it: a row is looked at before it is used again.
+    pub(crate) fn next(&self) -> u32 {
+        self.next
+    }
+
+    // The list of a free row. What it took is freed.
+    pub(crate) fn renew(&mut self, alloc: Global, next: u32)
+        ensures { self.new ≡ no_children }
+    {
+        *self = Children::new(alloc);
+        self.next = next;
     }
 
     pub(crate) fn as_slice(&self) -> &[u32]
@@ -271,6 +295,28 @@ pub(crate) fn add_row(
     rows.push_reserved(row);
     index.push_reserved(Children::new(alloc));
     sizes.push_reserved(1);
+    Ok(())
+}
+
+/// Puts a row that isn't put in yet in place of a free one. Its parent gets room for it.
+pub(crate) fn fill_row(
+    rows: &mut Vec<Row>,
+    index: &mut Vec<Children>,
+    id: u32,
+    row: Row,
+) -> Result<(), Memory>
+    requires tree { IsTree rows.old.items }
+    requires free { IsFreeRow rows.old.items id }
+    requires out { row.attached ≡ false }
+    requires held { row.given_up ≡ false }
+    requires parent { row.parent < length rows.old.items }
+    requires index { IsIndex rows.old.items index.old.items }
+    ensures ok { OnOk result (rows.new.items ≡ set rows.old.items id row) }
+    ensures err { OnErr result (rows.new.items ≡ rows.old.items) }
+    ensures index { IsIndex rows.new.items index.new.items }
+{
+    index[row.parent as usize].expect()?;
+    rows[id as usize] = row;
     Ok(())
 }
 

@@ -1,8 +1,7 @@
 // Large trees: one that is full, and the same gone through from its root to its last leaf.
 ghost use Rattle.std.specs.Prelude.{◌≡◌, false, IsTrue, IfSome};
 ghost use Rattle.dm_uri.specs.Names.{is_within_limits};
-ghost use Rattle.dm_tree.specs.declared.nodes.Stamp.{Stamp as Time};
-ghost use Rattle.dm_tree.specs.Nodes.{made, IsNode};
+ghost use Rattle.dm_tree.specs.Nodes.{IsNewNode};
 
 use crate::edits::NODE_LIMIT;
 use crate::tests::{Start, at, grown, put};
@@ -55,7 +54,7 @@ fn path_of(alloc: Global, uri: &[u8]) -> Option<Path>
 }
 
 fn new_node(alloc: Global, interior: bool) -> Option<NewNode>
-    ensures may { IfSome result (λ new. (now : Time) → IsNode (made now new)) }
+    ensures may { IfSome result (λ new. IsNewNode new) }
     ensures dynamic { IfSome result (λ new. new.permanent ≡ false) }
 {
     let format = if interior {
@@ -80,7 +79,7 @@ fn new_node(alloc: Global, interior: bool) -> Option<NewNode>
 // Adds a node; false where the tree is full.
 fn add(tree: &mut Tree, mut path: Path, new: NewNode) -> Option<bool>
     requires within { IsTrue (is_within_limits path) }
-    requires may { (now : Time) → IsNode (made now new) }
+    requires may { IsNewNode new }
     requires dynamic { new.permanent ≡ false }
 {
     let name = path.pop()?;
@@ -95,7 +94,7 @@ fn add(tree: &mut Tree, mut path: Path, new: NewNode) -> Option<bool>
     }
 }
 
-fn add_at(alloc: Global, tree: &mut Tree, uri: &[u8], interior: bool) -> Option<bool> {
+pub(crate) fn add_at(alloc: Global, tree: &mut Tree, uri: &[u8], interior: bool) -> Option<bool> {
     let path = path_of(alloc, uri)?;
     add(tree, path, new_node(alloc, interior)?)
 }
@@ -119,19 +118,23 @@ fn add_leaves(alloc: Global, tree: &mut Tree) -> Option<bool> {
     Some(true)
 }
 
+fn fill(alloc: Global, tree: &mut Tree) -> Option<bool> {
+    let undo = put(alloc, tree, &BASE, Role::Plain)?;
+    tree.discard(undo);
+    Some(add_groups(alloc, tree)? && add_leaves(alloc, tree)?)
+}
+
 fn full(alloc: Global) -> Option<Tree> {
     let mut tree = grown(alloc)?;
-    let undo = put(alloc, &mut tree, &BASE, Role::Plain)?;
-    tree.discard(undo);
-    if add_groups(alloc, &mut tree)? && add_leaves(alloc, &mut tree)? {
+    if fill(alloc, &mut tree)? {
         Some(tree)
     } else {
         None
     }
 }
 
-// Takes a leaf out for good.
-fn give_up(alloc: Global, tree: &mut Tree, uri: &[u8]) -> Option<()> {
+// Takes a node out for good, with all that stands below it.
+pub(crate) fn give_up(alloc: Global, tree: &mut Tree, uri: &[u8]) -> Option<()> {
     let id = at(alloc, tree, uri)?;
     if tree.view(id).permanent {
         return None;
@@ -204,5 +207,27 @@ fn each_leaf_is_found_and_comes_in_order(rt: HostRuntime) -> Result<(), Fail> {
         assert_eq!(rt; tree.count(), NODE_LIMIT);
         assert_eq!(rt; is_in_order(alloc, &tree), Some(true));
     }
+    Ok(())
+}
+
+// How many rows a tree has once it was filled and emptied three times.
+fn rows_after_three(alloc: Global) -> Option<usize> {
+    let mut tree = grown(alloc)?;
+    for _ in 0..3 {
+        if !fill(alloc, &mut tree)? || tree.count() != NODE_LIMIT {
+            return None;
+        }
+        give_up(alloc, &mut tree, b"./B")?;
+        if tree.count() != 9 {
+            return None;
+        }
+    }
+    Some(tree.rows.len())
+}
+
+#[test]
+fn a_tree_is_filled_and_emptied_three_times(rt: HostRuntime) -> Result<(), Fail> {
+    let rows = rows_after_three(rt.alloc());
+    assert_eq!(rt; rows, Some(NODE_LIMIT as usize));
     Ok(())
 }

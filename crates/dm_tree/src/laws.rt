@@ -1,5 +1,5 @@
 // Laws over the definitions alone.
-ghost use Rattle.dm_tree.specs.Laws.{SubtreeBegins, TopIsBelow};
+ghost use Rattle.dm_tree.specs.Laws.{SubtreeBegins, TopIsBelow, ChangedKeepsDevice, AddedKeepsDevice, PrunedKeepsDevice, RenamedKeepsDevice, BareDeviceIsDevice, UpdateIsFound};
 
 /// A subtree, in the order of the tree text, is its top, and then what stands behind that in it.
 #[tactic(auto, using(crate::proofs::Behinds::subtree_begins))]
@@ -11,4 +11,24 @@ pub fn subtree_begins()
 #[tactic(auto, using(crate::proofs::Paths::below_self))]
 pub fn top_is_below()
     ensures { TopIsBelow }
+{}
+
+/// What an edit leaves of a device's tree: its values and its update part stay where they are, as long as no value is
+/// written that is only read, each state is one of the five, each Type is a text, no node of the update comes in, and
+/// nothing permanent is taken out or renamed.
+pub fn edits_keep_the_device()
+    ensures changed { ChangedKeepsDevice }
+    ensures added { AddedKeepsDevice }
+    ensures pruned { PrunedKeepsDevice }
+    ensures renamed { RenamedKeepsDevice }
+{}
+
+/// A tree with the root, and with the five values of a device, is a device's.
+pub fn bare_device_is_device()
+    ensures { BareDeviceIsDevice }
+{}
+
+/// Where the update part is in order, its three nodes are found by their roles.
+pub fn update_is_found()
+    ensures { UpdateIsFound }
 {}

@@ -1,7 +1,7 @@
 // What a start lays: single things, set without a trace. No clause here speaks of an Undo that was given before.
-ghost use Rattle.std.specs.Prelude.{◌≡◌, ◌<◌, ◌≤◌, [], true, length, Some, IfSome};
+ghost use Rattle.std.specs.Prelude.{◌≡◌, ◌<◌, ◌≤◌, ◌^◌, [], true, length, Some, IfSome};
 ghost use Rattle.std.specs.FinMap as map;
-ghost use Rattle.dm_tree.specs.Nodes.{above, with_acl, with_title, with_mark, counted, IsShortAcl};
+ghost use Rattle.dm_tree.specs.Nodes.{above, with_acl, with_title, with_mark, counted, IsReadAgain, IsStamp};
 ghost use Rattle.dm_tree.specs.Rows.{nodes, ids, node_of, path_of, IsLive, StayLive};
 ghost use Rattle.dm_tree.specs.Edits.{with_node};
 
@@ -37,7 +37,8 @@ fn set_mark(rows: &mut Vec<Row>, id: u32)
 
 fn set_counts(rows: &mut Vec<Row>, id: u32, verno: u16, stamp: Stamp)
     requires { id < length rows.old.items }
-    ensures { rows.new.items ≡ with_node rows.old.items id (counted (node_of rows.old.items id) verno stamp) }
+    ensures rows { rows.new.items ≡ with_node rows.old.items id (counted (node_of rows.old.items id) verno stamp) }
+    ensures kept { (verno < 2 ^ 16) × IsStamp stamp }
 {
     let row = &mut rows[id as usize];
     row.node.verno = verno;
@@ -48,7 +49,7 @@ impl Tree {
     /// Sets a node's own access list, and neither VerNo nor stamp. It takes no memory.
     pub fn lay_acl(&mut self, id: NodeId, acl: Acl)
         requires live { IsLive self.old.rows id }
-        requires short { IsShortAcl acl }
+        requires again { IsReadAgain acl }
         ensures nodes { nodes self.new.rows ≡ map.insert (nodes self.old.rows) (path_of self.old.rows id)
             (with_acl (node_of self.old.rows id) (Some acl)) }
         ensures ids { ids self.new.rows ≡ ids self.old.rows }

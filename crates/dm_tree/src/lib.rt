@@ -2,14 +2,19 @@
 #![tactic(auto)]
 
 pub mod arena;
+mod clock;
+mod discards;
 pub mod edits;
 mod index;
 #[cfg(test)]
 mod large_tests;
 pub mod laws;
 mod lays;
+mod new_rows;
 pub mod nodes;
 mod renames;
+#[cfg(test)]
+mod reuse_tests;
 pub mod rows;
 mod siblings;
 mod sizes;
@@ -27,3 +32,4 @@ pub use edits::TreeError;
 pub use nodes::{NewNode, Node, Role, Stamp, Value, View};
 pub use rows::{NodeId, Undo};
 pub use tree::{FirstTree, NamedLeaf};
+pub use update::UpdateIds;

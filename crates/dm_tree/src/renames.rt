@@ -7,6 +7,7 @@ ghost use Rattle.dm_tree.specs.Rows.{nodes, ids, row_at, node_of, path_of, IsLiv
 ghost use Rattle.dm_tree.specs.Index.{IsIndex};
 ghost use Rattle.dm_tree.specs.Edits.{with_name, renamed, fits as all_fit, StayRenamed};
 ghost use Rattle.dm_tree.specs.Undos.{TakesBack};
+ghost use Rattle.dm_tree.specs.Notes.{TakesEditBack};
 ghost use Rattle.dm_tree.specs.Walks.{name_then, has_room as rows_have_room};
 
 use crate::arena::Tree;
@@ -132,10 +133,17 @@ impl Tree {
           rows = with_name self.old.rows id name (changed self.old.clock (node_of self.old.rows id));
         } }
         ensures undo { TakesBack result self.old.rows self.new.rows }
+        ensures edit { TakesEditBack result self.old.rows self.new.rows }
     {
         // Its contract says that the name keeps to the form and the limit.
         let _ = name.as_slice();
-        let change = put_name(&mut self.rows, &mut self.index, id.row(), name, self.clock);
+        let change = put_name(
+            &mut self.rows,
+            &mut self.index,
+            id.row(),
+            name,
+            self.clock.stamp(),
+        );
         Undo::of(change)
     }
 }

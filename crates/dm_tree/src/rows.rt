@@ -7,8 +7,9 @@ use dm_base::Bytes;
 use dm_uri::Name;
 use std::marker::Model;
 
-/// A row: its parent's row, its name below that, and its node. A row that isn't attached is the root or the top of a
-/// subtree that was taken out; a row that is given up is the top of one that nobody holds.
+/// A row: its parent's row, its name below that, and its node. A row that isn't attached is the root, the top of a
+/// subtree that was taken out, or one that was given up: that holds nothing any more, and a new node may take it once
+/// no row below it is parked.
 #[derive(Drop)]
 pub struct Row {
     pub parent: u32,
@@ -36,7 +37,8 @@ pub enum Change {
     PutIn(u32),
 }
 
-/// The number of a node, which contracts see as a number. A node that stays in the tree keeps it.
+/// The number of a node, which contracts see as a number. A node keeps it as long as it is in the tree or held by an
+/// Undo. Once it is neither, another node may get the number.
 #[derive(Clone, Copy, Debug, PartialEq, Eq)]
 pub struct NodeId {
     row: u32,
@@ -52,7 +54,8 @@ impl Model for NodeId {
     ghost inverse = { λ n. record { row = n } };
 }
 
-/// What takes an edit back. Flipped, it becomes what does the edit again.
+/// What takes an edit back. Flipped, it becomes what does the edit again. It is to be discarded once it isn't needed any
+/// more: the rows of a subtree that it holds are used again only then.
 #[derive(Drop)]
 pub struct Undo {
     pub(crate) change: Change,

@@ -1,16 +1,19 @@
 // The order of the tree text: siblings by the bytes of their names, each node before all that stands below it.
-ghost use Rattle.std.specs.Prelude.{◌≡◌, ◌<◌, ◌^◌, ◌∷◌, [], length, false, Some, None, IsTrue, IfSome, option_and_then};
+ghost use Rattle.std.specs.Prelude.{◌≡◌, ◌<◌, ◌^◌, ◌∷◌, ◌++◌, [], length, false, Some, None, IsTrue, IfSome, IfOk, OnOk, unwrap_or, option_and_then};
 ghost use Rattle.std.specs.Option.{option_map_or};
 ghost use Rattle.std.specs.FinMap as map;
-ghost use Rattle.dm_tree.specs.Nodes.{is_below};
+ghost use Rattle.dm_uri.specs.Names.{joined};
+ghost use Rattle.dm_tree.specs.Nodes.{last_name, is_below};
 ghost use Rattle.dm_tree.specs.Rows.{nodes, ids, row_at, path_of, IsLive, IsShaped};
-ghost use Rattle.dm_tree.specs.Order.{first_child as first_child_of, next_sibling as next_sibling_of, next_below as next_path_below, behind};
+ghost use Rattle.dm_tree.specs.Order.{first_child as first_child_of, next_sibling as next_sibling_of, next_below as next_path_below, children, children_behind, child_names, behind};
 ghost use Rattle.dm_tree.specs.Walks.{least_child as least_child_of, next_past as next_row_past, next_row as next_row_of};
 ghost use Rattle.dm_tree.specs.Index.{IsIndex};
 
 use crate::arena::Tree;
 use crate::index::{Children, id_at, place_past};
 use crate::rows::{NodeId, Row};
+use dm_base::{Bytes, Memory};
+use std::alloc::Global;
 
 // Of the children of `id` behind a row, the first by name.
 fn least_child(rows: &[Row], index: &[Children], id: u32, after: Option<u32>) -> Option<u32>
@@ -75,6 +78,9 @@ impl Tree {
             (first_child_of (nodes self.now.rows) (path_of self.now.rows id)) }
         ensures live { IfSome result (λ child. IsLive self.now.rows child
             × (first_child_of (nodes self.now.rows) (path_of self.now.rows id) ≡ Some (path_of self.now.rows child))) }
+        ensures children { children (nodes self.now.rows) (path_of self.now.rows id)
+            ≡ option_map_or (λ child. path_of self.now.rows child
+            ∷ children_behind (nodes self.now.rows) (path_of self.now.rows child)) result [] }
     {
         NodeId::of_row(least_child(&self.rows, &self.index, id.row(), None))
     }
@@ -86,12 +92,48 @@ impl Tree {
             (next_sibling_of (nodes self.now.rows) (path_of self.now.rows id)) }
         ensures live { IfSome result (λ next. IsLive self.now.rows next
             × (next_sibling_of (nodes self.now.rows) (path_of self.now.rows id) ≡ Some (path_of self.now.rows next))) }
+
+        // So the children may be gone through from the first on, and what has yet to come becomes less with each step.
+        ensures behind { children_behind (nodes self.now.rows) (path_of self.now.rows id)
+            ≡ option_map_or (λ next. path_of self.now.rows next
+            ∷ children_behind (nodes self.now.rows) (path_of self.now.rows next)) result [] }
     {
         if id.row() == 0 {
             return None;
         }
         let parent = self.rows[id.row() as usize].parent;
         NodeId::of_row(least_child(&self.rows, &self.index, parent, Some(id.row())))
+    }
+
+    fn put_name(&self, id: NodeId, out: &mut Bytes) -> Result<(), Memory>
+        requires { IsLive self.now.rows id }
+        ensures { OnOk result (out.new ≡ out.old ++ unwrap_or (last_name (path_of self.now.rows id)) []) }
+    {
+        match self.view(id).name {
+            None => Ok(()),
+            Some(name) => out.extend(name.as_slice()),
+        }
+    }
+
+    /// The names of the nodes right below, in byte order, with a `/` between each two. It is empty where there is none.
+    #[tactic(auto, using(crate::proofs::Children::first_joined, crate::proofs::Children::next_joined, crate::proofs::Children::all_joined))]
+    pub fn child_names(&self, alloc: Global, id: NodeId) -> Result<Bytes, Memory>
+        requires { IsLive self.now.rows id }
+        ensures { IfOk result (λ text.
+            text ≡ joined (child_names (nodes self.now.rows) (path_of self.now.rows id))) }
+    {
+        let mut out = Bytes::new(alloc);
+        let Some(first) = self.first_child(id) else {
+            return Ok(out);
+        };
+        self.put_name(first, &mut out)?;
+        let mut at = first;
+        while let Some(next) = self.next_sibling(at) {
+            out.extend(b"/")?;
+            self.put_name(next, &mut out)?;
+            at = next;
+        }
+        Ok(out)
     }
 
     /// The node behind this one in the order of the tree text, among those at and below `top`; with `past`, the one behind

@@ -31,6 +31,7 @@ pub(crate) fn count_out(rows: &[Row], sizes: &mut Vec<u32>, id: u32)
     requires inside { id < length rows.now }
     requires below_root { 0 < id }
     requires out { (row_at rows.now id).attached ≡ false }
+    requires before { IsShaped (attached_as rows.now id true) }
     requires sizes { IsSized (attached_as rows.now id true) sizes.old.items }
     ensures { IsSized rows.now sizes.new.items }
 {

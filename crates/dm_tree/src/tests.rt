@@ -1,10 +1,10 @@
 // A tree of a few nodes: what is read of it, whom it allows what, and edits taken back and done again.
 ghost use Rattle.std.specs.Prelude.{◌≡◌, ◌≤◌, ◌++◌, ◌∷◌, [], false, length, IsTrue, IfSome};
 ghost use Rattle.dm_uri.specs.Names.{is_within_limits};
-ghost use Rattle.dm_tree.specs.declared.nodes.Stamp.{Stamp as Time};
-ghost use Rattle.dm_tree.specs.Nodes.{made, IsNode, IsValue, IsShortAcl};
+ghost use Rattle.dm_tree.specs.Nodes.{IsNewNode, IsValue, IsReadAgain};
 ghost use Rattle.dm_tree.specs.Rows.{IsLive};
-ghost use Rattle.dm_tree.specs.Undos.{Fits, IsHeld, GoesBackAlike, flipped};
+ghost use Rattle.dm_tree.specs.Undos.{Fits, IsHeld};
+ghost use Rattle.dm_tree.specs.Notes.{TakesEditBack};
 
 use crate::{NewNode, NodeId, Role, Stamp, Tree, Undo, Value};
 use dm_acl::{Acl, Right};
@@ -15,6 +15,7 @@ use std::test::Fail;
 
 // Each of the helpers below answers None where memory runs out, or a text or a node isn't what it has to be.
 
+#[derive(Drop)]
 pub(crate) struct Start {
     pub uri: &'static [u8],
     // The empty text for none.
@@ -66,7 +67,7 @@ const NODES: [Start; 8] = [
 ];
 
 fn acl(alloc: Global, text: &[u8]) -> Option<Acl>
-    ensures { IfSome result (λ acl. IsShortAcl acl) }
+    ensures { IfSome result (λ acl. IsReadAgain acl) }
 {
     let acl = Acl::parse(alloc, text).ok()?;
     if acl.print(alloc).ok()?.len() > 4_096 {
@@ -76,6 +77,7 @@ fn acl(alloc: Global, text: &[u8]) -> Option<Acl>
 }
 
 fn chr(alloc: Global, bytes: &[u8]) -> Option<Value>
+    requires { length bytes.now ≤ 4194304 }
     ensures { IfSome result (λ value. IsValue false value) }
 {
     Some(Value {
@@ -86,7 +88,7 @@ fn chr(alloc: Global, bytes: &[u8]) -> Option<Value>
 }
 
 fn node(alloc: Global, row: &Start, role: Role) -> Option<NewNode>
-    ensures may { IfSome result (λ new. (now : Time) → IsNode (made now new)) }
+    ensures may { IfSome result (λ new. IsNewNode new) }
     ensures dynamic { IfSome result (λ new. new.permanent ≡ false) }
 {
     let acl = if row.acl.is_empty() {
@@ -115,11 +117,11 @@ fn node(alloc: Global, row: &Start, role: Role) -> Option<NewNode>
 
 fn put_below(tree: &mut Tree, path: &Path, name: Name, new: NewNode) -> Option<Undo>
     requires within { IsTrue (is_within_limits (path.now ++ name ∷ [])) }
-    requires may { (now : Time) → IsNode (made now new) }
+    requires may { IsNewNode new }
     requires dynamic { new.permanent ≡ false }
     ensures fits { IfSome result (λ undo. Fits tree.new.rows undo) }
     ensures free { IfSome result (λ undo. IsHeld tree.new.rows undo) }
-    ensures back { IfSome result (λ undo. GoesBackAlike tree.old.rows (flipped tree.new.rows undo)) }
+    ensures edit { IfSome result (λ undo. TakesEditBack undo tree.old.rows tree.new.rows) }
 {
     let parent = tree.find(path)?;
     if !tree.view(parent).interior || tree.child(parent, &name).is_some() {
@@ -134,7 +136,7 @@ fn put_below(tree: &mut Tree, path: &Path, name: Name, new: NewNode) -> Option<U
 pub(crate) fn put(alloc: Global, tree: &mut Tree, row: &Start, role: Role) -> Option<Undo>
     ensures fits { IfSome result (λ undo. Fits tree.new.rows undo) }
     ensures free { IfSome result (λ undo. IsHeld tree.new.rows undo) }
-    ensures back { IfSome result (λ undo. GoesBackAlike tree.old.rows (flipped tree.new.rows undo)) }
+    ensures edit { IfSome result (λ undo. TakesEditBack undo tree.old.rows tree.new.rows) }
 {
     let new = node(alloc, row, role)?;
     match parse(alloc, row.uri) {
@@ -149,8 +151,12 @@ pub(crate) fn put(alloc: Global, tree: &mut Tree, row: &Start, role: Role) -> Op
     }
 }
 
+pub(crate) fn bare_tree(alloc: Global) -> Option<Tree> {
+    Tree::new(alloc, acl(alloc, b"Add=*&Get=s1&Exec=*")?).ok()
+}
+
 pub(crate) fn grown(alloc: Global) -> Option<Tree> {
-    let mut tree = Tree::new(alloc, acl(alloc, b"Add=*&Get=s1&Exec=*")?).ok()?;
+    let mut tree = bare_tree(alloc)?;
     for row in &NODES {
         let undo = put(alloc, &mut tree, row, Role::Plain)?;
         tree.discard(undo);
@@ -370,7 +376,7 @@ fn given_up_and_replaced(alloc: Global, tree: &mut Tree) -> Option<bool> {
     tree.discard(undo);
     let mut undo = put(alloc, tree, &LEAF_T, Role::Plain)?;
     let new = at(alloc, tree, b"./T");
-    let there = new.is_some() && new != Some(id) && tree.count() == 5;
+    let there = new.is_some() && tree.count() == 5;
     tree.flip(&mut undo);
     let gone = at(alloc, tree, b"./T").is_none() && tree.count() == 4;
     tree.flip(&mut undo);

@@ -1,48 +1,91 @@
 // Where the update stands.
-ghost use Rattle.std.specs.Prelude.{◌≡◌, ◌<◌, ◌^◌, ◌↔◌, ℕ, false, true, length, None, IfSome, option_and_then};
+ghost use Rattle.std.specs.Prelude.{◌≡◌, ◌↔◌, ◌⊎◌, None, Some, IfSome, option_and_then};
 ghost use Rattle.std.specs.FinMap as map;
 ghost use Rattle.dm_tree.specs.declared.nodes.Role.TheVariants as role;
-ghost use Rattle.dm_tree.specs.Rows.{nodes, ids, row_at, node_of, IsLive, IsShaped};
-ghost use Rattle.dm_tree.specs.Devices.{update_node as update_path, IsUpdateInOrder};
-ghost use Rattle.dm_tree.specs.Walks.{is_update_row as is_row_of_update};
+ghost use Rattle.dm_tree.specs.Rows.{nodes, ids, node_of, path_of, IsLive};
+ghost use Rattle.dm_tree.specs.Devices.{update_node as update_path, pkg_data, state_node, child_of_role, is_role as is_one};
 
 use crate::arena::Tree;
 use crate::nodes::Role;
-use crate::rows::{NodeId, Row};
-use crate::walks::is_in;
+use crate::rows::NodeId;
 
-fn is_update_row(rows: &[Row], at: u32) -> bool
-    requires shaped { IsShaped rows.now }
-    requires inside { at < length rows.now }
-    ensures { result ≡ is_row_of_update rows.now at }
-{
-    rows[at as usize].node.role == Role::UpdateNode && is_in(rows, at)
+/// The nodes of the update: the update node, PkgData right below it, and State right beside it.
+#[derive(Clone, Copy, Debug, PartialEq, Eq)]
+pub struct UpdateIds {
+    pub update: NodeId,
+    pub pkg_data: NodeId,
+    pub state: NodeId,
 }
 
-// A row of the tree whose role is that of an update node.
-fn update_row(rows: &[Row]) -> Option<u32>
-    requires { IsShaped rows.now }
-    ensures found { IfSome result (λ at. is_row_of_update rows.now at ≡ true) }
-    ensures none { result ≡ None → (k : ℕ) → k < length rows.now → is_row_of_update rows.now k ≡ false }
+fn is_role(role: Role, wanted: Role) -> bool
+    ensures { result ≡ is_one role wanted }
 {
-    for at in 0..rows.len() {
-        if is_update_row(rows, at as u32) {
-            return Some(at as u32);
-        }
-    }
-    None
+    role == wanted
 }
 
 impl Tree {
-    /// The node whose role is that of an update node; where the update part is in order there is at most one. None comes
-    /// exactly where there is none. It looks at each node, and takes no memory.
+    // Of the nodes right below, the first with this role.
+    fn child_of_role(&self, id: NodeId, role: Role) -> Option<NodeId>
+        requires { IsLive self.now.rows id }
+        ensures live { IfSome result (λ child. IsLive self.now.rows child
+            × (child_of_role (nodes self.now.rows) (path_of self.now.rows id) role
+            ≡ Some (path_of self.now.rows child))) }
+        ensures none { result ≡ None
+            → child_of_role (nodes self.now.rows) (path_of self.now.rows id) role ≡ None }
+    {
+        let _ = &self.rows;
+        let mut at = self.first_child(id);
+        while let Some(child) = at {
+            if is_role(self.view(child).role, role) {
+                return Some(child);
+            }
+            at = self.next_sibling(child);
+        }
+        None
+    }
+
+    /// The nodes of the update, each found by its role; None where one isn't there. Where the update part is in order, they
+    /// are its nodes. It takes no memory.
+    pub fn update_ids(&self) -> Option<UpdateIds>
+        ensures live { IfSome result (λ found. IsLive self.now.rows found.update
+            × (IsLive self.now.rows found.pkg_data × IsLive self.now.rows found.state)) }
+        ensures found { IfSome result (λ found.
+            (update_path (nodes self.now.rows) ≡ Some (path_of self.now.rows found.update))
+            × ((pkg_data (nodes self.now.rows) ≡ Some (path_of self.now.rows found.pkg_data))
+            × (state_node (nodes self.now.rows) ≡ Some (path_of self.now.rows found.state)))) }
+        ensures none { result ≡ None
+            → (pkg_data (nodes self.now.rows) ≡ None) ⊎ (state_node (nodes self.now.rows) ≡ None) }
+    {
+        let _ = &self.rows;
+        let update = self.update_node()?;
+        let pkg_data = self.child_of_role(update, Role::PkgData)?;
+        let above = self.parent(update)?;
+        let state = self.child_of_role(above, Role::State)?;
+        Some(UpdateIds {
+            update,
+            pkg_data,
+            state,
+        })
+    }
+
+    /// The first node in the order of the tree text whose role is that of an update node; where the update part is in
+    /// order, there is at most one. None comes exactly where there is none. It goes through the tree up to there, and takes
+    /// no memory.
     pub fn update_node(&self) -> Option<NodeId>
-        ensures found { IsUpdateInOrder (nodes self.now.rows)
-            → result ≡ option_and_then (map.get (ids self.now.rows)) (update_path (nodes self.now.rows)) }
-        ensures live { IfSome result (λ id.
-            IsLive self.now.rows id × ((node_of self.now.rows id).role ≡ role.UpdateNode)) }
+        ensures found { result ≡ option_and_then (map.get (ids self.now.rows)) (update_path (nodes self.now.rows)) }
+        ensures live { IfSome result (λ id. IsLive self.now.rows id
+            × (update_path (nodes self.now.rows) ≡ Some (path_of self.now.rows id))
+            × ((node_of self.now.rows id).role ≡ role.UpdateNode)) }
         ensures none { (result ≡ None) ↔ (update_path (nodes self.now.rows) ≡ None) }
     {
-        NodeId::of_row(update_row(&self.rows))
+        let root = self.root();
+        let mut at = Some(root);
+        while let Some(here) = at {
+            if is_role(self.view(here).role, Role::UpdateNode) {
+                return Some(here);
+            }
+            at = self.next_below(root, here, false);
+        }
+        None
     }
 }

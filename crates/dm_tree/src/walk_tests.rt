@@ -301,3 +301,57 @@ fn two_edits_at_one_path_are_taken_back_and_done_again(rt: HostRuntime) -> Resul
     }
     Ok(())
 }
+
+// The names below a node, as they are told.
+fn names_below(alloc: Global, tree: &Tree, uri: &[u8], want: &[u8]) -> Option<bool> {
+    let id = at(alloc, tree, uri)?;
+    let names = tree.child_names(alloc, id).ok()?;
+    Some(names.as_slice() == want)
+}
+
+#[test]
+fn the_names_of_children_are_told_in_order(rt: HostRuntime) -> Result<(), Fail> {
+    let alloc = rt.alloc();
+    if let Some(tree) = grown(alloc) {
+        assert_eq!(rt; names_below(alloc, &tree, b".", b"P/T/U"), Some(true));
+        assert_eq!(rt; names_below(alloc, &tree, b"./T", b"B/a/b"), Some(true));
+        assert_eq!(rt; names_below(alloc, &tree, b"./U", b""), Some(true));
+    }
+    Ok(())
+}
+
+const PACKAGE: Start = Start {
+    uri: b"./F/D",
+    acl: b"",
+    interior: false,
+};
+
+const STATE: Start = Start {
+    uri: b"./S",
+    acl: b"",
+    interior: false,
+};
+
+// Whether the nodes of the update are told once all three are there.
+fn update_is_told(alloc: Global, tree: &mut Tree) -> Option<bool> {
+    let undo = put(alloc, tree, &UPDATE, Role::UpdateNode)?;
+    tree.discard(undo);
+    let undo = put(alloc, tree, &PACKAGE, Role::PkgData)?;
+    tree.discard(undo);
+    let before = tree.update_ids().is_none();
+    let undo = put(alloc, tree, &STATE, Role::State)?;
+    tree.discard(undo);
+    let found = tree.update_ids()?;
+    let update = at(alloc, tree, b"./F") == Some(found.update);
+    let package = at(alloc, tree, b"./F/D") == Some(found.pkg_data);
+    Some(before && update && package && at(alloc, tree, b"./S") == Some(found.state))
+}
+
+#[test]
+fn the_nodes_of_the_update_are_told(rt: HostRuntime) -> Result<(), Fail> {
+    let alloc = rt.alloc();
+    if let Some(mut tree) = grown(alloc) {
+        assert_eq!(rt; update_is_told(alloc, &mut tree), Some(true));
+    }
+    Ok(())
+}

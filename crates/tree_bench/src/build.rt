@@ -1,8 +1,7 @@
 // A tree of many leaves.
 ghost use Rattle.std.specs.Prelude.{◌≡◌, ◌≤◌, ◌++◌, ◌∷◌, [], false, length, IfOk, OnOk};
 ghost use Rattle.std.specs.FinMap as map;
-ghost use Rattle.dm_tree.specs.declared.nodes.Stamp.{Stamp as Time};
-ghost use Rattle.dm_tree.specs.Nodes.{made, IsNode, IsShortAcl};
+ghost use Rattle.dm_tree.specs.Nodes.{made, IsNewNode, IsReadAgain};
 ghost use Rattle.dm_tree.specs.Rows.{nodes};
 
 use crate::fault::Fault;
@@ -38,7 +37,7 @@ pub fn leaf_paths(alloc: Global, layout: Layout, leaves: &[u32]) -> Result<Vec<P
 
 // Adds a node below that of a path of at most two names: then the limits are kept, however long the names are.
 fn put(tree: &mut Tree, above: &Path, name: Name, new: NewNode) -> Result<(), Fault>
-    requires may { (now : Time) → IsNode (made now new) }
+    requires may { IsNewNode new }
     requires dynamic { new.permanent ≡ false }
     ensures { OnOk result (nodes tree.new.rows
         ≡ map.insert (nodes tree.old.rows) (above.now ++ name ∷ []) (made tree.old.clock new)) }
@@ -61,7 +60,7 @@ fn put(tree: &mut Tree, above: &Path, name: Name, new: NewNode) -> Result<(), Fa
 }
 
 fn root_acl(alloc: Global) -> Result<Acl, Fault>
-    ensures { IfOk result (λ acl. IsShortAcl acl) }
+    ensures { IfOk result (λ acl. IsReadAgain acl) }
 {
     match Acl::parse(alloc, b"Add=*&Delete=*&Get=*&Replace=*") {
         Ok(acl) => match acl.print(alloc) {

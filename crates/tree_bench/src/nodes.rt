@@ -1,7 +1,6 @@
 // The names and nodes of which a tree is built.
 ghost use Rattle.std.specs.Prelude.{◌≡◌, ◌<◌, false, IfOk};
-ghost use Rattle.dm_tree.specs.declared.nodes.Stamp.{Stamp as Time};
-ghost use Rattle.dm_tree.specs.Nodes.{made, IsNode, IsValue};
+ghost use Rattle.dm_tree.specs.Nodes.{IsNewNode, IsValue};
 
 use crate::fault::Fault;
 use dm_base::{Bytes, Memory};
@@ -56,7 +55,7 @@ pub fn text_value(alloc: Global, number: u32) -> Result<Value, Memory>
 
 /// A leaf that may be removed.
 pub fn new_leaf(alloc: Global, leaf: u32) -> Result<NewNode, Memory>
-    ensures may { IfOk result (λ new. (now : Time) → IsNode (made now new)) }
+    ensures may { IfOk result (λ new. IsNewNode new) }
     ensures dynamic { IfOk result (λ new. new.permanent ≡ false) }
 {
     Ok(NewNode {
@@ -71,7 +70,7 @@ pub fn new_leaf(alloc: Global, leaf: u32) -> Result<NewNode, Memory>
 
 /// An interior node that may be removed.
 pub fn new_interior(alloc: Global) -> Result<NewNode, Memory>
-    ensures may { IfOk result (λ new. (now : Time) → IsNode (made now new)) }
+    ensures may { IfOk result (λ new. IsNewNode new) }
     ensures dynamic { IfOk result (λ new. new.permanent ≡ false) }
 {
     Ok(NewNode {

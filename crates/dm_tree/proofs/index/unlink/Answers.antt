@@ -9,6 +9,11 @@ place_of-place-requires-clause-inside c =
     let x : HasRead c.args.rows.now c.args.index.now.items c.args.id c.index-rows-id.result = record { inside = c.requires.attached.inside; is = c.index-rows-id.is; above = c.requires.attached.shaped.inside c.args.id c.requires.attached.inside; known = c.requires.index } in
     rw (read_ids _ _ _ _ x c.index.result.now c.index.ensures c.as_slice.result.now c.as_slice.ensures) (ids_inside _ _ _ (read_list _ _ _ _ x))
 
+pub place_of-place-requires-clause-order : goal.place_of-place-requires-clause-order
+place_of-place-requires-clause-order c =
+    let x : HasRead c.args.rows.now c.args.index.now.items c.args.id c.index-rows-id.result = record { inside = c.requires.attached.inside; is = c.index-rows-id.is; above = c.requires.attached.shaped.inside c.args.id c.requires.attached.inside; known = c.requires.index } in
+    rw (read_ids _ _ _ _ x c.index.result.now c.index.ensures c.as_slice.result.now c.as_slice.ensures) (read_list _ _ _ _ x).order
+
 pub take_out-requires-clause-place : goal.take_out-requires-clause-place
 take_out-requires-clause-place c =
     let x : HasRead c.args.rows.now c.args.index.now.items c.args.id c.index-rows-id.result = record { inside = c.requires.attached.inside; is = c.index-rows-id.is; above = c.requires.attached.shaped.inside c.args.id c.requires.attached.inside; known = c.requires.index } in

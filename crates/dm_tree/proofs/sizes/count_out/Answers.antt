@@ -10,7 +10,7 @@ pub loop-at-init : goal.loop-at-init
 loop-at-init c =
     let rows = c.args.rows.now in
     let sizes = c.args.sizes.now.items in
-    let first = exceed-first rows c.requires.shaped c.args.id c.requires.below_root c.requires.inside c.requires.out sizes c.requires.sizes in
+    let first = exceed-first rows c.args.id c.requires.inside c.requires.out c.requires.before sizes c.requires.sizes in
     let fewer : c.index-fewer.result.now ≡ get_or sizes c.args.id 0 = c.index-fewer.ensures ∙ get_or_default sizes c.args.id _ 0 (omega (arith, first.same, c.requires.inside)) in
     rw (get_or_default rows c.args.id c.index-rows-id.result blank c.requires.inside, fewer)
     (record { inside = c.requires.shaped.inside c.args.id c.requires.inside; exceed = first })

@@ -8,6 +8,3 @@ insert-requires-clause-within c =
     let few = subst (λ (p : List (List ℕ)). length p ≤ 2) c.as_slice-2.ensures.names c.if-as_slice-gt2.false in
     ap (λ (p : List (List ℕ)). is_within_limits (p ++ c.args.name ∷ [])) c.in-Some.ensures.live.1
     ∙ few_names_fit c.args.above.now c.args.name c.as_slice-2.ensures.path c.as_slice.ensures.name few
-
-pub insert-requires-clause-node : goal.insert-requires-clause-node
-insert-requires-clause-node c = c.requires.may c.args.tree.now.clock

@@ -9,6 +9,9 @@ use Rattle.dm_tree.proofs.Cuts.{nodes-detached, ids-detached}
 use Rattle.dm_tree.proofs.CutTrees.{tree-cut, takes_back-cut, parked-cut}
 use Rattle.dm_tree.specs.Index.{IsSized, IsTaken}
 use Rattle.dm_tree.proofs.Kepts.{back_again, isnt_root, may_take}
+use Rattle.dm_tree.specs.Notes.{TakesEditBack}
+use Rattle.dm_tree.proofs.Cuts.{live_attached}
+use Rattle.dm_tree.proofs.Notes.{edit-cut}
 use Rattle.dm_tree.proofs.arena.Tree.detach.Goals as goal
 
 rows_are : (c : goal.After-of) → c.take_out.new.rows.items ≡ attached_as c.args.self.now.rows c.args.id false
@@ -67,6 +70,16 @@ count_out-requires-clause-shaped c =
     c.deref.ensures.value ∙ c.take_out.ensures.rows ∙ ap (λ (t : Tree). attached_as t.rows c.row.result false) c.self.view_is ∙ ap (λ k. attached_as now k false) c.row.ensures in
     subst IsShaped (sym rows) (tree-cut now tree c.args.id (isnt_root now tree c.args.id c.requires.removable) c.requires.live).shape
 
+pub count_out-requires-clause-before : goal.count_out-requires-clause-before
+count_out-requires-clause-before c =
+    let now = c.args.self.now.rows in
+    let tree : IsTree now = subst (λ (t : Tree). IsTree t.rows) c.self.view_is c.self.invariant.tree in
+    let taken = may_take now tree c.args.id c.requires.live c.requires.removable in
+    let rows : c.deref.result.now ≡ attached_as now c.args.id false =
+    c.deref.ensures.value ∙ c.take_out.ensures.rows ∙ ap (λ (t : Tree). attached_as t.rows c.row.result false) c.self.view_is ∙ ap (λ k. attached_as now k false) c.row.ensures in
+    subst (λ (k : ℕ). IsShaped (attached_as c.deref.result.now k true)) (sym c.row-2.ensures)
+    (subst IsShaped (sym (back_again now c.deref.result.now c.args.id taken.inside taken.attached rows)) tree.shape)
+
 pub count_out-requires-clause-sizes : goal.count_out-requires-clause-sizes
 count_out-requires-clause-sizes c =
     let now = c.args.self.now.rows in
@@ -76,3 +89,12 @@ count_out-requires-clause-sizes c =
     c.deref.ensures.value ∙ c.take_out.ensures.rows ∙ ap (λ (t : Tree). attached_as t.rows c.row.result false) c.self.view_is ∙ ap (λ k. attached_as now k false) c.row.ensures in
     subst (λ (k : ℕ). IsSized (attached_as c.deref.result.now k true) c.self.inside.sizes.items) (sym c.row-2.ensures)
     (subst (λ r. IsSized r c.self.inside.sizes.items) (ap (λ (t : Tree). t.rows) c.self.view_is ∙ sym (back_again now c.deref.result.now c.args.id taken.inside taken.attached rows)) c.self.invariant.sizes)
+
+pub returns-clause-edit : goal.returns-clause-edit
+returns-clause-edit c =
+    let now = c.args.self.now.rows in
+    let id = c.args.id in
+    subst (λ u. TakesEditBack u now c.take_out.new.rows.items) (sym (undo_is c))
+    (subst (TakesEditBack (change.PutIn id) now) (sym (rows_are c))
+    (edit-cut now id (tree c) (tree-cut now (tree c) id (no_root c) c.requires.live) c.requires.live (live_attached now (tree c).shape id (no_root c) c.requires.live)
+    (takes_back-cut now (tree c) id (no_root c) c.requires.live) (parked-cut now (tree c) id (no_root c) c.requires.live)))

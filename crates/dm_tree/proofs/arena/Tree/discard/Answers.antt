@@ -1,42 +1,75 @@
-use Rattle.dm_tree.proofs.Seen.{stay_live}
-use Rattle.std.proofs.Common.{◌≡◌, ◌∙◌, sym, subst, ap}
+use Rattle.std.proofs.Common.{◌≡◌, ◌∙◌, ℕ, List, [], sym, subst, ap, arith, length}
+use Rattle.dm_tree.specs.declared.rows.Row.{Row}
 use Rattle.dm_tree.specs.declared.rows.Change.TheVariants as change
 use Rattle.dm_tree.specs.Rows.{Tree, IsTree, IsParkedTop, nodes, ids}
-use Rattle.dm_tree.specs.Edits.{without_content}
 use Rattle.dm_tree.specs.Undos.{IsHeld, IsDiscarded}
-use Rattle.dm_tree.proofs.GivenUps.{tree-given_up, ids-given_up, nodes-given_up, given_up}
 use Rattle.dm_tree.specs.Index.{IsIndex}
-use Rattle.dm_tree.proofs.Kepts.{kept-given_up}
+use Rattle.dm_tree.specs.Notes.{GoesAlike, Stays}
+use Rattle.dm_tree.specs.Reuse.{IsUsed}
+use Rattle.dm_tree.specs.Frees.{IsFreed, IsGivenBack}
+use Rattle.dm_tree.proofs.Seen.{stay_live}
 use Rattle.dm_tree.proofs.arena.Tree.discard.Goals as goal
 
-rows_are : (c : goal.After-give_up) → c.give_up.new.rows.items ≡ without_content c.args.self.now.rows c.in-PutIn.id
-rows_are c = c.give_up.ensures ∙ ap (λ (t : Tree). without_content t.rows c.in-PutIn.id) c.self.view_is
+rows_were : (c : goal.After-offer_above) → c.self.inside.rows.items ≡ c.args.self.now.rows
+rows_were c = ap (λ (t : Tree). t.rows) c.self.view_is
 
-tree : (c : goal.After-give_up) → IsTree c.args.self.now.rows
-tree c = subst (λ (t : Tree). IsTree t.rows) c.self.view_is c.self.invariant.tree
+pub free_subtree-requires-clause-parked : goal.free_subtree-requires-clause-parked
+free_subtree-requires-clause-parked c =
+    subst (λ rows. IsParkedTop rows c.in-PutIn.id) (sym (ap (λ (t : Tree). t.rows) c.self.view_is)) (subst (IsHeld c.args.self.now.rows) (sym c.in-PutIn.ensures) c.requires)
 
-top : (c : goal.After-give_up) → IsParkedTop c.args.self.now.rows c.in-PutIn.id
+-- what was done
+done : (c : goal.After-offer_above) → IsFreed c.args.self.now.rows c.in-PutIn.id c.free_subtree.new.rows.items
+done c = subst (λ rows. IsFreed rows c.in-PutIn.id c.free_subtree.new.rows.items) (rows_were c) c.free_subtree.ensures.freed
+
+top : (c : goal.After-offer_above) → IsParkedTop c.args.self.now.rows c.in-PutIn.id
 top c = subst (IsHeld c.args.self.now.rows) (sym c.in-PutIn.ensures) c.requires
 
-pub invariant_of-self : goal.invariant_of-self
-invariant_of-self c =
-    kept-given_up _ c.args.self.now.rows _ c.in-PutIn.id (ap (λ (t : Tree). t.rows) c.self.view_is) (top c) (rows_are c) (tree-given_up c.args.self.now.rows (tree c) c.in-PutIn.id (top c))
-    c.self.inside.index.items c.forget.new.index.items c.self.inside.sizes.items c.self.invariant (subst (λ rows. IsIndex (without_content rows c.in-PutIn.id) c.forget.new.index.items) c.deref.ensures.value c.forget.ensures)
+tree : (c : goal.After-offer_above) → IsTree c.args.self.now.rows
+tree c = subst (λ (t : Tree). IsTree t.rows) c.self.view_is c.self.invariant.tree
 
-pub forget-requires-clause-parked : goal.forget-requires-clause-parked
-forget-requires-clause-parked c =
-    subst (λ rows. IsParkedTop rows c.in-PutIn.id) (sym (c.deref.ensures.value ∙ ap (λ (t : Tree). t.rows) c.self.view_is)) (subst (IsHeld c.args.self.now.rows) (sym c.in-PutIn.ensures) c.requires)
+pub offer_above-requires-clause-inside : goal.offer_above-requires-clause-inside
+offer_above-requires-clause-inside c =
+    omega (
+      arith,
+      ap length c.deref.ensures.value,
+      c.free_subtree.ensures.freed.long,
+      (subst (λ rows. IsParkedTop rows c.in-PutIn.id) (sym (ap (λ (t : Tree). t.rows) c.self.view_is)) (subst (IsHeld c.args.self.now.rows) (sym c.in-PutIn.ensures) c.requires)).inside,
+    )
+
+pub invariant_of-self : goal.invariant_of-self
+invariant_of-self c = record {
+  tree = c.free_subtree.ensures.kept.tree;
+  index = subst (λ r. IsIndex r c.offer_above.new.index.items) c.deref.ensures.value c.offer_above.ensures;
+  sizes = c.free_subtree.ensures.kept.sizes;
+}
 
 pub returns-in-PutIn-clause-nodes : goal.returns-in-PutIn-clause-nodes
-returns-in-PutIn-clause-nodes c = ap nodes (rows_are c) ∙ nodes-given_up c.args.self.now.rows c.in-PutIn.id (top c)
+returns-in-PutIn-clause-nodes c = (done c).alike.nodes [] tt tt
 
 pub returns-in-PutIn-clause-ids : goal.returns-in-PutIn-clause-ids
-returns-in-PutIn-clause-ids c = ap ids (rows_are c) ∙ ids-given_up c.args.self.now.rows c.in-PutIn.id (top c)
-
-pub returns-in-PutIn-clause-rows : goal.returns-in-PutIn-clause-rows
-returns-in-PutIn-clause-rows c =
-    subst (λ u. IsDiscarded u c.args.self.now.rows c.give_up.new.rows.items) c.in-PutIn.ensures
-    (subst (λ r. IsDiscarded (change.PutIn c.in-PutIn.id) c.args.self.now.rows r) (sym (rows_are c)) (given_up c.args.self.now.rows (tree c) c.in-PutIn.id (top c)))
+returns-in-PutIn-clause-ids c = (done c).alike.ids [] tt tt
 
 pub returns-in-PutIn-clause-stays : goal.returns-in-PutIn-clause-stays
-returns-in-PutIn-clause-stays c = stay_live c.args.self.now.rows c.give_up.new.rows.items (tree c).shape (returns-in-PutIn-clause-ids c)
+returns-in-PutIn-clause-stays c =
+    stay_live c.args.self.now.rows c.free_subtree.new.rows.items (tree c).shape (returns-in-PutIn-clause-ids c)
+
+pub returns-in-PutIn-clause-rows : goal.returns-in-PutIn-clause-rows
+returns-in-PutIn-clause-rows c = subst (λ u. IsDiscarded u c.args.self.now.rows c.free_subtree.new.rows.items) c.in-PutIn.ensures (done c).given
+
+pub returns-in-PutIn-clause-alike : goal.returns-in-PutIn-clause-alike
+returns-in-PutIn-clause-alike c =
+    subst (λ u. GoesAlike (Stays c.args.self.now.rows u) c.args.self.now.rows c.free_subtree.new.rows.items) c.in-PutIn.ensures (done c).alike
+
+pub returns-in-PutIn-clause-parked : goal.returns-in-PutIn-clause-parked
+returns-in-PutIn-clause-parked c =
+    subst (λ u. (k : ℕ) → IsParkedTop c.free_subtree.new.rows.items k → IsParkedTop c.args.self.now.rows k × Stays c.args.self.now.rows u k)
+    c.in-PutIn.ensures (done c).parked
+
+pub returns-in-PutIn-clause-used : goal.returns-in-PutIn-clause-used
+returns-in-PutIn-clause-used c =
+    subst (λ u. (k : ℕ) → IsUsed c.args.self.now.rows k → Stays c.args.self.now.rows u k → IsUsed c.free_subtree.new.rows.items k)
+    c.in-PutIn.ensures (done c).used
+
+pub returns-in-PutIn-clause-given_back : goal.returns-in-PutIn-clause-given_back
+returns-in-PutIn-clause-given_back c =
+    subst (λ u. IsGivenBack u c.args.self.now.rows c.free_subtree.new.rows.items) c.in-PutIn.ensures (done c).spent

@@ -3,6 +3,7 @@ use Rattle.dm_tree.specs.Order.{first_child}
 use Rattle.dm_tree.specs.Rows.{Tree, IsTree, nodes, path_of}
 use Rattle.dm_tree.specs.Walks.{least_child}
 use Rattle.dm_tree.proofs.Steps.{Shows, first-is, shown_ids, shown_live}
+use Rattle.dm_tree.proofs.Children.{shown_children}
 use Rattle.dm_tree.proofs.arena.Tree.first_child.Goals as goal
 
 tree : (c : goal.After-of_row) → IsTree c.args.self.now.rows
@@ -20,3 +21,6 @@ returns-clause-found c = shown_ids c.args.self.now.rows (tree c).shape c.of_row.
 
 pub returns-clause-live : goal.returns-clause-live
 returns-clause-live c = shown_live c.args.self.now.rows c.of_row.result _ (shows c)
+
+pub returns-clause-children : goal.returns-clause-children
+returns-clause-children c = shown_children c.args.self.now.rows (path_of c.args.self.now.rows c.args.id) c.of_row.result (shows c)

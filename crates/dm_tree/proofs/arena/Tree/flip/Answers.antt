@@ -1,8 +1,8 @@
 use Rattle.std.proofs.Common.{◌≡◌, ◌∙◌, sym, subst, ap}
 use Rattle.dm_tree.specs.Rows.{Tree, IsTree}
-use Rattle.dm_tree.specs.Undos.{flipped, turned, Fits, TakesBack}
+use Rattle.dm_tree.specs.Undos.{flipped, turned, Fits, IsHeld, TakesBack}
 use Rattle.dm_tree.specs.Index.{IsSized}
-use Rattle.dm_tree.proofs.Flips.{again, turned_twice}
+use Rattle.dm_tree.proofs.Flips.{again, held_then, turned_twice}
 use Rattle.dm_tree.proofs.arena.Tree.flip.Goals as goal
 
 rows_are : (c : goal.After-recount) → c.flip_row.new.rows.items ≡ flipped c.args.self.now.rows c.args.undo.now
@@ -19,6 +19,14 @@ returns-clause-again c =
       subst (λ u. TakesBack u rows c.flip_row.new.rows.items) (sym (undo_is c)) (subst (TakesBack (turned rows undo) rows) (sym (rows_are c)) (again rows undo tree c.requires)),
       ap (λ r. turned r c.flip_row.new.change) (rows_are c) ∙ ap (turned (flipped rows undo)) (undo_is c) ∙ turned_twice rows undo c.requires.inside,
     )
+
+pub returns-clause-held : goal.returns-clause-held
+returns-clause-held c =
+    let rows = c.args.self.now.rows in
+    let undo = c.args.undo.now in
+    let tree : IsTree rows = subst (λ (t : Tree). IsTree t.rows) c.self.view_is c.self.invariant.tree in
+    subst (λ u. IsHeld c.flip_row.new.rows.items u) (sym (undo_is c))
+    (subst (λ r. IsHeld r (turned rows undo)) (sym (rows_are c)) (held_then rows undo tree c.requires))
 
 pub recount-requires-clause-fits : goal.recount-requires-clause-fits
 recount-requires-clause-fits c =

@@ -6,12 +6,12 @@ use Rattle.dm_tree.proofs.Counts.{sized-root}
 use Rattle.dm_tree.proofs.Kepts.{root-index}
 use Rattle.dm_tree.proofs.arena.Tree.new.Goals as goal
 
-grown : (c : goal.In_ok-sizes) → c.push.new.self.items ≡ root_row c.in-Ok.name c.args.root_acl ∷ []
+grown : (c : goal.After-at) → c.push.new.self.items ≡ root_row c.in-Ok.name c.args.root_acl ∷ []
 unfolding root_row
 grown c = c.in_ok-push.ensures.items ∙ ap (λ rows. rows ++ record { parent = 0; depth = 0; attached = false; given_up = false; name = c.in-Ok.name; node = c.in_ok-node.node } ∷ []) c.new-rows.ensures.items
     ∙ ap (λ node. record { parent = 0; depth = 0; attached = false; given_up = false; name = c.in-Ok.name; node = node } ∷ []) c.in_ok-node.ensures
 
-index_is : (c : goal.In_ok-sizes) → c.push-2.new.self.items ≡ no_children ∷ []
+index_is : (c : goal.After-at) → c.push-2.new.self.items ≡ no_children ∷ []
 index_is c = c.in_ok-push-2.ensures.items ∙ ap (λ kept. kept ++ c.new.result ∷ []) c.new-index.ensures.items ∙ ap (λ list. list ∷ []) c.new.ensures
 
 pub invariant_of-result : goal.invariant_of-result

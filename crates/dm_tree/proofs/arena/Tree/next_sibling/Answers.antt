@@ -1,4 +1,4 @@
-use Rattle.std.proofs.Common.{◌∙◌, subst, sym, ap, length, Some}
+use Rattle.std.proofs.Common.{◌∙◌, subst, sym, ap, length, None, Some}
 use Rattle.std.specs.FinMap.{get}
 use Rattle.std.specs.Prelude.{option_and_then}
 use Rattle.dm_tree.specs.declared.rows.Row.{Row}
@@ -8,6 +8,7 @@ use Rattle.dm_tree.specs.Walks.{least_child}
 use Rattle.dm_tree.proofs.Climbs.{not_zero}
 use Rattle.dm_tree.proofs.Seen.{read_live}
 use Rattle.dm_tree.proofs.Steps.{Shows, next-is, root_next, shown_ids, shown_live}
+use Rattle.dm_tree.proofs.Children.{shown_beside}
 use Rattle.dm_tree.proofs.arena.Tree.next_sibling.Goals as goal
 
 tree : (c : goal.After-of_row) → IsTree c.args.self.now.rows
@@ -32,3 +33,10 @@ returns-clause-found c = shown_ids c.args.self.now.rows (tree c).shape c.of_row.
 
 pub returns-clause-live : goal.returns-clause-live
 returns-clause-live c = shown_live c.args.self.now.rows c.of_row.result _ (shows c)
+
+pub returns-then-row-eq0-clause-behind : goal.returns-then-row-eq0-clause-behind
+returns-then-row-eq0-clause-behind c =
+    shown_beside c.args.self.now.rows (path_of c.args.self.now.rows c.args.id) None (root_next c.args.self.now.rows c.args.id (sym c.row.ensures ∙ c.if-row-eq0.true))
+
+pub returns-clause-behind : goal.returns-clause-behind
+returns-clause-behind c = shown_beside c.args.self.now.rows (path_of c.args.self.now.rows c.args.id) c.of_row.result (shows c)

@@ -11,3 +11,6 @@ returns-clause-id c =
 
 pub returns-clause-well_formed : goal.returns-clause-well_formed
 returns-clause-well_formed c = well_formed c.args.self.now.rows (subst (λ (t : Tree). IsTree t.rows) c.self.view_is c.self.invariant.tree)
+
+pub returns-clause-sound : goal.returns-clause-sound
+returns-clause-sound c = subst (λ (t : Tree). IsTree t.rows) c.self.view_is c.self.invariant.tree

@@ -1,7 +1,7 @@
 use Rattle.dm_tree.proofs.Seen.{stay_live}
 use Rattle.std.proofs.Common.{◌≡◌, ◌∙◌, sym, subst, ap, refl, arith, []}
 use Rattle.dm_tree.specs.declared.rows.Change.TheVariants as change
-use Rattle.dm_tree.specs.Nodes.{IsRoot, changed, with_acl}
+use Rattle.dm_tree.specs.Nodes.{IsStamp, IsRoot, changed, with_acl}
 use Rattle.dm_tree.specs.Rows.{Tree, IsTree, node_of, nodes, ids, row_at}
 use Rattle.dm_tree.specs.Edits.{with_node}
 use Rattle.dm_tree.specs.Undos.{TakesBack}
@@ -13,12 +13,17 @@ use Rattle.dm_tree.proofs.Maps.{root_live}
 use Rattle.dm_tree.proofs.Nodewise.{live_row, nodes-with_node, ids-with_node}
 use Rattle.dm_tree.proofs.Trees.{tree-with_node, takes_back, back-node}
 use Rattle.dm_tree.proofs.Kepts.{kept-node}
+use Rattle.dm_tree.proofs.Contents.{held_changed}
+use Rattle.dm_tree.specs.Undos.{row_of, IsHeld}
+use Rattle.dm_tree.specs.Notes.{IsFresh, Begins, TakesEditBack}
+use Rattle.dm_tree.proofs.Notes.{edit-node}
 use Rattle.dm_tree.proofs.arena.Tree.set_acl.Goals as goal
 
 -- the rows that the code left
 rows_are : (c : goal.After-of) → c.put_acl-change.new.rows.items ≡ with_node c.args.self.now.rows c.args.id (changed c.args.self.now.clock (with_acl (node_of c.args.self.now.rows c.args.id) c.args.acl))
 rows_are c =
-    c.put_acl-change.ensures.rows ∙ ap (λ (t : Tree). with_node t.rows c.row.result (changed t.clock (with_acl (node_of t.rows c.row.result) c.args.acl))) c.self.view_is
+    c.put_acl-change.ensures.rows ∙ ap (λ s. with_node c.self.inside.rows.items c.row.result (changed s (with_acl (node_of c.self.inside.rows.items c.row.result) c.args.acl))) c.stamp.ensures.value
+    ∙ ap (λ (t : Tree). with_node t.rows c.row.result (changed t.clock (with_acl (node_of t.rows c.row.result) c.args.acl))) c.self.view_is
     ∙ ap (λ k. with_node c.args.self.now.rows k (changed c.args.self.now.clock (with_acl (node_of c.args.self.now.rows k) c.args.acl))) c.row.ensures
 
 kept : (c : goal.After-of) → IsTree (with_node c.args.self.now.rows c.args.id (changed c.args.self.now.clock (with_acl (node_of c.args.self.now.rows c.args.id) c.args.acl)))
@@ -26,7 +31,8 @@ kept c =
     let tree : IsTree c.args.self.now.rows = subst (λ (t : Tree). IsTree t.rows) c.self.view_is c.self.invariant.tree in
     let inside = live_row c.args.self.now.rows tree.shape c.args.id c.requires.live in
     let held = (tree.each c.args.id inside).node in
-    tree-with_node c.args.self.now.rows tree c.args.id inside _ (record { value = held.value; acl = c.requires.short; title = held.title }) (record { interior = refl; permanent = refl }) (λ z. let top = subst (λ k. IsRoot (node_of c.args.self.now.rows k)) (sym z) tree.root in record { interior = top.interior; permanent = top.permanent; acl = c.requires.root (ap (path_of c.args.self.now.rows) z ∙ ap (λ o. unwrap_or o []) (root_live c.args.self.now.rows tree.shape)); media = top.media; role = top.role })
+    tree-with_node c.args.self.now.rows tree c.args.id inside _ (held_changed c.args.self.now.clock (with_acl (node_of c.args.self.now.rows c.args.id) c.args.acl) (subst IsStamp (c.stamp.ensures.value ∙ ap (λ (t : Tree). t.clock) c.self.view_is) c.stamp.ensures.kept)
+    (held.value) c.requires.again held.title) (record { interior = refl; permanent = refl }) (λ z. let top = subst (λ k. IsRoot (node_of c.args.self.now.rows k)) (sym z) tree.root in record { interior = top.interior; permanent = top.permanent; acl = c.requires.root (ap (path_of c.args.self.now.rows) z ∙ ap (λ o. unwrap_or o []) (root_live c.args.self.now.rows tree.shape)); media = top.media; role = top.role })
 
 pub invariant_of-self : goal.invariant_of-self
 invariant_of-self c = kept-node _ c.args.self.now.rows _ c.args.id _ (ap (λ (t : Tree). t.rows) c.self.view_is) c.requires.live (rows_are c) (kept c) c.self.inside.index.items c.self.inside.sizes.items c.self.invariant
@@ -56,3 +62,14 @@ pub returns-clause-stays : goal.returns-clause-stays
 returns-clause-stays c =
     let tree : IsTree c.args.self.now.rows = subst (λ (t : Tree). IsTree t.rows) c.self.view_is c.self.invariant.tree in
     stay_live c.args.self.now.rows c.put_acl-change.new.rows.items tree.shape (returns-clause-ids c)
+
+pub returns-clause-edit : goal.returns-clause-edit
+returns-clause-edit c =
+    let now = c.args.self.now in
+    let id = c.args.id in
+    let tree : IsTree now.rows = subst (λ (t : Tree). IsTree t.rows) c.self.view_is c.self.invariant.tree in
+    let undo : c.of.result ≡ change.Acl id (node_of now.rows id).acl (node_of now.rows id).verno (node_of now.rows id).stamp =
+    c.of.ensures ∙ c.put_acl-change.ensures.change ∙ ap (λ (t : Tree). change.Acl c.row.result (node_of t.rows c.row.result).acl (node_of t.rows c.row.result).verno (node_of t.rows c.row.result).stamp) c.self.view_is ∙ ap (λ k. change.Acl k (node_of now.rows k).acl (node_of now.rows k).verno (node_of now.rows k).stamp) c.row.ensures in
+    subst (TakesEditBack c.of.result now.rows) (sym (rows_are c))
+    (edit-node now.rows id _ c.of.result tree (kept c) c.requires.live (subst (TakesBack c.of.result now.rows) (rows_are c) (returns-clause-undo c)) (ap row_of undo)
+    (subst (IsHeld (with_node now.rows id (changed now.clock (with_acl (node_of now.rows id) c.args.acl)))) (sym undo) tt) (subst (IsFresh now.rows) (sym undo) tt) (subst (Begins now.rows (with_node now.rows id (changed now.clock (with_acl (node_of now.rows id) c.args.acl)))) (sym undo) tt))

@@ -1,4 +1,0 @@
-use Rattle.dm_tree.proofs.tests.put_below.Goals as goal
-
-pub insert-requires-clause-node : goal.insert-requires-clause-node
-insert-requires-clause-node c = c.requires.may c.args.tree.now.clock
