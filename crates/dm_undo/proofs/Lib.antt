@@ -1,0 +1,14 @@
+pub mod Shapes
+pub mod Alikes
+pub mod Rows
+pub mod Rolls
+pub mod Notings
+pub mod Settles
+pub mod Steps
+pub mod Loops
+pub mod Unwinds
+pub mod Helds
+pub mod Told
+pub mod Marks
+pub mod Noted
+pub mod Returns

@@ -1,0 +1,11 @@
+//! A journal of the edits of a tree: a list of trees to go back to, without a copy of any.
+#![tactic(auto)]
+
+mod entries;
+pub mod journal;
+pub mod laws;
+#[cfg(test)]
+mod tests;
+
+pub use entries::Entry;
+pub use journal::{Journal, Mark};
