@@ -1,0 +1,2 @@
+pub mod SeenObjects
+pub mod Takings

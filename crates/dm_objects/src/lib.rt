@@ -1,0 +1,16 @@
+//! Large objects, put together from the pieces in which they come.
+#![tactic(auto)]
+
+mod copies;
+mod inbox;
+mod keys;
+mod log;
+mod object;
+mod piece;
+mod rules;
+#[cfg(test)]
+mod tests;
+
+pub use inbox::{Inbox, InboxMark};
+pub use object::{Begun, Key, Object};
+pub use piece::{Piece, Taken, What};

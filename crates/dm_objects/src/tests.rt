@@ -1,0 +1,253 @@
+// Objects in pieces, what breaks them, and the way back.
+use crate::{Inbox, Piece, Taken, What};
+use dm_base::{Bytes, Memory};
+use std::alloc::Global;
+use std::test::Fail;
+use syncml_types::{Step, Verb};
+
+fn piece(
+    alloc: Global,
+    verb: Verb,
+    target: &[u8],
+    bytes: &[u8],
+    size: Option<u64>,
+    more: bool,
+) -> Result<Piece, Memory> {
+    let target = if target.is_empty() {
+        None
+    } else {
+        Some(Bytes::of_slice(alloc, target)?)
+    };
+    let step = Step {
+        verb,
+        target,
+        format: None,
+        media: None,
+        value: Bytes::of_slice(alloc, bytes)?,
+        correlator: None,
+        in_atomic: false,
+    };
+    Ok(Piece { step, size, more })
+}
+
+// The code of a piece; 200 for a whole step.
+fn code_of(taken: &Taken) -> u32 {
+    match &taken.what {
+        What::Whole(_) => 200,
+        What::Buffered => 213,
+        What::Refused(code) => *code,
+    }
+}
+
+// The value of a whole step.
+fn value_of(taken: &Taken) -> &[u8] {
+    match &taken.what {
+        What::Whole(step) => step.value.as_slice(),
+        What::Buffered => b"",
+        What::Refused(_) => b"",
+    }
+}
+
+fn broken_by(taken: &Taken) -> &[u8] {
+    match &taken.broken {
+        None => b"",
+        Some(target) => target.as_slice(),
+    }
+}
+
+// A piece, where an empty target is none, and what it comes to.
+struct Sent {
+    verb: Verb,
+    target: &'static [u8],
+    bytes: &'static [u8],
+    size: Option<u64>,
+    more: bool,
+    code: u32,
+    value: &'static [u8],
+    broken: &'static [u8],
+}
+
+const NONE: &[u8] = b"";
+
+#[rattlefmt::skip]
+const SENT: [Sent; 21] = [
+    // One piece, at the limit of ten bytes and above it; its Size isn't looked at.
+    Sent { verb: Verb::Add, target: b"./A", bytes: b"0123456789", size: Some(99), more: false, code: 200, value: b"0123456789", broken: NONE },
+    Sent { verb: Verb::Add, target: b"./A", bytes: b"0123456789a", size: None, more: false, code: 416, value: NONE, broken: NONE },
+    // Three pieces.
+    Sent { verb: Verb::Add, target: b"./A", bytes: b"ab", size: Some(5), more: true, code: 213, value: NONE, broken: NONE },
+    Sent { verb: Verb::Add, target: b"./A", bytes: b"cd", size: None, more: true, code: 213, value: NONE, broken: NONE },
+    Sent { verb: Verb::Add, target: b"./A", bytes: b"e", size: None, more: false, code: 200, value: b"abcde", broken: NONE },
+    // Another verb breaks it, and another target does.
+    Sent { verb: Verb::Add, target: b"./A", bytes: b"ab", size: Some(5), more: true, code: 213, value: NONE, broken: NONE },
+    Sent { verb: Verb::Replace, target: b"./A", bytes: b"ab", size: Some(3), more: true, code: 213, value: NONE, broken: b"./A" },
+    Sent { verb: Verb::Replace, target: b"./B", bytes: b"ab", size: Some(3), more: true, code: 213, value: NONE, broken: b"./A" },
+    // Too many bytes, and what follows is skipped up to the last.
+    Sent { verb: Verb::Replace, target: b"./B", bytes: b"cd", size: None, more: true, code: 424, value: NONE, broken: NONE },
+    Sent { verb: Verb::Replace, target: b"./B", bytes: b"", size: None, more: true, code: 424, value: NONE, broken: NONE },
+    Sent { verb: Verb::Replace, target: b"./B", bytes: b"", size: None, more: false, code: 424, value: NONE, broken: NONE },
+    Sent { verb: Verb::Replace, target: b"./B", bytes: b"x", size: None, more: false, code: 200, value: b"x", broken: NONE },
+    // First pieces that are refused: no Size, one above the limit, and one that is passed at once.
+    Sent { verb: Verb::Add, target: b"./A", bytes: b"a", size: None, more: true, code: 411, value: NONE, broken: NONE },
+    Sent { verb: Verb::Add, target: b"./A", bytes: b"a", size: Some(2), more: false, code: 411, value: NONE, broken: NONE },
+    Sent { verb: Verb::Add, target: b"./A", bytes: b"a", size: Some(11), more: true, code: 416, value: NONE, broken: NONE },
+    Sent { verb: Verb::Add, target: b"./C", bytes: b"abc", size: Some(2), more: true, code: 424, value: NONE, broken: NONE },
+    // A Get ends what is skipped; it has no pieces, and a write in pieces wants a target.
+    Sent { verb: Verb::Get, target: b"./C", bytes: b"", size: None, more: true, code: 400, value: NONE, broken: NONE },
+    Sent { verb: Verb::Add, target: NONE, bytes: b"a", size: Some(2), more: true, code: 400, value: NONE, broken: NONE },
+    // The last piece is one byte short.
+    Sent { verb: Verb::Add, target: b"./A", bytes: b"a", size: Some(3), more: true, code: 213, value: NONE, broken: NONE },
+    Sent { verb: Verb::Add, target: b"./A", bytes: b"b", size: None, more: false, code: 424, value: NONE, broken: NONE },
+    Sent { verb: Verb::Delete, target: b"./A", bytes: b"", size: None, more: false, code: 200, value: NONE, broken: NONE },
+];
+
+// The number of the first row that comes to something else.
+fn wrong_row(alloc: Global) -> Result<Option<u32>, Memory> {
+    let mut inbox = Inbox::new(alloc, 10);
+    let mut row: u32 = 0;
+    for sent in &SENT {
+        let next = piece(
+            alloc,
+            sent.verb,
+            sent.target,
+            sent.bytes,
+            sent.size,
+            sent.more,
+        )?;
+        let taken = inbox.take(&next)?;
+        if code_of(&taken) != sent.code
+            || value_of(&taken) != sent.value
+            || broken_by(&taken) != sent.broken
+        {
+            return Ok(Some(row));
+        }
+        row = row.saturating_add(1);
+    }
+    Ok(None)
+}
+
+// What comes between a mark and the way back to it.
+#[derive(Clone, Copy)]
+enum Between {
+    Nothing,
+    More,
+    Last,
+    Other,
+    Skip,
+    Clear,
+    Quiet,
+}
+
+fn disturb(alloc: Global, inbox: &mut Inbox, between: Between) -> Result<(), Memory> {
+    let more = piece(alloc, Verb::Add, b"./A", b"c", None, true)?;
+    let last = piece(alloc, Verb::Add, b"./A", b"cd", None, false)?;
+    let other = piece(alloc, Verb::Add, b"./B", b"x", Some(4), true)?;
+    match between {
+        Between::Nothing => {}
+        Between::More => drop(inbox.take(&more)?),
+        Between::Last => drop(inbox.take(&last)?),
+        Between::Other => drop(inbox.take(&other)?),
+        Between::Skip => inbox.skip(&more)?,
+        Between::Clear => inbox.clear(),
+        Between::Quiet => drop(inbox.quiet()?),
+    }
+    Ok(())
+}
+
+const ALL: [Between; 7] = [
+    Between::Nothing,
+    Between::More,
+    Between::Last,
+    Between::Other,
+    Between::Skip,
+    Between::Clear,
+    Between::Quiet,
+];
+
+// A first piece, whatever comes behind it twice, back, and the last piece: the object is whole.
+fn is_whole_after(
+    alloc: Global,
+    first: Between,
+    second: Between,
+    settles: bool,
+) -> Result<bool, Memory> {
+    let mut inbox = Inbox::new(alloc, 10);
+    drop(inbox.take(&piece(alloc, Verb::Add, b"./A", b"ab", Some(4), true)?)?);
+    if settles {
+        inbox.settle();
+    }
+    let mark = inbox.mark();
+    disturb(alloc, &mut inbox, first)?;
+    disturb(alloc, &mut inbox, second)?;
+    // Whatever comes adds to what was seen.
+    if inbox.mark().at < mark.at {
+        return Ok(false);
+    }
+    inbox.back(mark);
+    let last = inbox.take(&piece(alloc, Verb::Add, b"./A", b"cd", None, false)?)?;
+    Ok(value_of(&last) == b"abcd".as_slice())
+}
+
+// How many pairs there are after which the object isn't whole.
+fn broken_ways(alloc: Global) -> Result<u32, Memory> {
+    let mut count: u32 = 0;
+    for first in &ALL {
+        for second in &ALL {
+            if !is_whole_after(alloc, *first, *second, false)?
+                || !is_whole_after(alloc, *first, *second, true)?
+            {
+                count = count.saturating_add(1);
+            }
+        }
+    }
+    Ok(count)
+}
+
+// An object in 69 pieces of 60,000 bytes and a last one: the code of the first piece, and of the last, and how many bytes
+// come out.
+fn large(alloc: Global, size: Option<u64>, last: usize) -> Result<(u32, u32, usize), Memory> {
+    let mut inbox = Inbox::new(alloc, 4_194_304);
+    let bytes = vec![in alloc; 7u8; 60_000]?;
+    let first = inbox.take(&piece(alloc, Verb::Add, b"./L", bytes.as_slice(), size, true)?)?;
+    for _ in 1..69 {
+        drop(inbox.take(&piece(alloc, Verb::Add, b"./L", bytes.as_slice(), None, true)?)?);
+    }
+    let end = bytes.as_slice().split_at(last.min(bytes.len())).0;
+    let whole = inbox.take(&piece(alloc, Verb::Add, b"./L", end, None, false)?)?;
+    Ok((code_of(&first), code_of(&whole), value_of(&whole).len()))
+}
+
+#[test]
+fn pieces_come_to_what_the_rules_say(rt: HostRuntime) -> Result<(), Fail> {
+    assert_eq!(rt; wrong_row(rt.alloc())?, None);
+    Ok(())
+}
+
+#[test]
+fn what_stood_at_a_mark_is_there_again(rt: HostRuntime) -> Result<(), Fail> {
+    assert_eq!(rt; broken_ways(rt.alloc())?, 0);
+    Ok(())
+}
+
+#[test]
+fn large_objects_are_whole(rt: HostRuntime) -> Result<(), Fail> {
+    assert_eq!(rt;
+        large(rt.alloc(), Some(4_194_304), 54_304)?,
+        (213, 200, 4_194_304)
+    );
+    assert_eq!(rt; large(rt.alloc(), Some(4_194_304), 54_303)?, (213, 424, 0));
+    assert_eq!(rt; large(rt.alloc(), Some(4_194_305), 54_304)?, (416, 416, 0));
+    assert_eq!(rt; large(rt.alloc(), None, 54_304)?, (411, 411, 0));
+    Ok(())
+}
+
+#[test]
+fn quiet_tells_what_was_buffered(rt: HostRuntime) -> Result<(), Fail> {
+    let mut inbox = Inbox::new(rt.alloc(), 10);
+    assert_eq!(rt; inbox.quiet()?.is_none(), true);
+    drop(inbox.take(&piece(rt.alloc(), Verb::Add, b"./A", b"ab", Some(4), true)?)?);
+    assert_eq!(rt; inbox.buffering(), true);
+    assert_eq!(rt; inbox.quiet()?.map_or(0, |target| target.len()), 3);
+    assert_eq!(rt; inbox.buffering(), false);
+    Ok(())
+}
