@@ -1,4 +1,5 @@
-// Standard input and output as a source and a sink. They tell no content.
+// A reader and a writer of the standard library as a source and a sink, which tell the bytes that those tell. Of standard
+// input and output that is nothing.
 ghost use Rattle.std.specs.Prelude.{None};
 
 use dm_base::{Failed, Fault, Sink, Source};
@@ -18,7 +19,7 @@ impl<R: Read + Drop> StdSource<R> {
 }
 
 impl<R: Read + Drop> Source for StdSource<R> {
-    ghost left = { λ s. None };
+    ghost left = { λ s. R.remaining s.inner };
 
     ghost faults = { λ s. s.faults };
 
@@ -47,7 +48,7 @@ impl<W: Write + Drop> StdSink<W> {
 }
 
 impl<W: Write + Drop> Sink for StdSink<W> {
-    ghost got = { λ s. None };
+    ghost got = { λ s. W.contents s.inner };
 
     ghost faults = { λ s. s.faults };
 
@@ -59,5 +60,109 @@ impl<W: Write + Drop> Sink for StdSink<W> {
                 Err(Fault::Failed)
             }
         }
+    }
+}
+
+#[cfg(test)]
+mod tests {
+    use super::*;
+    use dm_base::{TakeError, put_all, take_all};
+    use std::alloc::Global;
+    use std::io;
+    use std::io::{Error, ErrorKind};
+    use std::test::Fail;
+
+    /// Gives half of what is asked for. The call with the number `failing`, counted from 1, fails.
+    #[derive(Drop)]
+    struct HalfReader {
+        left: &'static [u8],
+        calls: u64,
+        failing: u64,
+    }
+
+    impl Read for HalfReader {
+        fn read(&mut self, buf: &mut [u8]) -> io::Result<usize> {
+            self.calls = self.calls.saturating_add(1);
+            if self.calls == self.failing {
+                return Err(Error::from(ErrorKind::ConnectionReset));
+            }
+            let count = (buf.len() - buf.len() / 2).min(self.left.len());
+            let (front, behind) = self.left.split_at(count);
+            buf[..count].copy_from_slice(front);
+            self.left = behind;
+            Ok(count)
+        }
+    }
+
+    /// Takes half of what it is given. The call with the number `failing`, counted from 1, fails.
+    #[derive(Drop)]
+    struct HalfWriter {
+        got: Vec<u8>,
+        calls: u64,
+        failing: u64,
+    }
+
+    impl Write for HalfWriter {
+        fn write(&mut self, buf: &[u8]) -> io::Result<usize> {
+            self.calls = self.calls.saturating_add(1);
+            if self.calls == self.failing {
+                return Err(Error::from(ErrorKind::BrokenPipe));
+            }
+            let count = buf.len() - buf.len() / 2;
+            self.got.extend_from_slice(&buf[..count])?;
+            Ok(count)
+        }
+
+        fn flush(&mut self) -> io::Result<()> {
+            Ok(())
+        }
+    }
+
+    fn source(failing: u64) -> StdSource<HalfReader> {
+        StdSource::new(HalfReader {
+            left: b"abcdef",
+            calls: 0,
+            failing,
+        })
+    }
+
+    fn sink(alloc: Global, failing: u64) -> StdSink<HalfWriter> {
+        StdSink::new(HalfWriter {
+            got: Vec::new(alloc),
+            calls: 0,
+            failing,
+        })
+    }
+
+    #[test]
+    fn a_fault_of_a_reader_is_no_end(rt: HostRuntime) -> Result<(), Fail> {
+        let mut src = source(2);
+        let mut buf = [0u8; 8];
+        assert_eq!(rt; src.take(&mut buf), Ok(4));
+        assert_eq!(rt; &buf[..4], b"abcd".as_slice());
+        assert_eq!(rt; src.take(&mut buf), Err(Failed));
+        assert_eq!(rt; src.take(&mut buf), Ok(2));
+        assert_eq!(rt; &buf[..2], b"ef".as_slice());
+        assert_eq!(rt; src.take(&mut buf), Ok(0));
+        let failed = take_all(rt.alloc(), &mut source(2), 9).err();
+        assert_eq!(rt; failed, Some(TakeError::Read));
+        let whole = take_all(rt.alloc(), &mut source(0), 9)?;
+        assert_eq!(rt; whole.as_slice(), b"abcdef".as_slice());
+        Ok(())
+    }
+
+    #[test]
+    fn a_short_write_is_not_the_whole(rt: HostRuntime) {
+        let mut out = sink(rt.alloc(), 2);
+        assert_eq!(rt; out.put(b"abcd"), Ok(2));
+        assert_eq!(rt; out.put(b"cd"), Err(Fault::Failed));
+        assert_eq!(rt; out.put(b"cd"), Ok(1));
+        assert_eq!(rt; out.inner.got.as_slice(), b"abc".as_slice());
+        let mut out = sink(rt.alloc(), 0);
+        assert_eq!(rt; put_all(&mut out, b"abcdef"), Ok(()));
+        assert_eq!(rt; out.inner.got.as_slice(), b"abcdef".as_slice());
+        let mut out = sink(rt.alloc(), 2);
+        assert_eq!(rt; put_all(&mut out, b"abcdef"), Err(Fault::Failed));
+        assert_eq!(rt; out.inner.got.as_slice(), b"abc".as_slice());
     }
 }

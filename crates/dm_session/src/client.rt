@@ -1,5 +1,5 @@
 // The client, which is seen as the state of its machine.
-ghost use Rattle.std.specs.Prelude.{◌≡◌, ◌<◌, ◌-◌, ◌^◌, true, false, IfOk, IfNone, IfSome, OnOk, OnErr, option_map};
+ghost use Rattle.std.specs.Prelude.{◌≡◌, ◌<◌, ◌-◌, ◌^◌, true, false, IfOk, IfNone, IsErrOf, IfSome, OnOk, OnErr, option_map};
 ghost use Rattle.syncml_types.specs.Message.{IsShortData};
 ghost use Rattle.syncml_codec.specs.FirstMessages as First;
 ghost use Rattle.dm_session.specs.State.{beginning, opened, message as came};
@@ -7,6 +7,7 @@ ghost use Rattle.dm_session.specs.Machine.{after, taken_answer, takes, session_b
 ghost use Rattle.dm_session.specs.Inside.{held, Holds};
 ghost use Rattle.dm_session.specs.History.{answer_now, next};
 ghost use Rattle.dm_session.specs.View.{Tells, sent_last, Begins};
+ghost use Rattle.dm_session.specs.declared.values.BeginError.TheVariants as error;
 
 use crate::values::{Answer, BeginError, End, Kind};
 use dm_base::{Bytes, FirstLeaf, FirstText, Limits, Memory, num};
@@ -117,9 +118,11 @@ impl Client {
         hold(self.alloc, number, 0, 1, sent)
     }
 
-    /// Begins a session. `Exhausted` comes exactly where the number isn't above the last one begun, which is told.
+    /// Begins a session. `Exhausted` comes exactly where the number isn't above the last one begun, which is told, and
+    /// takes no memory: `Memory` comes only in place of a session.
     pub fn begin(&mut self, kind: Kind, session: u32) -> Result<(), BeginError>
         ensures answer { Begins result self.new (answer_now self.old (opened kind session)) }
+        ensures memory { IsErrOf result error.Memory → takes self.old (opened kind session) ≡ true }
         ensures ok { OnOk result (self.new ≡ next self.old (opened kind session)) }
         ensures err { OnErr result (self.new ≡ self.old) }
     {

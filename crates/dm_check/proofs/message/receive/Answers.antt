@@ -11,7 +11,7 @@ pub pieces-init : goal.pieces-init
 pieces-init g c = record {
   within = let none = ap length c.new-bytes.ensures in omega (arith, none);
   unsettled = ap settled c.new-bytes.ensures ∙ nothing_settled;
-  decoded = subst (HasDecoded c.new-decoder.result) (sym c.new-bytes.ensures) c.new-decoder.ensures;
+  decoded = subst (HasDecoded c.new-decoder.result) (sym c.new-bytes.ensures) c.new-decoder.ensures.decoded;
   room = refl;
   taken = none_taken _ _ c.new-bytes.ensures;
   count = refl;
