@@ -10,8 +10,6 @@ pub mod lines;
 pub mod list;
 pub mod memory;
 pub mod outside;
-#[cfg(test)]
-mod tests;
 pub mod values;
 pub mod wholes;
 

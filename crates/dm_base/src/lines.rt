@@ -100,6 +100,7 @@ impl Lines {
     // Takes the next piece. The byte past the limit is asked for alone, and only here.
     fn fill<S: Source>(&mut self, src: &mut S) -> Result<bool, TakeError>
         ensures bytes { FillsPending self.old self.new (S.left src.old) (S.left src.new) result }
+        ensures limit { self.new.taken ≤ 67108865 }
         ensures count { ReadCounts (S.faults src.old) (S.faults src.new) result }
         ensures sink { S.as_sink src.new ≡ S.as_sink src.old }
     {
@@ -147,6 +148,7 @@ impl Lines {
         ensures again { StaysUnlessLine (ahead self.old (S.left src.old)) (ahead self.new (S.left src.new))
             (room self.old) (room self.new) result }
         ensures taken { CountsTaken (S.left src.old) (S.left src.new) self.old.taken self.new.taken }
+        ensures limit { self.new.taken ≤ 67108865 }
         ensures room { IfOk result (λ out. room self.new + bytes_given out ≡ room self.old) }
         ensures count { ReadCounts (S.faults src.old) (S.faults src.new) result }
         ensures sink { S.as_sink src.new ≡ S.as_sink src.old }
