@@ -13,7 +13,7 @@ use Rattle.dm_tree.specs.declared.nodes.Role.TheVariants as role
 use Rattle.dm_tree.specs.Nodes.{Path, Nodes, tree_order, root_node}
 use Rattle.dm_tree.specs.Devices.{is_of_update, device_path, device_node, device_leaf, bare_device, Stands, IsDeviceLeaf, IsDeviceTree, IsText}
 use Rattle.dm_tree.specs.Laws.{BareDeviceIsDevice}
-use Rattle.dm_tree.proofs.DeviceTrees.{at_insert, here_insert}
+use Rattle.dm_tree.proofs.Keepings.{at_insert, here_insert}
 use Rattle.dm_tree.proofs.Paths.{tree_total}
 
 -- a node without a part in the update, whose Type is a text
@@ -36,7 +36,7 @@ one_more m p new plain all q node e = elim (at_insert m p q new node e) [
   | inr there ↦ all q node there
 ]
 
-no_type : IsText []
+pub no_type : IsText []
 no_type = (IsUtf8-from_ascii [] IsAscii-nil, refl)
 
 more : (b : ℕ) (bs : List ℕ) → b < 128 → IsAscii bs → IsAscii (b ∷ bs)
@@ -55,7 +55,7 @@ plain_is_ascii =
     (more 105 (codes "n") (lit≤ (tt {0}))
     (more 110 (codes "") (lit≤ (tt {0})) IsAscii-nil)))))))))
 
-plain_type : IsText (codes "text/plain")
+pub plain_type : IsText (codes "text/plain")
 plain_type = (IsUtf8-from_ascii (codes "text/plain") plain_is_ascii, refl)
 
 leaf_plain : (value : List ℕ) → IsPlainText (device_leaf value)

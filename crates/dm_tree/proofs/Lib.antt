@@ -47,5 +47,7 @@ pub mod Counts
 pub mod Kepts
 pub mod Fills
 pub mod Roles
+pub mod Keepings
+pub mod UpdateParts
 pub mod DeviceTrees
 pub mod BareDevices

@@ -148,6 +148,20 @@ pub record StaysAlike (old new : Node) : Type 0 where
   pub role : new.role ≡ old.role
   pub value : (new.value ≡ old.value) ⊎ MayTake old.role new.value
 
+-- a node has become another one that serves the update alike: it is of the same kind and for the same, permanent where that
+-- was, and if it is State, its value is the same or one of the five states
+pub record StaysForUpdate (old new : Node) : Type 0 where
+  pub interior : new.interior ≡ old.interior
+  pub permanent : old.permanent ≡ true → new.permanent ≡ true
+  pub state : old.role ≡ role.State → (new.value ≡ old.value) ⊎ IsTrue (is_update_state new.value.bytes)
+  pub role : new.role ≡ old.role
+
+-- a tree has become another one, with the update part at the same place
+pub record KeepsUpdate (old new : Nodes) : Type 0 where
+  pub in_order : IsUpdateInOrder old → IsUpdateInOrder new
+  pub update : (p : Path) → HasUpdate old p → HasUpdate new p
+  pub no_update : HasNoUpdate old → HasNoUpdate new
+
 -- a tree of a device has become another one, with the same values, and the update part at the same place
 pub record KeepsDevice (old new : Nodes) : Type 0 where
   pub tree : IsDeviceTree new

@@ -24,8 +24,9 @@ fn is_role(role: Role, wanted: Role) -> bool
 }
 
 impl Tree {
-    // Of the nodes right below, the first with this role.
-    fn child_of_role(&self, id: NodeId, role: Role) -> Option<NodeId>
+    /// Of the nodes right below, the first with this role, in byte order of their names. It goes through them, and takes no
+    /// memory.
+    pub fn child_of_role(&self, id: NodeId, role: Role) -> Option<NodeId>
         requires { IsLive self.now.rows id }
         ensures live { IfSome result (λ child. IsLive self.now.rows child
             × (child_of_role (nodes self.now.rows) (path_of self.now.rows id) role
