@@ -42,15 +42,20 @@ impl Model for Mark {
 #[derive(Drop)]
 pub struct Journal {
     entries: Vec<Entry>,
+    // How many entries were made room for. The list may have more room than that: what grows it doubles it, and
+    // who asks for one entry more than is spare, again and again, is to pay for one.
+    room: usize,
 }
 
 impl Model for Journal {
-    ghost use Rattle.std.specs.Prelude.{vec_capacity, reverse};
+    ghost use Rattle.std.specs.Prelude.{◌≤◌, length, vec_capacity, reverse};
     ghost use Rattle.dm_undo.specs.Journals.{Journal as Kept};
 
     ghost Value = { Kept };
 
-    ghost view = { λ j. record { entries = reverse j.entries.items; room = vec_capacity j.entries } };
+    ghost view = { λ j. record { entries = reverse j.entries.items; room = j.room } };
+
+    ghost invariant = { λ j. (length j.entries.items ≤ j.room) × (j.room ≤ vec_capacity j.entries) };
 }
 
 impl Journal {
@@ -62,6 +67,7 @@ impl Journal {
     {
         Ok(Journal {
             entries: Vec::new(alloc),
+            room: 0,
         })
     }
 
@@ -75,21 +81,23 @@ impl Journal {
         }
     }
 
-    /// How many entries there is room for, beside those that are there.
+    /// How many entries may be noted before more room is made: what was reserved and isn't used.
     pub fn spare(&self) -> usize
         ensures count { result ≡ self.now.room - length self.now.entries }
         ensures small { result < 2 ^ 63 }
     {
-        self.entries.capacity() - self.entries.len()
+        self.room - self.entries.len()
     }
 
-    /// Makes room for so many further entries. The only error is want of memory; the entries stay either way.
+    /// Makes room for so many further entries, where there isn't yet. The only error is want of memory; the entries stay
+    /// either way.
     pub fn reserve(&mut self, count: usize) -> Result<(), Memory>
         ensures ok { OnOk result (length self.new.entries + count ≤ self.new.room) }
         ensures entries { self.new.entries ≡ self.old.entries }
         ensures room { self.old.room ≤ self.new.room }
     {
         self.entries.reserve(count)?;
+        self.room = self.room.max(self.entries.len() + count);
         Ok(())
     }
 
