@@ -6,11 +6,7 @@ pub mod laws;
 pub mod outline;
 pub mod place;
 pub mod progress;
-#[cfg(test)]
-mod row_tests;
 pub mod rows;
-#[cfg(test)]
-mod tests;
 
 pub use fault::{is_left_out, tag_fault};
 pub use outline::{Outline, ShapeError, Verdict, judge};

@@ -31,8 +31,3 @@ pub use packing::{
 pub use put_numbered::put_command_from;
 pub use put_whole::{put_message, put_parts};
 pub use values::{Cred, Header, Item, Loc, Meta};
-
-#[cfg(test)]
-mod container_tests;
-#[cfg(test)]
-mod tests;

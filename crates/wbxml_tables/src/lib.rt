@@ -6,9 +6,6 @@ ghost use Rattle.wbxml_tables.specs.declared.Element.{Element};
 ghost use Rattle.wbxml_tables.specs.declared.TheConstants as table;
 ghost use Rattle.wbxml_tables.specs.Tables.{page_of, code_on_page, name_in_text, element_at, is_absent, are_distinct, IsAt, CodesAreDistinct};
 
-#[cfg(test)]
-mod tests;
-
 /// An element of the representation protocol (page 0) or of the meta information (page 1), named with an E in front.
 /// Its number is 256 times its page, plus its code on that page.
 #[derive(Clone, Copy, Debug, PartialEq, Eq)]

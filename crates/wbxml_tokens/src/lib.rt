@@ -10,8 +10,6 @@ pub mod reader;
 pub mod reason;
 mod spot;
 mod state;
-#[cfg(test)]
-mod tests;
 pub mod token;
 pub mod tokens;
 pub mod writer;

@@ -1,11 +1,9 @@
 // Documents and pieces of them, with the tokens that they give and the refusals that end them.
-use crate::reason::{FeedError, Reason, Refusal};
-use crate::token::{Placed, Token};
-use crate::tokens::Tokens;
 use dm_base::Memory;
 use std::alloc::Global;
 use std::test::Fail;
 use wbxml_tables::Element;
+use wbxml_tokens::{FeedError, Placed, Reason, Refusal, Token, Tokens};
 
 // The message of one Get of ./A, from a server s1 to a device d1.
 const ONE_GET: &[u8] =
@@ -222,81 +220,115 @@ fn is_opaque(placed: Option<Placed>, at: u64, bytes: &[u8]) -> bool {
     }
 }
 
+fn is_fed(tokens: &mut Tokens, pieces: &[&'static [u8]]) -> bool {
+    for piece in pieces {
+        if tokens.feed(*piece) != Ok(()) {
+            return false;
+        }
+    }
+    true
+}
+
+fn page_lasts(tokens: &mut Tokens) -> bool {
+    is_fed(tokens, &[b"\x03\xa4\x01\x6a\x00\x6d"])
+        && is_tag(tokens.next(), 5, Element::ESyncML, true)
+        && is_fed(tokens, &[b"\x00", b"\x01"])
+        && tokens.next().is_none()
+        && is_fed(tokens, &[b"\x53\x01\x13"])
+        && is_tag(tokens.next(), 8, Element::EType, true)
+        && tokens.next().is_some()
+        && is_tag(tokens.next(), 10, Element::EType, false)
+}
+
 // A page switch gives no token, and the page lasts until the next one, over END too.
 #[test]
 fn a_page_lasts_until_the_next_switch(rt: HostRuntime) -> Result<(), Fail> {
     let mut tokens = Tokens::new(rt.alloc());
-    tokens.feed(b"\x03\xa4\x01\x6a\x00\x6d")?;
-    assert!(rt; is_tag(tokens.next(), 5, Element::ESyncML, true));
-    tokens.feed(b"\x00")?;
-    tokens.feed(b"\x01")?;
-    assert!(rt; tokens.next().is_none());
-    tokens.feed(b"\x53\x01\x13")?;
-    assert!(rt; is_tag(tokens.next(), 8, Element::EType, true));
-    assert!(rt; tokens.next().is_some());
-    assert!(rt; is_tag(tokens.next(), 10, Element::EType, false));
+    assert!(rt; page_lasts(&mut tokens));
     Ok(())
+}
+
+// What the table of a document and its inline texts give.
+fn texts_follow(tokens: &mut Tokens) -> bool {
+    is_tag(tokens.next(), 9, Element::ESyncML, true)
+        && is_text(tokens.next(), 10, b"A")
+        && is_text(tokens.next(), 12, b"BC")
+        && is_text(tokens.next(), 14, b"")
+        && is_text(tokens.next(), 17, b"ab")
+        && is_opaque(tokens.next(), 21, b"\x00\x01")
+        && is_opaque(tokens.next(), 25, b"")
+        && tokens.next().is_none()
 }
 
 // Texts of the table end at its first 0 or with it; a text and bytes that a piece cuts are joined.
 #[test]
 fn texts_come_whole(rt: HostRuntime) -> Result<(), Fail> {
     let mut tokens = Tokens::new(rt.alloc());
-    tokens.feed(b"\x02\xa4\x01\x6a\x04A\x00BC\x6d\x83\x00\x83\x02\x83\x80\x01\x03a")?;
-    tokens.feed(b"b\x00\xc3\x02\x00")?;
-    tokens.feed(b"\x01\xc3\x00")?;
-    assert!(rt; is_tag(tokens.next(), 9, Element::ESyncML, true));
-    assert!(rt; is_text(tokens.next(), 10, b"A"));
-    assert!(rt; is_text(tokens.next(), 12, b"BC"));
-    assert!(rt; is_text(tokens.next(), 14, b""));
-    assert!(rt; is_text(tokens.next(), 17, b"ab"));
-    assert!(rt; is_opaque(tokens.next(), 21, b"\x00\x01"));
-    assert!(rt; is_opaque(tokens.next(), 25, b""));
-    assert!(rt; tokens.next().is_none());
+    let fed = is_fed(
+        &mut tokens,
+        &[
+            b"\x02\xa4\x01\x6a\x04A\x00BC\x6d\x83\x00\x83\x02\x83\x80\x01\x03a",
+            b"b\x00\xc3\x02\x00",
+            b"\x01\xc3\x00",
+        ],
+    );
+    assert!(rt; fed);
+    assert!(rt; texts_follow(&mut tokens));
     Ok(())
+}
+
+// Whether a document is one element, bare, at this place.
+fn is_one_element(alloc: Global, bytes: &[u8], at: u64) -> bool {
+    let mut tokens = Tokens::new(alloc);
+    let fed = tokens.feed(bytes) == Ok(());
+    let told = is_tag(tokens.next(), at, Element::ESyncML, false);
+    fed && told && tokens.finish() == Ok(())
 }
 
 #[test]
 fn the_identifier_may_be_a_text(rt: HostRuntime) -> Result<(), Fail> {
-    let mut tokens = Tokens::new(rt.alloc());
-    tokens.feed(b"\x01\x00\x00\x6a\x1d-//SYNCML//DTD SyncML 1.2//EN\x2d")?;
-    assert!(rt; is_tag(tokens.next(), 34, Element::ESyncML, false));
-    assert!(rt; tokens.finish() == Ok(()));
+    let bytes = b"\x01\x00\x00\x6a\x1d-//SYNCML//DTD SyncML 1.2//EN\x2d".as_slice();
+    assert!(rt; is_one_element(rt.alloc(), bytes, 34));
     Ok(())
 }
 
 // An END before the element is handed out, and the document never is whole by what follows.
+fn end_stands_outside(alloc: Global) -> bool {
+    let mut tokens = Tokens::new(alloc);
+    let fed = tokens.feed(b"\x03\xa4\x01\x6a\x00\x01\x2d") == Ok(());
+    let end = tokens.next().is_some();
+    let tag = is_tag(tokens.next(), 6, Element::ESyncML, false);
+    let refusal = Refusal {
+        at: 7,
+        reason: Reason::Truncated,
+    };
+    fed && end && tag && tokens.finish() == Err(refusal)
+}
+
 #[test]
 fn nothing_stands_outside_the_element(rt: HostRuntime) -> Result<(), Fail> {
-    let mut tokens = Tokens::new(rt.alloc());
-    tokens.feed(b"\x03\xa4\x01\x6a\x00\x01\x2d")?;
-    assert!(rt; tokens.next().is_some());
-    assert!(rt; is_tag(tokens.next(), 6, Element::ESyncML, false));
-    assert!(rt;
-        tokens.finish()
-            == Err(Refusal {
-                at: 7,
-                reason: Reason::Truncated
-            })
-    );
+    assert!(rt; end_stands_outside(rt.alloc()));
     Ok(())
 }
 
-fn feed_zeros(tokens: &mut Tokens, count: u32) -> Result<(), FeedError> {
+// Whether so many pieces of 64 bytes are taken.
+fn takes_pieces(tokens: &mut Tokens, count: u32) -> bool {
     for _ in 0..count {
-        tokens.feed(&[0x41; 64])?;
+        if tokens.feed(&[0x41; 64]) != Ok(()) {
+            return false;
+        }
     }
-    Ok(())
+    true
 }
 
 // 65,536 bytes are taken: seven and a text of 65,529; the next byte is one too many.
 #[test]
 fn byte_65537_is_too_long(rt: HostRuntime) -> Result<(), Fail> {
     let mut tokens = Tokens::new(rt.alloc());
-    tokens.feed(
-        b"\x03\xa4\x01\x6a\x00\x6d\x03AAAAAAAAAAAAAAAAAAAAAAAAAAAAAAAAAAAAAAAAAAAAAAAAAAAAAAAAA",
-    )?;
-    feed_zeros(&mut tokens, 1023)?;
+    let front =
+        b"\x03\xa4\x01\x6a\x00\x6d\x03AAAAAAAAAAAAAAAAAAAAAAAAAAAAAAAAAAAAAAAAAAAAAAAAAAAAAAAAA".as_slice();
+    assert!(rt; tokens.feed(front) == Ok(()));
+    assert!(rt; takes_pieces(&mut tokens, 1023));
     assert!(rt; is_refused(tokens.feed(b"\x04"), 65_536, Reason::Toolong));
     Ok(())
 }

@@ -1,8 +1,8 @@
 // Lists of tokens with their judgements. What the texts are plays no part here.
-use crate::{Place, Verdict, judge, place_of};
 use dm_base::{Bytes, Memory};
 use std::alloc::Global;
 use std::test::Fail;
+use syncml_shape::{Place, Verdict, judge, place_of};
 use wbxml_tables::Element;
 use wbxml_tables::Element::{
     EAlert, EAtomic, EChal, ECmd, ECmdID, ECmdRef, ECorrelator, ECred, EData, EEMI, EExec, EFinal,

@@ -2,14 +2,14 @@ ghost use Rattle.std.specs.Prelude.{◌≡◌, IfOk, IfSome};
 ghost use Rattle.std.specs.List.{AllByRecursion};
 ghost use Rattle.syncml_types.specs.Message.{IsShortData, HasShortData};
 
-use crate::put_value::put_data;
-use crate::{
-    Block, Command, Header, Item, Loc, Member, Message, Plain, SeqBlock, SeqMember, Unfit, Verb,
-    put_message,
-};
 use dm_base::{Bytes, List, Memory};
 use std::alloc::Global;
 use std::test::Fail;
+use syncml_types::put_value::put_data;
+use syncml_types::{
+    Block, Command, Header, Item, Loc, Member, Message, Plain, SeqBlock, SeqMember, Unfit, Verb,
+    put_message,
+};
 use wbxml_tokens::TokenWriter;
 
 fn place(alloc: Global, uri: &[u8]) -> Result<Loc, Memory> {
@@ -74,17 +74,30 @@ fn message_of(alloc: Global, command: Command) -> Result<Result<Message, Unfit>,
     Ok(Message::new(header(alloc)?, body, true))
 }
 
-pub(crate) fn spelling_of(alloc: Global, command: Command) -> Result<Bytes, Memory> {
+fn spelled(alloc: Global, message: &Message) -> Result<Bytes, Memory> {
     let mut w = TokenWriter::new(alloc)?;
-    if let Ok(message) = message_of(alloc, command)? {
-        put_message(&mut w, &message)?;
-    }
+    put_message(&mut w, message)?;
     Ok(w.finish())
+}
+
+// How a message of this command is spelled; nothing where there is none.
+pub(crate) fn spelling_of(alloc: Global, command: Command) -> Result<Bytes, Memory> {
+    match message_of(alloc, command)? {
+        Ok(message) => {
+            let bytes = spelled(alloc, &message);
+            drop(message);
+            bytes
+        }
+        Err(_) => Ok(Bytes::new(alloc)),
+    }
 }
 
 fn unfit_of(alloc: Global, command: Command) -> Result<Option<Unfit>, Memory> {
     match message_of(alloc, command)? {
-        Ok(_) => Ok(None),
+        Ok(message) => {
+            drop(message);
+            Ok(None)
+        }
         Err(unfit) => Ok(Some(unfit)),
     }
 }
@@ -119,10 +132,21 @@ fn gives_containers(rt: HostRuntime) -> Result<(), Fail> {
     Ok(())
 }
 
-fn get_with(alloc: Global, correlator: Option<Bytes>) -> Result<Command, Memory> {
-    let mut plain = get(alloc, 1)?;
-    plain.correlator = correlator;
-    Ok(Command::Plain(plain))
+// Why a Get of this CmdID with this correlator is unfit.
+fn unfit_get(alloc: Global, id: u32, correlator: Option<&[u8]>) -> Result<Option<Unfit>, Memory> {
+    let correlator = match correlator {
+        Some(text) => Some(Bytes::of_slice(alloc, text)?),
+        None => None,
+    };
+    let command = Command::Plain(Plain {
+        verb: Verb::Get,
+        id,
+        no_resp: false,
+        meta: None,
+        correlator,
+        items: items(alloc, None)?,
+    });
+    unfit_of(alloc, command)
 }
 
 fn empty_atomic(alloc: Global) -> Command {
@@ -155,22 +179,22 @@ fn long_replace(alloc: Global) -> Result<Command, Memory> {
     }))
 }
 
+fn unfit_replace(alloc: Global) -> Result<Option<Unfit>, Memory> {
+    unfit_of(alloc, long_replace(alloc)?)
+}
+
 #[test]
 fn tells_what_is_unfit(rt: HostRuntime) -> Result<(), Fail> {
     let alloc = rt.alloc();
-    let good = get_with(alloc, None)?;
-    assert!(rt; unfit_of(alloc, good)?.is_none());
-    let bad_text = get_with(alloc, Some(Bytes::of_slice(alloc, b"\xff")?))?;
-    assert_eq!(rt; unfit_of(alloc, bad_text)?, Some(Unfit::BadText));
-    let bad_number = Command::Plain(get(alloc, 0)?);
-    assert_eq!(rt; unfit_of(alloc, bad_number)?, Some(Unfit::BadNumber));
+    assert_eq!(rt; unfit_get(alloc, 1, None)?, None);
+    assert_eq!(rt; unfit_get(alloc, 1, Some(b"\xff"))?, Some(Unfit::BadText));
+    assert_eq!(rt; unfit_get(alloc, 0, None)?, Some(Unfit::BadNumber));
     assert_eq!(rt; unfit_of(alloc, empty_atomic(alloc))?, Some(Unfit::NoItems));
-    let correlator = get_with(alloc, Some(Bytes::of_slice(alloc, b"c")?))?;
-    assert_eq!(rt; unfit_of(alloc, correlator)?, Some(Unfit::BadCorrelator));
     assert_eq!(rt;
-        unfit_of(alloc, long_replace(alloc)?)?,
-        Some(Unfit::TooLong)
+        unfit_get(alloc, 1, Some(b"c"))?,
+        Some(Unfit::BadCorrelator)
     );
+    assert_eq!(rt; unfit_replace(alloc)?, Some(Unfit::TooLong));
     Ok(())
 }
 
@@ -190,21 +214,35 @@ fn gives_a_message(rt: HostRuntime) -> Result<(), Fail> {
     Ok(())
 }
 
+fn data_of(alloc: Global, value: &Bytes) -> Result<Bytes, Memory>
+    requires { IsShortData value.now }
+{
+    let mut w = TokenWriter::new(alloc)?;
+    put_data(&mut w, value)?;
+    Ok(w.finish())
+}
+
+// Whether Data is spelled so, behind the five bytes that a document begins with.
+fn is_data(alloc: Global, value: &[u8], want: &[u8]) -> Result<bool, Memory> {
+    let value = Bytes::of_slice(alloc, value)?;
+    if value.len() >= 8 {
+        return Ok(false);
+    }
+    Ok(data_of(alloc, &value)?.as_slice().get(5..) == Some(want))
+}
+
 #[test]
 fn gives_data(rt: HostRuntime) -> Result<(), Fail> {
-    for (value, want) in [
-        (b"".as_slice(), b"\x0f".as_slice()),
-        (b"ab", b"\x4f\x03ab\x00\x01"),
-        (b"a\x00", b"\x4f\xc3\x02a\x00\x01"),
-        (b"\xff", b"\x4f\xc3\x01\xff\x01"),
-    ] {
-        let mut w = TokenWriter::new(rt.alloc())?;
-        let value = Bytes::of_slice(rt.alloc(), value)?;
-        assert!(rt; value.len() < 8);
-        put_data(&mut w, &value)?;
-        let bytes = w.finish();
-        assert!(rt; bytes.len() > 5);
-        assert_eq!(rt; &bytes.as_slice()[5..], want);
-    }
+    let alloc = rt.alloc();
+    assert!(rt; is_data(alloc, b"", b"\x0f")?, "none");
+    assert!(rt; is_data(alloc, b"ab", b"\x4f\x03ab\x00\x01")?, "a text");
+    assert!(rt;
+        is_data(alloc, b"a\x00", b"\x4f\xc3\x02a\x00\x01")?,
+        "a byte 00"
+    );
+    assert!(rt;
+        is_data(alloc, b"\xff", b"\x4f\xc3\x01\xff\x01")?,
+        "no UTF-8"
+    );
     Ok(())
 }

@@ -1,13 +1,13 @@
 // Each row of each element's children, in an element of its own: left out, repeated and out of order.
-use crate::rows::{
+use crate::shape::Piece::{self, Bare, End, Open};
+use crate::shape::{HEAD, token_of};
+use std::alloc::Global;
+use std::test::Fail;
+use syncml_shape::rows::{
     ALERT, ATOMIC, BODY, CHAL, CRED, EXEC, HEADER, ITEM, LOC, MESSAGE, PLAIN, RESULTS, SEQUENCE,
     STATUS,
 };
-use crate::tests::Piece::{self, Bare, End, Open};
-use crate::tests::{HEAD, token_of};
-use crate::{Choice, Kind, Outline, Row, ShapeError};
-use std::alloc::Global;
-use std::test::Fail;
+use syncml_shape::{Choice, Kind, Outline, Row, ShapeError};
 use wbxml_tables::Element;
 use wbxml_tables::Element::{
     EAdd, EAlert, EAnchor, EArchive, EAtomic, EChal, ECmd, ECmdID, ECmdRef, ECopy, ECred, EData,

@@ -1,6 +1,6 @@
 // One table of codes, with the elements and the names that the standard has for them.
-use crate::{Element, element_of, name_of};
 use std::test::Fail;
+use wbxml_tables::{Element, element_of, name_of};
 
 struct Row {
     page: u8,
@@ -42,12 +42,19 @@ const ROWS: [Row; 5] = [
     },
 ];
 
+fn name_of_found(element: Option<Element>) -> &'static str {
+    match element {
+        Some(element) => name_of(element),
+        None => "",
+    }
+}
+
 #[test]
 fn has_the_elements_and_their_names(rt: HostRuntime) -> Result<(), Fail> {
     for row in &ROWS {
         let element = element_of(row.page, row.code);
         assert_eq!(rt; element, row.element);
-        assert_eq!(rt; element.map_or("", name_of), row.name);
+        assert_eq!(rt; name_of_found(element), row.name);
     }
     Ok(())
 }

@@ -5,14 +5,14 @@ ghost use Rattle.syncml_types.specs.Message.{HasShortData, HasShortMember, HasSh
 ghost use Rattle.syncml_types.specs.Packing.{cut_data};
 ghost use Rattle.syncml_types.specs.Numbering.{ids_in, ids_in_seq_members};
 
-use crate::tests::{get, items, spelling_of};
-use crate::{
-    AlertCmd, Block, Command, Member, Meta, Plain, ResultsCmd, SeqBlock, SeqMember, Verb,
-    command_length, data_length, numbered_length, rest_length,
-};
+use crate::values::{get, items, spelling_of};
 use dm_base::{Bytes, List, Memory};
 use std::alloc::Global;
 use std::test::Fail;
+use syncml_types::{
+    AlertCmd, Block, Command, Member, Meta, Plain, ResultsCmd, SeqBlock, SeqMember, Verb,
+    command_length, data_length, numbered_length, rest_length,
+};
 
 fn format(alloc: Global) -> Result<Meta, Memory> {
     Ok(Meta {
@@ -74,7 +74,7 @@ fn block(alloc: Global) -> Result<Block, Memory>
     })
 }
 
-#[tactic(auto, unfolding(crate::specs::Numbering::ids_in))]
+#[tactic(auto, unfolding(syncml_types::specs::Numbering::ids_in))]
 fn atomic(alloc: Global) -> Result<Command, Memory>
     ensures { IfOk result (λ c. ids_in c ≡ 3) }
 {
@@ -82,7 +82,7 @@ fn atomic(alloc: Global) -> Result<Command, Memory>
 }
 
 // That Atomic and a Get.
-#[tactic(auto, unfolding(crate::specs::Numbering::ids_in_seq_members))]
+#[tactic(auto, unfolding(syncml_types::specs::Numbering::ids_in_seq_members))]
 fn seq_members(alloc: Global) -> Result<List<SeqMember>, Memory>
     ensures { IfOk result (λ ms. (ids_in_seq_members ms ≡ 4) × AllByRecursion HasShortSeqMember ms) }
 {
@@ -92,7 +92,7 @@ fn seq_members(alloc: Global) -> Result<List<SeqMember>, Memory>
     Ok(members)
 }
 
-#[tactic(auto, unfolding(crate::specs::Numbering::ids_in))]
+#[tactic(auto, unfolding(syncml_types::specs::Numbering::ids_in))]
 fn sequence(alloc: Global) -> Result<Command, Memory>
     ensures { IfOk result (λ c. (ids_in c ≡ 5) × HasShortItems c) }
 {
@@ -137,49 +137,55 @@ fn is_spelled(alloc: Global, command: Command, want: &[u8]) -> Result<bool, Memo
 }
 
 // Whether the copy of the Sequence is spelled as the Sequence is.
-fn is_copied(alloc: Global) -> Result<bool, Memory> {
-    let copied = sequence(alloc)?.copy(alloc)?;
-    is_spelled(alloc, copied, sequence_bytes())
-}
-
-fn is_atomic_copied(alloc: Global) -> Result<bool, Memory> {
-    let copied = atomic(alloc)?.copy(alloc)?;
-    match &copied {
-        Command::Atomic(block) => Ok(block.id == 2 && block.no_resp && block.members.len() == 2),
-        _ => Ok(false),
-    }
-}
-
-#[test]
-fn copies_containers(rt: HostRuntime) -> Result<(), Fail> {
-    assert!(rt; is_copied(rt.alloc())?, "a Sequence");
-    assert!(rt; is_atomic_copied(rt.alloc())?, "an Atomic");
-    Ok(())
-}
-
-// Whether the Sequence numbered from 9 on is spelled so, and 14 is the next number.
-fn is_numbered(alloc: Global) -> Result<bool, Memory> {
-    let mut command = sequence(alloc)?;
-    let next = command.set_ids(9);
-    Ok(is_spelled(alloc, command, numbered_bytes())? && next == 14)
-}
-
-#[test]
-fn numbers_in_document_order(rt: HostRuntime) -> Result<(), Fail> {
-    assert!(rt; is_numbered(rt.alloc())?);
-    Ok(())
+fn is_copied(alloc: Global, command: &Command) -> Result<bool, Memory> {
+    is_spelled(alloc, command.copy(alloc)?, sequence_bytes())
 }
 
 // Whether the Sequence is so long, numbered from 9 on, where it begins on a page, and page 0 is behind it.
-fn is_measured(alloc: Global, page: u8, want: u64) -> Result<bool, Memory> {
-    let command = sequence(alloc)?;
-    Ok(numbered_length(page, 9, &command) == (want, 0))
+fn is_measured(page: u8, command: &Command, want: u64) -> bool
+    requires ids { ids_in command.now ≡ 5 }
+    requires short { HasShortItems command.now }
+{
+    numbered_length(page, 9, command) == (want, 0)
+}
+
+// What is so of the Sequence.
+#[derive(Clone, Copy)]
+struct OfSequence {
+    copied: bool,
+    measured: bool,
+    measured_elsewhere: bool,
+    cut: bool,
+    // Numbered from 9 on it is spelled so, and 14 is the next number.
+    numbered: bool,
+}
+
+fn of_sequence(alloc: Global) -> Result<OfSequence, Memory> {
+    let mut command = sequence(alloc)?;
+    let copied = is_copied(alloc, &command);
+    let measured = is_measured(0, &command, 89);
+    let measured_elsewhere = is_measured(1, &command, 91);
+    let cut = may_be_cut(&command);
+    let next = command.set_ids(9);
+    let spelled = is_spelled(alloc, command, numbered_bytes());
+    Ok(OfSequence {
+        copied: copied?,
+        measured,
+        measured_elsewhere,
+        cut,
+        numbered: spelled? && next == 14,
+    })
 }
 
 #[test]
-fn measures_what_would_be_numbered(rt: HostRuntime) -> Result<(), Fail> {
-    assert!(rt; is_measured(rt.alloc(), 0, 89)?, "on its page");
-    assert!(rt; is_measured(rt.alloc(), 1, 91)?, "on another page");
+fn a_sequence_is_copied_measured_and_numbered(rt: HostRuntime) -> Result<(), Fail> {
+    let sequence = of_sequence(rt.alloc())?;
+    assert!(rt; sequence.copied);
+    assert!(rt; sequence.measured, "on its page");
+    assert!(rt; sequence.measured_elsewhere, "on another page");
+    assert!(rt; sequence.numbered);
+    // It ends with a Get.
+    assert!(rt; !sequence.cut);
     Ok(())
 }
 
@@ -235,19 +241,6 @@ fn rest_of(page: u8, command: &Command) -> Option<(u64, u8)>
     Some(rest_length(page, command))
 }
 
-// Whether the Replace is so long without its Data, where it begins on a page, and page 0 is behind it.
-fn is_rest(alloc: Global, page: u8, want: u64) -> Result<bool, Memory> {
-    let command = Command::Plain(replace(alloc)?);
-    Ok(rest_of(page, &command) == Some((want, 0)))
-}
-
-#[test]
-fn measures_the_rest(rt: HostRuntime) -> Result<(), Fail> {
-    assert!(rt; is_rest(rt.alloc(), 0, 20)?, "on its page");
-    assert!(rt; is_rest(rt.alloc(), 1, 22)?, "on another page");
-    Ok(())
-}
-
 fn may_be_cut(command: &Command) -> bool {
     cut_value(command) == b"ab".as_slice()
 }
@@ -264,33 +257,44 @@ fn results(alloc: Global) -> Result<Command, Memory> {
     }))
 }
 
-fn is_found_in_a_replace(alloc: Global) -> Result<bool, Memory> {
+// What is so of the Replace: whether it may be cut, and how long it is without its Data, on its page and on another.
+#[derive(Clone, Copy)]
+struct OfReplace {
+    cut: bool,
+    rest: Option<(u64, u8)>,
+    rest_elsewhere: Option<(u64, u8)>,
+}
+
+fn of_replace(alloc: Global) -> Result<OfReplace, Memory> {
     let command = Command::Plain(replace(alloc)?);
-    Ok(may_be_cut(&command))
-}
-
-fn is_found_in_results(alloc: Global) -> Result<bool, Memory> {
-    let command = results(alloc)?;
-    Ok(may_be_cut(&command))
-}
-
-fn is_found_in_an_atomic(alloc: Global) -> Result<bool, Memory> {
-    let command = atomic(alloc)?;
-    Ok(may_be_cut(&command))
-}
-
-// The Sequence ends with a Get.
-fn is_found_in_the_sequence(alloc: Global) -> Result<bool, Memory> {
-    let command = sequence(alloc)?;
-    Ok(may_be_cut(&command))
+    let told = OfReplace {
+        cut: may_be_cut(&command),
+        rest: rest_of(0, &command),
+        rest_elsewhere: rest_of(1, &command),
+    };
+    drop(command);
+    Ok(told)
 }
 
 #[test]
-fn finds_what_may_be_cut(rt: HostRuntime) -> Result<(), Fail> {
-    assert!(rt; is_found_in_a_replace(rt.alloc())?);
-    assert!(rt; is_found_in_results(rt.alloc())?);
-    assert!(rt; is_found_in_an_atomic(rt.alloc())?);
-    assert!(rt; !is_found_in_the_sequence(rt.alloc())?);
+fn a_replace_is_cut_and_its_rest_measured(rt: HostRuntime) -> Result<(), Fail> {
+    let replace = of_replace(rt.alloc())?;
+    assert!(rt; replace.cut);
+    assert_eq!(rt; replace.rest, Some((20, 0)), "on its page");
+    assert_eq!(rt; replace.rest_elsewhere, Some((22, 0)), "on another page");
+    Ok(())
+}
+
+fn are_results_cut(alloc: Global) -> Result<bool, Memory> {
+    let command = results(alloc)?;
+    let cut = may_be_cut(&command);
+    drop(command);
+    Ok(cut)
+}
+
+#[test]
+fn results_may_be_cut(rt: HostRuntime) -> Result<(), Fail> {
+    assert!(rt; are_results_cut(rt.alloc())?);
     Ok(())
 }
 
@@ -300,14 +304,48 @@ fn write_cut(command: &mut Command, value: Bytes) {
     }
 }
 
-fn is_written(alloc: Global) -> Result<bool, Memory> {
+fn is_atomic(command: &Command) -> bool {
+    match command {
+        Command::Atomic(block) => block.id == 2 && block.no_resp && block.members.len() == 2,
+        _ => false,
+    }
+}
+
+fn is_atomic_copied(alloc: Global, command: &Command) -> Result<bool, Memory> {
+    let copied = command.copy(alloc)?;
+    let is_same = is_atomic(&copied);
+    drop(copied);
+    Ok(is_same)
+}
+
+// What is so of the Atomic.
+#[derive(Clone, Copy)]
+struct OfAtomic {
+    copied: bool,
+    cut: bool,
+    // It is spelled with other Data once that is written.
+    written: bool,
+}
+
+fn of_atomic(alloc: Global) -> Result<OfAtomic, Memory> {
+    let value = Bytes::of_slice(alloc, b"c")?;
     let mut command = atomic(alloc)?;
-    write_cut(&mut command, Bytes::of_slice(alloc, b"c")?);
-    is_spelled(alloc, command, written_bytes())
+    let copied = is_atomic_copied(alloc, &command);
+    let cut = may_be_cut(&command);
+    write_cut(&mut command, value);
+    let written = is_spelled(alloc, command, written_bytes());
+    Ok(OfAtomic {
+        copied: copied?,
+        cut,
+        written: written?,
+    })
 }
 
 #[test]
-fn writes_what_may_be_cut(rt: HostRuntime) -> Result<(), Fail> {
-    assert!(rt; is_written(rt.alloc())?);
+fn an_atomic_is_copied_cut_and_written(rt: HostRuntime) -> Result<(), Fail> {
+    let atomic = of_atomic(rt.alloc())?;
+    assert!(rt; atomic.copied);
+    assert!(rt; atomic.cut);
+    assert!(rt; atomic.written);
     Ok(())
 }
