@@ -4,9 +4,10 @@ ghost use Rattle.dm_objects.specs.declared.object.Object.TheVariants.{Nothing, S
 ghost use Rattle.dm_objects.specs.declared.piece.Piece.{Piece as APiece};
 ghost use Rattle.dm_objects.specs.Gathering.{key_of, continues, buffered_target};
 ghost use Rattle.dm_objects.specs.Changes.{changed};
+ghost use Rattle.dm_objects.specs.Inside.{is_buffering_inside, stays, failed};
 ghost use Rattle.dm_objects.specs.Seen.{Seen, present, is_unfinished, holding, extended, Takes};
 
-use crate::copies::key_of;
+use crate::copies::{copy_key, key_of};
 use crate::keys::{continues, is_unfinished};
 use crate::log::{Past, extend_value, go_back};
 use crate::object::Object;
@@ -88,6 +89,22 @@ impl Inbox {
             Object::Buffering(_) => true,
             Object::Skipping(_, _) => false,
         }
+    }
+
+    /// Whether an object that was begun in an Atomic is being buffered.
+    #[tactic(auto, using(crate::proofs::SeenObjects::present_seen))]
+    pub fn buffering_inside(&self) -> bool
+        ensures { result ≡ is_buffering_inside (present self.now.objects) }
+    {
+        is_inside(&self.object)
+    }
+
+    /// Whether a piece continues the unfinished object.
+    #[tactic(auto, using(crate::proofs::SeenObjects::present_seen))]
+    pub fn continues(&self, piece: &Piece) -> bool
+        ensures { result ≡ continues (present self.now.objects) piece.now }
+    {
+        continues(&self.object, piece)
     }
 
     /// Gives up what stood here before: the present object alone is kept, and it can be gone back to. It takes no memory.
@@ -244,6 +261,20 @@ impl Inbox {
         }
     }
 
+    /// Refuses with 500 what continues an object that was begun in an Atomic and is being buffered. After `Memory` all is
+    /// as before.
+    #[tactic(auto, using(crate::proofs::SeenObjects::present_seen))]
+    pub fn skip_inside(&mut self) -> Result<(), Memory>
+        ensures ok { OnOk result (self.new ≡ failed self.old) }
+        ensures err { OnErr result (self.new ≡ self.old) }
+    {
+        if !is_inside(&self.object) {
+            return Ok(());
+        }
+        let next = skipped(self.alloc, &self.object)?;
+        self.hold(next)
+    }
+
     /// Refuses with 500 what continues this piece, whatever stood here. After `Memory` all is as before.
     pub fn skip(&mut self, piece: &Piece) -> Result<(), Memory>
         ensures ok { OnOk result (self.new ≡ holding self.old (Skipping (key_of piece.now.step) 500)) }
@@ -251,6 +282,28 @@ impl Inbox {
     {
         let key = key_of(self.alloc, &piece.step)?;
         self.hold(Object::Skipping(key, 500))
+    }
+}
+
+fn is_inside(object: &Object) -> bool
+    ensures { result ≡ is_buffering_inside object.now }
+{
+    match object {
+        Object::Nothing => false,
+        Object::Buffering(begun) => begun.key.in_atomic,
+        Object::Skipping(_, _) => false,
+    }
+}
+
+// The object that stands here after a failure.
+fn skipped(alloc: Global, object: &Object) -> Result<Object, Memory>
+    requires { is_buffering_inside object.now ≡ true }
+    ensures { IfOk result (λ next. next ≡ stays object.now) }
+{
+    match object {
+        Object::Nothing => Ok(Object::Nothing),
+        Object::Buffering(begun) => Ok(Object::Skipping(copy_key(alloc, &begun.key)?, 500)),
+        Object::Skipping(key, code) => Ok(Object::Skipping(copy_key(alloc, key)?, *code)),
     }
 }
 

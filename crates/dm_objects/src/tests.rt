@@ -5,6 +5,14 @@ use std::alloc::Global;
 use std::test::Fail;
 use syncml_types::{Step, Verb};
 
+fn target_of(alloc: Global, text: &[u8]) -> Result<Option<Bytes>, Memory> {
+    if text.is_empty() {
+        return Ok(None);
+    }
+    Ok(Some(Bytes::of_slice(alloc, text)?))
+}
+
+// An empty target is none.
 fn piece(
     alloc: Global,
     verb: Verb,
@@ -13,17 +21,13 @@ fn piece(
     size: Option<u64>,
     more: bool,
 ) -> Result<Piece, Memory> {
-    let target = if target.is_empty() {
-        None
-    } else {
-        Some(Bytes::of_slice(alloc, target)?)
-    };
+    let value = Bytes::of_slice(alloc, bytes)?;
     let step = Step {
         verb,
-        target,
+        target: target_of(alloc, target)?,
         format: None,
         media: None,
-        value: Bytes::of_slice(alloc, bytes)?,
+        value,
         correlator: None,
         in_atomic: false,
     };
@@ -101,29 +105,42 @@ const SENT: [Sent; 21] = [
     Sent { verb: Verb::Delete, target: b"./A", bytes: b"", size: None, more: false, code: 200, value: NONE, broken: NONE },
 ];
 
-// The number of the first row that comes to something else.
-fn wrong_row(alloc: Global) -> Result<Option<u32>, Memory> {
-    let mut inbox = Inbox::new(alloc, 10);
-    let mut row: u32 = 0;
-    for sent in &SENT {
-        let next = piece(
-            alloc,
-            sent.verb,
-            sent.target,
-            sent.bytes,
-            sent.size,
-            sent.more,
-        )?;
-        let taken = inbox.take(&next)?;
-        if code_of(&taken) != sent.code
-            || value_of(&taken) != sent.value
-            || broken_by(&taken) != sent.broken
-        {
+fn is_told(taken: &Taken, sent: &Sent) -> bool {
+    code_of(taken) == sent.code && value_of(taken) == sent.value && broken_by(taken) == sent.broken
+}
+
+fn is_taken(alloc: Global, inbox: &mut Inbox, sent: &Sent) -> Result<bool, Memory> {
+    let next = piece(
+        alloc,
+        sent.verb,
+        sent.target,
+        sent.bytes,
+        sent.size,
+        sent.more,
+    )?;
+    let answer = inbox.take(&next);
+    drop(next);
+    let taken = answer?;
+    let is_told = is_told(&taken, sent);
+    drop(taken);
+    Ok(is_told)
+}
+
+fn first_wrong(alloc: Global, inbox: &mut Inbox) -> Result<Option<usize>, Memory> {
+    for (row, sent) in SENT.iter().enumerate() {
+        if !is_taken(alloc, inbox, sent)? {
             return Ok(Some(row));
         }
-        row = row.saturating_add(1);
     }
     Ok(None)
+}
+
+// The number of the first row that comes to something else.
+fn wrong_row(alloc: Global) -> Result<Option<usize>, Memory> {
+    let mut inbox = Inbox::new(alloc, 10);
+    let wrong = first_wrong(alloc, &mut inbox);
+    drop(inbox);
+    wrong
 }
 
 // What comes between a mark and the way back to it.
@@ -138,18 +155,50 @@ enum Between {
     Quiet,
 }
 
+fn take(
+    alloc: Global,
+    inbox: &mut Inbox,
+    target: &[u8],
+    bytes: &[u8],
+    size: Option<u64>,
+    more: bool,
+) -> Result<u32, Memory> {
+    let next = piece(alloc, Verb::Add, target, bytes, size, more)?;
+    let answer = inbox.take(&next);
+    drop(next);
+    let taken = answer?;
+    let code = code_of(&taken);
+    drop(taken);
+    Ok(code)
+}
+
+fn skip(alloc: Global, inbox: &mut Inbox) -> Result<(), Memory> {
+    let next = piece(alloc, Verb::Add, b"./A", b"c", None, true)?;
+    let answer = inbox.skip(&next);
+    drop(next);
+    answer
+}
+
+fn quiet(inbox: &mut Inbox) -> Result<(), Memory> {
+    drop(inbox.quiet()?);
+    Ok(())
+}
+
 fn disturb(alloc: Global, inbox: &mut Inbox, between: Between) -> Result<(), Memory> {
-    let more = piece(alloc, Verb::Add, b"./A", b"c", None, true)?;
-    let last = piece(alloc, Verb::Add, b"./A", b"cd", None, false)?;
-    let other = piece(alloc, Verb::Add, b"./B", b"x", Some(4), true)?;
     match between {
         Between::Nothing => {}
-        Between::More => drop(inbox.take(&more)?),
-        Between::Last => drop(inbox.take(&last)?),
-        Between::Other => drop(inbox.take(&other)?),
-        Between::Skip => inbox.skip(&more)?,
+        Between::More => {
+            take(alloc, inbox, b"./A", b"c", None, true)?;
+        }
+        Between::Last => {
+            take(alloc, inbox, b"./A", b"cd", None, false)?;
+        }
+        Between::Other => {
+            take(alloc, inbox, b"./B", b"x", Some(4), true)?;
+        }
+        Between::Skip => skip(alloc, inbox)?,
         Between::Clear => inbox.clear(),
-        Between::Quiet => drop(inbox.quiet()?),
+        Between::Quiet => quiet(inbox)?,
     }
     Ok(())
 }
@@ -164,7 +213,40 @@ const ALL: [Between; 7] = [
     Between::Quiet,
 ];
 
+// Whether the last piece makes the object whole.
+fn is_whole(alloc: Global, inbox: &mut Inbox) -> Result<bool, Memory> {
+    let next = piece(alloc, Verb::Add, b"./A", b"cd", None, false)?;
+    let answer = inbox.take(&next);
+    drop(next);
+    let last = answer?;
+    let is_whole = value_of(&last) == b"abcd".as_slice();
+    drop(last);
+    Ok(is_whole)
+}
+
 // A first piece, whatever comes behind it twice, back, and the last piece: the object is whole.
+fn goes_back(
+    alloc: Global,
+    inbox: &mut Inbox,
+    first: Between,
+    second: Between,
+    settles: bool,
+) -> Result<bool, Memory> {
+    take(alloc, inbox, b"./A", b"ab", Some(4), true)?;
+    if settles {
+        inbox.settle();
+    }
+    let mark = inbox.mark();
+    disturb(alloc, inbox, first)?;
+    disturb(alloc, inbox, second)?;
+    // Whatever comes adds to what was seen.
+    if inbox.mark().at < mark.at {
+        return Ok(false);
+    }
+    inbox.back(mark);
+    is_whole(alloc, inbox)
+}
+
 fn is_whole_after(
     alloc: Global,
     first: Between,
@@ -172,20 +254,9 @@ fn is_whole_after(
     settles: bool,
 ) -> Result<bool, Memory> {
     let mut inbox = Inbox::new(alloc, 10);
-    drop(inbox.take(&piece(alloc, Verb::Add, b"./A", b"ab", Some(4), true)?)?);
-    if settles {
-        inbox.settle();
-    }
-    let mark = inbox.mark();
-    disturb(alloc, &mut inbox, first)?;
-    disturb(alloc, &mut inbox, second)?;
-    // Whatever comes adds to what was seen.
-    if inbox.mark().at < mark.at {
-        return Ok(false);
-    }
-    inbox.back(mark);
-    let last = inbox.take(&piece(alloc, Verb::Add, b"./A", b"cd", None, false)?)?;
-    Ok(value_of(&last) == b"abcd".as_slice())
+    let is_whole = goes_back(alloc, &mut inbox, first, second, settles);
+    drop(inbox);
+    is_whole
 }
 
 // How many pairs there are after which the object isn't whole.
@@ -203,18 +274,41 @@ fn broken_ways(alloc: Global) -> Result<u32, Memory> {
     Ok(count)
 }
 
+// The code of the last piece, and how many bytes come out with it.
+fn end_of(alloc: Global, inbox: &mut Inbox, bytes: &[u8]) -> Result<(u32, usize), Memory> {
+    let next = piece(alloc, Verb::Add, b"./L", bytes, None, false)?;
+    let answer = inbox.take(&next);
+    drop(next);
+    let taken = answer?;
+    let told = (code_of(&taken), value_of(&taken).len());
+    drop(taken);
+    Ok(told)
+}
+
 // An object in 69 pieces of 60,000 bytes and a last one: the code of the first piece, and of the last, and how many bytes
 // come out.
-fn large(alloc: Global, size: Option<u64>, last: usize) -> Result<(u32, u32, usize), Memory> {
-    let mut inbox = Inbox::new(alloc, 4_194_304);
-    let bytes = vec![in alloc; 7u8; 60_000]?;
-    let first = inbox.take(&piece(alloc, Verb::Add, b"./L", bytes.as_slice(), size, true)?)?;
+fn in_pieces(
+    alloc: Global,
+    inbox: &mut Inbox,
+    bytes: &[u8],
+    size: Option<u64>,
+    last: usize,
+) -> Result<(u32, u32, usize), Memory> {
+    let first = take(alloc, inbox, b"./L", bytes, size, true)?;
     for _ in 1..69 {
-        drop(inbox.take(&piece(alloc, Verb::Add, b"./L", bytes.as_slice(), None, true)?)?);
+        take(alloc, inbox, b"./L", bytes, None, true)?;
     }
-    let end = bytes.as_slice().split_at(last.min(bytes.len())).0;
-    let whole = inbox.take(&piece(alloc, Verb::Add, b"./L", end, None, false)?)?;
-    Ok((code_of(&first), code_of(&whole), value_of(&whole).len()))
+    let (code, length) = end_of(alloc, inbox, bytes.split_at(last.min(bytes.len())).0)?;
+    Ok((first, code, length))
+}
+
+fn large(alloc: Global, size: Option<u64>, last: usize) -> Result<(u32, u32, usize), Memory> {
+    let bytes = vec![in alloc; 7u8; 60_000]?;
+    let mut inbox = Inbox::new(alloc, 4_194_304);
+    let told = in_pieces(alloc, &mut inbox, bytes.as_slice(), size, last);
+    drop(inbox);
+    drop(bytes);
+    told
 }
 
 #[test]
@@ -241,13 +335,22 @@ fn large_objects_are_whole(rt: HostRuntime) -> Result<(), Fail> {
     Ok(())
 }
 
+// How long the target is that is told, where one is.
+fn quiet_length(inbox: &mut Inbox) -> Result<Option<usize>, Memory> {
+    let target = inbox.quiet()?;
+    Ok(target.map(|target| target.len()))
+}
+
 #[test]
 fn quiet_tells_what_was_buffered(rt: HostRuntime) -> Result<(), Fail> {
     let mut inbox = Inbox::new(rt.alloc(), 10);
-    assert_eq!(rt; inbox.quiet()?.is_none(), true);
-    drop(inbox.take(&piece(rt.alloc(), Verb::Add, b"./A", b"ab", Some(4), true)?)?);
-    assert_eq!(rt; inbox.buffering(), true);
-    assert_eq!(rt; inbox.quiet()?.map_or(0, |target| target.len()), 3);
-    assert_eq!(rt; inbox.buffering(), false);
+    let none = quiet_length(&mut inbox);
+    let begun = take(rt.alloc(), &mut inbox, b"./A", b"ab", Some(4), true);
+    let before = inbox.buffering();
+    let told = quiet_length(&mut inbox);
+    let after = inbox.buffering();
+    drop(inbox);
+    assert_eq!(rt; (none?, begun?, told?), (None, 213, Some(3)));
+    assert_eq!(rt; (before, after), (true, false));
     Ok(())
 }
