@@ -1,0 +1,16 @@
+pub mod Endings
+pub mod Tables
+pub mod Numbers
+pub mod Besides
+pub mod Additions
+pub mod Givens
+pub mod Keeping
+pub mod Updating
+pub mod GivenValues
+pub mod Moves
+pub mod Findings
+pub mod Listings
+pub mod Refusals
+pub mod UpdateParts
+pub mod Ended
+pub mod Acts

@@ -1,0 +1,77 @@
+-- What the step table means, over the definitions alone.
+use Rattle.std.specs.Prelude.{◌≡◌, ℕ, true, false, List, [], Some, IfSome, Ok}
+use Rattle.syncml_types.specs.declared.command.Step.{Step}
+use Rattle.syncml_types.specs.declared.command.Verb.{Verb}
+use Rattle.syncml_types.specs.declared.command.Verb.TheVariants as verb
+use Rattle.dm_uri.specs.declared.uri.Prop.TheVariants as prop
+use Rattle.dm_uri.specs.declared.uri.Query.{Query}
+use Rattle.dm_uri.specs.declared.uri.Query.TheVariants as query
+use Rattle.dm_uri.specs.declared.uri.Uri.{Uri}
+use Rattle.dm_uri.specs.Reading.{parse_of}
+use Rattle.dm_acl.specs.declared.values.Right.{Right}
+use Rattle.dm_acl.specs.declared.values.Right.TheVariants as right
+use Rattle.dm_tree.specs.Nodes.{Path, Nodes, above, IsWellFormed}
+use Rattle.dm_tree.specs.Rights.{allows}
+use Rattle.dm_tree.specs.Devices.{IsUpdateInOrder, IsDeviceTree, IsText, KeepsDevice}
+use Rattle.dm_commands.specs.Outcomes.{Setting, is_success}
+use Rattle.dm_commands.specs.Table.{act, acl_decider}
+
+-- ---- a refused right changes nothing
+
+-- the right that a verb asks for; a Copy is refused whoever asks
+abbrev pub asked_right : Verb → Right
+asked_right verb.Add = right.Add
+asked_right verb.Delete = right.Delete
+asked_right verb.Exec = right.Exec
+asked_right verb.Get = right.Get
+asked_right verb.Replace = right.Replace
+asked_right verb.Copy = right.Add
+
+abbrev pub replace_place : Nodes → Path → Query → Path
+replace_place m p (query.Prop prop.Acl) = acl_decider m p
+replace_place m p other = p
+
+-- and the node on which: the parent for an Add, and for the access list of a leaf; else the target
+abbrev pub asked_place : Nodes → Path → Query → Verb → Path
+asked_place m p q verb.Add = above p
+asked_place m p q verb.Replace = replace_place m p q
+asked_place m p q verb.Copy = p
+asked_place m p q verb.Delete = p
+asked_place m p q verb.Exec = p
+asked_place m p q verb.Get = p
+
+-- where that right is refused on that node, the code is no success, the tree is as before, nothing is found or started
+pub record ChangesNothing (s : Setting) (m : Nodes) (step : Step) : Type 0 where
+  pub tree : (act s m step).tree ≡ m
+  pub code : is_success (act s m step).code ≡ false
+  pub found : (act s m step).found ≡ []
+  pub started : (act s m step).started ≡ false
+
+abbrev pub RefusedRightChangesNothing : Type 0
+RefusedRightChangesNothing = (s : Setting) (m : Nodes) (step : Step) (text : List ℕ) (uri : Uri)
+    → step.target ≡ Some text → parse_of text ≡ Ok uri
+    → allows m (asked_place m uri.path uri.query step.verb) s.caller (asked_right step.verb) ≡ false
+    → ChangesNothing s m step
+
+-- ---- what is no success changes nothing
+
+abbrev pub RefusedStepChangesNothing : Type 0
+RefusedStepChangesNothing = (s : Setting) (m : Nodes) (step : Step) → is_success (act s m step).code ≡ false
+    → ChangesNothing s m step
+
+-- ---- in an Atomic nothing is started
+
+abbrev pub NothingStartsInAtomic : Type 0
+NothingStartsInAtomic = (s : Setting) (m : Nodes) (step : Step) → step.in_atomic ≡ true → (act s m step).started ≡ false
+
+-- ---- the parts of a device's tree
+
+-- the update part stays in order
+abbrev pub StepKeepsUpdate : Type 0
+StepKeepsUpdate = (s : Setting) (m : Nodes) (step : Step) → IsWellFormed m → IsUpdateInOrder m
+    → IsUpdateInOrder (act s m step).tree
+
+-- a device's tree stays one, if the Type that the step gives is a text
+abbrev pub StepKeepsDevice : Type 0
+StepKeepsDevice = (s : Setting) (m : Nodes) (step : Step) → IsWellFormed m → IsDeviceTree m → IfSome step.media IsText
+    → KeepsDevice m (act s m step).tree
