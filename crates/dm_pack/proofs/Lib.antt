@@ -1,0 +1,14 @@
+pub mod Changing
+pub mod Apart
+pub mod Numbers
+pub mod Measuring
+pub mod Fit
+pub mod Parts
+pub mod Greatest
+pub mod Taking
+pub mod Packed
+pub mod Within
+pub mod Near
+pub mod Left
+pub mod Bare
+pub mod Progress

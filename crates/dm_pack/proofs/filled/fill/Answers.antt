@@ -1,0 +1,134 @@
+use Rattle.std.proofs.Common.{◌∙◌, ap, arith, length}
+use Rattle.dm_pack.proofs.Left.{fill_taken, same_taken}
+use Rattle.dm_pack.proofs.Within.{fill_within}
+use Rattle.syncml_types.specs.Canonical.{canonical}
+use Rattle.dm_pack.specs.Filling.{Filling}
+use Rattle.dm_pack.proofs.Packed.{if_ok, packed, packed_message, packed_fit}
+use Rattle.dm_pack.proofs.filled.fill.Goals as goal
+
+pub of_parts-message-requires : goal.of_parts-message-requires
+of_parts-message-requires c =
+    packed_fit c.args.header.now c.in_ok-header_copy.header_copy c.args.queue.now c.args.room c.args.heard c.in_ok-whole.whole c.in_ok-cut.cut c.in_ok-whole.place c.tail_of-tail.result
+    c.take_entries.new.body c.push_next.new.body c.push_tail.new.body
+    (record {
+      whole_is = c.in_ok-whole.ensures.whole;
+      place_is = c.in_ok-whole.ensures.place;
+      first_is = c.in_ok-whole.ensures.body;
+      cut_there = c.in_ok-cut.ensures.number;
+      more_is = c.in_ok-cut.ensures.body;
+      tail_there = c.tail_of-tail.ensures;
+      body_is = c.in_ok-push_tail.ensures;
+    })
+    c.in_ok-header_copy.ensures c.requires.header.fit c.requires.ready
+
+pub returns-clause-message : goal.returns-clause-message
+returns-clause-message c =
+    let message = c.of_parts-message.ensures ∙ packed_message c.args.header.now c.in_ok-header_copy.header_copy c.args.queue.now c.args.room c.args.heard c.is_final.result c.in_ok-whole.whole c.in_ok-cut.cut c.in_ok-whole.place c.tail_of-tail.result
+    c.take_entries.new.body c.push_next.new.body c.push_tail.new.body
+    (record {
+      whole_is = c.in_ok-whole.ensures.whole;
+      place_is = c.in_ok-whole.ensures.place;
+      first_is = c.in_ok-whole.ensures.body;
+      cut_there = c.in_ok-cut.ensures.number;
+      more_is = c.in_ok-cut.ensures.body;
+      tail_there = c.tail_of-tail.ensures;
+      body_is = c.in_ok-push_tail.ensures;
+    })
+    c.in_ok-header_copy.ensures c.is_final.ensures in
+    if_ok c.spelled.result _ _ (λ f h. h ∙ message) c.spelled.ensures.message
+
+pub returns-clause-bytes : goal.returns-clause-bytes
+returns-clause-bytes c =
+    let message = c.of_parts-message.ensures ∙ packed_message c.args.header.now c.in_ok-header_copy.header_copy c.args.queue.now c.args.room c.args.heard c.is_final.result c.in_ok-whole.whole c.in_ok-cut.cut c.in_ok-whole.place c.tail_of-tail.result
+    c.take_entries.new.body c.push_next.new.body c.push_tail.new.body
+    (record {
+      whole_is = c.in_ok-whole.ensures.whole;
+      place_is = c.in_ok-whole.ensures.place;
+      first_is = c.in_ok-whole.ensures.body;
+      cut_there = c.in_ok-cut.ensures.number;
+      more_is = c.in_ok-cut.ensures.body;
+      tail_there = c.tail_of-tail.ensures;
+      body_is = c.in_ok-push_tail.ensures;
+    })
+    c.in_ok-header_copy.ensures c.is_final.ensures in
+    if_ok c.spelled.result _ _ (λ f h. h ∙ ap canonical message) c.spelled.ensures.bytes
+
+pub returns-clause-within : goal.returns-clause-within
+returns-clause-within c =
+    let message = c.of_parts-message.ensures ∙ packed_message c.args.header.now c.in_ok-header_copy.header_copy c.args.queue.now c.args.room c.args.heard c.is_final.result c.in_ok-whole.whole c.in_ok-cut.cut c.in_ok-whole.place c.tail_of-tail.result
+    c.take_entries.new.body c.push_next.new.body c.push_tail.new.body
+    (record {
+      whole_is = c.in_ok-whole.ensures.whole;
+      place_is = c.in_ok-whole.ensures.place;
+      first_is = c.in_ok-whole.ensures.body;
+      cut_there = c.in_ok-cut.ensures.number;
+      more_is = c.in_ok-cut.ensures.body;
+      tail_there = c.tail_of-tail.ensures;
+      body_is = c.in_ok-push_tail.ensures;
+    })
+    c.in_ok-header_copy.ensures c.is_final.ensures in
+    let short = fill_within c.args.header.now c.args.queue.now c.args.room c.args.heard c.requires.header c.requires.room.0 in
+    if_ok c.spelled.result _ _ (λ f h. let same = ap length (h ∙ ap canonical message) in omega (arith, same, short)) c.spelled.ensures.bytes
+
+pub returns-clause-whole : goal.returns-clause-whole
+returns-clause-whole c =
+    let same = packed c.args.header.now c.args.queue.now c.args.room c.args.heard c.in_ok-whole.whole c.in_ok-cut.cut c.in_ok-whole.place c.tail_of-tail.result
+    c.take_entries.new.body c.push_next.new.body c.push_tail.new.body
+    (record {
+      whole_is = c.in_ok-whole.ensures.whole;
+      place_is = c.in_ok-whole.ensures.place;
+      first_is = c.in_ok-whole.ensures.body;
+      cut_there = c.in_ok-cut.ensures.number;
+      more_is = c.in_ok-cut.ensures.body;
+      tail_there = c.tail_of-tail.ensures;
+      body_is = c.in_ok-push_tail.ensures;
+    }) in
+    if_ok c.spelled.result _ _ (λ f h. h.0 ∙ ap (λ (d : Filling). d.whole) same) c.spelled.ensures.counts
+
+pub returns-clause-cut : goal.returns-clause-cut
+returns-clause-cut c =
+    let same = packed c.args.header.now c.args.queue.now c.args.room c.args.heard c.in_ok-whole.whole c.in_ok-cut.cut c.in_ok-whole.place c.tail_of-tail.result
+    c.take_entries.new.body c.push_next.new.body c.push_tail.new.body
+    (record {
+      whole_is = c.in_ok-whole.ensures.whole;
+      place_is = c.in_ok-whole.ensures.place;
+      first_is = c.in_ok-whole.ensures.body;
+      cut_there = c.in_ok-cut.ensures.number;
+      more_is = c.in_ok-cut.ensures.body;
+      tail_there = c.tail_of-tail.ensures;
+      body_is = c.in_ok-push_tail.ensures;
+    }) in
+    if_ok c.spelled.result _ _ (λ f h. h.1 ∙ ap (λ (d : Filling). d.cut) same) c.spelled.ensures.counts
+
+pub returns-clause-tail : goal.returns-clause-tail
+returns-clause-tail c =
+    let same = packed c.args.header.now c.args.queue.now c.args.room c.args.heard c.in_ok-whole.whole c.in_ok-cut.cut c.in_ok-whole.place c.tail_of-tail.result
+    c.take_entries.new.body c.push_next.new.body c.push_tail.new.body
+    (record {
+      whole_is = c.in_ok-whole.ensures.whole;
+      place_is = c.in_ok-whole.ensures.place;
+      first_is = c.in_ok-whole.ensures.body;
+      cut_there = c.in_ok-cut.ensures.number;
+      more_is = c.in_ok-cut.ensures.body;
+      tail_there = c.tail_of-tail.ensures;
+      body_is = c.in_ok-push_tail.ensures;
+    }) in
+    if_ok c.spelled.result _ _ (λ f h. h ∙ ap (λ (d : Filling). d.tail) same) c.spelled.ensures.tail
+
+pub returns-clause-taken : goal.returns-clause-taken
+returns-clause-taken c =
+    let same = packed c.args.header.now c.args.queue.now c.args.room c.args.heard c.in_ok-whole.whole c.in_ok-cut.cut c.in_ok-whole.place c.tail_of-tail.result
+    c.take_entries.new.body c.push_next.new.body c.push_tail.new.body
+    (record {
+      whole_is = c.in_ok-whole.ensures.whole;
+      place_is = c.in_ok-whole.ensures.place;
+      first_is = c.in_ok-whole.ensures.body;
+      cut_there = c.in_ok-cut.ensures.number;
+      more_is = c.in_ok-cut.ensures.body;
+      tail_there = c.tail_of-tail.ensures;
+      body_is = c.in_ok-push_tail.ensures;
+    }) in
+    let taken = fill_taken c.args.queue.now c.args.header.now c.args.room c.args.heard in
+    if_ok c.spelled.result _ _
+    (λ f h. same_taken c.args.queue.now f.whole f.cut _ _ taken (h.0 ∙ ap (λ (d : Filling). d.whole) same) (h.1 ∙ ap (λ (d : Filling). d.cut) same))
+    c.spelled.ensures.counts

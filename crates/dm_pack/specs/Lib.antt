@@ -1,0 +1,4 @@
+pub mod Entries
+pub mod Filling
+pub mod Measures
+pub mod Laws

@@ -1,0 +1,113 @@
+-- What is kept while a message is packed: entries with their Data apart, and how far the message has come.
+use Rattle.std.specs.Prelude.{◌≡◌, ◌==◌, ◌<◌, ◌≤◌, ◌+◌, ℕ, Bool, true, not, if◌then◌else◌, List, [], ◌∷◌, length, drop, Option, Some, None, option_map, take, nat_le, ◌-◌}
+use Rattle.wbxml_tokens.specs.Spelling.{spelled, page_behind}
+use Rattle.syncml_types.specs.declared.values.Item.{Item}
+use Rattle.syncml_types.specs.declared.values.Header.{Header}
+use Rattle.syncml_types.specs.declared.command.Command.{Command}
+use Rattle.syncml_types.specs.Canonical.{command_tokens, commands_tokens}
+use Rattle.syncml_types.specs.Lengths.{head_tokens}
+use Rattle.syncml_types.specs.Numbering.{ids_in, with_numbers}
+use Rattle.syncml_types.specs.Packing.{cut_item, cut_changed, cut_data, data_length, head_bytes, body_tag, tail_tokens}
+use Rattle.syncml_types.specs.Pages.{with_value}
+use Rattle.dm_pack.specs.declared.place.Place.{Place}
+use Rattle.dm_pack.specs.Entries.{Entry, with_size, part_of, data_left}
+use Rattle.dm_pack.specs.Filling.{numbered, asks_next, greatest}
+
+-- ---- Data apart
+
+-- an item whose Data was taken out
+abbrev pub hollow_item : Item → Item
+hollow_item i = record i { value = option_map (λ _. []) i.value }
+
+-- what is left of the Data, put back where it was taken out
+abbrev pub put_back : List ℕ → Command → Command
+put_back [] c = c
+put_back (b ∷ bs) c = cut_changed (with_value (b ∷ bs)) c
+
+-- the entry of which so many bytes went out
+abbrev pub entry_of : Command → List ℕ → ℕ → Entry
+entry_of c value sent = record { command = put_back (drop sent value) c; begun = not (sent == 0) }
+
+-- a part's item, all but its Data
+abbrev pub marked : Option ℕ → Item → Item
+marked None i = record i { more = true }
+marked (Some size) i = record i { meta = with_size size i.meta; more = true }
+
+-- how long Data is, told where none of it went out
+abbrev pub size_told : ℕ → List ℕ → Option ℕ
+size_told sent value = if sent == 0 then Some (length value) else None
+
+pub record HasEmptyData (c : Command) : Type 0 where
+  pub item : Item
+  pub is : cut_item c ≡ Some item
+  pub empty : item.value ≡ Some []
+
+pub record IsApart (c : Command) (value : List ℕ) (sent : ℕ) : Type 0 where
+  pub hollow : cut_data c ≡ []
+  pub place : 0 < length value → HasEmptyData c
+  pub within : sent ≤ length value
+  pub some_left : 0 < length value → sent < length value
+
+-- ---- how far a message has come
+
+-- how many CmdIDs commands have
+abbrev pub ids_of : List Command → ℕ
+ids_of [] = 0
+ids_of (c ∷ cs) = ids_in c + ids_of cs
+
+-- the bytes up to the end of its commands
+unfoldable pub front_length : Header → List Command → ℕ
+front_length h cs =
+    length (head_bytes h) + length (spelled (page_behind 0 (head_tokens h)) body_tag) + length (spelled 0 (commands_tokens (numbered 1 cs)))
+
+-- the page behind them
+unfoldable pub front_page : List Command → ℕ
+front_page cs = page_behind 0 (commands_tokens (numbered 1 cs))
+
+-- the bytes of an Alert 1222 and Final, and of what ends the message
+unfoldable pub end_length : ℕ → ℕ → ℕ
+end_length page id =
+    let alert = command_tokens (with_numbers id asks_next) in
+    length (spelled page alert) + length (spelled (page_behind page alert) (tail_tokens true))
+
+-- how far a message of these commands has come
+abbrev pub place_of : Header → List Command → Place
+place_of h cs = record { used = front_length h cs; page = front_page cs; next = 1 + ids_of cs }
+
+-- and with one more
+abbrev pub behind : Place → Command → Place
+behind p c =
+    let d = with_numbers p.next c in
+    record {
+      used = p.used + length (spelled p.page (command_tokens d));
+      page = page_behind p.page (command_tokens d);
+      next = p.next + ids_in c;
+    }
+
+abbrev pub fits_at : ℕ → Place → Bool
+fits_at room p = nat_le (p.used + end_length p.page p.next) room
+
+-- what Data costs beside an empty Data element: its token, and an END
+unfoldable pub data_cost : List ℕ → ℕ
+data_cost [] = 0
+data_cost (b ∷ bs) = 1 + data_length (b ∷ bs)
+
+-- a place, where the message fits with it
+abbrev pub within : ℕ → Place → Option Place
+within room p = if fits_at room p then Some p else None
+
+abbrev pub cost_within : List ℕ → ℕ → Option ℕ
+cost_within value room = if nat_le (data_cost value) room then Some (data_cost value) else None
+
+-- the greatest number of bytes, fewer than all, that fit with their token
+unfoldable pub greatest_within : List ℕ → ℕ → ℕ
+greatest_within value budget = greatest (λ n. nat_le (data_length (take n value)) budget) (length value - 1)
+
+-- and with which a part of an entry fits behind a place
+unfoldable pub greatest_at : Place → Entry → ℕ → ℕ
+greatest_at p e room = greatest (λ n. fits_at room (behind p (part_of e n))) (data_left e - 1)
+
+-- of the first entry of those that are left
+abbrev pub cut_at : Place → ℕ → List Entry → ℕ
+cut_at p room [] = 0
+cut_at p room (e ∷ es) = greatest_at p e room

@@ -1,0 +1,14 @@
+//! One message packed from the entries that wait: as many as fit, and a part of the next one.
+#![tactic(auto)]
+
+mod counting;
+pub mod filled;
+mod fitting;
+mod headers;
+pub mod laws;
+mod place;
+pub mod queue;
+mod waiting;
+
+pub use filled::{Filled, Tail, fill};
+pub use queue::Queue;

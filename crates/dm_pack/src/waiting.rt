@@ -1,0 +1,237 @@
+// An entry that waits. The Data that may be cut is kept apart, so that the rest is measured without looking at it, and
+// what went out of it is a number, so that nothing moves.
+ghost use Rattle.std.specs.Prelude.{◌≡◌, ◌<◌, ◌+◌, ◌^◌, IfOk, length, true};
+ghost use Rattle.wbxml_tokens.specs.Spelling.{page_behind};
+ghost use Rattle.syncml_types.specs.Fitness.{is_short, command_data};
+ghost use Rattle.syncml_types.specs.Pages.{with_value};
+ghost use Rattle.syncml_types.specs.Canonical.{command_tokens};
+ghost use Rattle.syncml_types.specs.Lengths.{spelled_length};
+ghost use Rattle.syncml_types.specs.Numbering.{ids_in as ids_of_command, with_numbers};
+ghost use Rattle.syncml_types.specs.Packing.{cut_changed, cut_data, bytes_in};
+ghost use Rattle.dm_pack.specs.Entries.{fresh, data_left, part_of, rest_of, with_size, last_only, last_alone};
+ghost use Rattle.dm_pack.specs.Measures.{hollow_item, marked, put_back, size_told};
+
+use crate::counting::ids_in;
+use dm_base::{Bytes, List, Memory};
+use std::alloc::Global;
+use std::marker::Model;
+use std::mem;
+use syncml_types::{Command, Item, Meta, numbered_length};
+
+#[derive(Drop)]
+pub(crate) struct Waiting {
+    command: Command,
+    value: Bytes,
+    sent: usize,
+}
+
+impl Model for Waiting {
+    ghost use Rattle.dm_pack.specs.Entries.{Entry};
+    ghost use Rattle.dm_pack.specs.Measures.{entry_of, IsApart};
+
+    ghost Value = { Entry };
+
+    ghost view = { λ w. entry_of w.command w.value w.sent };
+
+    ghost invariant = { λ w. IsApart w.command w.value w.sent };
+}
+
+fn take_value(alloc: Global, item: &mut Item) -> Bytes
+    ensures value { result ≡ bytes_in item.old.value }
+    ensures item { item.new ≡ hollow_item item.old }
+{
+    match &mut item.value {
+        None => Bytes::new(alloc),
+        Some(value) => mem::replace(value, Bytes::new(alloc)),
+    }
+}
+
+// Takes the Data out that may be cut.
+fn take_data(alloc: Global, command: &mut Command) -> Bytes
+    ensures value { result ≡ cut_data command.old }
+    ensures command { command.new ≡ cut_changed hollow_item command.old }
+{
+    match command.cut_item_mut() {
+        None => Bytes::new(alloc),
+        Some(item) => take_value(alloc, item),
+    }
+}
+
+fn write_value(item: &mut Item, value: Bytes)
+    ensures { item.new ≡ with_value value item.old }
+{
+    item.value = Some(value);
+}
+
+// Data for the item that may be cut.
+pub(crate) fn put_value(command: &mut Command, value: Bytes)
+    ensures { command.new ≡ cut_changed (with_value value) command.old }
+{
+    match command.cut_item_mut() {
+        None => drop(value),
+        Some(item) => write_value(item, value),
+    }
+}
+
+// Puts Data back, where there is some.
+#[tactic(auto, using(crate::proofs::Parts::put_none, crate::proofs::Parts::put_some))]
+fn put_data(command: &mut Command, value: Bytes)
+    ensures { command.new ≡ put_back value command.old }
+{
+    if value.is_empty() {
+        drop(value);
+    } else {
+        put_value(command, value);
+    }
+}
+
+// How long the Data is, where none of it went out.
+fn size_of(value: &Bytes, sent: usize) -> Option<u64>
+    ensures { result ≡ size_told sent value.now }
+{
+    if sent == 0 {
+        Some(value.len() as u64)
+    } else {
+        None
+    }
+}
+
+fn set_size(meta: &mut Option<Meta>, size: u64)
+    ensures { meta.new ≡ with_size size meta.old }
+{
+    match meta {
+        Some(meta) => meta.size = Some(size),
+        None => {
+            *meta = Some(Meta {
+                format: None,
+                media: None,
+                size: Some(size),
+                next_nonce: None,
+                max_msg: None,
+                max_obj: None,
+                mark: None,
+                version: None,
+            });
+        }
+    }
+}
+
+fn mark_item(item: &mut Item, size: Option<u64>)
+    ensures { item.new ≡ marked size item.old }
+{
+    item.more = true;
+    if let Some(size) = size {
+        set_size(&mut item.meta, size);
+    }
+}
+
+// A part that isn't the last has MoreData, and the first one Size.
+fn mark_part(command: &mut Command, size: Option<u64>)
+    ensures { command.new ≡ cut_changed (marked size) command.old }
+{
+    match command.cut_item_mut() {
+        None => {}
+        Some(item) => mark_item(item, size),
+    }
+}
+
+fn keep_last_of<T: Drop>(list: &mut List<T>)
+    ensures { list.new ≡ last_only list.old }
+{
+    let others = list.len().saturating_sub(1);
+    list.drop_front(others);
+}
+
+fn keep_last(command: &mut Command)
+    ensures { command.new ≡ last_alone command.old }
+{
+    match command {
+        Command::Atomic(block) => keep_last_of(&mut block.members),
+        Command::Sequence(block) => keep_last_of(&mut block.members),
+        Command::Plain(_) | Command::Alert(_) | Command::Status(_) | Command::Results(_) => {}
+    }
+}
+
+impl Waiting {
+    pub(crate) fn new(alloc: Global, command: Command) -> Waiting
+        ensures { result ≡ fresh command }
+    {
+        let mut command = command;
+        let value = take_data(alloc, &mut command);
+        Waiting {
+            command,
+            value,
+            sent: 0,
+        }
+    }
+
+    pub(crate) fn copy(&self, alloc: Global) -> Result<Waiting, Memory>
+        ensures { IfOk result (λ copied. copied ≡ self.now) }
+    {
+        Ok(Waiting {
+            command: self.command.copy(alloc)?,
+            value: self.value.copy(alloc)?,
+            sent: self.sent,
+        })
+    }
+
+    // The Data that may be cut and hasn't gone out.
+    pub(crate) fn left(&self) -> &[u8]
+        ensures { result.now ≡ cut_data self.now.command }
+    {
+        &self.value.as_slice()[self.sent..]
+    }
+
+    // How many CmdIDs it has.
+    pub(crate) fn ids(&self) -> u32
+        requires { ids_of_command self.now.command < 2 ^ 32 }
+        ensures { result ≡ ids_of_command self.now.command }
+    {
+        ids_in(&self.command)
+    }
+
+    // How long it is without the Data that may be cut, and the page behind it.
+    pub(crate) fn hollow_length(&self, page: u8, first: u32) -> (u64, u8)
+        requires fit { command_data is_short self.now.command ≡ true }
+        requires room { first + ids_of_command self.now.command < 2 ^ 32 }
+        ensures length { result.0 ≡ spelled_length 0 page (command_tokens (with_numbers first (cut_changed hollow_item self.now.command))) }
+        ensures page { result.1 ≡ page_behind page (command_tokens (with_numbers first self.now.command)) }
+    {
+        numbered_length(page, first, &self.command)
+    }
+
+    // A copy of the command, with CmdIDs.
+    pub(crate) fn to_command(&self, alloc: Global, first: u32) -> Result<Command, Memory>
+        requires { first + ids_of_command self.now.command < 2 ^ 32 }
+        ensures { IfOk result (λ c. c ≡ with_numbers first self.now.command) }
+    {
+        let value = Bytes::of_slice(alloc, self.left())?;
+        let mut command = self.command.copy(alloc)?;
+        command.set_ids(first);
+        put_data(&mut command, value);
+        Ok(command)
+    }
+
+    // The next part, with CmdIDs and still without Data.
+    pub(crate) fn to_part(&self, alloc: Global, first: u32) -> Result<Command, Memory>
+        requires some { 0 < data_left self.now }
+        requires room { first + ids_of_command self.now.command < 2 ^ 32 }
+        ensures { IfOk result (λ c. c ≡ with_numbers first (part_of self.now 0)) }
+    {
+        let mut command = self.command.copy(alloc)?;
+        command.set_ids(first);
+        mark_part(&mut command, size_of(&self.value, self.sent));
+        Ok(command)
+    }
+
+    // So many bytes more have gone out.
+    pub(crate) fn go_on(&mut self, bytes: usize)
+        requires some { 0 < bytes }
+        requires left { bytes < data_left self.old }
+        ensures { self.new ≡ rest_of self.old bytes }
+    {
+        let left = self.left().len() - bytes;
+        self.sent = self.value.len() - left;
+        keep_last(&mut self.command);
+    }
+}
