@@ -1,0 +1,12 @@
+pub mod Gathers
+pub mod Engines
+pub mod Counts
+pub mod OneStatus
+pub mod Restores
+pub mod Insides
+pub mod Failures
+pub mod OpenGroups
+pub mod Telling
+pub mod MadeAhead
+pub mod TasksAhead
+pub mod GivenUps

@@ -1,0 +1,10 @@
+use Rattle.dm_atomic.specs.Engine.{state_of}
+use Rattle.dm_atomic.proofs.Engines.{pieced_ok}
+use Rattle.dm_atomic.proofs.engine.Engine.one_piece.Goals as goal
+
+pub returns-clause-ok : goal.returns-clause-ok
+returns-clause-ok c =
+    let g = c.in_ok-what.ensures in
+    pieced_ok c.by_what.result c.args.self.now c.gather.new.self c.args.caller.now c.args.post.now c.args.piece.now
+    c.in_ok-what.what (state_of c.by_what.new.self) c.args.out.now c.gather.new.out g.object g.what g.told
+    c.by_what.ensures.ok

@@ -1,0 +1,6 @@
+pub mod Tasks
+pub mod Made
+pub mod Run
+pub mod Posts
+pub mod Laws
+pub mod Engine

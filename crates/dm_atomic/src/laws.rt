@@ -1,0 +1,36 @@
+// What execution means, over its definition alone.
+ghost use Rattle.dm_atomic.specs.Laws.{OneStatusEach, NoneLostInQuiet, FailedAtomicRestores, BrokenGroupRestores, QuietRestores, CommandKeepsOpen, QuietEndsBoth, TasksStartNothing, AtomicStartsNothing, FailedTaskLeavesTree, RefusedRightLeavesTree};
+
+/// Law: each step and each container of executed commands has exactly one Status made, suppressed or not: at once, or
+/// where its group closes or is broken.
+pub fn one_status_each()
+    ensures run { OneStatusEach }
+    ensures quiet { NoneLostInQuiet }
+{}
+
+/// Law: after a failed Atomic the tree before its first part stands again, and so it does after a group that is broken.
+pub fn failed_atomic_restores()
+    ensures failed { FailedAtomicRestores }
+    ensures broken { BrokenGroupRestores }
+    ensures quiet { QuietRestores }
+{}
+
+/// Law: a group is open exactly while an object that was begun in an Atomic is being buffered, and neither is left
+/// after a quiet message or where a session ends.
+pub fn open_while_buffering()
+    ensures command { CommandKeepsOpen }
+    ensures quiet { QuietEndsBoth }
+{}
+
+/// Law: in an Atomic no update is started.
+pub fn nothing_starts_in_atomic()
+    ensures tasks { TasksStartNothing }
+    ensures block { AtomicStartsNothing }
+{}
+
+/// Law: a task that is no success leaves the tree as it was, finds nothing and starts nothing; and a step whose right
+/// is refused is no success.
+pub fn failed_task_leaves_the_tree()
+    ensures failed { FailedTaskLeavesTree }
+    ensures refused { RefusedRightLeavesTree }
+{}

@@ -1,0 +1,21 @@
+//! Commands as tasks, what they came to, and the entries that tell it; and what execution means: sequences, atomics, and
+//! groups that stay open over messages.
+#![tactic(auto)]
+
+mod containers;
+mod copies;
+pub mod engine;
+mod entries;
+mod groups;
+pub mod laws;
+pub mod reports;
+mod step;
+mod task_lists;
+pub mod tasks;
+#[cfg(test)]
+mod tests;
+mod unfinished;
+
+pub use engine::Engine;
+pub use reports::{Part, Report, Started};
+pub use tasks::{Named, Origin, Post, Task, Work};

@@ -1,0 +1,233 @@
+// A command as its tasks.
+ghost use Rattle.std.specs.Prelude.{◌≡◌, [], IfOk, unwrap_or, option_and_then};
+ghost use Rattle.syncml_types.specs.declared.values.Meta.{Meta as AMeta};
+ghost use Rattle.dm_atomic.specs.Tasks.{meta_child, target_text, piece_of, item_post, item_task, plain_tasks, alert_task, member_tasks, members_tasks, container_post};
+
+use crate::copies::copy_bytes;
+use crate::tasks::{Named, Origin, Post, Task, Work};
+use dm_base::{Bytes, List, Memory};
+use dm_objects::Piece;
+use std::alloc::Global;
+use syncml_types::{AlertCmd, Item, Member, Meta, Plain, Step};
+
+fn format_in(alloc: Global, meta: &Option<Meta>) -> Result<Option<Bytes>, Memory>
+    ensures { IfOk result (λ format. format ≡ option_and_then (λ (m : AMeta). m.format) meta.now) }
+{
+    match meta {
+        None => Ok(None),
+        Some(meta) => copy_bytes(alloc, &meta.format),
+    }
+}
+
+fn media_in(alloc: Global, meta: &Option<Meta>) -> Result<Option<Bytes>, Memory>
+    ensures { IfOk result (λ media. media ≡ option_and_then (λ (m : AMeta). m.media) meta.now) }
+{
+    match meta {
+        None => Ok(None),
+        Some(meta) => copy_bytes(alloc, &meta.media),
+    }
+}
+
+fn size_in(meta: &Option<Meta>) -> Option<u64>
+    ensures { result ≡ option_and_then (λ (m : AMeta). m.size) meta.now }
+{
+    match meta {
+        None => None,
+        Some(meta) => meta.size,
+    }
+}
+
+fn format_of(alloc: Global, command: &Plain, item: &Item) -> Result<Option<Bytes>, Memory>
+    ensures { IfOk result (λ format. format ≡ meta_child (λ m. m.format) item.now command.now) }
+{
+    match format_in(alloc, &item.meta)? {
+        Some(format) => Ok(Some(format)),
+        None => format_in(alloc, &command.meta),
+    }
+}
+
+fn media_of(alloc: Global, command: &Plain, item: &Item) -> Result<Option<Bytes>, Memory>
+    ensures { IfOk result (λ media. media ≡ meta_child (λ m. m.media) item.now command.now) }
+{
+    match media_in(alloc, &item.meta)? {
+        Some(media) => Ok(Some(media)),
+        None => media_in(alloc, &command.meta),
+    }
+}
+
+fn size_of(command: &Plain, item: &Item) -> Option<u64>
+    ensures { result ≡ meta_child (λ m. m.size) item.now command.now }
+{
+    match size_in(&item.meta) {
+        Some(size) => Some(size),
+        None => size_in(&command.meta),
+    }
+}
+
+fn target_text(alloc: Global, item: &Item) -> Result<Option<Bytes>, Memory>
+    ensures { IfOk result (λ text. text ≡ target_text item.now) }
+{
+    match &item.target {
+        None => Ok(None),
+        Some(target) => Ok(Some(target.uri.copy(alloc)?)),
+    }
+}
+
+fn value_of(alloc: Global, item: &Item) -> Result<Bytes, Memory>
+    ensures { IfOk result (λ value. value ≡ unwrap_or item.now.value []) }
+{
+    match &item.value {
+        None => Ok(Bytes::new(alloc)),
+        Some(value) => value.copy(alloc),
+    }
+}
+
+fn step_of(alloc: Global, in_atomic: bool, command: &Plain, item: &Item) -> Result<Step, Memory>
+    ensures { IfOk result (λ step. step ≡ (piece_of in_atomic command.now item.now).step) }
+{
+    Ok(Step {
+        verb: command.verb,
+        target: target_text(alloc, item)?,
+        format: format_of(alloc, command, item)?,
+        media: media_of(alloc, command, item)?,
+        value: value_of(alloc, item)?,
+        correlator: copy_bytes(alloc, &command.correlator)?,
+        in_atomic,
+    })
+}
+
+fn piece_of(alloc: Global, in_atomic: bool, command: &Plain, item: &Item) -> Result<Piece, Memory>
+    ensures { IfOk result (λ piece. piece ≡ piece_of in_atomic command.now item.now) }
+{
+    Ok(Piece {
+        step: step_of(alloc, in_atomic, command, item)?,
+        size: size_of(command, item),
+        more: item.more,
+    })
+}
+
+fn item_post(
+    alloc: Global,
+    origin: Origin,
+    command: &Plain,
+    place: usize,
+    item: &Item,
+) -> Result<Post, Memory>
+    ensures { IfOk result (λ post. post ≡ item_post origin command.now place item.now) }
+{
+    let target = if command.items.len() > 1 {
+        target_text(alloc, item)?
+    } else {
+        None
+    };
+    Ok(Post {
+        msg: origin.msg,
+        command: command.id,
+        place,
+        name: Named::Verb(command.verb),
+        target,
+        quiet: origin.quiet || command.no_resp,
+    })
+}
+
+fn item_task(
+    alloc: Global,
+    origin: Origin,
+    in_atomic: bool,
+    command: &Plain,
+    place: usize,
+    item: &Item,
+) -> Result<Task, Memory>
+    ensures { IfOk result (λ task. task ≡ item_task origin in_atomic command.now place item.now) }
+{
+    let post = item_post(alloc, origin, command, place, item)?;
+    let piece = piece_of(alloc, in_atomic, command, item)?;
+    Ok(Task {
+        post,
+        work: Work::Piece(piece),
+    })
+}
+
+/// A task for each item of the command.
+#[tactic(auto, using(crate::proofs::TasksAhead::next_item))]
+pub(crate) fn plain_tasks(
+    alloc: Global,
+    origin: Origin,
+    in_atomic: bool,
+    command: &Plain,
+) -> Result<List<Task>, Memory>
+    ensures { IfOk result (λ tasks. tasks ≡ plain_tasks origin in_atomic command.now) }
+{
+    let mut tasks = List::new(alloc);
+    for (place, item) in command.items.as_slice().iter().enumerate() {
+        tasks.push(item_task(alloc, origin, in_atomic, command, place, item)?)?;
+    }
+    Ok(tasks)
+}
+
+/// An Alert's one task, whatever its items.
+pub(crate) fn alert_task(origin: Origin, alert: &AlertCmd) -> Task
+    ensures { result ≡ alert_task origin alert.now }
+{
+    Task {
+        post: Post {
+            msg: origin.msg,
+            command: alert.id,
+            place: 0,
+            name: Named::Alert,
+            target: None,
+            quiet: origin.quiet || alert.no_resp,
+        },
+        work: Work::Alert(alert.code),
+    }
+}
+
+/// The tasks of one command in a container.
+pub(crate) fn member_tasks(
+    alloc: Global,
+    origin: Origin,
+    in_atomic: bool,
+    member: &Member,
+) -> Result<List<Task>, Memory>
+    ensures { IfOk result (λ tasks. tasks ≡ member_tasks origin in_atomic member.now) }
+{
+    match member {
+        Member::One(command) => plain_tasks(alloc, origin, in_atomic, command),
+        Member::Alert(alert) => {
+            let mut tasks = List::new(alloc);
+            tasks.push(alert_task(origin, alert))?;
+            Ok(tasks)
+        }
+    }
+}
+
+/// The tasks of the commands in a container, in order.
+#[tactic(auto, using(crate::proofs::TasksAhead::next_member))]
+pub(crate) fn members_tasks(
+    alloc: Global,
+    origin: Origin,
+    in_atomic: bool,
+    members: &List<Member>,
+) -> Result<List<Task>, Memory>
+    ensures { IfOk result (λ tasks. tasks ≡ members_tasks origin in_atomic members.now) }
+{
+    let mut tasks = List::new(alloc);
+    for member in members.as_slice() {
+        tasks.append(member_tasks(alloc, origin, in_atomic, member)?)?;
+    }
+    Ok(tasks)
+}
+
+/// What a container's Status answers.
+pub(crate) fn container_post(origin: Origin, id: u32, no_resp: bool, name: Named) -> Post
+    ensures { result ≡ container_post origin id no_resp name }
+{
+    Post {
+        msg: origin.msg,
+        command: id,
+        place: 0,
+        name,
+        target: None,
+        quiet: origin.quiet || no_resp,
+    }
+}
