@@ -12,3 +12,4 @@ pub mod Near
 pub mod Left
 pub mod Bare
 pub mod Progress
+pub mod Fixtures

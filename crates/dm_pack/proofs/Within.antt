@@ -71,7 +71,7 @@ alert_children q a b m n first second =
     let s = second (page_behind q (a ++ [])) in
     omega (arith, v, w, x, y, f, s)
 
-parent_most : (p : ℕ) (e : Element) (ts : List Token) (m : ℕ) → ((q : ℕ) → length (spelled q ts) ≤ m) → length (spelled p (parent_tokens e ts)) ≤ m + 4
+pub parent_most : (p : ℕ) (e : Element) (ts : List Token) (m : ℕ) → ((q : ℕ) → length (spelled q ts) ≤ m) → length (spelled p (parent_tokens e ts)) ≤ m + 4
 parent_most p e ts m most =
     let tag = tag_most p e true in
     let whole = one_more p (Tag e true) (ts ++ End ∷ []) in

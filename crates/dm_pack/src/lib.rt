@@ -12,3 +12,6 @@ mod waiting;
 
 pub use filled::{Filled, Tail, fill};
 pub use queue::Queue;
+
+#[cfg(test)]
+mod tests;
