@@ -15,3 +15,5 @@ mod tables;
 mod tokens;
 #[cfg(test)]
 mod values;
+#[cfg(test)]
+mod writer;

@@ -8,8 +8,6 @@ pub mod laws;
 mod printing;
 mod reading;
 mod same;
-#[cfg(test)]
-mod tests;
 pub mod values;
 
 pub use acl::Acl;

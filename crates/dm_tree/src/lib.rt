@@ -6,25 +6,17 @@ mod clock;
 mod discards;
 pub mod edits;
 mod index;
-#[cfg(test)]
-mod large_tests;
 pub mod laws;
 mod lays;
 mod new_rows;
 pub mod nodes;
 mod renames;
-#[cfg(test)]
-mod reuse_tests;
 pub mod rows;
 mod siblings;
 mod sizes;
-#[cfg(test)]
-mod tests;
 mod text;
 pub mod tree;
 mod update;
-#[cfg(test)]
-mod walk_tests;
 mod walks;
 
 pub use arena::Tree;

@@ -4,8 +4,6 @@
 mod entries;
 pub mod journal;
 pub mod laws;
-#[cfg(test)]
-mod tests;
 
 pub use entries::Entry;
 pub use journal::{Journal, Mark};

@@ -5,8 +5,6 @@ pub mod laws;
 pub mod name;
 pub mod path;
 pub mod reading;
-#[cfg(test)]
-mod tests;
 pub mod uri;
 pub mod writing;
 

@@ -1,10 +1,6 @@
 //! Messages to bytes and back, exactly; and the reader and the writers of the first path.
 #![tactic(auto)]
 
-#[cfg(test)]
-mod container_tests;
-#[cfg(test)]
-mod decode_tests;
 pub mod decoder;
 pub mod encoder;
 pub mod first;
@@ -16,8 +12,6 @@ pub mod lister;
 pub mod names;
 mod parts;
 pub mod ranges;
-#[cfg(test)]
-mod tests;
 
 pub use decoder::{DecodeError, Decoder, decode};
 pub use encoder::encode;

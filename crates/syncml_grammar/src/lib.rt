@@ -8,8 +8,6 @@ pub mod draft;
 mod few;
 pub mod laws;
 pub mod leaf;
-#[cfg(test)]
-mod message_tests;
 pub mod open;
 mod put_command;
 mod put_node;
@@ -17,10 +15,6 @@ mod put_simple;
 mod renew;
 mod spare;
 mod stack;
-#[cfg(test)]
-mod tests;
-#[cfg(test)]
-mod value_tests;
 pub mod verdict;
 
 pub use builder::Builder;

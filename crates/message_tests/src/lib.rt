@@ -1,0 +1,15 @@
+//! Tests of the codec from the grammar on: what tokens are judged, what is built of them, and how messages are spelled.
+#![tactic(auto)]
+
+#[cfg(test)]
+mod building;
+#[cfg(test)]
+mod containers;
+#[cfg(test)]
+mod decoding;
+#[cfg(test)]
+mod first_path;
+#[cfg(test)]
+mod judging;
+#[cfg(test)]
+mod judging_values;

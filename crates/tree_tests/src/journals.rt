@@ -1,0 +1,341 @@
+// Trees to go back to, over edits of each kind. What stands there is compared with a tree that the same edits made
+// alone.
+ghost use Rattle.std.specs.Prelude.{◌≡◌, ◌≤◌, ◌<◌, ◌-◌, ◌++◌, ◌∷◌, [], false, length, IsTrue, IfSome};
+ghost use Rattle.dm_uri.specs.Names.{is_within_limits};
+ghost use Rattle.dm_tree.specs.Nodes.{IsNewNode, IsValue, IsReadAgain};
+ghost use Rattle.dm_tree.specs.Rows.{IsLive, IsTree};
+ghost use Rattle.dm_tree.specs.Notes.{TakesEditBack};
+ghost use Rattle.dm_undo.specs.Entries.{AreRecords};
+ghost use Rattle.dm_undo.specs.Sound.{IsSound};
+ghost use Rattle.dm_undo.specs.Notes.{Notes};
+
+use dm_acl::Acl;
+use dm_base::Bytes;
+use dm_tree::{NewNode, NodeId, Role, Tree, Undo, Value};
+use dm_undo::{Journal, Mark};
+use dm_uri::{Name, Path, parse, parse_name};
+use std::alloc::Global;
+use std::test::Fail;
+
+#[derive(Clone, Copy)]
+enum Edit {
+    /// A leaf comes in.
+    Add(&'static [u8]),
+    Detach(&'static [u8]),
+    /// The node gets this name.
+    Rename(&'static [u8], &'static [u8]),
+    /// The leaf gets these bytes.
+    Set(&'static [u8], &'static [u8]),
+}
+
+use Edit::{Add, Detach, Rename, Set};
+
+// What stands below the root at first: interior nodes, and leaves below them.
+const NODES: [(&[u8], bool); 4] = [
+    (b"./T", true),
+    (b"./T/a", false),
+    (b"./U", true),
+    (b"./U/c", false),
+];
+
+// Four edits, of which the last one can also be the first.
+#[rattlefmt::skip]
+const CASES: [[Edit; 4]; 9] = [
+    [Add(b"./T/b"), Add(b"./T/d"), Add(b"./U/e"), Add(b"./U/d")],
+    [Detach(b"./T/a"), Detach(b"./T"), Detach(b"./U"), Detach(b"./U/c")],
+    [Rename(b"./T", b"V"), Rename(b"./V/a", b"b"), Rename(b"./V", b"W"), Rename(b"./T", b"X")],
+    [Set(b"./T/a", b"1"), Set(b"./T/a", b"2"), Set(b"./T/a", b"3"), Set(b"./T/a", b"4")],
+    [Detach(b"./T"), Add(b"./T"), Set(b"./T", b"1"), Rename(b"./T/a", b"b")],
+    [Add(b"./T/b"), Rename(b"./T", b"V"), Detach(b"./V"), Detach(b"./T/a")],
+    [Add(b"./T/b"), Detach(b"./T/b"), Add(b"./T/b"), Add(b"./T/b")],
+    [Rename(b"./T/a", b"b"), Add(b"./T/a"), Detach(b"./T/b"), Set(b"./T/a", b"1")],
+    [Detach(b"./U/c"), Rename(b"./U", b"V"), Add(b"./V/c"), Add(b"./U/d")],
+];
+
+// Each path at which one of them leaves a node.
+const PATHS: [&[u8]; 18] = [
+    b".", b"./T", b"./T/a", b"./T/b", b"./T/d", b"./U", b"./U/c", b"./U/d", b"./U/e", b"./V",
+    b"./V/a", b"./V/b", b"./V/c", b"./W", b"./W/a", b"./W/b", b"./X", b"./X/a",
+];
+
+// Each of the helpers below answers None where memory runs out, or an edit can't be done.
+
+fn root_acl(alloc: Global) -> Option<Acl>
+    ensures { IfSome result (λ acl. IsReadAgain acl) }
+{
+    let acl = Acl::parse(alloc, b"Add=*&Get=*").ok()?;
+    if acl.print(alloc).ok()?.len() > 4_096 {
+        return None;
+    }
+    Some(acl)
+}
+
+fn text(alloc: Global, bytes: &[u8]) -> Option<Value>
+    ensures { IfSome result (λ value. IsValue false value) }
+{
+    if bytes.len() > 4_194_304 {
+        return None;
+    }
+    Some(Value {
+        format: Bytes::of_slice(alloc, b"chr").ok()?,
+        media: Bytes::of_slice(alloc, b"text/plain").ok()?,
+        bytes: Bytes::of_slice(alloc, bytes).ok()?,
+    })
+}
+
+fn new_node(alloc: Global, interior: bool) -> Option<NewNode>
+    ensures may { IfSome result (λ new. IsNewNode new) }
+    ensures dynamic { IfSome result (λ new. new.permanent ≡ false) }
+{
+    let value = if interior {
+        Value {
+            format: Bytes::of_slice(alloc, b"node").ok()?,
+            media: Bytes::new(alloc),
+            bytes: Bytes::new(alloc),
+        }
+    } else {
+        text(alloc, b"0")?
+    };
+    Some(NewNode {
+        interior,
+        value,
+        acl: None,
+        title: Bytes::new(alloc),
+        permanent: false,
+        role: Role::Plain,
+    })
+}
+
+fn add_below(tree: &mut Tree, path: &Path, name: Name, new: NewNode) -> Option<Undo>
+    requires within { IsTrue (is_within_limits (path.now ++ name ∷ [])) }
+    requires may { IsNewNode new }
+    requires dynamic { new.permanent ≡ false }
+    ensures { IfSome result (λ undo. TakesEditBack undo tree.old.rows tree.new.rows) }
+{
+    let parent = tree.find(path)?;
+    if !tree.view(parent).interior || tree.child(parent, &name).is_some() {
+        return None;
+    }
+    match tree.insert(parent, name, new) {
+        Ok((_, undo)) => Some(undo),
+        Err(_) => None,
+    }
+}
+
+fn add(alloc: Global, tree: &mut Tree, uri: &[u8], interior: bool) -> Option<Undo>
+    ensures { IfSome result (λ undo. TakesEditBack undo tree.old.rows tree.new.rows) }
+{
+    let new = new_node(alloc, interior)?;
+    match parse(alloc, uri) {
+        Ok(uri) => {
+            let mut path = uri.path;
+            match path.pop() {
+                Some(name) => add_below(tree, &path, name, new),
+                None => None,
+            }
+        }
+        Err(_) => None,
+    }
+}
+
+fn at(alloc: Global, tree: &Tree, uri: &[u8]) -> Option<NodeId>
+    ensures { IfSome result (λ id. IsLive tree.now.rows id) }
+{
+    let path = parse(alloc, uri).ok()?.path;
+    tree.find(&path)
+}
+
+fn detach(alloc: Global, tree: &mut Tree, uri: &[u8]) -> Option<Undo>
+    ensures { IfSome result (λ undo. TakesEditBack undo tree.old.rows tree.new.rows) }
+{
+    let id = at(alloc, tree, uri)?;
+    if tree.view(id).permanent {
+        return None;
+    }
+    Some(tree.detach(id))
+}
+
+fn rename(alloc: Global, tree: &mut Tree, uri: &[u8], name: &[u8]) -> Option<Undo>
+    ensures { IfSome result (λ undo. TakesEditBack undo tree.old.rows tree.new.rows) }
+{
+    let id = at(alloc, tree, uri)?;
+    let name = parse_name(alloc, name).ok()?;
+    let parent = tree.parent(id)?;
+    if tree.view(id).permanent || tree.child(parent, &name).is_some() || !tree.fits(id, &name) {
+        return None;
+    }
+    Some(tree.rename(id, name))
+}
+
+fn set(alloc: Global, tree: &mut Tree, uri: &[u8], bytes: &[u8]) -> Option<Undo>
+    ensures { IfSome result (λ undo. TakesEditBack undo tree.old.rows tree.new.rows) }
+{
+    let id = at(alloc, tree, uri)?;
+    if tree.view(id).interior {
+        return None;
+    }
+    Some(tree.set_value(id, text(alloc, bytes)?))
+}
+
+fn edited(alloc: Global, tree: &mut Tree, edit: Edit) -> Option<Undo>
+    ensures { IfSome result (λ undo. TakesEditBack undo tree.old.rows tree.new.rows) }
+{
+    match edit {
+        Add(uri) => add(alloc, tree, uri, false),
+        Detach(uri) => detach(alloc, tree, uri),
+        Rename(uri, name) => rename(alloc, tree, uri, name),
+        Set(uri, bytes) => set(alloc, tree, uri, bytes),
+    }
+}
+
+// Room for one entry more than there is already.
+fn make_room(journal: &mut Journal) -> Option<()>
+    ensures entries { journal.new.entries ≡ journal.old.entries }
+    ensures room { IfSome result (λ _. length journal.new.entries < journal.new.room) }
+    ensures more { IfSome result (λ _. journal.old.room - length journal.old.entries
+        < journal.new.room - length journal.new.entries) }
+{
+    match journal.reserve(journal.spare() + 1) {
+        Ok(()) => Some(()),
+        Err(_) => None,
+    }
+}
+
+// Room is made before the edit, so that nothing can fail behind it.
+fn noted(alloc: Global, tree: &mut Tree, journal: &mut Journal, edit: Edit) -> Option<()>
+    ensures { IfSome result (λ _. Notes journal.old tree.old.rows journal.new tree.new.rows) }
+{
+    make_room(journal)?;
+    let undo = edited(alloc, tree, edit)?;
+    journal.note(undo);
+    Some(())
+}
+
+fn grown(alloc: Global) -> Option<Tree>
+    ensures { IfSome result (λ tree. IsTree tree.rows) }
+{
+    let mut tree = Tree::new(alloc, root_acl(alloc)?).ok()?;
+    for (uri, interior) in NODES {
+        let _ = add(alloc, &mut tree, uri, interior)?;
+    }
+    let _ = tree.root();
+    Some(tree)
+}
+
+fn started(alloc: Global) -> Option<(Tree, Journal)>
+    ensures { IfSome result (λ r. IsSound r.1.entries r.0.rows) }
+{
+    let tree = grown(alloc)?;
+    match Journal::new(alloc) {
+        Ok(journal) => Some((tree, journal)),
+        Err(_) => None,
+    }
+}
+
+// Whether the same node stands at the path in both, under the same number, or none in either.
+fn is_same_at(alloc: Global, tree: &Tree, other: &Tree, uri: &[u8]) -> Option<bool> {
+    let path = parse(alloc, uri).ok()?.path;
+    Some(match (tree.find(&path), other.find(&path)) {
+        (None, None) => true,
+        (Some(id), Some(other_id)) => {
+            let (view, other_view) = (tree.view(id), other.view(other_id));
+            id == other_id
+                && view.interior == other_view.interior
+                && view.verno == other_view.verno
+                && view.value.bytes.as_slice() == other_view.value.bytes.as_slice()
+        }
+        _ => false,
+    })
+}
+
+fn is_same(alloc: Global, tree: &Tree, other: &Tree) -> Option<bool> {
+    for uri in PATHS {
+        if !is_same_at(alloc, tree, other, uri)? {
+            return Some(false);
+        }
+    }
+    Some(tree.count() == other.count())
+}
+
+// Whether this is the tree that these edits give.
+fn is_given(alloc: Global, tree: &Tree, edits: &[Edit]) -> Option<bool> {
+    let mut other = grown(alloc)?;
+    for edit in edits {
+        let _ = edited(alloc, &mut other, *edit)?;
+    }
+    is_same(alloc, tree, &other)
+}
+
+fn back_to(tree: &mut Tree, journal: &mut Journal, mark: Mark) -> Option<()>
+    requires held { mark ≤ length journal.old.entries }
+    requires plain { AreRecords (length journal.old.entries - mark) journal.old.entries }
+    requires sound { IsSound journal.old.entries tree.old.rows }
+    ensures sound { IfSome result (λ _. IsSound journal.new.entries tree.new.rows) }
+    ensures longer { IfSome result (λ _. length journal.old.entries ≤ length journal.new.entries) }
+{
+    make_room(journal)?;
+    journal.roll_back(tree, mark);
+    Some(())
+}
+
+// Two edits, a mark, a third edit, all three rolled back, a fourth edit: an unwind to the mark gives the tree after
+// two.
+fn goes_back_behind_a_roll_back(
+    alloc: Global,
+    tree: &mut Tree,
+    journal: &mut Journal,
+    edits: &[Edit; 4],
+) -> Option<bool>
+    requires { IsSound journal.old.entries tree.old.rows }
+{
+    let first = journal.mark();
+    noted(alloc, tree, journal, edits[0])?;
+    noted(alloc, tree, journal, edits[1])?;
+    let mark = journal.mark();
+    noted(alloc, tree, journal, edits[2])?;
+    back_to(tree, journal, first)?;
+    noted(alloc, tree, journal, edits[3])?;
+    journal.unwind(tree, mark);
+    is_given(alloc, tree, &edits[..2])
+}
+
+// An edit, a mark, a second edit, all before the mark settled: an unwind to the mark gives the tree after one.
+fn goes_back_to_where_it_settled(
+    alloc: Global,
+    tree: &mut Tree,
+    journal: &mut Journal,
+    edits: &[Edit; 4],
+) -> Option<bool>
+    requires { IsSound journal.old.entries tree.old.rows }
+{
+    noted(alloc, tree, journal, edits[0])?;
+    let mark = journal.mark();
+    noted(alloc, tree, journal, edits[1])?;
+    let mark = journal.settle(tree, mark);
+    journal.unwind(tree, mark);
+    is_given(alloc, tree, &edits[..1])
+}
+
+fn is_right(alloc: Global, edits: &[Edit; 4]) -> Option<bool> {
+    let (mut tree, mut journal) = started(alloc)?;
+    let behind = goes_back_behind_a_roll_back(alloc, &mut tree, &mut journal, edits)?;
+    let (mut tree, mut journal) = started(alloc)?;
+    let settled = goes_back_to_where_it_settled(alloc, &mut tree, &mut journal, edits)?;
+    Some(behind && settled)
+}
+
+// The number of the first case that is wrong.
+fn wrong_case(alloc: Global) -> Option<usize> {
+    for (number, edits) in CASES.iter().enumerate() {
+        if is_right(alloc, edits) != Some(true) {
+            return Some(number);
+        }
+    }
+    None
+}
+
+#[test]
+fn marks_bring_their_trees_back(rt: HostRuntime) -> Result<(), Fail> {
+    assert_eq!(rt; wrong_case(rt.alloc()), None);
+    Ok(())
+}

@@ -1,0 +1,252 @@
+// Large trees: one that is full, and the same gone through from its root to its last leaf.
+ghost use Rattle.std.specs.Prelude.{◌≡◌, false, IsTrue, IfSome};
+ghost use Rattle.dm_uri.specs.Names.{is_within_limits};
+ghost use Rattle.dm_tree.specs.Nodes.{IsNewNode};
+
+use crate::rows::rows_of;
+use crate::trees::{Start, at, grown, put};
+use dm_base::Bytes;
+use dm_tree::edits::NODE_LIMIT;
+use dm_tree::{NewNode, NodeId, Role, Tree, TreeError, Value};
+use dm_uri::{Path, parse};
+use std::alloc::Global;
+use std::test::Fail;
+
+// How many leaves stand below one node.
+const GROUP: u32 = 256;
+
+// With these below `./B`, the tree of a few nodes has 65,536.
+const GROUPS: u32 = 255;
+
+const LEAVES: u32 = 65_271;
+
+// The leaves come in an order in which each is far from the one before.
+const STRIDE: u32 = 7_919;
+
+const BASE: Start = Start {
+    uri: b"./B",
+    acl: b"",
+    interior: true,
+};
+
+// Each of the helpers below answers None where memory runs out, or a node isn't where it has to be.
+
+fn group_uri(alloc: Global, group: u32) -> Option<String> {
+    format!(in alloc; "./B/g{}", 100 + u64::from(group)).ok()
+}
+
+// Numbers of one length, so that their order is that of the names.
+fn leaf_uri(alloc: Global, leaf: u32) -> Option<String> {
+    format!(in alloc;
+        "./B/g{}/n{}",
+        100 + u64::from(leaf / GROUP),
+        100_000 + u64::from(leaf)
+    )
+    .ok()
+}
+
+fn path_of(alloc: Global, uri: &[u8]) -> Option<Path>
+    ensures { IfSome result (λ path. IsTrue (is_within_limits path)) }
+{
+    match parse(alloc, uri) {
+        Ok(uri) => Some(uri.path),
+        Err(_) => None,
+    }
+}
+
+fn new_node(alloc: Global, interior: bool) -> Option<NewNode>
+    ensures may { IfSome result (λ new. IsNewNode new) }
+    ensures dynamic { IfSome result (λ new. new.permanent ≡ false) }
+{
+    let format = if interior {
+        Bytes::of_slice(alloc, b"node")
+    } else {
+        Bytes::of_slice(alloc, b"chr")
+    };
+    Some(NewNode {
+        interior,
+        value: Value {
+            format: format.ok()?,
+            media: Bytes::new(alloc),
+            bytes: Bytes::new(alloc),
+        },
+        acl: None,
+        title: Bytes::new(alloc),
+        permanent: false,
+        role: Role::Plain,
+    })
+}
+
+// Adds a node; false where the tree is full.
+fn add(tree: &mut Tree, mut path: Path, new: NewNode) -> Option<bool>
+    requires within { IsTrue (is_within_limits path) }
+    requires may { IsNewNode new }
+    requires dynamic { new.permanent ≡ false }
+{
+    let name = path.pop()?;
+    let parent = tree.find(&path)?;
+    if !tree.view(parent).interior || tree.child(parent, &name).is_some() {
+        return None;
+    }
+    match tree.insert(parent, name, new) {
+        Ok(_) => Some(true),
+        Err(TreeError::Full) => Some(false),
+        Err(TreeError::Memory) => None,
+    }
+}
+
+pub(crate) fn add_at(alloc: Global, tree: &mut Tree, uri: &[u8], interior: bool) -> Option<bool> {
+    let path = path_of(alloc, uri)?;
+    add(tree, path, new_node(alloc, interior)?)
+}
+
+fn add_groups(alloc: Global, tree: &mut Tree) -> Option<bool> {
+    for group in 0..GROUPS {
+        if !add_at(alloc, tree, group_uri(alloc, group)?.as_bytes(), true)? {
+            return Some(false);
+        }
+    }
+    Some(true)
+}
+
+fn add_leaves(alloc: Global, tree: &mut Tree) -> Option<bool> {
+    for turn in 0..LEAVES {
+        let leaf = turn * STRIDE % LEAVES;
+        if !add_at(alloc, tree, leaf_uri(alloc, leaf)?.as_bytes(), false)? {
+            return Some(false);
+        }
+    }
+    Some(true)
+}
+
+fn fill(alloc: Global, tree: &mut Tree) -> Option<bool> {
+    let undo = put(alloc, tree, &BASE, Role::Plain)?;
+    tree.discard(undo);
+    Some(add_groups(alloc, tree)? && add_leaves(alloc, tree)?)
+}
+
+fn full(alloc: Global) -> Option<Tree> {
+    let mut tree = grown(alloc)?;
+    if fill(alloc, &mut tree)? {
+        Some(tree)
+    } else {
+        None
+    }
+}
+
+// Takes a node out for good, with all that stands below it.
+pub(crate) fn give_up(alloc: Global, tree: &mut Tree, uri: &[u8]) -> Option<()> {
+    let id = at(alloc, tree, uri)?;
+    if tree.view(id).permanent {
+        return None;
+    }
+    let undo = tree.detach(id);
+    tree.discard(undo);
+    Some(())
+}
+
+// Whether no node is added, then one in place of a leaf that is given up, and no further one.
+fn takes_one_for_one(alloc: Global, tree: &mut Tree) -> Option<bool> {
+    let refused = !add_at(alloc, tree, b"./B/new", false)? && tree.count() == NODE_LIMIT;
+    give_up(alloc, tree, b"./B/g101/n100256")?;
+    let less = tree.count() == NODE_LIMIT - 1;
+    let added = add_at(alloc, tree, b"./B/new", false)? && tree.count() == NODE_LIMIT;
+    let again = !add_at(alloc, tree, b"./B/newer", false)? && tree.count() == NODE_LIMIT;
+    Some(refused && less && added && again)
+}
+
+#[test]
+fn a_full_tree_takes_a_node_where_one_is_given_up(rt: HostRuntime) -> Result<(), Fail> {
+    let alloc = rt.alloc();
+    let tree = full(alloc);
+    assert!(rt; tree.is_some());
+    if let Some(mut tree) = tree {
+        assert_eq!(rt; takes_one_for_one(alloc, &mut tree), Some(true));
+    }
+    Ok(())
+}
+
+// What comes behind the node of a URI, in the order of the tree text, where that is the node that is next.
+fn past(alloc: Global, tree: &Tree, next: NodeId, uri: &[u8]) -> Option<NodeId> {
+    let id = at(alloc, tree, uri)?;
+    if next != id {
+        return None;
+    }
+    tree.next_below(tree.root(), id, false)
+}
+
+// What comes behind all leaves, where each is found, and comes in order.
+fn past_leaves(alloc: Global, tree: &Tree, first: NodeId) -> Option<NodeId> {
+    let mut next = first;
+    for leaf in 0..LEAVES {
+        if leaf % GROUP == 0 {
+            next = past(
+                alloc,
+                tree,
+                next,
+                group_uri(alloc, leaf / GROUP)?.as_bytes(),
+            )?;
+        }
+        next = past(alloc, tree, next, leaf_uri(alloc, leaf)?.as_bytes())?;
+    }
+    Some(next)
+}
+
+fn is_in_order(alloc: Global, tree: &Tree) -> Option<bool> {
+    let base = past(alloc, tree, tree.root(), b".")?;
+    let first = past(alloc, tree, base, b"./B")?;
+    let behind = past_leaves(alloc, tree, first)?;
+    Some(at(alloc, tree, b"./P") == Some(behind))
+}
+
+#[test]
+fn each_leaf_is_found_and_comes_in_order(rt: HostRuntime) -> Result<(), Fail> {
+    let alloc = rt.alloc();
+    let tree = full(alloc);
+    assert!(rt; tree.is_some());
+    if let Some(tree) = tree {
+        assert_eq!(rt; tree.count(), NODE_LIMIT);
+        assert_eq!(rt; is_in_order(alloc, &tree), Some(true));
+    }
+    Ok(())
+}
+
+// Fills a tree of a few nodes.
+fn fill_up(alloc: Global, tree: &mut Tree) -> Option<()> {
+    if fill(alloc, tree)? && tree.count() == NODE_LIMIT {
+        Some(())
+    } else {
+        None
+    }
+}
+
+// Takes out again what filled it.
+fn empty(alloc: Global, tree: &mut Tree) -> Option<()> {
+    give_up(alloc, tree, b"./B")?;
+    if tree.count() == 9 { Some(()) } else { None }
+}
+
+// How many rows a tree takes that is filled and emptied three times: those that it has when it is full for the last
+// time.
+fn rows_of_the_third(alloc: Global, tree: &mut Tree) -> Option<usize> {
+    for _ in 0..2 {
+        fill_up(alloc, tree)?;
+        empty(alloc, tree)?;
+    }
+    fill_up(alloc, tree)?;
+    let rows = rows_of(alloc, tree)?;
+    empty(alloc, tree)?;
+    Some(rows)
+}
+
+fn rows_after_three(alloc: Global) -> Option<usize> {
+    let mut tree = grown(alloc)?;
+    rows_of_the_third(alloc, &mut tree)
+}
+
+#[test]
+fn a_tree_is_filled_and_emptied_three_times(rt: HostRuntime) -> Result<(), Fail> {
+    let rows = rows_after_three(rt.alloc());
+    assert_eq!(rt; rows, Some(NODE_LIMIT as usize));
+    Ok(())
+}
