@@ -1,5 +1,8 @@
 // Who the client talks to.
-use dm_base::Bytes;
+ghost use Rattle.std.specs.Prelude.{◌≡◌, IfOk};
+
+use dm_base::{Bytes, Memory};
+use std::alloc::Global;
 
 /// A server that the client talks to, by its identifier: the password with which the server shows itself, the user and
 /// the password with which the client does, and the nonces that each of them used last. A side without a password
@@ -12,4 +15,29 @@ pub struct Account {
     pub user: Option<Bytes>,
     pub user_password: Option<Bytes>,
     pub user_nonce: Bytes,
+}
+
+fn copy_text(alloc: Global, text: &Option<Bytes>) -> Result<Option<Bytes>, Memory>
+    ensures { IfOk result (λ copy. copy ≡ text.now) }
+{
+    match text {
+        Some(text) => Ok(Some(text.copy(alloc)?)),
+        None => Ok(None),
+    }
+}
+
+impl Account {
+    /// An equal account.
+    pub fn copy(&self, alloc: Global) -> Result<Account, Memory>
+        ensures { IfOk result (λ copy. copy ≡ self.now) }
+    {
+        Ok(Account {
+            server: self.server.copy(alloc)?,
+            server_password: copy_text(alloc, &self.server_password)?,
+            server_nonce: self.server_nonce.copy(alloc)?,
+            user: copy_text(alloc, &self.user)?,
+            user_password: copy_text(alloc, &self.user_password)?,
+            user_nonce: self.user_nonce.copy(alloc)?,
+        })
+    }
 }
