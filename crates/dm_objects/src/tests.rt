@@ -354,3 +354,40 @@ fn quiet_tells_what_was_buffered(rt: HostRuntime) -> Result<(), Fail> {
     assert_eq!(rt; (before, after), (true, false));
     Ok(())
 }
+
+fn piece_inside(alloc: Global, bytes: &[u8], more: bool) -> Result<Piece, Memory> {
+    let outside = piece(alloc, Verb::Add, b"./L", bytes, Some(4), more)?;
+    Ok(Piece {
+        step: Step {
+            in_atomic: true,
+            ..outside.step
+        },
+        size: outside.size,
+        more: outside.more,
+    })
+}
+
+fn taken_inside(alloc: Global, inbox: &mut Inbox, bytes: &[u8], more: bool) -> Result<u32, Memory> {
+    let piece = piece_inside(alloc, bytes, more)?;
+    Ok(code_of(&inbox.take(&piece)?))
+}
+
+// The first piece's code, whether it is being buffered inside before it is skipped and behind, and the next piece's code.
+fn skipped_inside(alloc: Global, inbox: &mut Inbox) -> Result<(u32, bool, bool, u32), Memory> {
+    let first = taken_inside(alloc, inbox, b"ab", true)?;
+    let before = inbox.buffering_inside();
+    inbox.skip_inside()?;
+    let behind = inbox.buffering_inside();
+    let next = taken_inside(alloc, inbox, b"cd", false)?;
+    Ok((first, before, behind, next))
+}
+
+#[test]
+fn an_object_inside_is_skipped(rt: HostRuntime) -> Result<(), Fail> {
+    let mut inbox = Inbox::new(rt.alloc(), 100);
+    assert_eq!(rt;
+        skipped_inside(rt.alloc(), &mut inbox)?,
+        (213, true, false, 500)
+    );
+    Ok(())
+}
