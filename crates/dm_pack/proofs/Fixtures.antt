@@ -1,29 +1,29 @@
 -- Small headers and commands that can be sent.
-use Rattle.std.proofs.Common.{◌≡◌, ◌<◌, ◌≤◌, ◌+◌, ◌&&◌, ◌^◌, ◌==◌, Result, Ok, Err, OnOk, OnErr, IfOk, ℕ, zero, suc, Bool, true, false, not, List, [], ◌∷◌, ◌++◌, length, nat_le, Option, Some, None, refl, sym, ap, ◌∙◌, arith}
+use Rattle.std.proofs.Common.{◌≡◌, ◌<◌, ◌≤◌, ◌+◌, ◌&&◌, ◌^◌, ◌==◌, Result, Ok, Err, OnOk, OnErr, IfOk, ℕ, zero, suc, Bool, true, false, not, List, [], ◌∷◌, ◌++◌, length, nat_le, Option, Some, None, refl, ap, arith}
 use Rattle.std.specs.List.{list_all, AllByRecursion}
 use Rattle.std.specs.Str.{IsAscii}
-use Rattle.std.specs.Fmt.{decimal}
 use Rattle.std.proofs.lemmas.Bool.{and_parts, leb-true, le-leb, ne_eqb}
-use Rattle.std.proofs.lemmas.Fmt.{length-decimal-le}
 use Rattle.std.proofs.lemmas.Str.{is_utf8-from_IsUtf8, IsUtf8-from_ascii}
 use Rattle.std.proofs.lemmas.Str.Ascii.{IsAscii-nil}
 use Rattle.wbxml_tables.specs.declared.Element.{Element}
-use Rattle.wbxml_tables.specs.declared.Element.TheVariants.{ECmd, ECmdID, ECmdRef, EData, EFormat, EItem, ELocURI, EMaxMsgSize, EMaxObjSize, EMeta, EMsgID, EMsgRef, EResults, ESessionID, ESource, EStatus, ESyncHdr, ETarget, EType, EVerDTD, EVerProto}
-use Rattle.wbxml_tokens.specs.declared.token.Token.{Token}
-use Rattle.wbxml_tokens.specs.declared.token.Token.TheVariants.{Tag}
-use Rattle.wbxml_tokens.specs.Spelling.{spelled, page_behind}
-use Rattle.syncml_types.specs.declared.values.Loc.{Loc}
+use Rattle.wbxml_tables.specs.declared.Element.TheVariants.{EAtomic, ECmdID, EFormat, EItem, ELocURI, EMaxMsgSize, EMaxObjSize, EMeta, EMsgID, ESessionID, ESource, ESyncHdr, ETarget, EType, EVerDTD, EVerProto}
+use Rattle.syncml_types.specs.declared.values.Meta.{Meta}
 use Rattle.syncml_types.specs.declared.values.Item.{Item}
 use Rattle.syncml_types.specs.declared.values.Header.{Header}
+use Rattle.syncml_types.specs.declared.command.Verb.{Verb}
+use Rattle.syncml_types.specs.declared.command.Verb.TheVariants as verb
+use Rattle.syncml_types.specs.declared.command.Member.{Member}
+use Rattle.syncml_types.specs.declared.command.Member.TheVariants as member
 use Rattle.syncml_types.specs.declared.command.Command.{Command}
 use Rattle.syncml_types.specs.declared.command.Command.TheVariants as command
-use Rattle.syncml_types.specs.Canonical.{is_text, parent_tokens, element_tokens, text_tokens, number_tokens, flag_tokens, loc_tokens, meta_tokens, item_tokens, items_tokens, texts_tokens, header_tokens, status_tokens, results_tokens, command_tokens}
-use Rattle.syncml_types.specs.Fitness.{is_short, IsFit, header_texts, header_data, loc_texts, meta_texts, item_texts, item_data, status_texts, results_texts, command_texts, command_data, command_numbers, command_filled, command_correlates}
-use Rattle.syncml_types.specs.Numbering.{with_numbers}
-use Rattle.dm_pack.specs.Entries.{Entry, IsFitCommand, IsReady, fresh, no_meta}
+use Rattle.syncml_types.specs.Canonical.{is_text, text_tokens, flag_tokens, loc_tokens, meta_tokens, item_tokens, items_tokens, header_tokens, verb_element, plain_tokens, member_tokens, members_tokens, atomic_tokens, command_tokens}
+use Rattle.syncml_types.specs.Fitness.{is_short, header_texts, header_data, loc_texts, meta_texts, item_texts, item_data, plain_texts, member_texts, atomic_texts, command_texts, member_data, command_data, member_numbers, atomic_numbers, command_numbers, plain_filled, member_filled, atomic_filled, command_filled, plain_correlates, member_correlates, command_correlates}
+use Rattle.syncml_types.specs.Numbering.{numbered_members, with_numbers}
+use Rattle.dm_pack.specs.Entries.{Entry, IsReady, fresh, no_meta}
 use Rattle.dm_pack.specs.Filling.{IsReadyHeader}
 use Rattle.dm_pack.proofs.Fit.{both}
-use Rattle.dm_pack.proofs.Within.{tag_most, apart, one_more, text_most, parent_most}
+use Rattle.dm_pack.proofs.Ready.{IsText}
+use Rattle.dm_pack.proofs.Most.{Most, none, most_append, most_parent, most_element, most_text, most_number}
 
 -- ---- texts
 
@@ -45,112 +45,26 @@ low_clear (b ∷ bs) h =
 pub low_text : (t : List ℕ) → list_all (λ b. nat_le 1 b && nat_le b 127) t ≡ true → is_text t ≡ true
 low_text t h = both _ _ (is_utf8-from_IsUtf8 t (IsUtf8-from_ascii t (low_ascii t h))) (low_clear t h)
 
-pub record IsWord (t : List ℕ) : Type 0 where
-  pub text : is_text t ≡ true
-  pub few : length t ≤ 20
-
 short : (t : List ℕ) → length t ≤ 10000 → is_short t ≡ true
 short t few = le-leb (length t) 2147483648 (omega (arith, few))
 
-word_short : (t : List ℕ) → IsWord t → is_short t ≡ true
+word_short : (t : List ℕ) → IsText 20 t → is_short t ≡ true
 word_short t w = let few = w.few in short t (omega (arith, few))
 
 -- ---- lengths
 
-record Most (m : ℕ) (ts : List Token) : Type 0 where
-  pub at : (p : ℕ) → length (spelled p ts) ≤ m
+most_word : (e : Element) (t : List ℕ) → IsText 20 t → Most 26 (text_tokens e t)
+most_word e t w = most_text 20 e t w.few
 
-none : Most 0 []
-none = record { at = λ p. omega arith }
+-- ---- what items are made of
 
-most_append : {m n : ℕ} {ts us : List Token} → Most m ts → Most n us → Most (m + n) (ts ++ us)
-most_append {m} {n} {ts} {us} a b =
-    record {
-      at = λ p.
-          let whole = apart p ts us in
-          let first = a.at p in
-          let second = b.at (page_behind p ts) in
-          omega (arith, whole, first, second);
-    }
-
-most_parent : {m : ℕ} {ts : List Token} (e : Element) → Most m ts → Most (m + 4) (parent_tokens e ts)
-most_parent {m} {ts} e a = record { at = λ p. parent_most p e ts m a.at }
-
-most_element : {m : ℕ} (ts : List Token) (e : Element) → Most m ts → Most (m + 4) (element_tokens e ts)
-most_element [] e a =
-    record {
-      at = λ p.
-          let tag = tag_most p e false in
-          let whole = one_more p (Tag e false) [] in
-          omega (arith, tag, whole);
-    }
-most_element (t ∷ ts) e a = most_parent e a
-
-most_word : (e : Element) (t : List ℕ) → IsWord t → Most 26 (text_tokens e t)
-most_word e t w = record { at = λ p. let most = text_most p e t in let few = w.few in omega (arith, most, few) }
-
-most_number : (e : Element) (n : ℕ) → n < 2 ^ 32 → Most 16 (number_tokens e n)
-unfolding number_tokens
-most_number e n low =
-    record {
-      at = λ p.
-          let few = length-decimal-le 10 n (omega arith) (omega (arith, low)) (omega (arith, low)) in
-          let most = text_most p e (decimal n) in
-          omega (arith, few, most);
-    }
-
--- ---- a Status
-
-abbrev pub status : List ℕ → ℕ → Command
-status cmd n = command.Status (record { id = 0; msg_ref = 1; cmd_ref = n; cmd = cmd; target_refs = []; source_refs = []; chal = None; code = 200; items = [] })
-
-most_status : (cmd : List ℕ) (n : ℕ) → IsWord cmd → n < 2 ^ 32 → Most 110 (command_tokens (with_numbers 1000000000 (status cmd n)))
-unfolding command_tokens with_numbers status_tokens texts_tokens items_tokens
-most_status cmd n w low =
-    let inside = most_append (most_append (most_append (most_append (most_append (most_append (most_append (most_append
-    (most_number ECmdID 1000000000 (omega arith)) (most_number EMsgRef 1 (omega arith))) (most_number ECmdRef n low)) (most_word ECmd cmd w)) none) none) none) (most_number EData 200 (omega arith))) none in
-    record { at = λ p. let most = (most_parent EStatus inside).at p in omega (arith, most) }
-
-status_texts_pass : (test : List ℕ → Bool) (cmd : List ℕ) (n : ℕ) → test cmd ≡ true → command_texts test (status cmd n) ≡ true
-unfolding command_texts status_texts
-status_texts_pass test cmd n h = rw h refl
-
-pub status_ready : (cmd : List ℕ) (n : ℕ) → IsWord cmd → n < 2 ^ 32 → IsReady (fresh (status cmd n))
-unfolding command_texts command_data command_numbers command_filled command_correlates with_numbers status_texts
-status_ready cmd n w low =
-    record {
-      fit = record {
-        texts = status_texts_pass is_text cmd n w.text;
-        numbers = refl;
-        filled = refl;
-        correlators = refl;
-        short_texts = status_texts_pass is_short cmd n (word_short cmd w);
-        short_data = refl;
-      };
-      short = let most = (most_status cmd n w low).at 0 in omega (arith, most);
-    }
-
--- ---- Results of one item
-
-abbrev pub item_of : List ℕ → List ℕ → List ℕ → List ℕ → Item
-item_of uri format media value = record {
-  target = None;
-  source = Some (record { uri = uri; name = None });
-  meta = Some (record no_meta { format = Some format; media = Some media });
-  value = Some value;
-  more = false;
-}
-
-abbrev pub results : Item → Command
-results i = command.Results (record { id = 0; msg_ref = Some 1; cmd_ref = 1; meta = None; target_ref = None; source_ref = None; items = i ∷ [] })
-
-most_loc : (e : Element) (uri : List ℕ) → IsWord uri → Most 30 (loc_tokens e (record { uri = uri; name = None }))
+most_loc : (e : Element) (uri : List ℕ) → IsText 20 uri → Most 30 (loc_tokens e (record { uri = uri; name = None }))
 unfolding loc_tokens
 most_loc e uri w =
     let inside = most_parent e (most_append (most_word ELocURI uri w) none) in
     record { at = λ p. let most = inside.at p in omega (arith, most) }
 
-most_meta : (format media : List ℕ) → IsWord format → IsWord media
+most_meta : (format media : List ℕ) → IsText 20 format → IsText 20 media
     → Most 56 (meta_tokens (record no_meta { format = Some format; media = Some media }))
 unfolding meta_tokens
 most_meta format media w x =
@@ -158,43 +72,78 @@ most_meta format media w x =
     (most_append (most_append (most_append (most_append (most_append (most_append (most_append (most_word EFormat format w) (most_word EType media x)) none) none) none) none) none) none) in
     record { at = λ p. let most = inside.at p in omega (arith, most) }
 
-most_item : (uri format media : List ℕ) → IsWord uri → IsWord format → IsWord media
-    → Most 90 (item_tokens (record (item_of uri format media []) { value = None }))
+-- ---- an Atomic of a Delete and a Replace
+
+abbrev pub target_item : List ℕ → Option Meta → Option (List ℕ) → Item
+target_item uri meta value = record {
+  target = Some (record { uri = uri; name = None });
+  source = None;
+  meta = meta;
+  value = value;
+  more = false;
+}
+
+abbrev pub one : Verb → Item → Member
+one v i = member.One (record { verb = v; id = 0; no_resp = false; meta = None; correlator = None; items = i ∷ [] })
+
+abbrev pub media_meta : List ℕ → List ℕ → Meta
+media_meta format media = record no_meta { format = Some format; media = Some media }
+
+abbrev pub atomic : Item → Item → Command
+atomic gone written = command.Atomic (record { id = 0; no_resp = false; meta = None; members = one verb.Delete gone ∷ one verb.Replace written ∷ [] })
+
+most_gone : (uri : List ℕ) → IsText 20 uri → Most 34 (item_tokens (target_item uri None None))
 unfolding item_tokens flag_tokens
-most_item uri format media u w x =
+most_gone uri w =
     let inside = most_element _ EItem
-    (most_append (most_append (most_append (most_append none (most_loc ESource uri u)) (most_meta format media w x)) none) none) in
+    (most_append (most_append (most_append (most_append (most_loc ETarget uri w) none) none) none) none) in
     record { at = λ p. let most = inside.at p in omega (arith, most) }
 
-most_results : (uri format media value : List ℕ) → IsWord uri → IsWord format → IsWord media
-    → Most 142 (command_tokens (with_numbers 1000000000 (results (record (item_of uri format media value) { value = None }))))
-unfolding command_tokens with_numbers results_tokens items_tokens
-most_results uri format media value u w x =
-    let inside = most_parent EResults
-    (most_append (most_append (most_append (most_append (most_append (most_append
-    (most_number ECmdID 1000000000 (omega arith)) (most_number EMsgRef 1 (omega arith))) (most_number ECmdRef 1 (omega arith))) none) none) none)
-    (most_append (most_item uri format media u w x) none)) in
+most_written : (uri format media : List ℕ) → IsText 20 uri → IsText 20 format → IsText 20 media
+    → Most 90 (item_tokens (target_item uri (Some (media_meta format media)) None))
+unfolding item_tokens flag_tokens
+most_written uri format media u w x =
+    let inside = most_element _ EItem
+    (most_append (most_append (most_append (most_append (most_loc ETarget uri u) none) (most_meta format media w x)) none) none) in
     record { at = λ p. let most = inside.at p in omega (arith, most) }
 
-three : (test : List ℕ → Bool) (uri format media value : List ℕ) → test uri ≡ true → test format ≡ true → test media ≡ true
-    → command_texts test (results (item_of uri format media value)) ≡ true
-unfolding command_texts results_texts item_texts loc_texts meta_texts
-three test uri format media value u w x = rw (u, w, x) refl
+most_plain : {m : ℕ} (v : Verb) (n : ℕ) (i : Item) → n < 2 ^ 32 → Most m (item_tokens i)
+    → Most (m + 20) (plain_tokens (record { verb = v; id = n; no_resp = false; meta = None; correlator = None; items = i ∷ [] }))
+unfolding plain_tokens flag_tokens items_tokens
+most_plain v n i low item =
+    let inside = most_parent (verb_element v)
+    (most_append (most_append (most_append (most_append (most_number ECmdID n low) none) none) none) (most_append item none)) in
+    record { at = λ p. let most = inside.at p in omega (arith, most) }
 
-pub results_ready : (uri format media value : List ℕ) → IsWord uri → IsWord format → IsWord media → length value ≤ 10000
-    → IsReady (fresh (results (item_of uri format media value)))
-unfolding command_data command_numbers command_filled command_correlates with_numbers item_data
-results_ready uri format media value u w x few =
+most_atomic : (gone written : Item) → Most 34 (item_tokens gone) → Most 90 (item_tokens written)
+    → Most 184 (command_tokens (with_numbers 1000000000 (atomic gone written)))
+unfolding command_tokens with_numbers atomic_tokens numbered_members members_tokens member_tokens flag_tokens
+most_atomic gone written g w =
+    let first = most_plain verb.Delete 1000000001 gone (omega arith) g in
+    let last = most_plain verb.Replace 1000000002 written (omega arith) w in
+    let inside = most_parent EAtomic
+    (most_append (most_append (most_append (most_number ECmdID 1000000000 (omega arith)) none) none) (most_append first (most_append last none))) in
+    record { at = λ p. let most = inside.at p in omega (arith, most) }
+
+four : (test : List ℕ → Bool) (gone uri format media value : List ℕ) → test gone ≡ true → test uri ≡ true → test format ≡ true → test media ≡ true
+    → command_texts test (atomic (target_item gone None None) (target_item uri (Some (media_meta format media)) (Some value))) ≡ true
+unfolding command_texts atomic_texts member_texts plain_texts item_texts loc_texts meta_texts
+four test gone uri format media value g u w x = rw (g, u, w, x) refl
+
+pub atomic_ready : (gone uri format media value : List ℕ) → IsText 20 gone → IsText 20 uri → IsText 20 format → IsText 20 media → length value ≤ 10000
+    → IsReady (fresh (atomic (target_item gone None None) (target_item uri (Some (media_meta format media)) (Some value))))
+unfolding command_data member_data item_data command_numbers atomic_numbers member_numbers numbered_members command_filled atomic_filled member_filled plain_filled command_correlates member_correlates plain_correlates with_numbers
+atomic_ready gone uri format media value g u w x few =
     record {
       fit = record {
-        texts = three is_text uri format media value u.text w.text x.text;
+        texts = four is_text gone uri format media value g.text u.text w.text x.text;
         numbers = refl;
         filled = refl;
         correlators = refl;
-        short_texts = three is_short uri format media value (word_short uri u) (word_short format w) (word_short media x);
-        short_data = both _ _ (short value few) refl;
+        short_texts = four is_short gone uri format media value (word_short gone g) (word_short uri u) (word_short format w) (word_short media x);
+        short_data = both _ _ (both _ _ (short value few) refl) refl;
       };
-      short = let most = (most_results uri format media value u w x).at 0 in omega (arith, most);
+      short = let most = (most_atomic _ _ (most_gone gone g) (most_written uri format media u w x)).at 0 in omega (arith, most);
     }
 
 -- ---- a header
@@ -220,7 +169,7 @@ most_sizes =
     (most_append (most_append (most_append (most_append (most_append (most_append (most_append none none) none) none) (most_number EMaxMsgSize 16384 (omega arith))) (most_number EMaxObjSize 4194304 (omega arith))) none) none) in
     record { at = λ p. let most = inside.at p in omega (arith, most) }
 
-most_header : (dtd proto session target source : List ℕ) → IsWord dtd → IsWord proto → IsWord session → IsWord target → IsWord source
+most_header : (dtd proto session target source : List ℕ) → IsText 20 dtd → IsText 20 proto → IsText 20 session → IsText 20 target → IsText 20 source
     → Most 194 (header_tokens (header dtd proto session target source))
 unfolding header_tokens flag_tokens
 most_header dtd proto session target source d p s t o =
@@ -234,7 +183,7 @@ five : (test : List ℕ → Bool) (dtd proto session target source : List ℕ) �
 unfolding header_texts loc_texts meta_texts
 five test dtd proto session target source d p s t o = rw (d, p, s, t, o) refl
 
-pub header_ready : (dtd proto session target source : List ℕ) → IsWord dtd → IsWord proto → IsWord session → IsWord target → IsWord source
+pub header_ready : (dtd proto session target source : List ℕ) → IsText 20 dtd → IsText 20 proto → IsText 20 session → IsText 20 target → IsText 20 source
     → IsReadyHeader (header dtd proto session target source)
 unfolding header_data
 header_ready dtd proto session target source d p s t o =

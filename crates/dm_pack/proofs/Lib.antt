@@ -12,4 +12,6 @@ pub mod Near
 pub mod Left
 pub mod Bare
 pub mod Progress
+pub mod Most
+pub mod Ready
 pub mod Fixtures

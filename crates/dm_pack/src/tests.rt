@@ -5,6 +5,8 @@ ghost use Rattle.syncml_types.specs.Canonical.{is_text};
 ghost use Rattle.dm_pack.specs.Entries.{IsReady, fresh};
 ghost use Rattle.dm_pack.specs.Filling.{IsReadyHeader};
 
+mod parts;
+
 use crate::{Queue, Tail, fill};
 use dm_base::{Bytes, List, Memory};
 use std::alloc::Global;
@@ -230,6 +232,19 @@ fn one_status(alloc: Global, heard: bool) -> Result<[Told; 2], Memory> {
     Ok([first, second])
 }
 
+// Two Statuses and Results, and one Status more; two messages.
+fn one_status_more(alloc: Global, value: Bytes) -> Result<[Told; 2], Memory>
+    requires { length value ≤ 10000 }
+{
+    let header = header(alloc)?;
+    let mut queue = queue_of(alloc, value)?;
+    let more = status(alloc, b"Get", 1)?;
+    add_last(&mut queue, more)?;
+    let first = sent(&mut queue, &header, 2048, false)?;
+    let second = sent(&mut queue, &header, 2048, false)?;
+    Ok([first, second])
+}
+
 // So many pairs of bytes.
 fn pairs(alloc: Global, count: usize, pair: (u8, u8)) -> Result<Bytes, Memory> {
     let mut value = Bytes::new(alloc);
@@ -291,5 +306,20 @@ fn a_status_goes_out_alone(rt: HostRuntime) -> Result<(), Fail> {
         assert_eq!(rt; second.0, 0);
         assert_eq!(rt; second.3, tail);
     }
+    Ok(())
+}
+
+// A Status has no Data that may be cut. The message before it ends with neither Final nor an Alert 1222, and its own with
+// an Alert 1222.
+#[test]
+fn a_status_without_room_waits(rt: HostRuntime) -> Result<(), Fail> {
+    let mut value = pairs(rt.alloc(), 913, (b'a', b'a'))?;
+    value.push(b'a')?;
+    assert!(rt; value.len() == 1827);
+    let told = one_status_more(rt.alloc(), value)?;
+    assert_eq!(rt;
+        told,
+        [(3, 0, 2032, Tail::Nothing), (1, 0, 126, Tail::NextMessage)]
+    );
     Ok(())
 }

@@ -1,4 +1,5 @@
-use Rattle.dm_pack.proofs.Fixtures.{IsWord, header_ready}
+use Rattle.dm_pack.proofs.Ready.{IsText}
+use Rattle.dm_pack.proofs.Fixtures.{header_ready}
 use Rattle.dm_pack.proofs.tests.header.Goals as goal
 
 pub returns : goal.returns
