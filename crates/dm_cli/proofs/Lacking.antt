@@ -34,6 +34,6 @@ takes_nothing left = ([], [], consumes_nothing left, nothing_settled, omega arit
 -- and takes nothing
 pub untaken : {S : Type 0} (left : S → Option (List ℕ)) (form : Option Form) (src : S) → TakesFor left form src src
 untaken left None src = refl
-untaken left (Some forms.Replay) src = tt
+untaken left (Some forms.Replay) src = ([], consumes_nothing (left src), omega arith)
 untaken left (Some forms.Show) src = takes_nothing (left src)
 untaken left (Some forms.Check) src = takes_nothing (left src)

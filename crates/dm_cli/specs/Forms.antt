@@ -1,7 +1,8 @@
 -- What a run puts, by the form of its words.
-use Rattle.std.specs.Prelude.{◌≡◌, ℕ, codes, List, [], ◌∷◌, ◌++◌, Option, Some, None, ⊤}
+use Rattle.std.specs.Prelude.{◌≡◌, ℕ, codes, List, [], ◌∷◌, ◌++◌, Option, Some, None}
 use Rattle.std.specs.Io.KnownBytes.{Appends}
 use Rattle.dm_base.specs.Outside.{OfKnown}
+use Rattle.dm_replay.specs.Input.{TakesOnePast}
 use Rattle.dm_replay.specs.Output.{Replays, PutsPrefix}
 use Rattle.dm_replay.specs.From.{Ends}
 use Rattle.dm_replay.specs.declared.exit.Exit.{Exit}
@@ -36,10 +37,11 @@ Runs (Some forms.Check) left old new e = OfKnown left (λ bytes. Ends (check_tex
 abbrev pub UsageMeansNoForm : Option Form → Exit → Type 0
 UsageMeansNoForm form e = e ≡ exit.Usage → form ≡ None
 
--- what a run takes of its source: nothing where its words have no form, and of one message no more than settles it
+-- what a run takes of its source: nothing where its words have no form, of a trace at most one byte past those that it
+-- looks at, and of one message no more than settles it
 abbrev pub TakesFor : {S : Type 0} → (S → Option (List ℕ)) → Option Form → S → S → Type 0
 TakesFor left None old new = new ≡ old
-TakesFor left (Some forms.Replay) old new = ⊤
+TakesFor left (Some forms.Replay) old new = TakesOnePast (left old) (left new)
 TakesFor left (Some forms.Show) old new = TakesNoMore (left old) (left new)
 TakesFor left (Some forms.Check) old new = TakesNoMore (left old) (left new)
 

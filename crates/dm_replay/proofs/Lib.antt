@@ -2,6 +2,8 @@ pub mod Counted
 pub mod StartLines
 pub mod Splits
 pub mod Fronts
+pub mod Taken
+pub mod Sections
 pub mod Answering
 pub mod Running
 pub mod Whole

@@ -1,5 +1,6 @@
 -- What a run looks at of its input: the first 67,108,864 bytes, as lines.
-use Rattle.std.specs.Prelude.{◌==◌, ℕ, Bool, if◌then◌else◌, nat_lt, List, [], ◌∷◌, length, take}
+use Rattle.std.specs.Prelude.{◌==◌, ◌≤◌, ℕ, Bool, if◌then◌else◌, nat_lt, List, [], ◌∷◌, length, take, Option}
+use Rattle.std.specs.Io.KnownBytes.{Consumes}
 
 -- the whole lines without their line feeds, what stands behind the last of them, and whether more bytes come
 pub record Input : Type 0 where
@@ -30,3 +31,7 @@ input_of room bytes = record {
   tail = (split (take room bytes)).tail;
   more = nat_lt room (length bytes);
 }
+
+-- what a run takes, however early it stops: at most as many bytes as it may look at, and one more
+abbrev pub TakesOnePast : Option (List ℕ) → Option (List ℕ) → Type 0
+TakesOnePast old new = (bytes : List ℕ) × Consumes old new bytes × (length bytes ≤ 67108865)

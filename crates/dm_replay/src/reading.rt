@@ -1,6 +1,6 @@
 // The lines of a trace, read one by one.
 ghost use Rattle.std.specs.Prelude.{◌≡◌, ◌<◌, ◌≤◌, ◌+◌, ◌^◌, Some, IfOk, OnOk, IfErr, length};
-ghost use Rattle.dm_base.specs.Lines.{room};
+ghost use Rattle.dm_base.specs.Lines.{room, CountsTaken};
 ghost use Rattle.dm_replay.specs.From.{seen, Between, OfInput, OfStop, Leads, stop_at, HaltCounts, halt_after, end_halt_of, StartsAs, OpensAs, GoesOn, EndsAs};
 ghost use Rattle.dm_replay.specs.declared.start.Place.TheVariants.{Head};
 
@@ -57,6 +57,8 @@ fn next_line<S: Source>(lines: &mut Lines, src: &mut S, number: u64) -> Result<B
     ensures halt { IfErr result (λ h. OfInput (seen lines.old (S.left src.old))
         (λ i. OfStop h (λ stop. stop_at number i ≡ Some stop))) }
     ensures room { IfOk result (λ line. room lines.new + (length line + 1) ≡ room lines.old) }
+    ensures taken { CountsTaken (S.left src.old) (S.left src.new) lines.old.taken lines.new.taken }
+    ensures limit { lines.new.taken ≤ 67108865 }
     ensures count { HaltCounts (S.faults src.old) (S.faults src.new) result }
 {
     match lines.next(src) {
@@ -74,6 +76,8 @@ pub fn read_start<S: Source>(alloc: Global, lines: &mut Lines, src: &mut S) -> R
         Head result }
     ensures room { IfOk result (λ s. s.number + room lines.new ≤ 1 + room lines.old) }
     ensures after { IfOk result (λ s. 1 < s.number) }
+    ensures taken { CountsTaken (S.left src.old) (S.left src.new) lines.old.taken lines.new.taken }
+    ensures limit { lines.new.taken ≤ 67108865 }
     ensures count { HaltCounts (S.faults src.old) (S.faults src.new) result }
 {
     let mut place = Place::Head;
@@ -111,6 +115,8 @@ pub fn next_open<S: Source>(
     ensures opened { OpensAs (seen lines.old (S.left src.old)) (seen lines.new (S.left src.new)) number
         start.now result }
     ensures room { OnOk result (room lines.new < room lines.old) }
+    ensures taken { CountsTaken (S.left src.old) (S.left src.new) lines.old.taken lines.new.taken }
+    ensures limit { lines.new.taken ≤ 67108865 }
     ensures count { HaltCounts (S.faults src.old) (S.faults src.new) result }
 {
     let line = match next_line(lines, src, number) {
@@ -127,6 +133,8 @@ pub fn next_open<S: Source>(
 fn read_end<S: Source>(lines: &mut Lines, src: &mut S, number: u64) -> Result<(), Halt>
     ensures ending { EndsAs (seen lines.old (S.left src.old)) number result }
     ensures room { OnOk result (room lines.new ≡ room lines.old) }
+    ensures taken { CountsTaken (S.left src.old) (S.left src.new) lines.old.taken lines.new.taken }
+    ensures limit { lines.new.taken ≤ 67108865 }
     ensures count { HaltCounts (S.faults src.old) (S.faults src.new) result }
 {
     match lines.next(src) {
@@ -150,6 +158,8 @@ pub fn next_message<S: Source>(
     ensures events { GoesOn (seen lines.old (S.left src.old)) (seen lines.new (S.left src.new)) number
         session last result }
     ensures room { OnOk result (room lines.new < room lines.old) }
+    ensures taken { CountsTaken (S.left src.old) (S.left src.new) lines.old.taken lines.new.taken }
+    ensures limit { lines.new.taken ≤ 67108865 }
     ensures count { HaltCounts (S.faults src.old) (S.faults src.new) result }
 {
     let line = match next_line(lines, src, number) {

@@ -1,9 +1,10 @@
 // A trace, read and answered line by line.
 ghost use Rattle.std.specs.Prelude.{◌≡◌, ◌≢◌, ◌<◌, ◌≤◌, ◌+◌, ◌^◌, IfOk, OnOk, MatchResult};
 ghost use Rattle.dm_base.specs.Outside.{OfKnown};
-ghost use Rattle.dm_base.specs.Lines.{room};
+ghost use Rattle.dm_base.specs.Lines.{room, CountsTaken};
 ghost use Rattle.dm_session.specs.State.{opened as opens, message as came};
 ghost use Rattle.dm_session.specs.History.{answer_now, next};
+ghost use Rattle.dm_replay.specs.Input.{TakesOnePast};
 ghost use Rattle.dm_replay.specs.Output.{Replays};
 ghost use Rattle.dm_replay.specs.Causes.{SourceCause, SinkCause};
 ghost use Rattle.dm_replay.specs.From.{seen, OfInput, PutsAnswer, EndsTrace, EndsEvents, messages_at};
@@ -75,6 +76,8 @@ fn answer_messages<S: Source, K: Sink>(
     ensures output { OfInput (seen lines.old (S.left src.old)) (λ i. EndsTrace client.old
         (messages_at first session 0 i) (K.got out.old) (K.got out.new) result) }
     ensures usage { result ≢ Exit.Usage }
+    ensures taken { CountsTaken (S.left src.old) (S.left src.new) lines.old.taken lines.new.taken }
+    ensures limit { lines.new.taken ≤ 67108865 }
     ensures source { SourceCause (S.faults src.old) (S.faults src.new) result }
     ensures sink { SinkCause (K.faults out.old) (K.faults out.new) result }
 {
@@ -106,6 +109,8 @@ fn answer_events<S: Source, K: Sink>(
     requires { (1 < started.number) × (started.number + room lines.old < 2 ^ 59) }
     ensures output { EndsEvents started (seen lines.old (S.left src.old)) (K.got out.old) (K.got out.new) result }
     ensures usage { result ≢ Exit.Usage }
+    ensures taken { CountsTaken (S.left src.old) (S.left src.new) lines.old.taken lines.new.taken }
+    ensures limit { lines.new.taken ≤ 67108865 }
     ensures source { SourceCause (S.faults src.old) (S.faults src.new) result }
     ensures sink { SinkCause (K.faults out.old) (K.faults out.new) result }
 {
@@ -140,9 +145,12 @@ fn answer_events<S: Source, K: Sink>(
 /// - `TooLong` where no whole line is left in the first 67,108,864 bytes and another byte comes,
 /// - `ReadFault` and `WriteFault` after a fault of the source and of the sink, and `NoMemory` at any place; then what was
 ///   written is a prefix of the text.
+///
+/// It takes at most 67,108,865 bytes of the source.
 pub fn replay<S: Source, K: Sink>(alloc: Global, src: &mut S, out: &mut K) -> Exit
     ensures output { OfKnown (S.left src.old) (λ bytes. Replays bytes (K.got out.old) (K.got out.new) result) }
     ensures usage { result ≢ Exit.Usage }
+    ensures taken { TakesOnePast (S.left src.old) (S.left src.new) }
     ensures source { SourceCause (S.faults src.old) (S.faults src.new) result }
     ensures sink { SinkCause (K.faults out.old) (K.faults out.new) result }
 {

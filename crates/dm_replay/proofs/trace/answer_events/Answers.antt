@@ -1,3 +1,4 @@
+use Rattle.dm_base.proofs.Pending.{taken_more}
 use Rattle.dm_replay.proofs.Running.{answer_breaks, answer_goes_on, from_state, halt_ends, part_source}
 use Rattle.dm_replay.proofs.Usage.{part_is_no_usage, halt_is_no_usage}
 use Rattle.dm_replay.proofs.trace.answer_events.Goals as goal
@@ -23,3 +24,7 @@ returns-in-Err-clause-usage g c = halt_is_no_usage _ _ _ _ c.put_halt.ensures.by
 
 pub returns-clause-usage : goal.returns-clause-usage
 returns-clause-usage g c = part_is_no_usage _ _ _ _ c.in-Err-begin.ensures.bytes
+
+pub returns-in-Ok-begin-clause-taken : goal.returns-in-Ok-begin-clause-taken
+returns-in-Ok-begin-clause-taken g c =
+    taken_more _ _ _ _ c.next_open.new.lines.taken _ c.in-Ok.ensures.taken c.answer_messages.ensures.taken

@@ -1,4 +1,5 @@
 use Rattle.std.proofs.Common.{arith, ◌∙◌}
+use Rattle.dm_base.proofs.Pending.{taken_more}
 use Rattle.dm_replay.proofs.Running.{so_far_ends, so_far_more, answer_breaks, whole_ends, halt_ends}
 use Rattle.dm_replay.proofs.Usage.{part_is_no_usage, end_is_no_usage, halt_is_no_usage}
 use Rattle.dm_replay.proofs.trace.answer_messages.Goals as goal
@@ -12,6 +13,7 @@ messages-preserved g c =
       few = let a = c.in-Ok-Some.ensures.room in let b = c.messages.invariant.few in omega (arith, a, b);
       so_far = rw answered.number (so_far_more _ _ _ _ _ _ _ _ _ c.messages.number c.messages.last _ _ c.in-Ok-Some.message
           c.messages.invariant.so_far read answered.bytes answered.state);
+      taken = taken_more _ _ _ _ c.messages.lines.taken _ c.messages.invariant.taken c.in-Ok-Some.ensures.taken;
       source = c.in-Ok-Some.ensures.count ∙ c.messages.invariant.source;
       sink = answered.count ∙ c.messages.invariant.sink;
     }
@@ -41,3 +43,15 @@ returns-in-Ok-None-clause-usage g c = end_is_no_usage _ _ _ _ _ (λ is. cc) c.pu
 
 pub returns-in-Err-clause-usage : goal.returns-in-Err-clause-usage
 returns-in-Err-clause-usage g c = halt_is_no_usage _ _ _ _ c.put_halt.ensures.bytes
+
+pub returns-in-Err-answer-clause-taken : goal.returns-in-Err-answer-clause-taken
+returns-in-Err-answer-clause-taken g c =
+    taken_more _ _ _ _ c.messages.lines.taken _ c.messages.invariant.taken c.in-Ok-Some.ensures.taken
+
+pub returns-in-Ok-None-clause-taken : goal.returns-in-Ok-None-clause-taken
+returns-in-Ok-None-clause-taken g c =
+    taken_more _ _ _ _ c.messages.lines.taken _ c.messages.invariant.taken c.in-Ok-None.ensures.taken
+
+pub returns-in-Err-clause-taken : goal.returns-in-Err-clause-taken
+returns-in-Err-clause-taken g c =
+    taken_more _ _ _ _ c.messages.lines.taken _ c.messages.invariant.taken c.in-Err.ensures.taken

@@ -1,4 +1,5 @@
 use Rattle.dm_replay.proofs.Whole.{all_events_replay, all_halts_replay}
+use Rattle.dm_replay.proofs.Taken.{one_past, one_past_then}
 use Rattle.dm_replay.proofs.Usage.{halt_is_no_usage}
 use Rattle.dm_replay.proofs.trace.replay.Goals as goal
 
@@ -12,3 +13,12 @@ returns-clause-output g c =
 
 pub returns-clause-usage : goal.returns-clause-usage
 returns-clause-usage g c = halt_is_no_usage _ _ _ _ c.put_halt.ensures.bytes
+
+pub returns-in-Ok-clause-taken : goal.returns-in-Ok-clause-taken
+returns-in-Ok-clause-taken g c =
+    one_past_then _ _ _ c.new-lines.result c.read_start.new.lines c.answer_events.new.lines c.new-lines.ensures c.in-Ok.ensures.taken
+    c.answer_events.ensures.taken c.answer_events.ensures.limit
+
+pub returns-clause-taken : goal.returns-clause-taken
+returns-clause-taken g c =
+    one_past _ _ c.new-lines.result c.read_start.new.lines c.new-lines.ensures c.in-Err.ensures.taken c.in-Err.ensures.limit
