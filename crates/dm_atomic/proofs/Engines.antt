@@ -1,6 +1,7 @@
 -- What noted steps leave of an engine's group, and of its soundness.
-use Rattle.std.proofs.Common.{◌≡◌, ℕ, ◌+◌, ◌-◌, ◌≤◌, Bool, true, false, if◌then◌else◌, List, [], ◌++◌, length, refl, sym, ◌∙◌, ap, subst, arith, Option, None, Some}
-use Rattle.std.specs.Prelude.{Result, Ok, Err, IfOk, OnOk, OnErr}
+use Rattle.std.proofs.Common.{◌≡◌, ℕ, ◌+◌, ◌-◌, ◌<◌, ◌≤◌, Bool, true, false, if◌then◌else◌, List, [], ◌∷◌, ◌++◌, length, refl, sym, ◌∙◌, ap, subst, arith, Option, None, Some}
+use Rattle.std.specs.Prelude.{Result, Ok, Err, IfOk, OnOk, OnErr, vec_len, vec_capacity}
+use Rattle.std.specs.Global.{Vec}
 use Rattle.syncml_types.specs.declared.command.Command.{Command}
 use Rattle.dm_tree.specs.declared.rows.Row.{Row}
 use Rattle.dm_tree.specs.declared.nodes.Stamp.{Stamp}
@@ -10,9 +11,11 @@ use Rattle.dm_tree.specs.Devices.{IsUpdateInOrder}
 use Rattle.dm_undo.specs.declared.entries.Entry.{Entry}
 use Rattle.dm_undo.specs.Journals.{Journal}
 use Rattle.dm_undo.specs.Trees.{Maps, maps_of, tree_at}
-use Rattle.dm_undo.specs.Entries.{AreRecords}
+use Rattle.dm_undo.specs.declared.entries.Entry.TheVariants.{Flipped}
+use Rattle.dm_undo.specs.Entries.{AreAlike, AreRecords}
 use Rattle.dm_undo.specs.Sound.{IsSound}
 use Rattle.dm_undo.specs.Notes.{Notes}
+use Rattle.dm_undo.proofs.Shapes.{alike_long}
 use Rattle.dm_undo.proofs.Noted.{notes-none, notes-then, notes-plain, notes-held}
 use Rattle.dm_objects.specs.declared.object.Object.{Object}
 use Rattle.dm_objects.specs.declared.piece.Piece.{Piece}
@@ -30,6 +33,7 @@ use Rattle.dm_atomic.specs.declared.tasks.Post.{Post}
 use Rattle.dm_atomic.specs.declared.reports.Part.{Part}
 use Rattle.dm_atomic.specs.declared.reports.Started.{Started}
 use Rattle.dm_atomic.specs.declared.engine.Engine.{Engine}
+use Rattle.dm_atomic.specs.declared.engine.EndedGroup.{EndedGroup}
 use Rattle.dm_atomic.specs.declared.reports.Report.{Report}
 use Rattle.dm_atomic.specs.Made.{told, notice}
 use Rattle.dm_atomic.specs.Run.{State, Group, Running, Ran, whole_step, started_by, by_what, one_piece, opened, opens}
@@ -68,12 +72,15 @@ pub sound-after : (e f : Engine) → IsSoundEngine e → Only e f → IsUpdateIn
     → FitsObject f.inbox.max_obj (present f.inbox.objects) → IsSoundEngine f
 sound-after e f s o u fits = record {
   journal = o.notes.sound s.journal;
+  spare = omega (arith, s.spare, o.notes.spare);
   update = u;
   max_obj = subst (λ n. n ≤ 4194304) (sym o.max_obj) s.max_obj;
   object = fits;
   group = λ opened. subst (CanRollBack f.tree.rows f.journal) (sym o.mark)
       (can-roll-back e.journal f.journal e.tree.rows f.tree.rows e.mark o.notes s.journal
       (s.group (sym o.is_open ∙ opened)));
+  ended = λ opened. subst (λ (v : Vec EndedGroup). vec_len v < vec_capacity v) (sym o.ended)
+      (s.ended (sym o.is_open ∙ opened));
 }
 
 -- another object is the present one
@@ -81,10 +88,12 @@ pub sound-holding : (e f : Engine) (next : Object) → IsSoundEngine e → f ≡
     → FitsObject e.inbox.max_obj next → IsSoundEngine f
 sound-holding e f next s is fits = subst IsSoundEngine (sym is) (record {
   journal = s.journal;
+  spare = s.spare;
   update = s.update;
   max_obj = s.max_obj;
   object = subst (FitsObject e.inbox.max_obj) (sym (present-holding e.inbox.objects next)) fits;
   group = s.group;
+  ended = s.ended;
 })
 
 pub only_then : (a b c : Engine) → Only a b → Only b c → Only a c
@@ -92,6 +101,7 @@ only_then a b c h k = record {
   is_open = k.is_open ∙ h.is_open;
   mark = k.mark ∙ h.mark;
   parts = k.parts ∙ h.parts;
+  ended = k.ended ∙ h.ended;
   max_obj = k.max_obj ∙ h.max_obj;
   clock = k.clock ∙ h.clock;
   notes = notes-then a.journal b.journal c.journal a.tree.rows b.tree.rows c.tree.rows h.notes k.notes;
@@ -113,7 +123,7 @@ same-state t u o g h a b e f k = ap (λ x. one x o g a) e ∙ ap (λ x. one u o 
 
 pub stepped : (e m f : Engine) (caller : List ℕ) (post : Post) (step : Step) (outcome : Outcome) → IsSoundEngine e
     → Only e m → Acts e m caller step outcome
-    → f ≡ record m { started = if outcome.started then Some (started_by step) else m.started }
+    → f ≡ record m { started = if outcome.started then Some (started_by step) else m.started; starts = f.starts }
     → state_of f ≡ (whole_step (running e caller) (state_of e) post None step).state
 stepped e m f caller post step outcome s o d is =
     ap state_of is
@@ -146,7 +156,7 @@ pub only-acted : (e : Engine) (tree : Tree) (journal : Journal)
     → Notes e.journal e.tree.rows journal tree.rows → tree.clock ≡ e.tree.clock
     → Only e (record e { tree = tree; journal = journal })
 only-acted e tree journal n c =
-    record { is_open = refl; mark = refl; parts = refl; max_obj = refl; clock = c; notes = n }
+    record { is_open = refl; mark = refl; parts = refl; ended = refl; max_obj = refl; clock = c; notes = n }
 
 pub sound-as-before : (e : Engine) (tree : Tree) (journal : Journal) → IsSoundEngine e
     → StaysAsBefore e.journal e.tree journal tree → tree.clock ≡ e.tree.clock
@@ -156,20 +166,37 @@ sound-as-before e tree journal s b c =
     (only-acted e tree journal (notes-as-before e.journal journal e.tree tree b) c)
     (subst (λ (t : Tree). IsUpdateInOrder (nodes t.rows)) (sym b.tree) s.update) s.object
 
-pub sound-started : (e f : Engine) (started : Option Started) → IsSoundEngine e
-    → f ≡ record e { started = started } → IsSoundEngine f
-sound-started e f started s is = subst IsSoundEngine (sym is)
-    (record { journal = s.journal; update = s.update; max_obj = s.max_obj; object = s.object; group = s.group })
+-- what was started is no part of it
+pub started_sound : (e f : Engine) (started : Option Started) → IsSoundEngine e
+    → f ≡ record e { started = started; starts = f.starts } → IsSoundEngine f
+started_sound e f started s is = subst IsSoundEngine (sym is) (record {
+  journal = s.journal;
+  spare = s.spare;
+  update = s.update;
+  max_obj = s.max_obj;
+  object = s.object;
+  group = s.group;
+  ended = s.ended;
+})
 
-pub only-started : (e : Engine) (started : Option Started) → Only e (record e { started = started })
-only-started e started = record {
+pub started_only : (e f : Engine) (started : Option Started) → f ≡ record e { started = started; starts = f.starts }
+    → Only e f
+started_only e f started is = subst (Only e) (sym is) (record {
   is_open = refl;
   mark = refl;
   parts = refl;
+  ended = refl;
   max_obj = refl;
   clock = refl;
   notes = notes-none e.journal e.journal e.tree.rows e.tree.rows refl (omega arith) refl;
-}
+})
+
+pub room_sound : (e : Engine) (starts : Vec (Option Started)) → IsSoundEngine e
+    → IsSoundEngine (record e { starts = starts })
+room_sound e starts s = started_sound e (record e { starts = starts }) e.started s refl
+
+pub room_only : (e : Engine) (starts : Vec (Option Started)) → Only e (record e { starts = starts })
+room_only e starts = started_only e (record e { starts = starts }) e.started refl
 
 pub gathered-sound : (e : Engine) (i : Seen) (piece : Piece) → IsSoundEngine e
     → i ≡ holding e.inbox (gather e.inbox.max_obj (present e.inbox.objects) piece).object
@@ -228,45 +255,82 @@ pieced e m caller post piece what s report before after is w t c =
     behind : Object → State
     behind o = record (state_of e) { object = o }
 
--- ---- a roll back
+-- ---- a group that ends
 
-pub rolled_state : (e : Engine) (tree : Tree) (journal : Journal) (none : List Part) → e.is_open ≡ true
-    → maps_of tree.rows ≡ tree_at e.journal.entries e.tree.rows e.mark
-    → state_of (record e { tree = tree; journal = journal; is_open = false; parts = none })
-    ≡ record (state_of e) { tree = (opened (state_of e)).base; group = None }
-rolled_state e tree journal none o there = rw o (ap (λ (m : Maps). closed m.nodes) there)
+pub closed_state : (e f : Engine) → f ≡ record e { is_open = false; parts = f.parts; ended = f.ended }
+    → state_of f ≡ record (state_of e) { group = None }
+closed_state e f is = ap state_of is
+
+pub closed_sound : (e f : Engine) → f ≡ record e { is_open = false; parts = f.parts; ended = f.ended }
+    → IsSoundEngine e → IsSoundEngine f
+closed_sound e f is s = subst IsSoundEngine (sym is) (record {
+  journal = s.journal;
+  spare = s.spare;
+  update = s.update;
+  max_obj = s.max_obj;
+  object = s.object;
+  group = λ x. absurd (cc);
+  ended = λ x. absurd (cc);
+})
+
+abbrev rolled : Engine → Engine → Tree → Journal → Type 0
+rolled e f tree journal =
+    f ≡ record e { tree = tree; journal = journal; is_open = false; parts = f.parts; ended = f.ended }
+
+pub rolled_state : (e f : Engine) (tree : Tree) (journal : Journal) → e.is_open ≡ true
+    → maps_of tree.rows ≡ tree_at e.journal.entries e.tree.rows e.mark → rolled e f tree journal
+    → state_of f ≡ record (state_of e) { tree = (opened (state_of e)).base; group = None }
+rolled_state e f tree journal o there is = ap state_of is ∙ rw o (ap (λ (m : Maps). closed m.nodes) there)
   where
     closed : Nodes → State
     closed t = record (state_of e) { tree = t; group = None }
 
-pub rolled_sound : (e : Engine) (tree : Tree) (journal : Journal) (none : List Part) → e.is_open ≡ true
+pub rolled_sound : (e f : Engine) (tree : Tree) (journal : Journal) (c : ℕ) → e.is_open ≡ true
     → IsSoundEngine e → IsSound journal.entries tree.rows
     → maps_of tree.rows ≡ tree_at e.journal.entries e.tree.rows e.mark
-    → IsSoundEngine (record e { tree = tree; journal = journal; is_open = false; parts = none })
-rolled_sound e tree journal none o s j there = record {
+    → AreAlike (Flipped c ∷ e.journal.entries) journal.entries → journal.room ≡ e.journal.room
+    → rolled e f tree journal → IsSoundEngine f
+rolled_sound e f tree journal c o s j there alike room is = subst IsSoundEngine (sym is) (record {
   journal = j;
+  spare = omega (arith, (s.group o).spare, room, alike_long (Flipped c ∷ e.journal.entries) journal.entries alike);
   update = subst (λ (m : Maps). IsUpdateInOrder m.nodes) (sym there) (s.group o).update;
   max_obj = s.max_obj;
   object = s.object;
   group = λ x. absurd (cc);
+  ended = λ x. absurd (cc);
+})
+
+-- one more part is no part of it
+pub part_sound : (e : Engine) (parts : List Part) → IsSoundEngine e → IsSoundEngine (record e { parts = parts })
+part_sound e parts s = record {
+  journal = s.journal;
+  spare = s.spare;
+  update = s.update;
+  max_obj = s.max_obj;
+  object = s.object;
+  group = s.group;
+  ended = s.ended;
 }
 
 -- ---- a group that opens
 
-pub opened_state : (e : Engine) (journal : Journal) (mark : ℕ) (none : List Part) → e.is_open ≡ false
-    → tree_at journal.entries e.tree.rows mark ≡ maps_of e.tree.rows → none ≡ []
-    → state_of (record e { journal = journal; is_open = true; mark = mark; parts = none }) ≡ opens (state_of e)
-opened_state e journal mark none o there n = rw (o, n) (ap (λ (m : Maps). over m.nodes) there)
+pub opened_state : (e : Engine) (journal : Journal) (ended : Vec EndedGroup) (mark : ℕ) (none : List Part)
+    → e.is_open ≡ false → tree_at journal.entries e.tree.rows mark ≡ maps_of e.tree.rows → none ≡ []
+    → state_of (record e { journal = journal; is_open = true; mark = mark; parts = none; ended = ended })
+    ≡ opens (state_of e)
+opened_state e journal ended mark none o there n = rw (o, n) (ap (λ (m : Maps). over m.nodes) there)
   where
     over : Nodes → State
     over t = record (state_of e) { group = Some (record { base = t; parts = [] }) }
 
-pub opened_sound : (e : Engine) (journal : Journal) (mark : ℕ) (none : List Part) → IsSoundEngine e
-    → journal.entries ≡ e.journal.entries → length journal.entries + 1 ≤ journal.room → mark ≡ length journal.entries
+pub opened_sound : (e : Engine) (journal : Journal) (ended : Vec EndedGroup) (mark : ℕ) (none : List Part)
+    → IsSoundEngine e → journal.entries ≡ e.journal.entries → length journal.entries + 2 ≤ journal.room
+    → vec_len ended + 1 ≤ vec_capacity ended → mark ≡ length journal.entries
     → tree_at journal.entries e.tree.rows mark ≡ maps_of e.tree.rows
-    → IsSoundEngine (record e { journal = journal; is_open = true; mark = mark; parts = none })
-opened_sound e journal mark none s same room place there = record {
+    → IsSoundEngine (record e { journal = journal; is_open = true; mark = mark; parts = none; ended = ended })
+opened_sound e journal ended mark none s same room more place there = record {
   journal = subst (λ l. IsSound l e.tree.rows) (sym same) s.journal;
+  spare = omega (arith, room);
   update = s.update;
   max_obj = s.max_obj;
   object = s.object;
@@ -278,21 +342,25 @@ opened_sound e journal mark none s same room place there = record {
     spare = omega (arith, room);
     update = subst (λ (m : Maps). IsUpdateInOrder m.nodes) (sym there) s.update;
   };
+  ended = λ x. omega (arith, more);
 }
 
-pub reserved_sound : (e : Engine) (journal : Journal) → IsSoundEngine e → e.is_open ≡ false
-    → journal.entries ≡ e.journal.entries → IsSoundEngine (record e { journal = journal })
-reserved_sound e journal s o same = record {
+pub reserved_sound : (e : Engine) (journal : Journal) (ended : Vec EndedGroup) → IsSoundEngine e → e.is_open ≡ false
+    → journal.entries ≡ e.journal.entries → e.journal.room ≤ journal.room
+    → IsSoundEngine (record e { journal = journal; ended = ended })
+reserved_sound e journal ended s o same room = record {
   journal = subst (λ l. IsSound l e.tree.rows) (sym same) s.journal;
+  spare = omega (arith, s.spare, room, ap length same);
   update = s.update;
   max_obj = s.max_obj;
   object = s.object;
   group = λ x. absurd (cc);
+  ended = λ x. absurd (cc);
 }
 
-pub reserved_state : (e : Engine) (journal : Journal) → journal.entries ≡ e.journal.entries
-    → state_of (record e { journal = journal }) ≡ state_of e
-reserved_state e journal same = ap over same
+pub reserved_state : (e : Engine) (journal : Journal) (ended : Vec EndedGroup) → journal.entries ≡ e.journal.entries
+    → state_of (record e { journal = journal; ended = ended }) ≡ state_of e
+reserved_state e journal ended same = ap over same
   where
     over : List Entry → State
     over l = record (state_of e) { group = group_of e.tree.rows l e.is_open e.mark e.parts }
@@ -311,5 +379,12 @@ pieced_ok (Err x) e m caller post piece what s before after is w t c = c
 -- the clock is no part of it
 pub clocked_sound : (e : Engine) (tree : Tree) (clock : Stamp) → IsSoundEngine e → tree ≡ record e.tree { clock = clock }
     → IsSoundEngine (record e { tree = tree })
-clocked_sound e tree clock s is = subst (λ (t : Tree). IsSoundEngine (record e { tree = t })) (sym is)
-    (record { journal = s.journal; update = s.update; max_obj = s.max_obj; object = s.object; group = s.group })
+clocked_sound e tree clock s is = subst (λ (t : Tree). IsSoundEngine (record e { tree = t })) (sym is) (record {
+  journal = s.journal;
+  spare = s.spare;
+  update = s.update;
+  max_obj = s.max_obj;
+  object = s.object;
+  group = s.group;
+  ended = s.ended;
+})

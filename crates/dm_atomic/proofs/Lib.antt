@@ -10,3 +10,11 @@ pub mod Telling
 pub mod MadeAhead
 pub mod TasksAhead
 pub mod GivenUps
+pub mod Tried
+pub mod Closings
+pub mod Giving
+pub mod Skips
+pub mod UpdateEnds
+pub mod Held
+pub mod Backs
+pub mod Results

@@ -1,5 +1,5 @@
 -- What an engine holds, and the state that it stands for.
-use Rattle.std.specs.Prelude.{◌≡◌, ◌≤◌, ◌<◌, ◌-◌, ℕ, Bool, true, if◌then◌else◌, ⊤, List, ◌++◌, drop, length, Option, None, Some, MatchOption}
+use Rattle.std.specs.Prelude.{◌≡◌, ◌≤◌, ◌<◌, ◌+◌, ◌-◌, ℕ, Bool, true, if◌then◌else◌, ⊤, List, ◌++◌, drop, length, Option, None, Some, MatchOption, vec_len, vec_capacity}
 use Rattle.syncml_types.specs.declared.command.Command.{Command}
 use Rattle.syncml_types.specs.declared.command.Step.{Step}
 use Rattle.dm_tree.specs.declared.rows.Row.{Row}
@@ -47,11 +47,11 @@ running e caller = record { setting = asked_by caller e.tree.clock; max_obj = e.
 
 -- ---- what holds of an engine
 
--- a group that is open can be rolled back, and that takes no memory
+-- a group that is open can be rolled back, and that takes no memory; an entry is spare behind it
 pub record CanRollBack (rows : List Row) (journal : Journal) (mark : ℕ) : Type 0 where
   pub held : mark ≤ length journal.entries
   pub plain : AreRecords (length journal.entries - mark) journal.entries
-  pub spare : length journal.entries < journal.room
+  pub spare : length journal.entries + 1 < journal.room
   pub update : IsUpdateInOrder (tree_at journal.entries rows mark).nodes
 
 -- an object that is being buffered is no larger than the greatest
@@ -60,13 +60,16 @@ FitsObject max Nothing = ⊤
 FitsObject max (Buffering begun) = begun.size ≤ max
 FitsObject max (Skipping key code) = ⊤
 
--- the journal tells trees, the update part is in order, and no step is too large for the tree
+-- the journal tells trees, the update part is in order, no step is too large for the tree, and there is room for a group
+-- that ends
 pub record IsSoundEngine (e : Engine) : Type 0 where
   pub journal : IsSound e.journal.entries e.tree.rows
+  pub spare : length e.journal.entries < e.journal.room
   pub update : IsUpdateInOrder (nodes e.tree.rows)
   pub max_obj : e.inbox.max_obj ≤ 4194304
   pub object : FitsObject e.inbox.max_obj (present e.inbox.objects)
   pub group : e.is_open ≡ true → CanRollBack e.tree.rows e.journal e.mark
+  pub ended : e.is_open ≡ true → vec_len e.ended < vec_capacity e.ended
 
 -- a whole step is no larger than the tree takes
 abbrev pub IsShortWhat : What → Type 0
@@ -79,6 +82,7 @@ pub record Only (old new : Engine) : Type 0 where
   pub is_open : new.is_open ≡ old.is_open
   pub mark : new.mark ≡ old.mark
   pub parts : new.parts ≡ old.parts
+  pub ended : new.ended ≡ old.ended
   pub max_obj : new.inbox.max_obj ≡ old.inbox.max_obj
   pub clock : new.tree.clock ≡ old.tree.clock
   pub notes : Notes old.journal old.tree.rows new.journal new.tree.rows

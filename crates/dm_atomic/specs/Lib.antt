@@ -4,3 +4,5 @@ pub mod Run
 pub mod Posts
 pub mod Laws
 pub mod Engine
+pub mod Updates
+pub mod Marks

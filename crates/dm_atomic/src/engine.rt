@@ -1,7 +1,9 @@
 // The engine, and what is read of it.
 ghost use Rattle.std.specs.Prelude.{◌≡◌, ◌≤◌, is_some};
-ghost use Rattle.dm_tree.specs.Rows.{nodes};
+ghost use Rattle.dm_tree.specs.Rows.{nodes, ids};
 ghost use Rattle.dm_atomic.specs.Engine.{state_of, IsSoundEngine};
+ghost use Rattle.dm_atomic.specs.Updates.{clock_of, max_obj_of};
+ghost use Rattle.dm_atomic.specs.Marks.{whole_of, Holds};
 
 use crate::reports::{Part, Started};
 use dm_base::List;
@@ -23,12 +25,25 @@ pub struct Engine {
     pub(crate) mark: Mark,
     pub(crate) parts: List<Part>,
     pub(crate) started: Option<Started>,
+    /// The groups that ended since the engine was settled. There is room for the one that is open.
+    pub(crate) ended: Vec<EndedGroup>,
+    /// What `started` was since then.
+    pub(crate) starts: Vec<Option<Started>>,
+}
+
+/// A group that ended: where it began, and its parts.
+#[derive(Drop)]
+pub(crate) struct EndedGroup {
+    pub mark: Mark,
+    pub parts: List<Part>,
 }
 
 impl Engine {
     /// The working tree.
     pub fn tree(&self) -> &Tree
-        ensures { nodes result.now.rows ≡ (state_of self.now).tree }
+        ensures nodes { nodes result.now.rows ≡ (state_of self.now).tree }
+        ensures ids { ids result.now.rows ≡ (whole_of self.now).ids }
+        ensures clock { result.now.clock ≡ clock_of self.now }
     {
         &self.tree
     }
@@ -47,10 +62,13 @@ impl Engine {
         &self.started
     }
 
-    /// Sets the clock. The state stays.
+    /// Sets the clock. All else stays.
     pub fn set_clock(&mut self, now: Stamp)
         requires sound { IsSoundEngine self.old }
-        ensures clock { self.new ≡ record self.old { tree = record self.old.tree { clock = now } } }
+        ensures clock { clock_of self.new ≡ now }
+        ensures max_obj { max_obj_of self.new ≡ max_obj_of self.old }
+        ensures whole { whole_of self.new ≡ whole_of self.old }
+        ensures marks { Holds self.old self.new }
         ensures sound { IsSoundEngine self.new }
     {
         self.tree.set_clock(now);

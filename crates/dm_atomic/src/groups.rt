@@ -1,14 +1,42 @@
-// Groups that open, and are rolled back.
-ghost use Rattle.std.specs.Prelude.{◌≡◌, None, true, OnOk, OnErr};
+// Groups that open, and end.
+ghost use Rattle.std.specs.Prelude.{◌≡◌, ◌<◌, ◌∷◌, ◌++◌, [], None, true, false, vec_len, vec_capacity, OnOk, OnErr};
 ghost use Rattle.dm_atomic.specs.Run.{opened, opens};
 ghost use Rattle.dm_atomic.specs.Engine.{state_of, IsSoundEngine};
+ghost use Rattle.dm_atomic.specs.Marks.{Holds};
 
-use crate::engine::Engine;
+use crate::engine::{EndedGroup, Engine};
+use crate::reports::Part;
 use dm_base::{List, Memory};
+use std::mem;
 
 impl Engine {
+    // The open group is one that ended: its parts are kept, so that it can be gone back to.
+    fn end_group(&mut self)
+        requires room { vec_len self.old.ended < vec_capacity self.old.ended }
+        ensures same { self.new ≡ record self.old { is_open = false; parts = self.new.parts; ended = self.new.ended } }
+        ensures ended { self.new.ended.items
+            ≡ self.old.ended.items ++ record { mark = self.old.mark; parts = self.old.parts } ∷ [] }
+    {
+        let parts = mem::replace(&mut self.parts, List::new(self.alloc));
+        let mark = self.mark;
+        self.ended.push_reserved(EndedGroup { mark, parts });
+        self.is_open = false;
+    }
+
+    /// No group is open any more, and the tree stays. It takes no memory.
+    pub(crate) fn close_group(&mut self)
+        requires sound { IsSoundEngine self.old }
+        requires is_open { self.old.is_open ≡ true }
+        ensures state { state_of self.new ≡ record (state_of self.old) { group = None } }
+        ensures inbox { self.new.inbox ≡ self.old.inbox }
+        ensures clock { self.new.tree.clock ≡ self.old.tree.clock }
+        ensures marks { Holds self.old self.new }
+        ensures sound { IsSoundEngine self.new }
+    {
+        self.end_group();
+    }
+
     /// The tree before the open group stands again, and no group is open. It takes no memory.
-    #[tactic(auto, using(crate::proofs::Engines::rolled_state, crate::proofs::Engines::rolled_sound))]
     pub(crate) fn roll_back(&mut self)
         requires sound { IsSoundEngine self.old }
         requires is_open { self.old.is_open ≡ true }
@@ -16,15 +44,28 @@ impl Engine {
             ≡ record (state_of self.old) { tree = (opened (state_of self.old)).base; group = None } }
         ensures inbox { self.new.inbox ≡ self.old.inbox }
         ensures clock { self.new.tree.clock ≡ self.old.tree.clock }
+        ensures marks { Holds self.old self.new }
         ensures sound { IsSoundEngine self.new }
     {
         self.journal.roll_back(&mut self.tree, self.mark);
-        self.is_open = false;
-        self.parts = List::new(self.alloc);
+        self.end_group();
+    }
+
+    /// The open group has one more part. After `Memory` all is as before.
+    #[tactic(auto, using(crate::proofs::Held::holds_part, crate::proofs::Held::holds_self, crate::proofs::Engines::part_sound))]
+    pub(crate) fn push_part(&mut self, part: Part) -> Result<(), Memory>
+        requires sound { IsSoundEngine self.old }
+        ensures ok { OnOk result (self.new ≡ record self.old { parts = self.old.parts ++ part ∷ [] }) }
+        ensures err { OnErr result (self.new ≡ self.old) }
+        ensures marks { Holds self.old self.new }
+        ensures sound { IsSoundEngine self.new }
+    {
+        self.parts.push(part)?;
+        Ok(())
     }
 
     /// A group begins here, unless one is open. After `Memory` the state is as before.
-    #[tactic(auto, using(crate::proofs::Engines::opened_state, crate::proofs::Engines::opened_sound, crate::proofs::Engines::reserved_sound, crate::proofs::Engines::reserved_state))]
+    #[tactic(auto, using(crate::proofs::Held::holds_self, crate::proofs::Held::holds_reserved, crate::proofs::Held::holds_opened, crate::proofs::Engines::opened_state, crate::proofs::Engines::opened_sound, crate::proofs::Engines::reserved_sound, crate::proofs::Engines::reserved_state))]
     pub(crate) fn open_group(&mut self) -> Result<(), Memory>
         requires sound { IsSoundEngine self.old }
         ensures state { OnOk result (state_of self.new ≡ opens (state_of self.old)) }
@@ -32,10 +73,13 @@ impl Engine {
         ensures err { OnErr result (state_of self.new ≡ state_of self.old) }
         ensures inbox { self.new.inbox ≡ self.old.inbox }
         ensures clock { self.new.tree.clock ≡ self.old.tree.clock }
+        ensures marks { Holds self.old self.new }
         ensures sound { IsSoundEngine self.new }
     {
         if !self.is_open {
-            self.journal.reserve(1)?;
+            // What a roll back takes, and what stays spare behind it.
+            self.journal.reserve(2)?;
+            self.ended.reserve(1)?;
             self.mark = self.journal.mark();
             self.parts = List::new(self.alloc);
             self.is_open = true;

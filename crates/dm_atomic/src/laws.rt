@@ -1,4 +1,5 @@
 // What execution means, over its definition alone.
+ghost use Rattle.dm_atomic.specs.Updates.{BegunWithItsUpdate};
 ghost use Rattle.dm_atomic.specs.Laws.{OneStatusEach, NoneLostInQuiet, FailedAtomicRestores, BrokenGroupRestores, QuietRestores, CommandKeepsOpen, QuietEndsBoth, TasksStartNothing, AtomicStartsNothing, FailedTaskLeavesTree, RefusedRightLeavesTree};
 
 /// Law: each step and each container of executed commands has exactly one Status made, suppressed or not: at once, or
@@ -28,9 +29,14 @@ pub fn nothing_starts_in_atomic()
     ensures block { AtomicStartsNothing }
 {}
 
-/// Law: a task that is no success leaves the tree as it was, finds nothing and starts nothing; and a step whose right
-/// is refused is no success.
+/// Law: a task that is no success leaves the tree as it was, finds nothing and starts nothing; and a whole step whose
+/// right is refused is no success.
 pub fn failed_task_leaves_the_tree()
     ensures failed { FailedTaskLeavesTree }
     ensures refused { RefusedRightLeavesTree }
+{}
+
+/// Law: where an engine begins, an update was started exactly where the tree's State is 60.
+pub fn begins_with_its_update()
+    ensures { BegunWithItsUpdate }
 {}

@@ -2,12 +2,18 @@
 //! groups that stay open over messages.
 #![tactic(auto)]
 
+mod atomics;
+mod attempts;
+mod commands;
 mod containers;
 mod copies;
 pub mod engine;
 mod entries;
 mod groups;
 pub mod laws;
+#[cfg(test)]
+mod mark_tests;
+pub mod marks;
 pub mod reports;
 mod step;
 mod task_lists;
@@ -15,7 +21,11 @@ pub mod tasks;
 #[cfg(test)]
 mod tests;
 mod unfinished;
+#[cfg(test)]
+mod update_tests;
+mod updates;
 
 pub use engine::Engine;
+pub use marks::EngineMark;
 pub use reports::{Part, Report, Started};
 pub use tasks::{Named, Origin, Post, Task, Work};

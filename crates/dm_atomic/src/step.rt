@@ -7,6 +7,7 @@ ghost use Rattle.dm_commands.specs.Promises.{IsShortStep};
 ghost use Rattle.dm_atomic.specs.Made.{IsInFront, told, notice};
 ghost use Rattle.dm_atomic.specs.Run.{one_step as step_run, one_piece as piece_run, by_what as what_run, whole_step as whole_run, alert_code as code_of_alert, path_of as path_in, started_by as start_by};
 ghost use Rattle.dm_atomic.specs.Engine.{state_of, running, IsSoundEngine, IsShortWhat, Only, Acts, Comes, Runs};
+ghost use Rattle.dm_atomic.specs.Marks.{Holds};
 
 use crate::copies::copy_bytes;
 use crate::engine::Engine;
@@ -84,6 +85,7 @@ impl Engine {
         requires short { IsShortStep step.now }
         ensures ok { IfOk result (λ outcome. Acts self.old self.new caller.now step.now outcome) }
         ensures only { Only self.old self.new }
+        ensures marks { Holds self.old self.new }
         ensures sound { IsSoundEngine self.new }
     {
         // It tells that the tree is well formed.
@@ -91,28 +93,34 @@ impl Engine {
         act(self.alloc, &mut self.tree, &mut self.journal, caller, step)
     }
 
+    #[tactic(auto, using(crate::proofs::Held::holds_self, crate::proofs::Held::holds_then, crate::proofs::Held::holds_room, crate::proofs::Held::holds_started, crate::proofs::Engines::room_sound, crate::proofs::Engines::room_only, crate::proofs::Engines::started_sound, crate::proofs::Engines::started_only, crate::proofs::Engines::only_then))]
     fn start(&mut self, started: bool, step: &Step) -> Result<(), Memory>
         requires sound { IsSoundEngine self.old }
         ensures ok { OnOk result (self.new ≡ record self.old {
           started = if started then Some (start_by step.now) else self.old.started;
+          starts = self.new.starts;
         }) }
         ensures only { Only self.old self.new }
+        ensures marks { Holds self.old self.new }
         ensures sound { IsSoundEngine self.new }
     {
         if started {
-            self.started = Some(started_by(self.alloc, step)?);
+            let next = started_by(self.alloc, step)?;
+            self.starts.reserve(1)?;
+            self.put_started(Some(next));
         }
         Ok(())
     }
 
     // A whole step, by the step table.
-    #[tactic(auto, using(crate::proofs::Engines::only_then, crate::proofs::Engines::stepped))]
+    #[tactic(auto, using(crate::proofs::Held::holds_self, crate::proofs::Held::holds_then, crate::proofs::Engines::only_then, crate::proofs::Engines::stepped))]
     fn whole_step(&mut self, caller: &[u8], post: &Post, step: &Step) -> Result<Report, Memory>
         requires sound { IsSoundEngine self.old }
         requires short { IsShortStep step.now }
         ensures ok { IfOk result (λ report. Comes
             (whole_run (running self.old caller.now) (state_of self.old) post.now None step.now) (state_of self.new) report) }
         ensures only { Only self.old self.new }
+        ensures marks { Holds self.old self.new }
         ensures sound { IsSoundEngine self.new }
     {
         let post = copy_post(self.alloc, post)?;
@@ -129,12 +137,14 @@ impl Engine {
         })
     }
 
+    #[tactic(auto, using(crate::proofs::Held::holds_self))]
     fn by_what(&mut self, caller: &[u8], post: &Post, what: What) -> Result<Report, Memory>
         requires sound { IsSoundEngine self.old }
         requires short { IsShortWhat what }
         ensures ok { IfOk result (λ report. Comes
             (what_run (running self.old caller.now) (state_of self.old) post.now None what) (state_of self.new) report) }
         ensures only { Only self.old self.new }
+        ensures marks { Holds self.old self.new }
         ensures sound { IsSoundEngine self.new }
     {
         match what {
@@ -145,7 +155,7 @@ impl Engine {
     }
 
     // A piece, gathered first.
-    #[tactic(auto, using(crate::proofs::Engines::only_then, crate::proofs::Telling::nothing_more, crate::proofs::Telling::some_more))]
+    #[tactic(auto, using(crate::proofs::Held::holds_then, crate::proofs::Engines::only_then, crate::proofs::Telling::nothing_more, crate::proofs::Telling::some_more))]
     fn one_piece(
         &mut self,
         caller: &[u8],
@@ -159,6 +169,7 @@ impl Engine {
             out.old out.new) }
         ensures err { OnErr result (IsInFront out.old out.new) }
         ensures only { Only self.old self.new }
+        ensures marks { Holds self.old self.new }
         ensures sound { IsSoundEngine self.new }
     {
         let what = self.gather(piece, out)?;
@@ -166,6 +177,7 @@ impl Engine {
     }
 
     // What a piece comes to; of an object that it broke is told.
+    #[tactic(auto, using(crate::proofs::Held::holds_inbox))]
     fn gather(&mut self, piece: &Piece, out: &mut List<Command>) -> Result<What, Memory>
         requires sound { IsSoundEngine self.old }
         ensures object { OnOk result (self.new ≡ record self.old {
@@ -179,6 +191,7 @@ impl Engine {
         ensures short { IfOk result IsShortWhat }
         ensures err { OnErr result (out.new ≡ out.old) }
         ensures only { Only self.old self.new }
+        ensures marks { Holds self.old self.new }
         ensures sound { IsSoundEngine self.new }
     {
         let Taken { broken, what } = self.inbox.take(piece)?;
@@ -187,7 +200,7 @@ impl Engine {
     }
 
     /// One task. The report isn't told.
-    #[tactic(auto, unfolding(crate::specs::Run::one_step))]
+    #[tactic(auto, using(crate::proofs::Held::holds_self), unfolding(crate::specs::Run::one_step))]
     pub(crate) fn one_step(
         &mut self,
         caller: &[u8],
@@ -200,6 +213,7 @@ impl Engine {
             out.old out.new) }
         ensures err { OnErr result (IsInFront out.old out.new) }
         ensures only { Only self.old self.new }
+        ensures marks { Holds self.old self.new }
         ensures sound { IsSoundEngine self.new }
     {
         match &task.work {

@@ -3,6 +3,8 @@ ghost use Rattle.std.specs.Prelude.{◌≡◌, true, OnOk, OnErr};
 ghost use Rattle.dm_atomic.specs.Made.{IsInFront};
 ghost use Rattle.dm_atomic.specs.Run.{abandoned, break_group as break_of, still as still_of};
 ghost use Rattle.dm_atomic.specs.Engine.{state_of, IsSoundEngine, Gives};
+ghost use Rattle.dm_atomic.specs.Marks.{Holds};
+ghost use Rattle.dm_atomic.specs.Updates.{clock_of, max_obj_of};
 
 use crate::containers::put_parts_undone;
 use crate::engine::Engine;
@@ -13,11 +15,13 @@ use syncml_types::Command;
 impl Engine {
     /// All that is unfinished is given up: the object, and the open group, before which the tree stands again. It takes no
     /// memory.
-    #[tactic(auto, using(crate::proofs::GivenUps::cleared_sound, crate::proofs::GivenUps::abandoned_open, crate::proofs::GivenUps::abandoned_closed))]
+    #[tactic(auto, using(crate::proofs::Held::holds_then, crate::proofs::Held::holds_self, crate::proofs::Held::holds_next, crate::proofs::Held::holds_inbox, crate::proofs::GivenUps::cleared_sound, crate::proofs::GivenUps::abandoned_open, crate::proofs::GivenUps::abandoned_closed))]
     pub fn abandon(&mut self)
         requires sound { IsSoundEngine self.old }
         ensures state { state_of self.new ≡ abandoned (state_of self.old) }
-        ensures clock { self.new.tree.clock ≡ self.old.tree.clock }
+        ensures clock { clock_of self.new ≡ clock_of self.old }
+        ensures max_obj { max_obj_of self.new ≡ max_obj_of self.old }
+        ensures marks { Holds self.old self.new }
         ensures sound { IsSoundEngine self.new }
     {
         self.inbox.clear();
@@ -27,17 +31,19 @@ impl Engine {
     }
 
     // The open group is broken.
-    #[tactic(auto, using(crate::proofs::GivenUps::cleared_sound, crate::proofs::GivenUps::broken_gives, crate::proofs::Telling::told_both, crate::proofs::Telling::nothing_more, crate::proofs::Telling::some_more))]
+    #[tactic(auto, using(crate::proofs::Held::holds_then, crate::proofs::Held::holds_self, crate::proofs::Held::holds_next, crate::proofs::Held::holds_inbox, crate::proofs::GivenUps::cleared_sound, crate::proofs::GivenUps::broken_gives, crate::proofs::Telling::told_both, crate::proofs::Telling::nothing_more, crate::proofs::Telling::some_more))]
     fn break_open(&mut self, out: &mut List<Command>) -> Result<(), Memory>
         requires sound { IsSoundEngine self.old }
         requires is_open { self.old.is_open ≡ true }
         ensures gives { OnOk result (Gives (break_of (state_of self.old)) (state_of self.new) out.old out.new) }
         ensures err { OnErr result (IsInFront out.old out.new) }
         ensures clock { self.new.tree.clock ≡ self.old.tree.clock }
+        ensures max_obj { self.new.inbox.max_obj ≡ self.old.inbox.max_obj }
+        ensures marks { Holds self.old self.new }
         ensures sound { IsSoundEngine self.new }
     {
-        let target = self.inbox.quiet()?;
-        put_notice(self.alloc, &target, out)?;
+        let lost = self.inbox.quiet()?;
+        put_notice(self.alloc, &lost, out)?;
         put_parts_undone(self.alloc, &self.parts, out)?;
         self.roll_back();
         Ok(())
@@ -45,12 +51,14 @@ impl Engine {
 
     /// An open group is broken: its object is lost, which an Alert tells, its steps are undone, and the tree before it stands
     /// again. After `Memory` a part may be told.
-    #[tactic(auto, using(crate::proofs::GivenUps::unbroken_gives))]
+    #[tactic(auto, using(crate::proofs::Held::holds_then, crate::proofs::Held::holds_self, crate::proofs::Held::holds_next, crate::proofs::Held::holds_inbox, crate::proofs::GivenUps::unbroken_gives))]
     pub(crate) fn break_group(&mut self, out: &mut List<Command>) -> Result<(), Memory>
         requires sound { IsSoundEngine self.old }
         ensures gives { OnOk result (Gives (break_of (state_of self.old)) (state_of self.new) out.old out.new) }
         ensures err { OnErr result (IsInFront out.old out.new) }
         ensures clock { self.new.tree.clock ≡ self.old.tree.clock }
+        ensures max_obj { self.new.inbox.max_obj ≡ self.old.inbox.max_obj }
+        ensures marks { Holds self.old self.new }
         ensures sound { IsSoundEngine self.new }
     {
         if !self.is_open {
@@ -60,13 +68,15 @@ impl Engine {
     }
 
     /// A message with Final that has no step of a verb breaks what is unfinished: the object, which an Alert tells, and the
-    /// open group. After `Memory` a part may be told.
-    #[tactic(auto, using(crate::proofs::GivenUps::cleared_sound, crate::proofs::GivenUps::still_open, crate::proofs::GivenUps::still_closed, crate::proofs::Telling::nothing_more))]
+    /// open group. After `Memory` a part may be told, and a part given up: go back to a mark.
+    #[tactic(auto, using(crate::proofs::Held::holds_then, crate::proofs::Held::holds_self, crate::proofs::Held::holds_next, crate::proofs::Held::holds_inbox, crate::proofs::GivenUps::cleared_sound, crate::proofs::GivenUps::still_open, crate::proofs::GivenUps::still_closed, crate::proofs::Telling::nothing_more))]
     pub fn still(&mut self, out: &mut List<Command>) -> Result<(), Memory>
         requires sound { IsSoundEngine self.old }
         ensures gives { OnOk result (Gives (still_of (state_of self.old)) (state_of self.new) out.old out.new) }
         ensures err { OnErr result (IsInFront out.old out.new) }
-        ensures clock { self.new.tree.clock ≡ self.old.tree.clock }
+        ensures clock { clock_of self.new ≡ clock_of self.old }
+        ensures max_obj { max_obj_of self.new ≡ max_obj_of self.old }
+        ensures marks { Holds self.old self.new }
         ensures sound { IsSoundEngine self.new }
     {
         if self.is_open {

@@ -1,0 +1,16 @@
+use Rattle.std.proofs.Common.{◌≡◌, drop}
+use Rattle.dm_atomic.specs.Run.{in_sequence}
+use Rattle.dm_atomic.specs.Engine.{state_of, running, IsSoundEngine}
+use Rattle.dm_atomic.specs.Marks.{Holds}
+use Rattle.dm_atomic.proofs.Giving.{IsGiving}
+use Rattle.dm_atomic.proofs.engine.Engine.in_sequence.Given as goal
+
+abbrev pub invariant-loop-task : goal.invariant-loop-task
+invariant-loop-task l = record {
+  giving : IsGiving (in_sequence (running l.fn.self l.caller) (state_of l.self) (drop l.task-index l.tasks))
+      (in_sequence (running l.fn.self l.caller) (state_of l.fn.self) l.tasks) l.fn.out l.out;
+  clock : l.self.tree.clock ≡ l.fn.self.tree.clock;
+  max_obj : l.self.inbox.max_obj ≡ l.fn.self.inbox.max_obj;
+  marks : Holds l.fn.self l.self;
+  sound : IsSoundEngine l.self;
+}

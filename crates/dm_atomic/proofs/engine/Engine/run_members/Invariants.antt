@@ -1,0 +1,17 @@
+use Rattle.std.proofs.Common.{◌≡◌, drop}
+use Rattle.dm_atomic.specs.Run.{run_members}
+use Rattle.dm_atomic.specs.Engine.{state_of, running, IsSoundEngine}
+use Rattle.dm_atomic.specs.Marks.{Holds}
+use Rattle.dm_atomic.proofs.Giving.{IsGiving}
+use Rattle.dm_atomic.proofs.engine.Engine.run_members.Given as goal
+
+abbrev pub invariant-loop-member : goal.invariant-loop-member
+invariant-loop-member l = record {
+  giving : IsGiving
+      (run_members (running l.fn.self l.caller) l.origin (state_of l.self) (drop l.member-index l.members))
+      (run_members (running l.fn.self l.caller) l.origin (state_of l.fn.self) l.members) l.fn.out l.out;
+  clock : l.self.tree.clock ≡ l.fn.self.tree.clock;
+  max_obj : l.self.inbox.max_obj ≡ l.fn.self.inbox.max_obj;
+  marks : Holds l.fn.self l.self;
+  sound : IsSoundEngine l.self;
+}

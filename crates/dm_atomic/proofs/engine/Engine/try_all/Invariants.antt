@@ -1,0 +1,14 @@
+use Rattle.std.proofs.Common.{drop}
+use Rattle.dm_atomic.specs.Engine.{state_of, running, IsSoundEngine, Only}
+use Rattle.dm_atomic.specs.Marks.{Holds}
+use Rattle.dm_atomic.proofs.Tried.{IsTrying}
+use Rattle.dm_atomic.proofs.engine.Engine.try_all.Given as goal
+
+abbrev pub invariant-loop-place : goal.invariant-loop-place
+invariant-loop-place l = record {
+  trying : IsTrying (running l.fn.self l.caller) (state_of l.fn.self) (state_of l.self) l.tasks
+      (drop l.place l.tasks) l.done l.fn.out l.out;
+  only : Only l.fn.self l.self;
+  marks : Holds l.fn.self l.self;
+  sound : IsSoundEngine l.self;
+}

@@ -1,0 +1,279 @@
+// Commands of a message's body.
+ghost use Rattle.std.specs.Prelude.{◌≡◌, false, [], ◌∷◌, OnOk, OnErr};
+ghost use Rattle.dm_atomic.specs.Tasks.{plain_tasks as plain_tasks_of, alert_task as alert_task_of, member_tasks as member_tasks_of};
+ghost use Rattle.dm_atomic.specs.Made.{IsInFront};
+ghost use Rattle.dm_atomic.specs.Run.{breaks_first, one_alone as alone_of, in_sequence as sequence_of, run_atomic as atomic_of, run_member as member_of, run_members as members_of, run_sequence as whole_sequence_of, run_command};
+ghost use Rattle.dm_atomic.specs.Engine.{state_of, running, IsSoundEngine, Gives};
+ghost use Rattle.dm_atomic.specs.Marks.{Holds};
+ghost use Rattle.dm_atomic.specs.Updates.{clock_of, max_obj_of};
+
+use crate::engine::Engine;
+use crate::entries::{put_report, put_status};
+use crate::task_lists::{alert_task, container_post, member_tasks, members_tasks, plain_tasks};
+use crate::tasks::{Named, Origin, Task, Work};
+use dm_base::{List, Memory};
+use syncml_types::{AlertCmd, Block, Command, Member, Plain, SeqBlock, SeqMember};
+
+impl Engine {
+    // A step of a verb breaks an open group first.
+    #[tactic(auto, using(crate::proofs::Held::holds_self, crate::proofs::Held::holds_then, crate::proofs::Giving::gives_quietly, crate::proofs::Telling::nothing_more))]
+    fn break_first(&mut self, work: &Work, out: &mut List<Command>) -> Result<(), Memory>
+        requires sound { IsSoundEngine self.old }
+        ensures gives { OnOk result (Gives (breaks_first (state_of self.old) work.now) (state_of self.new)
+            out.old out.new) }
+        ensures err { OnErr result (IsInFront out.old out.new) }
+        ensures clock { self.new.tree.clock ≡ self.old.tree.clock }
+        ensures max_obj { self.new.inbox.max_obj ≡ self.old.inbox.max_obj }
+        ensures marks { Holds self.old self.new }
+        ensures sound { IsSoundEngine self.new }
+    {
+        match work {
+            Work::Piece(_) => {
+                self.break_group(out)?;
+                Ok(())
+            }
+            Work::Alert(_) => Ok(()),
+        }
+    }
+
+    // A task outside an Atomic.
+    #[tactic(auto, using(crate::proofs::Held::holds_self, crate::proofs::Held::holds_then, crate::proofs::Giving::gives_in_front, crate::proofs::Giving::gives_more))]
+    fn one_alone(
+        &mut self,
+        caller: &[u8],
+        task: &Task,
+        out: &mut List<Command>,
+    ) -> Result<(), Memory>
+        requires sound { IsSoundEngine self.old }
+        ensures gives { OnOk result (Gives (alone_of (running self.old caller.now) (state_of self.old) task.now)
+            (state_of self.new) out.old out.new) }
+        ensures err { OnErr result (IsInFront out.old out.new) }
+        ensures clock { self.new.tree.clock ≡ self.old.tree.clock }
+        ensures max_obj { self.new.inbox.max_obj ≡ self.old.inbox.max_obj }
+        ensures marks { Holds self.old self.new }
+        ensures sound { IsSoundEngine self.new }
+    {
+        self.break_first(&task.work, out)?;
+        let report = self.one_step(caller, task, out)?;
+        put_report(self.alloc, &report, out)?;
+        Ok(())
+    }
+
+    // Tasks outside an Atomic, whatever their codes.
+    #[tactic(auto, using(crate::proofs::Held::holds_self, crate::proofs::Held::holds_then, crate::proofs::Giving::giving_starts, crate::proofs::Giving::giving_breaks, crate::proofs::Giving::sequence_over))]
+    fn in_sequence(
+        &mut self,
+        caller: &[u8],
+        tasks: &[Task],
+        out: &mut List<Command>,
+    ) -> Result<(), Memory>
+        requires sound { IsSoundEngine self.old }
+        ensures gives { OnOk result (Gives (sequence_of (running self.old caller.now) (state_of self.old) tasks.now)
+            (state_of self.new) out.old out.new) }
+        ensures err { OnErr result (IsInFront out.old out.new) }
+        ensures clock { self.new.tree.clock ≡ self.old.tree.clock }
+        ensures max_obj { self.new.inbox.max_obj ≡ self.old.inbox.max_obj }
+        ensures marks { Holds self.old self.new }
+        ensures sound { IsSoundEngine self.new }
+    {
+        for task in tasks {
+            self.one_alone(caller, task, out)?;
+        }
+        Ok(())
+    }
+
+    #[tactic(auto, using(crate::proofs::Held::holds_self, crate::proofs::Held::holds_then, crate::proofs::Telling::nothing_more))]
+    fn run_plain(
+        &mut self,
+        caller: &[u8],
+        origin: Origin,
+        command: &Plain,
+        out: &mut List<Command>,
+    ) -> Result<(), Memory>
+        requires sound { IsSoundEngine self.old }
+        ensures gives { OnOk result (Gives
+            (sequence_of (running self.old caller.now) (state_of self.old) (plain_tasks_of origin false command.now))
+            (state_of self.new) out.old out.new) }
+        ensures err { OnErr result (IsInFront out.old out.new) }
+        ensures clock { self.new.tree.clock ≡ self.old.tree.clock }
+        ensures max_obj { self.new.inbox.max_obj ≡ self.old.inbox.max_obj }
+        ensures marks { Holds self.old self.new }
+        ensures sound { IsSoundEngine self.new }
+    {
+        let tasks = plain_tasks(self.alloc, origin, false, command)?;
+        self.in_sequence(caller, tasks.as_slice(), out)?;
+        Ok(())
+    }
+
+    #[tactic(auto, using(crate::proofs::Held::holds_self, crate::proofs::Held::holds_then, crate::proofs::Giving::lone_gives))]
+    fn run_alert(
+        &mut self,
+        caller: &[u8],
+        origin: Origin,
+        alert: &AlertCmd,
+        out: &mut List<Command>,
+    ) -> Result<(), Memory>
+        requires sound { IsSoundEngine self.old }
+        ensures gives { OnOk result (Gives
+            (sequence_of (running self.old caller.now) (state_of self.old) (alert_task_of origin alert.now ∷ []))
+            (state_of self.new) out.old out.new) }
+        ensures err { OnErr result (IsInFront out.old out.new) }
+        ensures clock { self.new.tree.clock ≡ self.old.tree.clock }
+        ensures max_obj { self.new.inbox.max_obj ≡ self.old.inbox.max_obj }
+        ensures marks { Holds self.old self.new }
+        ensures sound { IsSoundEngine self.new }
+    {
+        let task = alert_task(origin, alert);
+        self.one_alone(caller, &task, out)?;
+        Ok(())
+    }
+
+    #[tactic(auto, using(crate::proofs::Held::holds_self, crate::proofs::Held::holds_then, crate::proofs::Telling::nothing_more))]
+    fn run_single(
+        &mut self,
+        caller: &[u8],
+        origin: Origin,
+        member: &Member,
+        out: &mut List<Command>,
+    ) -> Result<(), Memory>
+        requires sound { IsSoundEngine self.old }
+        ensures gives { OnOk result (Gives
+            (sequence_of (running self.old caller.now) (state_of self.old) (member_tasks_of origin false member.now))
+            (state_of self.new) out.old out.new) }
+        ensures err { OnErr result (IsInFront out.old out.new) }
+        ensures clock { self.new.tree.clock ≡ self.old.tree.clock }
+        ensures max_obj { self.new.inbox.max_obj ≡ self.old.inbox.max_obj }
+        ensures marks { Holds self.old self.new }
+        ensures sound { IsSoundEngine self.new }
+    {
+        let tasks = member_tasks(self.alloc, origin, false, member)?;
+        self.in_sequence(caller, tasks.as_slice(), out)?;
+        Ok(())
+    }
+
+    #[tactic(auto, using(crate::proofs::Held::holds_self, crate::proofs::Held::holds_then, crate::proofs::Telling::nothing_more))]
+    fn run_atomic(
+        &mut self,
+        caller: &[u8],
+        origin: Origin,
+        block: &Block,
+        out: &mut List<Command>,
+    ) -> Result<(), Memory>
+        requires sound { IsSoundEngine self.old }
+        ensures gives { OnOk result (Gives
+            (atomic_of (running self.old caller.now) origin (state_of self.old) block.now) (state_of self.new)
+            out.old out.new) }
+        ensures err { OnErr result (IsInFront out.old out.new) }
+        ensures clock { self.new.tree.clock ≡ self.old.tree.clock }
+        ensures max_obj { self.new.inbox.max_obj ≡ self.old.inbox.max_obj }
+        ensures marks { Holds self.old self.new }
+        ensures sound { IsSoundEngine self.new }
+    {
+        let tasks = members_tasks(self.alloc, origin, true, &block.members)?;
+        let post = container_post(origin, block.id, block.no_resp, Named::Atomic);
+        self.atomic(caller, post, tasks.as_slice(), out)?;
+        Ok(())
+    }
+
+    fn run_member(
+        &mut self,
+        caller: &[u8],
+        origin: Origin,
+        member: &SeqMember,
+        out: &mut List<Command>,
+    ) -> Result<(), Memory>
+        requires sound { IsSoundEngine self.old }
+        ensures gives { OnOk result (Gives
+            (member_of (running self.old caller.now) origin (state_of self.old) member.now) (state_of self.new)
+            out.old out.new) }
+        ensures err { OnErr result (IsInFront out.old out.new) }
+        ensures clock { self.new.tree.clock ≡ self.old.tree.clock }
+        ensures max_obj { self.new.inbox.max_obj ≡ self.old.inbox.max_obj }
+        ensures marks { Holds self.old self.new }
+        ensures sound { IsSoundEngine self.new }
+    {
+        match member {
+            SeqMember::Single(member) => self.run_single(caller, origin, member, out),
+            SeqMember::Atomic(block) => self.run_atomic(caller, origin, block, out),
+        }
+    }
+
+    #[tactic(auto, using(crate::proofs::Held::holds_self, crate::proofs::Held::holds_then, crate::proofs::Giving::giving_starts, crate::proofs::Giving::giving_breaks, crate::proofs::Giving::members_over))]
+    fn run_members(
+        &mut self,
+        caller: &[u8],
+        origin: Origin,
+        members: &List<SeqMember>,
+        out: &mut List<Command>,
+    ) -> Result<(), Memory>
+        requires sound { IsSoundEngine self.old }
+        ensures gives { OnOk result (Gives
+            (members_of (running self.old caller.now) origin (state_of self.old) members.now) (state_of self.new)
+            out.old out.new) }
+        ensures err { OnErr result (IsInFront out.old out.new) }
+        ensures clock { self.new.tree.clock ≡ self.old.tree.clock }
+        ensures max_obj { self.new.inbox.max_obj ≡ self.old.inbox.max_obj }
+        ensures marks { Holds self.old self.new }
+        ensures sound { IsSoundEngine self.new }
+    {
+        for member in members.as_slice() {
+            self.run_member(caller, origin, member, out)?;
+        }
+        Ok(())
+    }
+
+    #[tactic(auto, using(crate::proofs::Held::holds_self, crate::proofs::Held::holds_then, crate::proofs::Telling::nothing_more, crate::proofs::Telling::some_more, crate::proofs::Giving::sequence_gives))]
+    fn run_sequence(
+        &mut self,
+        caller: &[u8],
+        origin: Origin,
+        block: &SeqBlock,
+        out: &mut List<Command>,
+    ) -> Result<(), Memory>
+        requires sound { IsSoundEngine self.old }
+        ensures gives { OnOk result (Gives
+            (whole_sequence_of (running self.old caller.now) origin (state_of self.old) block.now) (state_of self.new)
+            out.old out.new) }
+        ensures err { OnErr result (IsInFront out.old out.new) }
+        ensures clock { self.new.tree.clock ≡ self.old.tree.clock }
+        ensures max_obj { self.new.inbox.max_obj ≡ self.old.inbox.max_obj }
+        ensures marks { Holds self.old self.new }
+        ensures sound { IsSoundEngine self.new }
+    {
+        let post = container_post(origin, block.id, block.no_resp, Named::Sequence);
+        put_status(self.alloc, &post, 200, out)?;
+        self.run_members(caller, origin, &block.members, out)?;
+        Ok(())
+    }
+
+    /// Runs one command of a message's body: what it comes to is put behind `out`, or waits where it joins a group that
+    /// stays open. Statuses and Results aren't commands to run. After `Memory` a part may be told, and the state may be
+    /// anywhere on the way: go back to a mark.
+    #[tactic(auto, unfolding(crate::specs::Run::run_command), using(crate::proofs::Held::holds_self, crate::proofs::Giving::gives_quietly, crate::proofs::Telling::nothing_more))]
+    pub fn run(
+        &mut self,
+        caller: &[u8],
+        origin: Origin,
+        command: &Command,
+        out: &mut List<Command>,
+    ) -> Result<(), Memory>
+        requires sound { IsSoundEngine self.old }
+        ensures gives { OnOk result (Gives
+            (run_command (running self.old caller.now) origin (state_of self.old) command.now) (state_of self.new)
+            out.old out.new) }
+        ensures err { OnErr result (IsInFront out.old out.new) }
+        ensures clock { clock_of self.new ≡ clock_of self.old }
+        ensures max_obj { max_obj_of self.new ≡ max_obj_of self.old }
+        ensures marks { Holds self.old self.new }
+        ensures sound { IsSoundEngine self.new }
+    {
+        match command {
+            Command::Plain(command) => self.run_plain(caller, origin, command, out),
+            Command::Alert(alert) => self.run_alert(caller, origin, alert, out),
+            Command::Atomic(block) => self.run_atomic(caller, origin, block, out),
+            Command::Sequence(block) => self.run_sequence(caller, origin, block, out),
+            Command::Status(_) => Ok(()),
+            Command::Results(_) => Ok(()),
+        }
+    }
+}
