@@ -1,0 +1,7 @@
+pub mod Machine
+pub mod Opening
+pub mod Sending
+pub mod Messages
+pub mod Events
+pub mod History
+pub mod Laws

@@ -1,0 +1,47 @@
+-- The state of the client's machine.
+use Rattle.std.specs.Prelude.{ℕ, Bool, List, Option}
+use Rattle.dm_base.specs.declared.values.Limits.{Limits}
+use Rattle.syncml_types.specs.Message.{Parts}
+use Rattle.dm_tree.specs.declared.nodes.Stamp.{Stamp}
+use Rattle.dm_auth.specs.declared.accounts.Account.{Account}
+use Rattle.dm_headers.specs.declared.standings.Standing.{Standing}
+use Rattle.dm_pack.specs.Entries.{Entry}
+use Rattle.dm_atomic.specs.Run.{State}
+use Rattle.dm_machine.specs.declared.kinds.Kind.{Kind}
+
+-- how far a session has come
+pub record Progress : Type 0 where
+  pub number : ℕ
+  -- the place of its account
+  pub account : ℕ
+  pub kind : Kind
+  pub standing : Standing
+  -- where in the queue the entries of the first package stand that still wait, and how many they are
+  pub opening_at : ℕ
+  pub opening_left : ℕ
+
+-- an open session, and the message that was sent last in it
+pub record Session : Type 0 where
+  pub progress : Progress
+  pub sent : Parts
+
+-- how an update ended, to be told in first packages until a session ends by Finished
+pub record UpdateResult : Type 0 where
+  pub correlator : Option (List ℕ)
+  pub ok : Bool
+
+pub record Machine : Type 0 where
+  pub limits : Limits
+  pub clock : Stamp
+  -- the working tree, the unfinished object, the open group, and the update that was started
+  pub engine : State
+  pub queue : List Entry
+  pub accounts : List Account
+  pub session : Option Session
+  -- the number of the session begun last; 0 at first
+  pub begun : ℕ
+  pub results : List UpdateResult
+  -- the RespURI told last in the session begun last
+  pub resp_uri : Option (List ℕ)
+  -- the message with which the session begun last was denied
+  pub farewell : Option Parts
