@@ -1,5 +1,5 @@
 -- Numbers that rise are all different, and of sorted numbers that don't rise two are equal.
-use Rattle.std.proofs.Common.{◌≡◌, ℕ, suc, ◌+◌, ◌-◌, ◌≤◌, ◌<◌, Bool, true, false, cond, List, [], ◌∷◌, length, get_or, refl, ◌∙◌, ap, sym, subst, arith, drop, drop-cons, length-drop}
+use Rattle.std.proofs.Common.{◌≡◌, ℕ, suc, ◌+◌, ◌-◌, ◌≤◌, Bool, true, false, cond, List, [], ◌∷◌, length, refl, ◌∙◌, ap, sym, subst, arith, drop, length-drop}
 use Rattle.std.specs.Prelude.{◌==◌, ◌&&◌, ◌||◌, nat_lt, not}
 use Rattle.std.specs.List.{list_any, sum_by}
 use Rattle.std.specs.List.Sorted.{IsPermutation, IsSorted, IsNonDecreasingBy}
@@ -36,23 +36,6 @@ tail-rises n (m ∷ ns) r = behind (nat_lt n m) (is_rising (m ∷ ns)) r
 pub rising_alone : (ns : List ℕ) → is_rising ns ≡ true → has_twins ns ≡ false
 rising_alone [] r = refl
 rising_alone (n ∷ ns) r = rw (above n n ns r (omega arith)) (rising_alone ns (tail-rises n ns r))
-
-two-on : (ns : List ℕ) (k : ℕ) → suc k < length ns
-    → is_rising (drop k ns) ≡ (nat_lt (get_or ns k 0) (get_or ns (suc k) 0) && is_rising (drop (suc k) ns))
-two-on ns k l =
-    ap is_rising (drop-cons ns k 0 (omega (arith, l)) ∙ ap (λ r. get_or ns k 0 ∷ r) behind)
-    ∙ ap (λ r. nat_lt (get_or ns k 0) (get_or ns (suc k) 0) && is_rising r) (sym behind)
-  where
-    behind : drop (suc k) ns ≡ get_or ns (suc k) 0 ∷ drop (suc (suc k)) ns
-    behind = drop-cons ns (suc k) 0 l
-
-pub next_pair : (ns : List ℕ) (at : ℕ) → 1 ≤ at → at < length ns
-    → is_rising (drop (at - 1) ns) ≡ (nat_lt (get_or ns (at - 1) 0) (get_or ns at 0) && is_rising (drop at ns))
-next_pair ns at h l =
-    let is : suc (at - 1) ≡ at = omega (arith, h) in
-    subst (λ n. is_rising (drop (at - 1) ns) ≡ (nat_lt (get_or ns (at - 1) 0) (get_or ns n 0) && is_rising
-    (drop n ns))) is
-    (two-on ns (at - 1) (subst (λ n. n < length ns) (sym is) l))
 
 pub last_alone : (ns : List ℕ) (at : ℕ) → 1 ≤ at → length ns ≤ at → is_rising (drop (at - 1) ns) ≡ true
 last_alone ns at h l = few (drop (at - 1) ns) (rw (length-drop (at - 1) ns) (omega (arith, h, l)))
