@@ -14,7 +14,7 @@ mod parts;
 pub mod ranges;
 
 pub use decoder::{DecodeError, Decoder, decode};
-pub use encoder::encode;
+pub use encoder::{encode, encode_with_length};
 pub use first::{FirstEnds, FirstGet};
 pub use first_get::read_first;
 pub use first_messages::{write_open, write_reply};
