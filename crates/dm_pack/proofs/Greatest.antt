@@ -1,28 +1,25 @@
 -- The greatest number that passes.
-use Rattle.std.proofs.Common.{◌≡◌, ℕ, zero, suc, ◌+◌, ◌-◌, ◌<◌, ◌≤◌, ◌^◌, Bool, true, false, if◌then◌else◌, List, [], ◌∷◌, length, refl, sym, ◌∙◌, ap, arith, take, min, nat_le}
+use Rattle.std.proofs.Common.{◌≡◌, ℕ, zero, suc, ◌+◌, ◌-◌, ◌<◌, ◌≤◌, ◌^◌, Bool, true, false, if◌then◌else◌, List, [], ◌∷◌, length, refl, sym, ◌∙◌, ap, arith, take, min, nat_le, Some, None}
 use Rattle.std.proofs.lemmas.List.{length-take}
 use Rattle.std.proofs.lemmas.Bool.{leb-true, leb-false, le-leb}
-use Rattle.wbxml_tokens.specs.Spelling.{spelled, page_behind}
 use Rattle.syncml_types.specs.declared.command.Command.{Command}
-use Rattle.syncml_types.specs.Canonical.{command_tokens}
-use Rattle.syncml_types.specs.Numbering.{with_numbers, ids_in}
+use Rattle.syncml_types.specs.Numbering.{with_numbers}
 use Rattle.syncml_types.specs.Lengths.{up_to_most}
-use Rattle.syncml_types.specs.Packing.{data_length, cut_data, cut_changed}
+use Rattle.syncml_types.specs.Packing.{data_length, cut_data}
 use Rattle.syncml_types.proofs.Parted.{bounds_data}
 use Rattle.dm_pack.specs.declared.place.Place.{Place}
 use Rattle.dm_pack.specs.Entries.{Entry, part_of, data_left}
 use Rattle.syncml_types.specs.declared.values.Header.{Header}
-use Rattle.syncml_types.specs.Pages.{with_value}
-use Rattle.dm_pack.specs.Filling.{greatest, fits, cut, numbered, next_part, next_rest, tail_of, tail_commands}
+use Rattle.dm_pack.specs.Filling.{greatest, fits, cut, numbered, next_part, next_rest, tail_of}
 use Rattle.dm_pack.specs.declared.filled.Tail.{Tail}
 use Rattle.dm_pack.specs.declared.filled.Tail.TheVariants.{Final, NextMessage, Nothing}
-use Rattle.dm_pack.specs.Measures.{behind, fits_at, end_length, data_cost, greatest_within, greatest_at, cut_at, place_of, ids_of}
-use Rattle.dm_pack.proofs.Measuring.{over_false, fits_next, long_apart, page_apart, cost_of}
-use Rattle.dm_pack.proofs.Parts.{hollow_part, part_data, part_ids, part_filled}
+use Rattle.dm_pack.specs.Measures.{behind, behind_all, behind_hollow, fits_at, end_length, data_cost, hollow_next, marks_of, with_cost, with_marks, greatest_within, greatest_with, greatest_at, cut_at, place_of, ids_of}
+use Rattle.dm_pack.proofs.Marking.{is_marked}
+use Rattle.dm_pack.proofs.Measuring.{place_at, same_place, over_false, fits_next, data_behind, cost_of}
+use Rattle.dm_pack.proofs.Parts.{hollow_part, part_data}
 use Rattle.dm_pack.proofs.Numbers.{numbered_append}
-use Rattle.std.proofs.lemmas.List.{append-nil}
 use Rattle.std.proofs.Common.{◌++◌, drop}
-use Rattle.std.proofs.lemmas.List.{drop_all, length-drop}
+use Rattle.std.proofs.lemmas.List.{append-nil, drop_all, length-drop}
 
 -- where none between passes, it may be looked for from below
 greatest_down : (passes : ℕ → Bool) (n more : ℕ) → ((k : ℕ) → n < k → k ≤ n + more → passes k ≡ false) → greatest passes (n + more) ≡ greatest passes n
@@ -64,54 +61,54 @@ test_by a b room budget false e f g = over_false a room (g (leb-false b budget e
 same_test : (a b room budget : ℕ) → (b ≤ budget → a ≤ room) → (budget < b → room < a) → nat_le a room ≡ nat_le b budget
 same_test a b room budget f g = test_by a b room budget (nat_le b budget) refl f g
 
-pub record PartMeasured (p : Place) (e : Entry) (bytes page next end used : ℕ) : Type 0 where
-  pub bytes_are : bytes ≡ up_to_most (0 + length (spelled p.page (command_tokens (with_numbers p.next (part_of e 0)))))
-  pub page_is : page ≡ page_behind p.page (command_tokens (with_numbers p.next (part_of e 0)))
-  pub next_is : next ≡ p.next + ids_in e.command
-  pub end_is : end ≡ up_to_most (end_length page next)
-  pub used_is : used ≡ min (min (min (p.used + bytes) (2 ^ 64 - 1) + 1) (2 ^ 64 - 1) + end) (2 ^ 64 - 1)
+budget_test : (p : Place) (v : List ℕ) (room n end used : ℕ) → end ≡ up_to_most (end_length p.page p.next)
+    → used ≡ min (min (p.used + 1) (2 ^ 64 - 1) + end) (2 ^ 64 - 1) → room ≤ 65536 → 0 < n → n ≤ length v - 1
+    → nat_le (data_length (take n v)) (room - used) ≡ fits_at room (with_cost (take n v) p)
+budget_test p v room n end used e u most pos low =
+    let long = length-take n v in
+    let cost = cost_of (take n v) (omega (arith, long, pos, low)) in
+    let least = (bounds_data (take n v)).0 in
+    sym (same_test _ (data_length (take n v)) room (room - used)
+    (λ h. omega (arith, cost, e, u, least, most, h)) (λ h. omega (arith, cost, e, u, least, most, h)))
 
-part_used : (p : Place) (e : Entry) (n : ℕ) → 0 < data_left e → 0 < n → n ≤ data_left e
-    → (behind p (part_of e n)).used ≡ p.used + length (spelled p.page (command_tokens (with_numbers p.next (part_of e 0)))) + 1 + data_length (take n (cut_data e.command))
-part_used p e n some pos most =
-    let whole = long_apart p.page p.next (part_of e n) in
-    let hollow = ap (λ c. length (spelled p.page (command_tokens (with_numbers p.next c)))) (hollow_part e n) in
-    let value = ap data_cost (part_data e n some) in
-    let long = length-take n (cut_data e.command) in
-    let cost = cost_of (take n (cut_data e.command)) (omega (arith, long, pos, most)) in
-    omega (arith, whole, hollow, value, cost)
+pub budget_greatest : (p : Place) (v : List ℕ) (room end used budget : ℕ) → end ≡ up_to_most (end_length p.page p.next)
+    → used ≡ min (min (p.used + 1) (2 ^ 64 - 1) + end) (2 ^ 64 - 1) → room ≤ 65536 → budget ≡ room - used
+    → greatest_within v budget ≡ greatest_with p v room
+unfolding greatest_within greatest_with
+budget_greatest p v room end used budget e u most is =
+    ap (λ b. greatest (λ n. nat_le (data_length (take n v)) b) (length v - 1)) is
+    ∙ greatest_same (λ n. nat_le (data_length (take n v)) (room - used)) (λ n. fits_at room (with_cost (take n v) p)) (length v - 1)
+    (λ k a b. budget_test p v room k end used e u most a b)
 
-part_page : (p : Place) (e : Entry) (n : ℕ) → (behind p (part_of e n)).page ≡ page_behind p.page (command_tokens (with_numbers p.next (part_of e 0)))
-part_page p e n =
-    sym (page_apart p.page p.next (part_of e n))
-    ∙ ap (λ c. page_behind p.page (command_tokens (with_numbers p.next c))) (hollow_part e n)
+-- a part is behind its Data
+pub part_at : (p : Place) (e : Entry) (n : ℕ) → 0 < data_left e → with_cost (take n (cut_data e.command)) (behind p (part_of e 0)) ≡ behind p (part_of e n)
+part_at p e n some =
+    ap (λ v. with_cost v (behind p (part_of e 0))) (sym (part_data e n some))
+    ∙ ap (λ c. with_cost (cut_data (part_of e n)) (behind p c)) (sym (hollow_part e n))
+    ∙ data_behind p (part_of e n)
 
-part_end : (p : Place) (e : Entry) (n bytes page next end used : ℕ) → PartMeasured p e bytes page next end used
-    → end ≡ up_to_most (end_length (behind p (part_of e n)).page (behind p (part_of e n)).next)
-part_end p e n bytes page next end used m =
-    m.end_is
-    ∙ ap (λ q. up_to_most (end_length q next)) (m.page_is ∙ sym (part_page p e n))
-    ∙ ap (λ k. up_to_most (end_length (behind p (part_of e n)).page k)) (m.next_is ∙ ap (λ i. p.next + i) (sym (part_ids e n)))
+-- the entry without its Data, and with marks, is the part without Data
+pub part_behind : (p q : Place) (e : Entry) → 0 < data_left e → q ≡ behind_hollow p e → with_marks e q ≡ behind p (part_of e 0)
+part_behind p q e some is =
+    let m = is_marked p e some in
+    let used = m.used in
+    ap (with_marks e) is ∙ same_place _ _ _ _ _ _ (omega (arith, used)) (sym m.page) (sym m.next)
 
-part_test : (p : Place) (e : Entry) (room n bytes page next end used : ℕ) → PartMeasured p e bytes page next end used → room ≤ 65536
-    → 0 < data_left e → 0 < n → n ≤ data_left e - 1
-    → nat_le (data_length (take n (cut_data e.command))) (room - used) ≡ fits_at room (behind p (part_of e n))
-part_test p e room n bytes page next end used m most some pos low =
-    let q = part_used p e n some pos (omega (arith, low)) in
-    let ends = part_end p e n bytes page next end used m in
-    let b = m.bytes_are in
-    let u = m.used_is in
-    let least = (bounds_data (take n (cut_data e.command))).0 in
-    sym (same_test _ (data_length (take n (cut_data e.command))) room (room - used)
-    (λ h. omega (arith, q, ends, b, u, least, most, h)) (λ h. omega (arith, q, ends, b, u, least, most, h)))
+-- what is marked comes to no less
+pub marks_there : (p q : Place) (e : Entry) → 0 < data_left e → q ≡ behind_hollow p e → marks_of e.command ≤ q.used + marks_of (part_of e 0)
+marks_there p q e some is =
+    let used = (is_marked p e some).used in
+    let same = ap (λ (r : Place). r.used) is in
+    omega (arith, used, same)
 
-pub part_greatest : (p : Place) (e : Entry) (room bytes page next end used budget : ℕ) → PartMeasured p e bytes page next end used → room ≤ 65536
-    → 0 < data_left e → budget ≡ room - used → greatest_within (cut_data e.command) budget ≡ greatest_at p e room
-unfolding greatest_within greatest_at
-part_greatest p e room bytes page next end used budget m most some is =
-    ap (λ b. greatest (λ n. nat_le (data_length (take n (cut_data e.command))) b) (data_left e - 1)) is
-    ∙ greatest_same (λ n. nat_le (data_length (take n (cut_data e.command))) (room - used)) (λ n. fits_at room (behind p (part_of e n))) (data_left e - 1)
-    (λ k a b. part_test p e room k bytes page next end used m most some a b)
+pub part_greatest : (p q : Place) (e : Entry) (v : List ℕ) (room : ℕ) → 0 < data_left e → q ≡ behind p (part_of e 0) → v ≡ cut_data e.command
+    → greatest_with q v room ≡ greatest_at p e room
+unfolding greatest_with greatest_at
+part_greatest p q e v room some is left =
+    ap (λ x. greatest (λ n. fits_at room (with_cost (take n v) x)) (length v - 1)) is
+    ∙ ap (λ w. greatest (λ n. fits_at room (with_cost (take n w) (behind p (part_of e 0)))) (length w - 1)) left
+    ∙ greatest_same (λ n. fits_at room (with_cost (take n (cut_data e.command)) (behind p (part_of e 0)))) (λ n. fits_at room (behind p (part_of e n)))
+    (data_left e - 1) (λ k a b. ap (fits_at room) (part_at p e k some))
 
 most_by : (p : ℕ → Bool) (k : ℕ) (t : Bool) → greatest p k ≤ k → (if t then suc k else greatest p k) ≤ suc k
 most_by p k true h = omega arith
@@ -137,15 +134,24 @@ one_pushed : (k n : ℕ) (e : Entry) (es : List Entry) → 0 < n → numbered k 
 one_pushed k zero e es h = absurd (omega (arith, h))
 one_pushed k (suc n) e es h = refl
 
-pub part_pushed : (body : List Command) (k n : ℕ) (e : Entry) (part : Command) (v : List ℕ) → 0 < n → 0 < data_left e
-    → part ≡ with_numbers k (part_of e 0) → v ≡ take n (cut_data e.command)
-    → body ++ cut_changed (with_value v) part ∷ [] ≡ body ++ numbered k (next_part n (e ∷ []))
-part_pushed body k n e part v some left is value =
-    ap (λ c. body ++ c ∷ [])
-    (ap (cut_changed (with_value v)) is
-    ∙ ap (λ w. cut_changed (with_value w) (with_numbers k (part_of e 0))) value
-    ∙ part_filled k n e left)
-    ∙ ap (λ l. body ++ l) (sym (one_pushed k n e [] some))
+pub part_pushed : (body : List Command) (k n : ℕ) (e : Entry) → 0 < n
+    → body ++ with_numbers k (part_of e n) ∷ [] ≡ body ++ numbered k (next_part n (e ∷ []))
+part_pushed body k n e some = ap (λ l. body ++ l) (sym (one_pushed k n e [] some))
+
+one_behind : (p : Place) (n : ℕ) (e : Entry) → 0 < n → behind_all p (next_part n (e ∷ [])) ≡ behind p (part_of e n)
+one_behind p zero e h = absurd (omega (arith, h))
+one_behind p (suc n) e h = refl
+
+-- where the message has come to with a part
+pub part_reached : (p q : Place) (e : Entry) (n token : ℕ) → 0 < n → n ≤ data_left e - 1 → 0 < data_left e → q ≡ behind p (part_of e 0)
+    → token ≡ data_length (take n (cut_data e.command)) → place_at (q.used + 1 + token) q.page q.next ≡ behind_all p (next_part n (e ∷ []))
+part_reached p q e n token pos low some is long =
+    let taken = length-take n (cut_data e.command) in
+    let cost = cost_of (take n (cut_data e.command)) (omega (arith, taken, pos, low)) in
+    same_place (q.used + 1 + token) (q.used + data_cost (take n (cut_data e.command))) q.page q.page q.next q.next (omega (arith, cost, long)) refl refl
+    ∙ ap (with_cost (take n (cut_data e.command))) is
+    ∙ part_at p e n some
+    ∙ sym (one_behind p n e pos)
 
 first_by : (k n : ℕ) (e : Entry) (es : List Entry) → numbered k (next_part n (e ∷ [])) ≡ numbered k (next_part n (e ∷ es))
 first_by k zero e es = refl
@@ -154,6 +160,22 @@ first_by k (suc n) e es = refl
 pub first_pushed : (body : List Command) (k n : ℕ) (e : Entry) (es xs : List Entry) → xs ≡ e ∷ es
     → body ++ numbered k (next_part n (e ∷ [])) ≡ body ++ numbered k (next_part n xs)
 first_pushed body k n e es xs is = ap (λ l. body ++ l) (first_by k n e es ∙ ap (λ l. numbered k (next_part n l)) (sym is))
+
+pub none_next : (p : Place) (es : List Entry) → None ≡ hollow_next p es → es ≡ []
+none_next p [] h = refl
+none_next p (e ∷ es) h = absurd (cc)
+
+pub some_next : (p q : Place) (es : List Entry) → Some q ≡ hollow_next p es → 0 < length es
+some_next p q [] h = absurd (cc)
+some_next p q (e ∷ es) h = omega arith
+
+pub hollow_first : (p q : Place) (e : Entry) (es xs : List Entry) → xs ≡ e ∷ es → Some q ≡ hollow_next p xs → q ≡ behind_hollow p e
+hollow_first p q e es xs is h = let first : Some q ≡ Some (behind_hollow p e) = h ∙ ap (hollow_next p) is in cc
+
+pub first_reached : (p : Place) (n : ℕ) (e : Entry) (es xs : List Entry) → xs ≡ e ∷ es
+    → behind_all p (next_part n (e ∷ [])) ≡ behind_all p (next_part n xs)
+first_reached p zero e es xs is = refl
+first_reached p (suc n) e es xs is = ap (λ l. behind_all p (next_part (suc n) l)) (sym is)
 
 pub cut_first : (p : Place) (room : ℕ) (e : Entry) (es xs : List Entry) → xs ≡ e ∷ es → greatest_at p e room ≡ cut_at p room xs
 cut_first p room e es xs is = ap (cut_at p room) (sym is)
@@ -188,24 +210,11 @@ some_tail (e ∷ es) heard h = refl
 pub tail_waits : (whole : ℕ) (es : List Entry) (heard : Bool) → whole < length es → Nothing ≡ tail_of (drop whole es) heard
 tail_waits whole es heard h = some_tail (drop whole es) heard (let long = length-drop whole es in omega (arith, long, h))
 
-no_next : (n : ℕ) → next_part n [] ≡ []
-no_next zero = refl
-no_next (suc n) = refl
-
 -- the body is numbered through
-pub whole_body : (before : List Command) (n : ℕ) (next : List Entry) (heard : Bool) (k : ℕ) (t : Tail) → k ≡ 1 + ids_of before → t ≡ tail_of next heard
-    → (numbered 1 before ++ numbered k (next_part n next)) ++ numbered k (tail_commands t) ≡ numbered 1 (before ++ next_part n next ++ tail_commands t)
-whole_body before n [] heard k t is tail =
-    ap (λ l. (numbered 1 before ++ numbered k l) ++ numbered k (tail_commands t)) (no_next n)
-    ∙ ap (λ l. l ++ numbered k (tail_commands t)) (append-nil (numbered 1 before))
-    ∙ ap (λ m. numbered 1 before ++ numbered m (tail_commands t)) is
-    ∙ sym (numbered_append 1 before (tail_commands t))
-    ∙ ap (λ l. numbered 1 (l ++ tail_commands t)) (sym (append-nil before))
-    ∙ ap (λ l. numbered 1 (before ++ l ++ tail_commands t)) (sym (no_next n))
-whole_body before n (e ∷ es) heard k t is tail =
-    ap (λ u. (numbered 1 before ++ numbered k (next_part n (e ∷ es))) ++ numbered k (tail_commands u)) tail
-    ∙ append-nil (numbered 1 before ++ numbered k (next_part n (e ∷ es)))
-    ∙ ap (λ m. numbered 1 before ++ numbered m (next_part n (e ∷ es))) is
-    ∙ sym (numbered_append 1 before (next_part n (e ∷ es)))
-    ∙ ap (numbered 1) (sym (append-nil (before ++ next_part n (e ∷ es))))
-    ∙ ap (λ u. numbered 1 (before ++ next_part n (e ∷ es) ++ tail_commands u)) (sym tail)
+pub whole_body : (before part tail : List Command) (j k : ℕ) → j ≡ 1 + ids_of before → k ≡ 1 + ids_of (before ++ part)
+    → (numbered 1 before ++ numbered j part) ++ numbered k tail ≡ numbered 1 (before ++ part ++ tail)
+whole_body before part tail j k first next =
+    ap (λ m. (numbered 1 before ++ numbered m part) ++ numbered k tail) first
+    ∙ ap (λ l. l ++ numbered k tail) (sym (numbered_append 1 before part))
+    ∙ ap (λ m. numbered 1 (before ++ part) ++ numbered m tail) next
+    ∙ sym (numbered_append 1 (before ++ part) tail)

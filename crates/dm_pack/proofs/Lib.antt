@@ -2,6 +2,8 @@ pub mod Changing
 pub mod Apart
 pub mod Numbers
 pub mod Measuring
+pub mod Around
+pub mod Marking
 pub mod Fit
 pub mod Parts
 pub mod Greatest
@@ -12,6 +14,7 @@ pub mod Near
 pub mod Left
 pub mod Bare
 pub mod Progress
+pub mod Ending
 pub mod Most
 pub mod Ready
 pub mod Fixtures

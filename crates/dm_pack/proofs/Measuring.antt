@@ -17,13 +17,14 @@ use Rattle.syncml_types.proofs.Parted.{spells_in_parts, spells_commands, bounds_
 use Rattle.syncml_types.proofs.Pages.{page_without_data, page_without_numbers}
 use Rattle.syncml_types.proofs.Rest.{rest_and_data}
 use Rattle.dm_pack.specs.declared.place.Place.{Place}
+use Rattle.dm_pack.specs.Entries.{Entry}
 use Rattle.dm_pack.specs.Filling.{numbered, asks_next, fits}
-use Rattle.dm_pack.specs.Measures.{ids_of, front_length, front_page, end_length, behind, fits_at, within, place_of, hollow_item, data_cost, cost_within}
+use Rattle.dm_pack.specs.Measures.{ids_of, front_length, front_page, end_length, behind, behind_hollow, fits_at, within, with_cost, place_of, hollow_item, data_cost, cost_within}
 use Rattle.dm_pack.proofs.Changing.{agree_at}
 use Rattle.dm_pack.proofs.Numbers.{numbered_append, ids_append, number_changed, item_numbered, many_bytes, ids_changed}
 use Rattle.dm_pack.proofs.Apart.{HasData, has_data, nothing_out}
 
-one_alone : (c : Command) → commands_tokens (c ∷ []) ≡ command_tokens c
+pub one_alone : (c : Command) → commands_tokens (c ∷ []) ≡ command_tokens c
 unfolding commands_tokens
 one_alone c = append-nil (command_tokens c)
 
@@ -278,56 +279,45 @@ not_within room p h = rw h refl
 is_within : (room : ℕ) (p : Place) → fits_at room p ≡ true → within room p ≡ Some p
 is_within room p h = rw h refl
 
--- how long a command is without the Data that may be cut
-abbrev pub hollow_bytes : Place → Command → ℕ
-hollow_bytes p c = length (spelled p.page (command_tokens (with_numbers p.next (cut_changed hollow_item c))))
+-- a command is behind its Data, put in where it was taken out
+pub data_behind : (p : Place) (c : Command) → with_cost (cut_data c) (behind p (cut_changed hollow_item c)) ≡ behind p c
+data_behind p c =
+    let whole = long_apart p.page p.next c in
+    same_place _ _ _ _ _ _ (omega (arith, whole)) (page_apart p.page p.next c) (ap (λ n. p.next + n) (ids_apart c))
 
-pub record Measured (p : Place) (c : Command) (bytes page next end : ℕ) : Type 0 where
-  pub bytes_are : bytes ≡ up_to_most (0 + hollow_bytes p c)
-  pub page_is : page ≡ (behind p c).page
-  pub next_is : next ≡ (behind p c).next
-  pub end_is : end ≡ up_to_most (end_length page next)
+pub reached : (p q : Place) (e : Entry) (v : List ℕ) → v ≡ cut_data e.command → q ≡ behind_hollow p e → with_cost v q ≡ behind p e.command
+reached p q e v left is = ap (λ w. with_cost w q) left ∙ ap (with_cost (cut_data e.command)) is ∙ data_behind p e.command
 
-long_behind : (p : Place) (c : Command) → (behind p c).used ≡ p.used + hollow_bytes p c + data_cost (cut_data c)
-long_behind p c = let whole = long_apart p.page p.next c in omega (arith, whole)
+pub hollow_is : (p : Place) (e : Entry) (bytes page ids : ℕ) → length (spelled p.page (command_tokens (with_numbers p.next (cut_changed hollow_item e.command)))) ≤ 1045
+    → bytes ≡ spelled_length 0 p.page (command_tokens (with_numbers p.next (cut_changed hollow_item e.command)))
+    → page ≡ page_behind p.page (command_tokens (with_numbers p.next e.command)) → ids ≡ ids_in e.command
+    → place_at (p.used + bytes) page (p.next + ids) ≡ behind_hollow p e
+hollow_is p e bytes page ids most b g i =
+    same_place _ _ _ _ _ _ (omega (arith, b, most)) (g ∙ sym (page_apart p.page p.next e.command))
+    (ap (λ n. p.next + n) (i ∙ sym (ids_apart e.command)))
 
-same_end : (p : Place) (c : Command) (bytes page next end : ℕ) → Measured p c bytes page next end
-    → end ≡ up_to_most (end_length (behind p c).page (behind p c).next)
-same_end p c bytes page next end m = m.end_is ∙ ap (λ q. up_to_most (end_length q next)) m.page_is ∙ ap (λ n. up_to_most (end_length (behind p c).page n)) m.next_is
+-- an entry without its Data, an Alert 1222 and Final come so far
+abbrev pub least_of : Place → ℕ → ℕ
+least_of p end = min (p.used + end) (2 ^ 64 - 1)
 
--- an entry's command without its Data, an Alert 1222 and Final take so many bytes
-abbrev pub least_of : Place → ℕ → ℕ → ℕ
-least_of p bytes end = min (min (p.used + bytes) (2 ^ 64 - 1) + end) (2 ^ 64 - 1)
+pub no_room : (p : Place) (v : List ℕ) (room end least : ℕ) → end ≡ up_to_most (end_length p.page p.next) → room ≤ 65536
+    → least ≡ least_of p end → room < least → None ≡ within room (with_cost v p)
+no_room p v room end least e most is over = sym (not_within room (with_cost v p) (over_false _ room (omega (arith, e, most, is, over))))
 
-pub no_room : (p : Place) (c : Command) (room bytes page next end least : ℕ) → Measured p c bytes page next end → room ≤ 65536
-    → least ≡ least_of p bytes end → room < least → None ≡ within room (behind p c)
-no_room p c room bytes page next end least m most is over =
-    let whole = long_behind p c in
-    let e = same_end p c bytes page next end m in
-    let b = m.bytes_are in
-    sym (not_within room (behind p c) (over_false _ room (omega (arith, whole, e, b, most, is, over))))
+pub no_data : (p : Place) (v : List ℕ) (room end least : ℕ) → end ≡ up_to_most (end_length p.page p.next) → room ≤ 65536
+    → least ≡ least_of p end → least ≤ room → None ≡ cost_within v (room - least) → None ≡ within room (with_cost v p)
+no_data p v room end least e most is under none =
+    let over = cost_was_over v (room - least) (sym none) in
+    sym (not_within room (with_cost v p) (over_false _ room (omega (arith, e, most, is, under, over))))
 
-pub no_data : (p : Place) (c : Command) (room bytes page next end least : ℕ) → Measured p c bytes page next end → room ≤ 65536
-    → least ≡ least_of p bytes end → least ≤ room → None ≡ cost_within (cut_data c) (room - least) → None ≡ within room (behind p c)
-no_data p c room bytes page next end least m most is under none =
-    let whole = long_behind p c in
-    let e = same_end p c bytes page next end m in
-    let b = m.bytes_are in
-    let over = cost_was_over (cut_data c) (room - least) (sym none) in
-    sym (not_within room (behind p c) (over_false _ room (omega (arith, whole, e, b, most, is, under, over))))
-
-pub with_data : (p : Place) (c : Command) (room bytes page next end least cost : ℕ) → Measured p c bytes page next end → room ≤ 65536
-    → least ≡ least_of p bytes end → least ≤ room → Some cost ≡ cost_within (cut_data c) (room - least)
-    → Some (place_at (p.used + bytes + cost) page next) ≡ within room (behind p c)
-with_data p c room bytes page next end least cost m most is under some =
-    let whole = long_behind p c in
-    let e = same_end p c bytes page next end m in
-    let b = m.bytes_are in
-    let costs = cost_was_under (cut_data c) (room - least) cost (sym some) in
+pub with_data : (p : Place) (v : List ℕ) (room end least cost : ℕ) → end ≡ up_to_most (end_length p.page p.next) → room ≤ 65536
+    → least ≡ least_of p end → least ≤ room → Some cost ≡ cost_within v (room - least)
+    → Some (place_at (p.used + cost) p.page p.next) ≡ within room (with_cost v p)
+with_data p v room end least cost e most is under some =
+    let costs = cost_was_under v (room - least) cost (sym some) in
     let low = costs.0 in
-    let cost_is = costs.1 in
-    ap Some (same_place _ _ _ _ _ _ (omega (arith, whole, b, most, is, under, cost_is)) m.page_is m.next_is)
-    ∙ sym (is_within room (behind p c) (le-leb _ room (omega (arith, whole, e, b, most, is, under, low, cost_is))))
+    ap (λ n. Some (place_at (p.used + n) p.page p.next)) costs.1
+    ∙ sym (is_within room (with_cost v p) (le-leb _ room (omega (arith, e, most, is, under, low))))
 
 pub cost_most : (v : List ℕ) (room cost : ℕ) → Some cost ≡ cost_within v room → cost ≤ room
 cost_most v room cost some = let costs = cost_was_under v room cost (sym some) in let low = costs.0 in let is = costs.1 in omega (arith, low, is)

@@ -42,17 +42,22 @@ size_by (suc sent) value = rw (ne_eqb (suc sent) 0 (λ e. omega (arith, e))) ref
 some_left : (value : List ℕ) (sent : ℕ) → 0 < length (drop sent value) → 0 < length value
 some_left value sent h = let long = length-drop sent value in omega (arith, long, h)
 
--- a copy of the command that is kept, numbered and marked, is the next part without Data
-pub part_marked : (first : ℕ) (size : Option ℕ) (c : Command) (value : List ℕ) (sent : ℕ) → IsApart c value sent
+-- the command that is kept, marked, is the next part without Data
+pub part_hollow : (size : Option ℕ) (c : Command) (value : List ℕ) (sent : ℕ) → IsApart c value sent
     → 0 < data_left (entry_of c value sent) → size ≡ size_told sent value
-    → cut_changed (marked size) (with_numbers first c) ≡ with_numbers first (part_of (entry_of c value sent) 0)
+    → cut_changed (marked size) c ≡ part_of (entry_of c value sent) 0
 unfolding part_of
-part_marked first size c value sent a some is =
+part_hollow size c value sent a some is =
     let left = ap length (data_apart c value sent a) in
     let more : 0 < length (drop sent value) = omega (arith, some, left) in
-    sym (number_changed (marked size) first c)
-    ∙ ap (with_numbers first)
-    (sym (marked_part (not (sent == 0)) size c (drop sent value) (a.place (some_left value sent more)) more (is ∙ size_by sent value)))
+    sym (marked_part (not (sent == 0)) size c (drop sent value) (a.place (some_left value sent more)) more (is ∙ size_by sent value))
+
+-- and so is a copy with CmdIDs
+part_marked : (first : ℕ) (size : Option ℕ) (c : Command) (value : List ℕ) (sent : ℕ) → IsApart c value sent
+    → 0 < data_left (entry_of c value sent) → size ≡ size_told sent value
+    → cut_changed (marked size) (with_numbers first c) ≡ with_numbers first (part_of (entry_of c value sent) 0)
+part_marked first size c value sent a some is =
+    sym (number_changed (marked size) first c) ∙ ap (with_numbers first) (part_hollow size c value sent a some is)
 
 -- ---- and with it
 
@@ -60,7 +65,7 @@ put_item : (begun : Bool) (n : ℕ) (i : Item) (v : List ℕ) → i.value ≡ So
     → with_value (take n v) (part_item begun 0 i) ≡ part_item begun n i
 put_item begun n i v e = ap (λ o. record i { meta = part_meta begun i; value = Some (take n (bytes_in o)); more = true }) (sym e)
 
-pub part_filled : (first n : ℕ) (e : Entry) → 0 < data_left e
+part_filled : (first n : ℕ) (e : Entry) → 0 < data_left e
     → cut_changed (with_value (take n (cut_data e.command))) (with_numbers first (part_of e 0)) ≡ with_numbers first (part_of e n)
 unfolding part_of
 part_filled first n e some =
@@ -70,6 +75,17 @@ part_filled first n e some =
     (twice (with_value (take n (cut_data e.command))) (part_item e.begun 0) e.command
     ∙ agree_at (λ i. with_value (take n (cut_data e.command)) (part_item e.begun 0 i)) (part_item e.begun n) e.command d.item d.is
     (put_item e.begun n d.item (cut_data e.command) d.value))
+
+-- marked and filled, a copy is the next part
+pub part_made : (first n : ℕ) (size : Option ℕ) (c : Command) (value : List ℕ) (sent : ℕ) (e : Entry) (v : List ℕ) → IsApart c value sent
+    → entry_of c value sent ≡ e → 0 < data_left e → size ≡ size_told sent value → v ≡ take n (cut_data e.command)
+    → cut_changed (with_value v) (cut_changed (marked size) (with_numbers first c)) ≡ with_numbers first (part_of e n)
+part_made first n size c value sent e v a is some told filled =
+    let left = ap data_left is in
+    ap (cut_changed (with_value v)) (part_marked first size c value sent a (omega (arith, left, some)) told)
+    ∙ ap (λ (x : Entry). cut_changed (with_value v) (with_numbers first (part_of x 0))) is
+    ∙ ap (λ w. cut_changed (with_value w) (with_numbers first (part_of e 0))) filled
+    ∙ part_filled first n e some
 
 -- ---- a whole command
 

@@ -1,5 +1,5 @@
 -- The first entry of a message always gets on, and so does the second behind a short one.
-use Rattle.std.proofs.Common.{◌≡◌, ◌⊎◌, inl, inr, ◌<◌, ◌≤◌, ◌+◌, ◌-◌, ◌^◌, ℕ, zero, suc, Bool, true, false, if◌then◌else◌, List, [], ◌∷◌, ◌++◌, length, take, drop, nat_le, Option, Some, None, refl, ap, ◌∙◌, arith}
+use Rattle.std.proofs.Common.{◌≡◌, ◌⊎◌, inl, inr, ◌<◌, ◌≤◌, ◌+◌, ◌-◌, ◌^◌, ℕ, zero, suc, Bool, true, false, if◌then◌else◌, List, [], ◌∷◌, ◌++◌, length, take, drop, nat_le, Option, Some, None, option_map, refl, ap, ◌∙◌, arith}
 use Rattle.std.proofs.lemmas.Bool.{le-leb, leb-true, leb-false}
 use Rattle.std.proofs.lemmas.List.{length-take}
 use Rattle.std.proofs.lemmas.Fmt.{length-decimal-le}
@@ -21,13 +21,13 @@ use Rattle.dm_pack.specs.declared.place.Place.{Place}
 use Rattle.dm_pack.specs.Entries.{Entry, IsReady, data_left, no_meta, with_size, part_meta, part_item, part_of, without_value}
 use Rattle.dm_pack.specs.Filling.{IsReadyHeader, fits, commands_of, taken, greatest, cut, fill}
 use Rattle.dm_pack.specs.Laws.{TheFirstGoesOut, TheSecondGoesOut}
-use Rattle.dm_pack.specs.Measures.{ids_of, front_length, front_page, behind, place_of}
+use Rattle.dm_pack.specs.Measures.{ids_of, front_length, front_page, behind, behind_hollow, place_of, hollow_item}
 use Rattle.dm_pack.proofs.Bare.{NearItem, near_command}
 use Rattle.dm_pack.proofs.Changing.{same}
 use Rattle.dm_pack.proofs.Fit.{short_items}
 use Rattle.dm_pack.proofs.Measuring.{behind_is, fits_next}
 use Rattle.dm_pack.proofs.Near.{Near, NotLonger, gap_most, near_more, near_nothing, near_append, near_same, near_then, near_behind, near_element, near_inserted}
-use Rattle.dm_pack.proofs.Numbers.{few_ids, few_most, many_bytes}
+use Rattle.dm_pack.proofs.Numbers.{few_ids, few_most, ids_changed, many_bytes}
 use Rattle.dm_pack.proofs.Parts.{part_ids}
 use Rattle.dm_pack.proofs.Taking.{taken_one, taken_none}
 use Rattle.dm_pack.proofs.Within.{tag_most, one_more, text_most, bare_front, end_most}
@@ -129,10 +129,10 @@ near_whole (Some i) few = near_whole_item i few
 
 -- ---- how long an entry is at most, whole or with one byte
 
-not_longer : (n ids : ℕ) → n ≤ 1000 → ids ≤ 1000 → NotLonger n 1000000000 ids
+not_longer : (n ids : ℕ) → n ≤ 70000 → ids ≤ 1000 → NotLonger n 1000000000 ids
 not_longer n ids low few = record { low = omega (arith, low, few); ten_digits = omega arith; high = omega (arith, few) }
 
-bare_most : (f : Item → Item) (p n : ℕ) (e : Entry) → IsReady e → n ≤ 1000 → NearItem 43 f (cut_item e.command)
+bare_most : (f : Item → Item) (p n : ℕ) (e : Entry) → IsReady e → n ≤ 70000 → NearItem 43 f (cut_item e.command)
     → length (spelled p (command_tokens (with_numbers n (cut_changed f e.command)))) ≤ 1045
 bare_most f p n e ready low item =
     let near = (near_command 43 f n 1000000000 e.command (not_longer n (ids_in e.command) low (few_ids e ready)) item).at p 0 in
@@ -143,7 +143,8 @@ bare_most f p n e ready low item =
 
 whole_most : (p n : ℕ) (e : Entry) → IsReady e → n ≤ 1000 → data_left e ≤ 1
     → length (spelled p (command_tokens (with_numbers n e.command))) ≤ 1045
-whole_most p n e ready low few =
+whole_most p n e ready less few =
+    let low : n ≤ 70000 = omega (arith, less) in
     let alike = ap (λ c. length (spelled p (command_tokens (with_numbers n c)))) (same e.command) in
     let most = bare_most (λ i. i) p n e ready low (near_whole (cut_item e.command) few) in
     omega (arith, alike, most)
@@ -151,9 +152,36 @@ whole_most p n e ready low few =
 part_most : (p n : ℕ) (e : Entry) → IsReady e → n ≤ 1000
     → length (spelled p (command_tokens (with_numbers n (part_of e 1)))) ≤ 1045
 unfolding part_of
-part_most p n e ready low =
+part_most p n e ready less =
+    let low : n ≤ 70000 = omega (arith, less) in
     let short : data_left e ≤ 2147483648 = short_cut e.command (short_items e.command ready.fit.short_data) in
     bare_most (part_item e.begun 1) p n e ready low (near_part e.begun (cut_item e.command) (omega (arith, short)))
+
+near_hollow_item : (i : Item) → Near 43 (item_tokens (hollow_item i)) (item_tokens (without_value i))
+near_hollow_item i = near_whole_item (hollow_item i) (no_bytes i.value)
+  where
+    no_bytes : (o : Option (List ℕ)) → length (bytes_in (option_map (λ _. []) o)) ≤ 1
+    no_bytes None = omega arith
+    no_bytes (Some v) = omega arith
+
+near_hollow : (o : Option Item) → NearItem 43 hollow_item o
+near_hollow None = tt
+near_hollow (Some i) = near_hollow_item i
+
+pub hollow_most : (p n : ℕ) (e : Entry) → IsReady e → n ≤ 70000
+    → length (spelled p (command_tokens (with_numbers n (cut_changed hollow_item e.command)))) ≤ 1045
+hollow_most p n e ready low = bare_most hollow_item p n e ready low (near_hollow (cut_item e.command))
+
+-- and so its place is low
+pub hollow_low : (p q : Place) (e : Entry) → IsReady e → p.used ≤ 65536 → p.next ≤ 1 + p.used → q ≡ behind_hollow p e
+    → (q.used ≤ 70000) × (q.next ≤ 70000)
+hollow_low p q e ready low next is =
+    let most = hollow_most p.page p.next e ready (omega (arith, low, next)) in
+    let few = few_ids e ready in
+    let ids = ids_changed hollow_item e.command in
+    let used = ap (λ (r : Place). r.used) is in
+    let number = ap (λ (r : Place). r.next) is in
+    (omega (arith, most, low, used), omega (arith, few, ids, next, low, number))
 
 -- ---- what fits
 

@@ -1,5 +1,5 @@
 -- No message is longer than the room.
-use Rattle.std.proofs.Common.{◌≡◌, ◌<◌, ◌≤◌, ◌+◌, ◌-◌, ◌^◌, ℕ, zero, suc, Bool, true, false, if◌then◌else◌, List, [], ◌∷◌, ◌++◌, length, length-append, take, drop, None, refl, sym, ap, ◌∙◌, arith, append_assoc}
+use Rattle.std.proofs.Common.{◌≡◌, ◌<◌, ◌≤◌, ◌+◌, ◌-◌, ◌^◌, ℕ, zero, suc, Bool, true, false, if◌then◌else◌, List, [], ◌∷◌, ◌++◌, length, length-append, min, take, drop, None, refl, sym, ap, ◌∙◌, arith, append_assoc}
 use Rattle.std.proofs.lemmas.List.{append-nil}
 use Rattle.std.proofs.lemmas.Bool.{leb-true, le-leb}
 use Rattle.std.proofs.lemmas.Fmt.{length-decimal-le}
@@ -13,17 +13,18 @@ use Rattle.wbxml_tokens.specs.Spelling.{token_bytes, page_after, spelled, page_b
 use Rattle.syncml_types.specs.declared.values.Header.{Header}
 use Rattle.syncml_types.specs.declared.command.Command.{Command}
 use Rattle.syncml_types.specs.Canonical.{canonical, optional, parent_tokens, text_tokens, number_tokens, flag_tokens, items_tokens, alert_tokens, command_tokens, commands_tokens, header_tokens, body_tokens, message_tokens}
-use Rattle.syncml_types.specs.Lengths.{head_tokens}
+use Rattle.syncml_types.specs.Lengths.{head_tokens, up_to_most, spelled_length}
 use Rattle.syncml_types.specs.Numbering.{with_numbers}
 use Rattle.syncml_types.specs.Packing.{body_tag, tail_tokens}
 use Rattle.syncml_types.proofs.Parted.{spelled_append}
+use Rattle.dm_pack.specs.declared.place.Place.{Place}
 use Rattle.dm_pack.specs.declared.filled.Tail.{Tail}
 use Rattle.dm_pack.specs.declared.filled.Tail.TheVariants.{Final, NextMessage, Nothing}
 use Rattle.dm_pack.specs.Entries.{Entry, part_of, data_left}
 use Rattle.dm_pack.specs.Filling.{numbered, asks_next, fits, commands_of, taken, greatest, cut, next_part, next_rest, tail_of, tail_commands, is_final, fill, IsReadyHeader}
-use Rattle.dm_pack.specs.Measures.{ids_of, front_length, front_page, end_length}
+use Rattle.dm_pack.specs.Measures.{ids_of, front_length, front_page, end_length, tail_length}
 use Rattle.dm_pack.proofs.Numbers.{numbered_append, some_bytes}
-use Rattle.dm_pack.proofs.Measuring.{fits_is, long_parted, long_measured, head_long}
+use Rattle.dm_pack.proofs.Measuring.{one_alone, fits_is, long_parted, long_measured, head_long}
 
 -- ---- how long tokens are at most
 
@@ -131,6 +132,25 @@ end_least p n =
     let alert = alert_least p n in
     let tail = tail_least (page_behind p (command_tokens (with_numbers n asks_next))) in
     omega (arith, alert, tail)
+
+-- ---- what stands at the end
+
+pub final_end : (p : Place) (n : ℕ) → n ≡ length (spelled p.page (tail_tokens true)) → n ≡ up_to_most (tail_length p Final)
+unfolding tail_length commands_tokens
+final_end p n is = let most = tail_most p.page true in omega (arith, is, most)
+
+pub next_end : (p : Place) (bytes n : ℕ) → bytes ≡ spelled_length 0 p.page (command_tokens (with_numbers p.next asks_next))
+    → n ≡ min (bytes + 2) (2 ^ 64 - 1) → n ≡ up_to_most (tail_length p NextMessage)
+unfolding tail_length
+next_end p bytes n is sum =
+    let asks = with_numbers p.next asks_next in
+    let one = ap (λ ts. length (spelled p.page ts)) (one_alone asks) in
+    let two = tail_open (page_behind p.page (commands_tokens (asks ∷ []))) in
+    omega (arith, is, sum, one, two)
+
+pub nothing_end : (p : Place) → 2 ≡ up_to_most (tail_length p Nothing)
+unfolding tail_length commands_tokens
+nothing_end p = let two = tail_open p.page in omega (arith, two)
 
 -- ---- a message without commands
 

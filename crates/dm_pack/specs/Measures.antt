@@ -1,17 +1,20 @@
 -- What is kept while a message is packed: entries with their Data apart, and how far the message has come.
 use Rattle.std.specs.Prelude.{◌≡◌, ◌==◌, ◌<◌, ◌≤◌, ◌+◌, ℕ, Bool, true, not, if◌then◌else◌, List, [], ◌∷◌, length, drop, Option, Some, None, option_map, take, nat_le, ◌-◌}
 use Rattle.wbxml_tokens.specs.Spelling.{spelled, page_behind}
+use Rattle.wbxml_tables.specs.declared.Element.TheVariants.{ESize}
+use Rattle.syncml_types.specs.declared.values.Meta.{Meta}
 use Rattle.syncml_types.specs.declared.values.Item.{Item}
 use Rattle.syncml_types.specs.declared.values.Header.{Header}
 use Rattle.syncml_types.specs.declared.command.Command.{Command}
-use Rattle.syncml_types.specs.Canonical.{command_tokens, commands_tokens}
+use Rattle.syncml_types.specs.Canonical.{optional, number_tokens, is_empty_meta, command_tokens, commands_tokens}
 use Rattle.syncml_types.specs.Lengths.{head_tokens}
 use Rattle.syncml_types.specs.Numbering.{ids_in, with_numbers}
 use Rattle.syncml_types.specs.Packing.{cut_item, cut_changed, cut_data, data_length, head_bytes, body_tag, tail_tokens}
 use Rattle.syncml_types.specs.Pages.{with_value}
 use Rattle.dm_pack.specs.declared.place.Place.{Place}
+use Rattle.dm_pack.specs.declared.filled.Tail.{Tail}
 use Rattle.dm_pack.specs.Entries.{Entry, with_size, part_of, data_left}
-use Rattle.dm_pack.specs.Filling.{numbered, asks_next, greatest}
+use Rattle.dm_pack.specs.Filling.{numbered, asks_next, greatest, tail_commands, is_final}
 
 -- ---- Data apart
 
@@ -36,6 +39,22 @@ marked (Some size) i = record i { meta = with_size size i.meta; more = true }
 -- how long Data is, told where none of it went out
 abbrev pub size_told : ℕ → List ℕ → Option ℕ
 size_told sent value = if sent == 0 then Some (length value) else None
+
+-- what a Meta costs in front of empty Data, the children but Size aside
+abbrev pub meta_cost : Option Meta → ℕ
+meta_cost None = 0
+meta_cost (Some meta) = if is_empty_meta meta then 1 else 6 + length (spelled 1 (optional (number_tokens ESize) meta.size))
+
+-- and with MoreData
+abbrev pub marks_cost : Item → ℕ
+marks_cost i = meta_cost i.meta + (if i.more then 1 else 0)
+
+abbrev pub marks_in : Option Item → ℕ
+marks_in None = 0
+marks_in (Some i) = marks_cost i
+
+abbrev pub marks_of : Command → ℕ
+marks_of c = marks_in (cut_item c)
 
 pub record HasEmptyData (c : Command) : Type 0 where
   pub item : Item
@@ -84,6 +103,30 @@ behind p c =
       next = p.next + ids_in c;
     }
 
+-- and with several
+abbrev pub behind_all : Place → List Command → Place
+behind_all p [] = p
+behind_all p (c ∷ cs) = behind_all (behind p c) cs
+
+-- and with an entry without its Data
+abbrev pub behind_hollow : Place → Entry → Place
+behind_hollow p e = behind p (cut_changed hollow_item e.command)
+
+-- behind the first entry of those that are left, without its Data
+abbrev pub hollow_next : Place → List Entry → Option Place
+hollow_next p [] = None
+hollow_next p (e ∷ es) = Some (behind_hollow p e)
+
+-- behind an entry's next part in the place of the whole, both without Data
+abbrev pub with_marks : Entry → Place → Place
+with_marks e p = record p { used = p.used + marks_of (part_of e 0) - marks_of e.command }
+
+-- the bytes of what stands at the end, and of what ends the message
+unfoldable pub tail_length : Place → Tail → ℕ
+tail_length p t =
+    let asks = commands_tokens (numbered p.next (tail_commands t)) in
+    length (spelled p.page asks) + length (spelled (page_behind p.page asks) (tail_tokens (is_final t)))
+
 abbrev pub fits_at : ℕ → Place → Bool
 fits_at room p = nat_le (p.used + end_length p.page p.next) room
 
@@ -91,6 +134,10 @@ fits_at room p = nat_le (p.used + end_length p.page p.next) room
 unfoldable pub data_cost : List ℕ → ℕ
 data_cost [] = 0
 data_cost (b ∷ bs) = 1 + data_length (b ∷ bs)
+
+-- with Data put into an entry
+abbrev pub with_cost : List ℕ → Place → Place
+with_cost value p = record p { used = p.used + data_cost value }
 
 -- a place, where the message fits with it
 abbrev pub within : ℕ → Place → Option Place
@@ -102,6 +149,10 @@ cost_within value room = if nat_le (data_cost value) room then Some (data_cost v
 -- the greatest number of bytes, fewer than all, that fit with their token
 unfoldable pub greatest_within : List ℕ → ℕ → ℕ
 greatest_within value budget = greatest (λ n. nat_le (data_length (take n value)) budget) (length value - 1)
+
+-- of a value, fewer than all, with which a message fits that has come so far with its part
+unfoldable pub greatest_with : Place → List ℕ → ℕ → ℕ
+greatest_with p value room = greatest (λ n. fits_at room (with_cost (take n value) p)) (length value - 1)
 
 -- and with which a part of an entry fits behind a place
 unfoldable pub greatest_at : Place → Entry → ℕ → ℕ

@@ -2,7 +2,7 @@
 ghost use Rattle.std.specs.Prelude.{◌≡◌, ◌<◌, ◌≤◌, ◌+◌, ◌++◌, ◌∷◌, ◌^◌, [], length, drop, OnOk, IfOk};
 ghost use Rattle.std.specs.List.{AllByRecursion};
 ghost use Rattle.syncml_types.specs.Canonical.{canonical};
-ghost use Rattle.syncml_types.specs.Fitness.{IsFit};
+ghost use Rattle.syncml_types.specs.Lengths.{up_to_most};
 ghost use Rattle.dm_pack.specs.Entries.{IsReady};
 ghost use Rattle.dm_pack.specs.Filling as Spec;
 ghost use Rattle.dm_pack.specs.Filling.{numbered, tail_commands, is_final, IsReadyHeader, CanBeTaken, fill as fill_of};
@@ -13,7 +13,7 @@ use crate::place::asks_next;
 use crate::queue::Queue;
 use dm_base::{Bytes, List, Memory};
 use std::alloc::Global;
-use syncml_codec::encode;
+use syncml_codec::encode_with_length;
 use syncml_types::{Command, Header, Message};
 
 /// What stands at the end of a message.
@@ -82,16 +82,18 @@ fn push_tail(alloc: Global, tail: Tail, next: u32, body: &mut List<Command>) -> 
 fn spelled(
     alloc: Global,
     message: Message,
+    message_length: u64,
     whole: usize,
     cut: u64,
     tail: Tail,
 ) -> Result<Filled, Memory>
+    requires { message_length ≡ up_to_most (length (canonical message)) }
     ensures message { IfOk result (λ f. f.message ≡ message) }
     ensures bytes { IfOk result (λ f. f.bytes ≡ canonical message) }
     ensures counts { IfOk result (λ f. (f.whole ≡ whole) × (f.cut ≡ cut)) }
     ensures tail { IfOk result (λ f. f.tail ≡ tail) }
 {
-    match encode(alloc, &message) {
+    match encode_with_length(alloc, &message, message_length) {
         Err(memory) => {
             drop(message);
             Err(memory)
@@ -109,7 +111,8 @@ fn spelled(
 /// The message that is sent next: as many entries from the front as fit into `room` bytes, measured as if an Alert 1222
 /// and Final stood behind them, and a part of the next one where it may be cut, with the greatest number of bytes with
 /// which the message fits so, fewer than are left. It ends with Final where nothing is left and the other side's package
-/// has ended (`heard`), with an Alert 1222 where nothing is left and it hasn't, else with neither.
+/// has ended (`heard`), with an Alert 1222 where nothing is left and it hasn't, else with neither. Each entry is measured
+/// once, and nothing is made or spelled to be measured.
 pub fn fill(queue: &Queue, header: &Header, room: u64, heard: bool) -> Result<Filled, Memory>
     requires ready { AllByRecursion IsReady queue.now }
     requires header { IsReadyHeader header.now }
@@ -125,10 +128,11 @@ pub fn fill(queue: &Queue, header: &Header, room: u64, heard: bool) -> Result<Fi
     let alloc = queue.alloc();
     let header_copy = copy_header(alloc, header)?;
     let mut body = List::new(alloc);
-    let (whole, place) = take_entries(queue, header, room, &mut body)?;
-    let cut = push_next(queue, whole, place, room, &mut body)?;
-    let tail = tail_of(queue, whole, heard);
+    let taken = take_entries(queue, header, room, &mut body)?;
+    let (cut, place) = push_next(queue, taken, room, &mut body)?;
+    let tail = tail_of(queue, taken.whole, heard);
     push_tail(alloc, tail, place.next, &mut body)?;
+    let message_length = place.used.saturating_add(place.tail_length(alloc, tail));
     let message = Message::of_parts(header_copy, body, is_final(tail));
-    spelled(alloc, message, whole, cut, tail)
+    spelled(alloc, message, message_length, taken.whole, cut, tail)
 }

@@ -6,6 +6,7 @@ pub mod filled;
 mod fitting;
 mod headers;
 pub mod laws;
+mod marks;
 mod place;
 pub mod queue;
 mod waiting;

@@ -1,15 +1,18 @@
 // How far a message has come.
-ghost use Rattle.std.specs.Prelude.{◌≡◌, ◌<◌, ◌≤◌, ◌+◌, ◌^◌, length, [], ◌∷◌};
-ghost use Rattle.wbxml_tokens.specs.Spelling.{spelled};
+ghost use Rattle.std.specs.Prelude.{◌≡◌, ◌<◌, ◌≤◌, ◌+◌, ◌^◌, length, [], true};
+ghost use Rattle.wbxml_tokens.specs.Spelling.{spelled, page_behind};
 ghost use Rattle.syncml_types.specs.Message.{IsShortData};
-ghost use Rattle.syncml_types.specs.Packing.{body_tag};
-ghost use Rattle.dm_pack.specs.Entries.{IsReady};
+ghost use Rattle.syncml_types.specs.Canonical.{command_tokens};
+ghost use Rattle.syncml_types.specs.Lengths.{up_to_most, spelled_length};
+ghost use Rattle.syncml_types.specs.Numbering.{with_numbers};
+ghost use Rattle.syncml_types.specs.Packing.{body_tag, tail_tokens};
+ghost use Rattle.dm_pack.specs.Entries.{IsReady, data_left, part_of};
 ghost use Rattle.dm_pack.specs.Filling as Filling;
 ghost use Rattle.dm_pack.specs.Filling.{IsReadyHeader};
 ghost use Rattle.dm_pack.specs.Measures as Spec;
-ghost use Rattle.dm_pack.specs.Measures.{behind, within, place_of};
-ghost use Rattle.syncml_types.specs.Lengths.{up_to_most};
+ghost use Rattle.dm_pack.specs.Measures.{behind_hollow, within, with_cost, place_of, marks_of};
 
+use crate::filled::Tail;
 use crate::waiting::Waiting;
 use dm_base::List;
 use std::alloc::Global;
@@ -36,25 +39,35 @@ pub(crate) fn asks_next(alloc: Global) -> Command
     })
 }
 
-#[tactic(auto, using(crate::proofs::Measuring::tail_on_page, crate::proofs::Measuring::tail_on_other), unfolding(crate::specs::Measures::end_length, syncml_types::specs::Numbering::ids_in))]
-fn end_with(asks: &Command, page: u8, next: u32) -> u64
-    requires asks { asks.now ≡ Filling.asks_next }
-    requires room { next + 1 < 2 ^ 32 }
-    ensures { result ≡ up_to_most (Spec.end_length page next) }
+// How many bytes the Alert 1222 takes, and the page behind it.
+#[tactic(auto, unfolding(syncml_types::specs::Numbering::ids_in))]
+fn asks_length(alloc: Global, page: u8, next: u32) -> (u64, u8)
+    requires { next + 1 < 2 ^ 32 }
+    ensures length { result.0 ≡ spelled_length 0 page (command_tokens (with_numbers next Filling.asks_next)) }
+    ensures page { result.1 ≡ page_behind page (command_tokens (with_numbers next Filling.asks_next)) }
 {
-    let (bytes, behind) = numbered_length(page, next, asks);
-    bytes.saturating_add(if behind == 0 { 3 } else { 5 })
+    let asks = asks_next(alloc);
+    let measured = numbered_length(page, next, &asks);
+    drop(asks);
+    measured
+}
+
+// How many bytes Final takes, with what ends the message.
+#[tactic(auto, using(crate::proofs::Measuring::tail_on_page, crate::proofs::Measuring::tail_on_other))]
+fn final_length(page: u8) -> u64
+    ensures { result ≡ length (spelled page (tail_tokens true)) }
+{
+    if page == 0 { 3 } else { 5 }
 }
 
 // How many bytes an Alert 1222 and Final would take, and what ends the message.
+#[tactic(auto, unfolding(crate::specs::Measures::end_length))]
 pub(crate) fn end_length(alloc: Global, page: u8, next: u32) -> u64
     requires { next + 1 < 2 ^ 32 }
     ensures { result ≡ up_to_most (Spec.end_length page next) }
 {
-    let asks = asks_next(alloc);
-    let bytes = end_with(&asks, page, next);
-    drop(asks);
-    bytes
+    let (bytes, behind) = asks_length(alloc, page, next);
+    bytes.saturating_add(final_length(behind))
 }
 
 // What Data costs beside an empty Data element, where there is room for it. Data that is longer than the room isn't looked
@@ -97,27 +110,67 @@ impl Place {
         }
     }
 
-    // With one more entry whole, where the message fits then.
-    pub(crate) fn with_entry(self, alloc: Global, entry: &Waiting, room: u64) -> Option<Place>
+    // With one more entry, without the Data that may be cut.
+    pub(crate) fn with_hollow(self, entry: &Waiting) -> Place
         requires ready { IsReady entry.now }
-        requires room { room ≤ 65536 }
         requires low { (self.used ≤ 65536) × (self.next ≤ 1 + self.used) }
-        ensures { result ≡ within room (behind self entry.now.command) }
+        ensures place { result ≡ behind_hollow self entry.now }
+        ensures low { (result.used ≤ 70000) × (result.next ≤ 70000) }
     {
         let (bytes, page) = entry.hollow_length(self.page, self.next);
-        let next = self.next + entry.ids();
-        let end = end_length(alloc, page, next);
-        let least = self.used.saturating_add(bytes).saturating_add(end);
+        Place {
+            used: self.used + bytes,
+            page,
+            next: self.next + entry.ids(),
+        }
+    }
+
+    // With that Data, where the message fits then.
+    pub(crate) fn with_data(self, alloc: Global, value: &[u8], room: u64) -> Option<Place>
+        requires short { IsShortData value.now }
+        requires room { room ≤ 65536 }
+        requires low { self.next + 1 < 2 ^ 32 }
+        ensures { result ≡ within room (with_cost value.now self) }
+    {
+        let end = end_length(alloc, self.page, self.next);
+        let least = self.used.saturating_add(end);
         if least > room {
             return None;
         }
-        match cost_within(entry.left(), room - least) {
+        match cost_within(value, room - least) {
             None => None,
             Some(cost) => Some(Place {
-                used: self.used + bytes + cost,
-                page,
-                next,
+                used: self.used + cost,
+                page: self.page,
+                next: self.next,
             }),
+        }
+    }
+
+    // With the entry's next part in place of the whole entry, both without Data.
+    pub(crate) fn with_marks(self, entry: &Waiting) -> Place
+        requires some { 0 < data_left entry.now }
+        requires marks { marks_of entry.now.command ≤ self.used + marks_of (part_of entry.now 0) }
+        requires low { self.used ≤ 70000 }
+        ensures place { result ≡ Spec.with_marks entry.now self }
+        ensures low { result.used ≤ 70051 }
+    {
+        Place {
+            used: entry.marked_length(self.used),
+            page: self.page,
+            next: self.next,
+        }
+    }
+
+    // How many bytes stand behind the commands of a message.
+    pub(crate) fn tail_length(self, alloc: Global, tail: Tail) -> u64
+        requires { self.next + 1 < 2 ^ 32 }
+        ensures { result ≡ up_to_most (Spec.tail_length self tail) }
+    {
+        match tail {
+            Tail::Final => final_length(self.page),
+            Tail::NextMessage => asks_length(alloc, self.page, self.next).0.saturating_add(2),
+            Tail::Nothing => 2,
         }
     }
 }

@@ -1,6 +1,6 @@
 // An entry that waits. The Data that may be cut is kept apart, so that the rest is measured without looking at it, and
 // what went out of it is a number, so that nothing moves.
-ghost use Rattle.std.specs.Prelude.{◌≡◌, ◌<◌, ◌+◌, ◌^◌, IfOk, length, true};
+ghost use Rattle.std.specs.Prelude.{◌≡◌, ◌<◌, ◌≤◌, ◌+◌, ◌-◌, ◌^◌, IfOk, length, true};
 ghost use Rattle.wbxml_tokens.specs.Spelling.{page_behind};
 ghost use Rattle.syncml_types.specs.Fitness.{is_short, command_data};
 ghost use Rattle.syncml_types.specs.Pages.{with_value};
@@ -9,9 +9,10 @@ ghost use Rattle.syncml_types.specs.Lengths.{spelled_length};
 ghost use Rattle.syncml_types.specs.Numbering.{ids_in as ids_of_command, with_numbers};
 ghost use Rattle.syncml_types.specs.Packing.{cut_changed, cut_data, bytes_in};
 ghost use Rattle.dm_pack.specs.Entries.{fresh, data_left, part_of, rest_of, with_size, last_only, last_alone};
-ghost use Rattle.dm_pack.specs.Measures.{hollow_item, marked, put_back, size_told};
+ghost use Rattle.dm_pack.specs.Measures.{hollow_item, marked, marks_of, put_back, size_told};
 
 use crate::counting::ids_in;
+use crate::marks::{marked_cost, marks_cost};
 use dm_base::{Bytes, List, Memory};
 use std::alloc::Global;
 use std::marker::Model;
@@ -64,7 +65,7 @@ fn write_value(item: &mut Item, value: Bytes)
 }
 
 // Data for the item that may be cut.
-pub(crate) fn put_value(command: &mut Command, value: Bytes)
+fn put_value(command: &mut Command, value: Bytes)
     ensures { command.new ≡ cut_changed (with_value value) command.old }
 {
     match command.cut_item_mut() {
@@ -212,15 +213,35 @@ impl Waiting {
         Ok(command)
     }
 
-    // The next part, with CmdIDs and still without Data.
-    pub(crate) fn to_part(&self, alloc: Global, first: u32) -> Result<Command, Memory>
+    // How far a message comes with the next part where it comes so far with the whole, both without Data.
+    pub(crate) fn marked_length(&self, used: u64) -> u64
         requires some { 0 < data_left self.now }
-        requires room { first + ids_of_command self.now.command < 2 ^ 32 }
-        ensures { IfOk result (λ c. c ≡ with_numbers first (part_of self.now 0)) }
+        requires marks { marks_of self.now.command ≤ used + marks_of (part_of self.now 0) }
+        requires low { used ≤ 70000 }
+        ensures value { result ≡ used + marks_of (part_of self.now 0) - marks_of self.now.command }
+        ensures low { result ≤ 70051 }
     {
+        match self.command.cut_item() {
+            None => used,
+            Some(item) => {
+                let size = size_of(&self.value, self.sent);
+                used + marked_cost(item, size) - marks_cost(item)
+            }
+        }
+    }
+
+    // The next part with so many bytes of Data, and with CmdIDs.
+    pub(crate) fn to_part(&self, alloc: Global, first: u32, bytes: usize) -> Result<Command, Memory>
+        requires some { 0 < data_left self.now }
+        requires there { bytes ≤ data_left self.now }
+        requires room { first + ids_of_command self.now.command < 2 ^ 32 }
+        ensures { IfOk result (λ c. c ≡ with_numbers first (part_of self.now bytes)) }
+    {
+        let value = Bytes::of_slice(alloc, &self.left()[..bytes])?;
         let mut command = self.command.copy(alloc)?;
         command.set_ids(first);
         mark_part(&mut command, size_of(&self.value, self.sent));
+        put_value(&mut command, value);
         Ok(command)
     }
 

@@ -1,35 +1,56 @@
-use Rattle.std.proofs.Common.{◌∙◌, ap, arith, length}
+use Rattle.std.proofs.Common.{◌∙◌, sym, ap, arith, length}
 use Rattle.dm_pack.proofs.Left.{fill_taken, same_taken}
 use Rattle.dm_pack.proofs.Within.{fill_within}
 use Rattle.syncml_types.specs.Canonical.{canonical}
+use Rattle.syncml_types.specs.Lengths.{up_to_most}
+use Rattle.dm_pack.proofs.Ending.{packed_length}
 use Rattle.dm_pack.specs.Filling.{Filling}
 use Rattle.dm_pack.proofs.Packed.{if_ok, packed, packed_message, packed_fit}
 use Rattle.dm_pack.proofs.filled.fill.Goals as goal
 
 pub of_parts-message-requires : goal.of_parts-message-requires
 of_parts-message-requires c =
-    packed_fit c.args.header.now c.in_ok-header_copy.header_copy c.args.queue.now c.args.room c.args.heard c.in_ok-whole.whole c.in_ok-cut.cut c.in_ok-whole.place c.tail_of-tail.result
+    packed_fit c.args.header.now c.in_ok-header_copy.header_copy c.args.queue.now c.args.room c.args.heard c.in_ok-taken.taken.whole c.in_ok-cut.cut c.in_ok-taken.taken.place c.in_ok-cut.place c.tail_of-tail.result
     c.take_entries.new.body c.push_next.new.body c.push_tail.new.body
     (record {
-      whole_is = c.in_ok-whole.ensures.whole;
-      place_is = c.in_ok-whole.ensures.place;
-      first_is = c.in_ok-whole.ensures.body;
+      whole_is = c.in_ok-taken.ensures.whole;
+      place_is = c.in_ok-taken.ensures.place;
+      first_is = c.in_ok-taken.ensures.body;
       cut_there = c.in_ok-cut.ensures.number;
+      reached_is = c.in_ok-cut.ensures.place;
       more_is = c.in_ok-cut.ensures.body;
       tail_there = c.tail_of-tail.ensures;
       body_is = c.in_ok-push_tail.ensures;
     })
     c.in_ok-header_copy.ensures c.requires.header.fit c.requires.ready
 
+pub spelled-requires : goal.spelled-requires
+spelled-requires c =
+    packed_length c.args.header.now c.in_ok-header_copy.header_copy c.args.queue.now c.args.room c.args.heard c.is_final.result c.in_ok-taken.taken.whole c.in_ok-cut.cut c.in_ok-taken.taken.place c.in_ok-cut.place c.tail_of-tail.result
+    c.take_entries.new.body c.push_next.new.body c.push_tail.new.body c.tail_length.result c.saturating_add-message_length.result
+    (record {
+      whole_is = c.in_ok-taken.ensures.whole;
+      place_is = c.in_ok-taken.ensures.place;
+      first_is = c.in_ok-taken.ensures.body;
+      cut_there = c.in_ok-cut.ensures.number;
+      reached_is = c.in_ok-cut.ensures.place;
+      more_is = c.in_ok-cut.ensures.body;
+      tail_there = c.tail_of-tail.ensures;
+      body_is = c.in_ok-push_tail.ensures;
+    })
+    c.in_ok-header_copy.ensures c.is_final.ensures c.requires.ready c.requires.header c.requires.room.0 c.tail_length.ensures c.saturating_add-message_length.ensures
+    ∙ ap (λ m. up_to_most (length (canonical m))) (sym c.of_parts-message.ensures)
+
 pub returns-clause-message : goal.returns-clause-message
 returns-clause-message c =
-    let message = c.of_parts-message.ensures ∙ packed_message c.args.header.now c.in_ok-header_copy.header_copy c.args.queue.now c.args.room c.args.heard c.is_final.result c.in_ok-whole.whole c.in_ok-cut.cut c.in_ok-whole.place c.tail_of-tail.result
+    let message = c.of_parts-message.ensures ∙ packed_message c.args.header.now c.in_ok-header_copy.header_copy c.args.queue.now c.args.room c.args.heard c.is_final.result c.in_ok-taken.taken.whole c.in_ok-cut.cut c.in_ok-taken.taken.place c.in_ok-cut.place c.tail_of-tail.result
     c.take_entries.new.body c.push_next.new.body c.push_tail.new.body
     (record {
-      whole_is = c.in_ok-whole.ensures.whole;
-      place_is = c.in_ok-whole.ensures.place;
-      first_is = c.in_ok-whole.ensures.body;
+      whole_is = c.in_ok-taken.ensures.whole;
+      place_is = c.in_ok-taken.ensures.place;
+      first_is = c.in_ok-taken.ensures.body;
       cut_there = c.in_ok-cut.ensures.number;
+      reached_is = c.in_ok-cut.ensures.place;
       more_is = c.in_ok-cut.ensures.body;
       tail_there = c.tail_of-tail.ensures;
       body_is = c.in_ok-push_tail.ensures;
@@ -39,13 +60,14 @@ returns-clause-message c =
 
 pub returns-clause-bytes : goal.returns-clause-bytes
 returns-clause-bytes c =
-    let message = c.of_parts-message.ensures ∙ packed_message c.args.header.now c.in_ok-header_copy.header_copy c.args.queue.now c.args.room c.args.heard c.is_final.result c.in_ok-whole.whole c.in_ok-cut.cut c.in_ok-whole.place c.tail_of-tail.result
+    let message = c.of_parts-message.ensures ∙ packed_message c.args.header.now c.in_ok-header_copy.header_copy c.args.queue.now c.args.room c.args.heard c.is_final.result c.in_ok-taken.taken.whole c.in_ok-cut.cut c.in_ok-taken.taken.place c.in_ok-cut.place c.tail_of-tail.result
     c.take_entries.new.body c.push_next.new.body c.push_tail.new.body
     (record {
-      whole_is = c.in_ok-whole.ensures.whole;
-      place_is = c.in_ok-whole.ensures.place;
-      first_is = c.in_ok-whole.ensures.body;
+      whole_is = c.in_ok-taken.ensures.whole;
+      place_is = c.in_ok-taken.ensures.place;
+      first_is = c.in_ok-taken.ensures.body;
       cut_there = c.in_ok-cut.ensures.number;
+      reached_is = c.in_ok-cut.ensures.place;
       more_is = c.in_ok-cut.ensures.body;
       tail_there = c.tail_of-tail.ensures;
       body_is = c.in_ok-push_tail.ensures;
@@ -55,13 +77,14 @@ returns-clause-bytes c =
 
 pub returns-clause-within : goal.returns-clause-within
 returns-clause-within c =
-    let message = c.of_parts-message.ensures ∙ packed_message c.args.header.now c.in_ok-header_copy.header_copy c.args.queue.now c.args.room c.args.heard c.is_final.result c.in_ok-whole.whole c.in_ok-cut.cut c.in_ok-whole.place c.tail_of-tail.result
+    let message = c.of_parts-message.ensures ∙ packed_message c.args.header.now c.in_ok-header_copy.header_copy c.args.queue.now c.args.room c.args.heard c.is_final.result c.in_ok-taken.taken.whole c.in_ok-cut.cut c.in_ok-taken.taken.place c.in_ok-cut.place c.tail_of-tail.result
     c.take_entries.new.body c.push_next.new.body c.push_tail.new.body
     (record {
-      whole_is = c.in_ok-whole.ensures.whole;
-      place_is = c.in_ok-whole.ensures.place;
-      first_is = c.in_ok-whole.ensures.body;
+      whole_is = c.in_ok-taken.ensures.whole;
+      place_is = c.in_ok-taken.ensures.place;
+      first_is = c.in_ok-taken.ensures.body;
       cut_there = c.in_ok-cut.ensures.number;
+      reached_is = c.in_ok-cut.ensures.place;
       more_is = c.in_ok-cut.ensures.body;
       tail_there = c.tail_of-tail.ensures;
       body_is = c.in_ok-push_tail.ensures;
@@ -72,13 +95,14 @@ returns-clause-within c =
 
 pub returns-clause-whole : goal.returns-clause-whole
 returns-clause-whole c =
-    let same = packed c.args.header.now c.args.queue.now c.args.room c.args.heard c.in_ok-whole.whole c.in_ok-cut.cut c.in_ok-whole.place c.tail_of-tail.result
+    let same = packed c.args.header.now c.args.queue.now c.args.room c.args.heard c.in_ok-taken.taken.whole c.in_ok-cut.cut c.in_ok-taken.taken.place c.in_ok-cut.place c.tail_of-tail.result
     c.take_entries.new.body c.push_next.new.body c.push_tail.new.body
     (record {
-      whole_is = c.in_ok-whole.ensures.whole;
-      place_is = c.in_ok-whole.ensures.place;
-      first_is = c.in_ok-whole.ensures.body;
+      whole_is = c.in_ok-taken.ensures.whole;
+      place_is = c.in_ok-taken.ensures.place;
+      first_is = c.in_ok-taken.ensures.body;
       cut_there = c.in_ok-cut.ensures.number;
+      reached_is = c.in_ok-cut.ensures.place;
       more_is = c.in_ok-cut.ensures.body;
       tail_there = c.tail_of-tail.ensures;
       body_is = c.in_ok-push_tail.ensures;
@@ -87,13 +111,14 @@ returns-clause-whole c =
 
 pub returns-clause-cut : goal.returns-clause-cut
 returns-clause-cut c =
-    let same = packed c.args.header.now c.args.queue.now c.args.room c.args.heard c.in_ok-whole.whole c.in_ok-cut.cut c.in_ok-whole.place c.tail_of-tail.result
+    let same = packed c.args.header.now c.args.queue.now c.args.room c.args.heard c.in_ok-taken.taken.whole c.in_ok-cut.cut c.in_ok-taken.taken.place c.in_ok-cut.place c.tail_of-tail.result
     c.take_entries.new.body c.push_next.new.body c.push_tail.new.body
     (record {
-      whole_is = c.in_ok-whole.ensures.whole;
-      place_is = c.in_ok-whole.ensures.place;
-      first_is = c.in_ok-whole.ensures.body;
+      whole_is = c.in_ok-taken.ensures.whole;
+      place_is = c.in_ok-taken.ensures.place;
+      first_is = c.in_ok-taken.ensures.body;
       cut_there = c.in_ok-cut.ensures.number;
+      reached_is = c.in_ok-cut.ensures.place;
       more_is = c.in_ok-cut.ensures.body;
       tail_there = c.tail_of-tail.ensures;
       body_is = c.in_ok-push_tail.ensures;
@@ -102,13 +127,14 @@ returns-clause-cut c =
 
 pub returns-clause-tail : goal.returns-clause-tail
 returns-clause-tail c =
-    let same = packed c.args.header.now c.args.queue.now c.args.room c.args.heard c.in_ok-whole.whole c.in_ok-cut.cut c.in_ok-whole.place c.tail_of-tail.result
+    let same = packed c.args.header.now c.args.queue.now c.args.room c.args.heard c.in_ok-taken.taken.whole c.in_ok-cut.cut c.in_ok-taken.taken.place c.in_ok-cut.place c.tail_of-tail.result
     c.take_entries.new.body c.push_next.new.body c.push_tail.new.body
     (record {
-      whole_is = c.in_ok-whole.ensures.whole;
-      place_is = c.in_ok-whole.ensures.place;
-      first_is = c.in_ok-whole.ensures.body;
+      whole_is = c.in_ok-taken.ensures.whole;
+      place_is = c.in_ok-taken.ensures.place;
+      first_is = c.in_ok-taken.ensures.body;
       cut_there = c.in_ok-cut.ensures.number;
+      reached_is = c.in_ok-cut.ensures.place;
       more_is = c.in_ok-cut.ensures.body;
       tail_there = c.tail_of-tail.ensures;
       body_is = c.in_ok-push_tail.ensures;
@@ -117,13 +143,14 @@ returns-clause-tail c =
 
 pub returns-clause-taken : goal.returns-clause-taken
 returns-clause-taken c =
-    let same = packed c.args.header.now c.args.queue.now c.args.room c.args.heard c.in_ok-whole.whole c.in_ok-cut.cut c.in_ok-whole.place c.tail_of-tail.result
+    let same = packed c.args.header.now c.args.queue.now c.args.room c.args.heard c.in_ok-taken.taken.whole c.in_ok-cut.cut c.in_ok-taken.taken.place c.in_ok-cut.place c.tail_of-tail.result
     c.take_entries.new.body c.push_next.new.body c.push_tail.new.body
     (record {
-      whole_is = c.in_ok-whole.ensures.whole;
-      place_is = c.in_ok-whole.ensures.place;
-      first_is = c.in_ok-whole.ensures.body;
+      whole_is = c.in_ok-taken.ensures.whole;
+      place_is = c.in_ok-taken.ensures.place;
+      first_is = c.in_ok-taken.ensures.body;
       cut_there = c.in_ok-cut.ensures.number;
+      reached_is = c.in_ok-cut.ensures.place;
       more_is = c.in_ok-cut.ensures.body;
       tail_there = c.tail_of-tail.ensures;
       body_is = c.in_ok-push_tail.ensures;

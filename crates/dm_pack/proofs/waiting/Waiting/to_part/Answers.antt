@@ -1,10 +1,17 @@
-use Rattle.std.proofs.Common.{◌∙◌, ap, arith}
+use Rattle.std.proofs.Common.{◌∙◌, ap, arith, length, take}
+use Rattle.std.proofs.lemmas.List.{length-take}
 use Rattle.syncml_types.specs.Packing.{cut_changed}
+use Rattle.syncml_types.specs.Pages.{with_value}
 use Rattle.syncml_types.specs.Numbering.{with_numbers, ids_in}
-use Rattle.dm_pack.specs.Entries.{Entry, part_of, data_left}
 use Rattle.dm_pack.specs.Measures.{marked}
-use Rattle.dm_pack.proofs.Parts.{kept_ids, part_marked}
+use Rattle.dm_pack.proofs.Parts.{kept_ids, part_made}
 use Rattle.dm_pack.proofs.waiting.Waiting.to_part.Goals as goal
+
+pub slice_bounds-of_slice-end : goal.slice_bounds-of_slice-end
+slice_bounds-of_slice-end c =
+    let left = ap length c.left.ensures in
+    let long = length-take c.args.bytes c.left.result.now in
+    omega (arith, left, long, c.requires.there)
 
 pub set_ids-requires : goal.set_ids-requires
 set_ids-requires c =
@@ -14,9 +21,9 @@ set_ids-requires c =
 
 pub returns : goal.returns
 returns c =
-    let left = ap data_left c.self.view_is in
-    c.mark_part.ensures
-    ∙ ap (cut_changed (marked c.size_of.result)) (c.set_ids.ensures.command ∙ ap (with_numbers c.args.first) c.in_ok-command.ensures)
-    ∙ part_marked c.args.first c.size_of.result c.self.inside.command c.self.inside.value c.self.inside.sent c.self.invariant
-    (omega (arith, left, c.requires.some)) c.size_of.ensures
-    ∙ ap (λ (e : Entry). with_numbers c.args.first (part_of e 0)) c.self.view_is
+    c.put_value.ensures
+    ∙ ap (cut_changed (with_value c.in_ok-value.value))
+    (c.mark_part.ensures
+    ∙ ap (cut_changed (marked c.size_of.result)) (c.set_ids.ensures.command ∙ ap (with_numbers c.args.first) c.in_ok-command.ensures))
+    ∙ part_made c.args.first c.args.bytes c.size_of.result c.self.inside.command c.self.inside.value c.self.inside.sent c.args.self.now c.in_ok-value.value
+    c.self.invariant c.self.view_is c.requires.some c.size_of.ensures (c.in_ok-value.ensures ∙ ap (take c.args.bytes) c.left.ensures)

@@ -1,0 +1,85 @@
+// What MoreData and Size add to an entry that goes out as a part. It is counted, so no part is made to be measured.
+ghost use Rattle.std.specs.Prelude.{◌≡◌, ◌≤◌, length, decimal};
+ghost use Rattle.wbxml_tables.specs.declared.Element.TheVariants.{ESize};
+ghost use Rattle.wbxml_tokens.specs.Spelling.{spelled};
+ghost use Rattle.syncml_types.specs.Canonical.{optional, number_tokens, is_empty_meta};
+ghost use Rattle.dm_pack.specs.Measures as Spec;
+ghost use Rattle.dm_pack.specs.Measures.{marked};
+
+use itoa::Buffer;
+use syncml_types::{Item, Meta};
+
+fn decimal_length(number: u64) -> u64
+    ensures value { result ≡ length (decimal number) }
+    ensures low { result ≤ 40 }
+{
+    let mut digits = Buffer::new();
+    digits.format(number).len() as u64
+}
+
+// The bytes of Size behind a tag of its page.
+#[tactic(auto, using(crate::proofs::Marking::size_long))]
+fn size_cost(size: Option<u64>) -> u64
+    ensures value { result ≡ length (spelled 1 (optional (number_tokens ESize) size)) }
+    ensures low { result ≤ 44 }
+{
+    match size {
+        None => 0,
+        Some(size) => 4 + decimal_length(size),
+    }
+}
+
+fn is_bare(meta: &Meta) -> bool
+    ensures { result ≡ is_empty_meta meta.now }
+{
+    matches!(
+        meta,
+        Meta {
+            format: None,
+            media: None,
+            size: None,
+            next_nonce: None,
+            max_msg: None,
+            max_obj: None,
+            mark: None,
+            version: None,
+        }
+    )
+}
+
+// A Meta's tag alone, or its two ends with the way to the page of its children and back.
+fn meta_cost(meta: &Option<Meta>) -> u64
+    ensures value { result ≡ Spec.meta_cost meta.now }
+    ensures low { result ≤ 50 }
+{
+    match meta {
+        None => 0,
+        Some(meta) => {
+            if is_bare(meta) {
+                1
+            } else {
+                6 + size_cost(meta.size)
+            }
+        }
+    }
+}
+
+pub(crate) fn marks_cost(item: &Item) -> u64
+    ensures value { result ≡ Spec.marks_cost item.now }
+    ensures low { result ≤ 51 }
+{
+    let more = if item.more { 1 } else { 0 };
+    meta_cost(&item.meta) + more
+}
+
+// The same of a part.
+#[tactic(auto, using(crate::proofs::Marking::sized_cost))]
+pub(crate) fn marked_cost(item: &Item, size: Option<u64>) -> u64
+    ensures value { result ≡ Spec.marks_cost (marked size item.now) }
+    ensures low { result ≤ 51 }
+{
+    match size {
+        None => meta_cost(&item.meta) + 1,
+        Some(_) => 7 + size_cost(size),
+    }
+}
