@@ -170,7 +170,7 @@ done_in_group r s m next g post ts done out mid after e t h =
     whole-gives now.notices (closes (opened s) post now None) (in_group r s post ts) next out mid after
     t.told_is (subst (λ w. Gives w next mid after) same h) (in_group-is r s post ts None t.stop)
 
-abbrev group_now : Engine → Group
+abbrev pub group_now : Engine → Group
 group_now e = record { base = (tree_at e.journal.entries e.tree.rows e.mark).nodes; parts = e.parts }
 
 pub group_is_open : (e : Engine) → e.is_open ≡ true → (state_of e).group ≡ Some (group_now e)

@@ -95,7 +95,7 @@ work-starts r s post (work.Piece piece) inside =
     (subst (λ b. Keeps b g.what) inside (gather-keeps r.max_obj s.object piece))
 work-starts r s post (work.Alert code) inside = refl
 
-step-starts : (r : Running) (s : State) (t : Task) → IsMarked true t.work → (one_step r s t).state.started ≡ s.started
+pub step-starts : (r : Running) (s : State) (t : Task) → IsMarked true t.work → (one_step r s t).state.started ≡ s.started
 unfolding one_step
 step-starts r s t inside = work-starts r s t.post t.work inside
 

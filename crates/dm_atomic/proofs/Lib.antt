@@ -18,3 +18,8 @@ pub mod UpdateEnds
 pub mod Held
 pub mod Backs
 pub mod Results
+pub mod Staying
+pub mod Covering
+pub mod Anchors
+pub mod Starting
+pub mod Tellings

@@ -102,20 +102,20 @@ begun_with_its_update m order = by_test (is_updating m) refl
 -- ---- an update that ends
 
 module _ (clock : Stamp) (m : Nodes) (p : Path) (has : HasUpdate m p) where
-  abbrev package_path : Path
+  abbrev pub package_path : Path
   package_path = p ++ codes "Update" ∷ codes "PkgData" ∷ []
 
   abbrev state_path : Path
   state_path = p ++ codes "State" ∷ []
 
-  node_of : (q : Path) (x : Node) → get m q ≡ Some x → node_at m q ≡ x
+  pub node_of : (q : Path) (x : Node) → get m q ≡ Some x → node_at m q ≡ x
   node_of q x there = ap (λ o. unwrap_or o blank_node) there
 
   -- the tree with its package as the result leaves it
-  abbrev packed : Bool → Nodes
+  abbrev pub packed : Bool → Nodes
   packed ok = package_at clock m ok package_path
 
-  still : (ok : Bool) → get (packed ok) state_path ≡ Some has.state
+  pub still : (ok : Bool) → get (packed ok) state_path ≡ Some has.state
   still false = has.state_stands.there
   still true = elim (still_insert m package_path state_path (rewritten (asked_by [] clock) (node_at m package_path) [])
       has.state has.state_stands.there) [
@@ -152,7 +152,7 @@ module _ (clock : Stamp) (m : Nodes) (p : Path) (has : HasUpdate m p) where
         state = λ h. inr (five_texts ok);
       })).in_order order
 
-  ended : (ok : Bool) → update_ended clock m ok
+  pub ended : (ok : Bool) → update_ended clock m ok
       ≡ with_text (asked_by [] clock) m (packed ok) state_path (decimal (after_result ok))
   unfolding update_ended
   ended ok =

@@ -2,6 +2,7 @@
 use Rattle.std.specs.Prelude.{◌≡◌, ⊤, ℕ, Bool, true, false, List, [], All, Option, None, Some, is_some, Ok}
 use Rattle.syncml_types.specs.declared.command.Block.{Block}
 use Rattle.syncml_types.specs.declared.command.Command.{Command}
+use Rattle.syncml_types.specs.declared.command.Command.TheVariants as commands
 use Rattle.syncml_types.specs.declared.command.Step.{Step}
 use Rattle.dm_uri.specs.declared.uri.Uri.{Uri}
 use Rattle.dm_uri.specs.Reading.{parse_of}
@@ -34,6 +35,11 @@ NoneLostInQuiet = (s : State) → NoneLost [] (still s).made s.group (still s).s
 -- the Atomic's steps in its open group, which it joined or opened
 abbrev pub attempt : Running → State → List Task → Option Report
 attempt r s ts = (tried r (opens (join_or_break s ts).state) ts).failed
+
+-- of a command that is an Atomic
+abbrev pub IfAtomic : Command → (Block → Type 0) → Type 0
+IfAtomic (commands.Atomic b) holds = holds b
+IfAtomic other holds = ⊤
 
 -- after a failed Atomic the committed tree stands, and no group is open; and where it stays open, that tree is its base
 pub record Restores (r : Running) (s : State) (post : Post) (ts : List Task) : Type 0 where

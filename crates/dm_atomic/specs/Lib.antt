@@ -6,3 +6,4 @@ pub mod Laws
 pub mod Engine
 pub mod Updates
 pub mod Marks
+pub mod Stays

@@ -1,9 +1,12 @@
 // An Atomic, which joins the open group or opens one, and how a group ends.
-ghost use Rattle.std.specs.Prelude.{◌≡◌, [], None, Some, true, OnOk, OnErr};
+ghost use Rattle.std.specs.Prelude.{◌≡◌, [], None, Some, IsSome, true, OnOk, OnErr};
+ghost use Rattle.dm_commands.specs.Promises.{none_moved};
 ghost use Rattle.dm_atomic.specs.Made.{IsInFront};
-ghost use Rattle.dm_atomic.specs.Run.{opened, stays_open, succeeds, fails, closes, in_group, joins as joins_of, join_or_break as join_or_break_of, atomically};
+ghost use Rattle.dm_atomic.specs.Run.{opened, stays_open, succeeds, fails, closes, tried, in_group, joins as joins_of, join_or_break as join_or_break_of, atomically};
 ghost use Rattle.dm_atomic.specs.Engine.{state_of, running, IsSoundEngine, Gives};
-ghost use Rattle.dm_atomic.specs.Marks.{Holds};
+ghost use Rattle.dm_atomic.specs.Laws.{attempt};
+ghost use Rattle.dm_atomic.specs.Marks.{whole_of, Holds};
+ghost use Rattle.dm_atomic.specs.Stays.{tasks_cover, StayBut, committed_ids};
 
 use crate::attempts::{first_continues, skip_left};
 use crate::containers::{put_container, put_failed, put_parts_done, put_parts_undone};
@@ -15,7 +18,7 @@ use syncml_types::Command;
 
 impl Engine {
     // A step failed: the group is closed, and the tree before its first part stands again.
-    #[tactic(auto, using(crate::proofs::Held::holds_self, crate::proofs::Held::holds_then, crate::proofs::Held::holds_objects, crate::proofs::Closings::skipped_sound, crate::proofs::Telling::some_more, crate::proofs::Telling::told_both))]
+    #[tactic(auto, using(crate::proofs::Held::holds_self, crate::proofs::Held::holds_then, crate::proofs::Held::holds_objects, crate::proofs::Closings::skipped_sound, crate::proofs::Telling::some_more, crate::proofs::Telling::told_both, crate::proofs::Staying::stay_self, crate::proofs::Staying::stay_then, crate::proofs::Staying::none_then, crate::proofs::Staying::then_none))]
     fn fail(
         &mut self,
         post: &Post,
@@ -37,6 +40,8 @@ impl Engine {
         ensures err { OnErr result (IsInFront out.old out.new) }
         ensures clock { self.new.tree.clock ≡ self.old.tree.clock }
         ensures max_obj { self.new.inbox.max_obj ≡ self.old.inbox.max_obj }
+        ensures ids { StayBut none_moved (whole_of self.old) (whole_of self.new) }
+        ensures committed { OnOk result ((whole_of self.new).ids ≡ committed_ids (whole_of self.old)) }
         ensures marks { Holds self.old self.new }
         ensures sound { IsSoundEngine self.new }
     {
@@ -48,7 +53,7 @@ impl Engine {
     }
 
     // All steps succeeded and no object is being buffered: the answers of all parts are told, and the group is closed.
-    #[tactic(auto, using(crate::proofs::Held::holds_self, crate::proofs::Held::holds_then, crate::proofs::Closings::succeed_gives, crate::proofs::Telling::some_more))]
+    #[tactic(auto, using(crate::proofs::Held::holds_self, crate::proofs::Held::holds_then, crate::proofs::Closings::succeed_gives, crate::proofs::Telling::some_more, crate::proofs::Staying::stay_self, crate::proofs::Staying::stay_then, crate::proofs::Staying::none_then, crate::proofs::Staying::then_none))]
     fn succeed(
         &mut self,
         post: &Post,
@@ -68,6 +73,7 @@ impl Engine {
         ensures err { OnErr result (IsInFront out.old out.new) }
         ensures clock { self.new.tree.clock ≡ self.old.tree.clock }
         ensures max_obj { self.new.inbox.max_obj ≡ self.old.inbox.max_obj }
+        ensures ids { StayBut none_moved (whole_of self.old) (whole_of self.new) }
         ensures marks { Holds self.old self.new }
         ensures sound { IsSoundEngine self.new }
     {
@@ -78,7 +84,7 @@ impl Engine {
     }
 
     // An object is being buffered: the group stays open with one more part, whose answers wait.
-    #[tactic(auto, using(crate::proofs::Held::holds_self, crate::proofs::Held::holds_then, crate::proofs::Closings::stay_state, crate::proofs::Closings::stay_same))]
+    #[tactic(auto, using(crate::proofs::Held::holds_self, crate::proofs::Held::holds_then, crate::proofs::Closings::stay_state, crate::proofs::Closings::stay_same, crate::proofs::Staying::stay_self, crate::proofs::Staying::stay_then, crate::proofs::Staying::none_then, crate::proofs::Staying::then_none))]
     fn stay(&mut self, post: Post, done: List<Report>) -> Result<(), Memory>
         requires sound { IsSoundEngine self.old }
         requires is_open { self.old.is_open ≡ true }
@@ -92,6 +98,7 @@ impl Engine {
             })).state) }
         ensures clock { self.new.tree.clock ≡ self.old.tree.clock }
         ensures max_obj { self.new.inbox.max_obj ≡ self.old.inbox.max_obj }
+        ensures ids { StayBut none_moved (whole_of self.old) (whole_of self.new) }
         ensures marks { Holds self.old self.new }
         ensures sound { IsSoundEngine self.new }
     {
@@ -103,7 +110,7 @@ impl Engine {
     }
 
     // No step failed.
-    #[tactic(auto, using(crate::proofs::Held::holds_self, crate::proofs::Held::holds_then, crate::proofs::Closings::stay_closes, crate::proofs::Closings::succeed_closes, crate::proofs::Telling::nothing_more))]
+    #[tactic(auto, using(crate::proofs::Held::holds_self, crate::proofs::Held::holds_then, crate::proofs::Closings::stay_closes, crate::proofs::Closings::succeed_closes, crate::proofs::Telling::nothing_more, crate::proofs::Staying::stay_self, crate::proofs::Staying::stay_then, crate::proofs::Staying::none_then, crate::proofs::Staying::then_none))]
     fn close(
         &mut self,
         post: Post,
@@ -123,6 +130,7 @@ impl Engine {
         ensures err { OnErr result (IsInFront out.old out.new) }
         ensures clock { self.new.tree.clock ≡ self.old.tree.clock }
         ensures max_obj { self.new.inbox.max_obj ≡ self.old.inbox.max_obj }
+        ensures ids { StayBut none_moved (whole_of self.old) (whole_of self.new) }
         ensures marks { Holds self.old self.new }
         ensures sound { IsSoundEngine self.new }
     {
@@ -135,7 +143,7 @@ impl Engine {
     }
 
     // The tasks of an Atomic in its open group.
-    #[tactic(auto, using(crate::proofs::Held::holds_self, crate::proofs::Held::holds_then, crate::proofs::Closings::group_is_open, crate::proofs::Telling::some_more))]
+    #[tactic(auto, using(crate::proofs::Held::holds_self, crate::proofs::Held::holds_then, crate::proofs::Closings::group_is_open, crate::proofs::Telling::some_more, crate::proofs::Staying::stay_self, crate::proofs::Staying::stay_then, crate::proofs::Staying::none_then, crate::proofs::Staying::then_none))]
     fn run_open(
         &mut self,
         caller: &[u8],
@@ -151,6 +159,9 @@ impl Engine {
         ensures err { OnErr result (IsInFront out.old out.new) }
         ensures clock { self.new.tree.clock ≡ self.old.tree.clock }
         ensures max_obj { self.new.inbox.max_obj ≡ self.old.inbox.max_obj }
+        ensures ids { StayBut (tasks_cover tasks.now) (whole_of self.old) (whole_of self.new) }
+        ensures committed { OnOk result (IsSome (tried (running self.old caller.now) (state_of self.old) tasks.now).failed
+            → (whole_of self.new).ids ≡ committed_ids (whole_of self.old)) }
         ensures marks { Holds self.old self.new }
         ensures sound { IsSoundEngine self.new }
     {
@@ -178,7 +189,7 @@ impl Engine {
     }
 
     // An open group that these don't continue is broken.
-    #[tactic(auto, using(crate::proofs::Held::holds_self, crate::proofs::Held::holds_then, crate::proofs::Closings::joins_gives, crate::proofs::Closings::breaks_gives, crate::proofs::Telling::nothing_more))]
+    #[tactic(auto, using(crate::proofs::Held::holds_self, crate::proofs::Held::holds_then, crate::proofs::Closings::joins_gives, crate::proofs::Closings::breaks_gives, crate::proofs::Telling::nothing_more, crate::proofs::Staying::stay_self, crate::proofs::Staying::stay_then, crate::proofs::Staying::none_then, crate::proofs::Staying::then_none))]
     fn join_or_break(&mut self, tasks: &[Task], out: &mut List<Command>) -> Result<(), Memory>
         requires sound { IsSoundEngine self.old }
         ensures gives { OnOk result (Gives (join_or_break_of (state_of self.old) tasks.now) (state_of self.new)
@@ -186,6 +197,8 @@ impl Engine {
         ensures err { OnErr result (IsInFront out.old out.new) }
         ensures clock { self.new.tree.clock ≡ self.old.tree.clock }
         ensures max_obj { self.new.inbox.max_obj ≡ self.old.inbox.max_obj }
+        ensures ids { StayBut none_moved (whole_of self.old) (whole_of self.new) }
+        ensures committed { OnOk result (committed_ids (whole_of self.new) ≡ committed_ids (whole_of self.old)) }
         ensures marks { Holds self.old self.new }
         ensures sound { IsSoundEngine self.new }
     {
@@ -198,7 +211,7 @@ impl Engine {
 
     /// An Atomic of these tasks: all are run or none, and the answers wait where its object goes on. After `Memory` a
     /// part may be told.
-    #[tactic(auto, using(crate::proofs::Held::holds_self, crate::proofs::Held::holds_then, crate::proofs::Giving::gives_in_front, crate::proofs::Giving::gives_more))]
+    #[tactic(auto, using(crate::proofs::Held::holds_self, crate::proofs::Held::holds_then, crate::proofs::Giving::gives_in_front, crate::proofs::Giving::gives_more, crate::proofs::Staying::stay_self, crate::proofs::Staying::stay_then, crate::proofs::Staying::none_then, crate::proofs::Staying::then_none))]
     pub(crate) fn atomic(
         &mut self,
         caller: &[u8],
@@ -213,6 +226,9 @@ impl Engine {
         ensures err { OnErr result (IsInFront out.old out.new) }
         ensures clock { self.new.tree.clock ≡ self.old.tree.clock }
         ensures max_obj { self.new.inbox.max_obj ≡ self.old.inbox.max_obj }
+        ensures ids { StayBut (tasks_cover tasks.now) (whole_of self.old) (whole_of self.new) }
+        ensures committed { OnOk result (IsSome (attempt (running self.old caller.now) (state_of self.old) tasks.now)
+            → (whole_of self.new).ids ≡ committed_ids (whole_of self.old)) }
         ensures marks { Holds self.old self.new }
         ensures sound { IsSoundEngine self.new }
     {

@@ -6,7 +6,8 @@ ghost use Rattle.dm_commands.specs.Outcomes.{is_success as is_success_of};
 ghost use Rattle.dm_atomic.specs.Made.{IsInFront};
 ghost use Rattle.dm_atomic.specs.Run.{tried, first_continues as continues_first, left_by, left_object};
 ghost use Rattle.dm_atomic.specs.Engine.{state_of, running, FitsObject, IsSoundEngine, Only, Tries};
-ghost use Rattle.dm_atomic.specs.Marks.{Holds, ObjectsGo};
+ghost use Rattle.dm_atomic.specs.Marks.{whole_of, Holds, ObjectsGo};
+ghost use Rattle.dm_atomic.specs.Stays.{tasks_cover, StayBut};
 
 use crate::engine::Engine;
 use crate::reports::Report;
@@ -73,7 +74,7 @@ pub(crate) fn skip_left(inbox: &mut Inbox, unrun: &[Task]) -> Result<(), Memory>
 impl Engine {
     /// Runs tasks up to the first that fails: its report, and how many were run. `done` gets the reports of those
     /// before it. None of the reports is told. After `Memory` a notice may be told.
-    #[tactic(auto, using(crate::proofs::Held::holds_self, crate::proofs::Held::holds_then, crate::proofs::Engines::only_then, crate::proofs::Tried::runs_still, crate::proofs::Tried::trying_starts, crate::proofs::Tried::trying_stands, crate::proofs::Tried::trying_breaks))]
+    #[tactic(auto, using(crate::proofs::Held::holds_self, crate::proofs::Held::holds_then, crate::proofs::Engines::only_then, crate::proofs::Tried::runs_still, crate::proofs::Tried::trying_starts, crate::proofs::Tried::trying_stands, crate::proofs::Tried::trying_breaks, crate::proofs::Staying::stay_self, crate::proofs::Staying::stay_then))]
     pub(crate) fn try_all(
         &mut self,
         caller: &[u8],
@@ -88,6 +89,7 @@ impl Engine {
             failed out.old out.new) }
         ensures err { OnErr result (IsInFront out.old out.new) }
         ensures only { Only self.old self.new }
+        ensures ids { StayBut (tasks_cover tasks.now) (whole_of self.old) (whole_of self.new) }
         ensures marks { Holds self.old self.new }
         ensures sound { IsSoundEngine self.new }
     {

@@ -1,10 +1,15 @@
 // Commands of a message's body.
-ghost use Rattle.std.specs.Prelude.{◌≡◌, false, [], ◌∷◌, OnOk, OnErr};
-ghost use Rattle.dm_atomic.specs.Tasks.{plain_tasks as plain_tasks_of, alert_task as alert_task_of, member_tasks as member_tasks_of};
+ghost use Rattle.std.specs.Prelude.{◌≡◌, true, false, [], ◌∷◌, None, IsSome, OnOk, OnErr};
+ghost use Rattle.std.specs.List.{list_any};
+ghost use Rattle.syncml_types.specs.declared.command.Command.TheVariants as commands;
+ghost use Rattle.dm_commands.specs.Promises.{none_moved, KeepIdsBut};
+ghost use Rattle.dm_atomic.specs.Tasks.{plain_tasks as plain_tasks_of, alert_task as alert_task_of, member_tasks as member_tasks_of, members_tasks as members_tasks_of};
 ghost use Rattle.dm_atomic.specs.Made.{IsInFront};
 ghost use Rattle.dm_atomic.specs.Run.{breaks_first, one_alone as alone_of, in_sequence as sequence_of, run_atomic as atomic_of, run_member as member_of, run_members as members_of, run_sequence as whole_sequence_of, run_command};
 ghost use Rattle.dm_atomic.specs.Engine.{state_of, running, IsSoundEngine, Gives};
-ghost use Rattle.dm_atomic.specs.Marks.{Holds};
+ghost use Rattle.dm_atomic.specs.Laws.{attempt, IfAtomic};
+ghost use Rattle.dm_atomic.specs.Marks.{whole_of, Holds};
+ghost use Rattle.dm_atomic.specs.Stays.{work_covers, tasks_cover, member_covers, seq_member_covers, covers, StayBut, committed_ids};
 ghost use Rattle.dm_atomic.specs.Updates.{clock_of, max_obj_of};
 
 use crate::engine::Engine;
@@ -16,7 +21,7 @@ use syncml_types::{AlertCmd, Block, Command, Member, Plain, SeqBlock, SeqMember}
 
 impl Engine {
     // A step of a verb breaks an open group first.
-    #[tactic(auto, using(crate::proofs::Held::holds_self, crate::proofs::Held::holds_then, crate::proofs::Giving::gives_quietly, crate::proofs::Telling::nothing_more))]
+    #[tactic(auto, using(crate::proofs::Held::holds_self, crate::proofs::Held::holds_then, crate::proofs::Giving::gives_quietly, crate::proofs::Telling::nothing_more, crate::proofs::Staying::stay_self, crate::proofs::Staying::stay_then, crate::proofs::Staying::none_then, crate::proofs::Staying::then_none))]
     fn break_first(&mut self, work: &Work, out: &mut List<Command>) -> Result<(), Memory>
         requires sound { IsSoundEngine self.old }
         ensures gives { OnOk result (Gives (breaks_first (state_of self.old) work.now) (state_of self.new)
@@ -24,6 +29,7 @@ impl Engine {
         ensures err { OnErr result (IsInFront out.old out.new) }
         ensures clock { self.new.tree.clock ≡ self.old.tree.clock }
         ensures max_obj { self.new.inbox.max_obj ≡ self.old.inbox.max_obj }
+        ensures ids { StayBut none_moved (whole_of self.old) (whole_of self.new) }
         ensures marks { Holds self.old self.new }
         ensures sound { IsSoundEngine self.new }
     {
@@ -37,7 +43,7 @@ impl Engine {
     }
 
     // A task outside an Atomic.
-    #[tactic(auto, using(crate::proofs::Held::holds_self, crate::proofs::Held::holds_then, crate::proofs::Giving::gives_in_front, crate::proofs::Giving::gives_more))]
+    #[tactic(auto, using(crate::proofs::Held::holds_self, crate::proofs::Held::holds_then, crate::proofs::Giving::gives_in_front, crate::proofs::Giving::gives_more, crate::proofs::Staying::stay_self, crate::proofs::Staying::stay_then, crate::proofs::Staying::none_then, crate::proofs::Staying::then_none))]
     fn one_alone(
         &mut self,
         caller: &[u8],
@@ -50,6 +56,7 @@ impl Engine {
         ensures err { OnErr result (IsInFront out.old out.new) }
         ensures clock { self.new.tree.clock ≡ self.old.tree.clock }
         ensures max_obj { self.new.inbox.max_obj ≡ self.old.inbox.max_obj }
+        ensures ids { StayBut (work_covers task.now.work) (whole_of self.old) (whole_of self.new) }
         ensures marks { Holds self.old self.new }
         ensures sound { IsSoundEngine self.new }
     {
@@ -60,7 +67,7 @@ impl Engine {
     }
 
     // Tasks outside an Atomic, whatever their codes.
-    #[tactic(auto, using(crate::proofs::Held::holds_self, crate::proofs::Held::holds_then, crate::proofs::Giving::giving_starts, crate::proofs::Giving::giving_breaks, crate::proofs::Giving::sequence_over))]
+    #[tactic(auto, using(crate::proofs::Held::holds_self, crate::proofs::Held::holds_then, crate::proofs::Giving::giving_starts, crate::proofs::Giving::giving_breaks, crate::proofs::Giving::sequence_over, crate::proofs::Staying::stay_self, crate::proofs::Staying::stay_then, crate::proofs::Staying::none_then, crate::proofs::Staying::then_none))]
     fn in_sequence(
         &mut self,
         caller: &[u8],
@@ -73,6 +80,7 @@ impl Engine {
         ensures err { OnErr result (IsInFront out.old out.new) }
         ensures clock { self.new.tree.clock ≡ self.old.tree.clock }
         ensures max_obj { self.new.inbox.max_obj ≡ self.old.inbox.max_obj }
+        ensures ids { StayBut (tasks_cover tasks.now) (whole_of self.old) (whole_of self.new) }
         ensures marks { Holds self.old self.new }
         ensures sound { IsSoundEngine self.new }
     {
@@ -82,7 +90,7 @@ impl Engine {
         Ok(())
     }
 
-    #[tactic(auto, using(crate::proofs::Held::holds_self, crate::proofs::Held::holds_then, crate::proofs::Telling::nothing_more))]
+    #[tactic(auto, using(crate::proofs::Held::holds_self, crate::proofs::Held::holds_then, crate::proofs::Telling::nothing_more, crate::proofs::Staying::stay_self, crate::proofs::Staying::stay_then, crate::proofs::Staying::none_then, crate::proofs::Staying::then_none))]
     fn run_plain(
         &mut self,
         caller: &[u8],
@@ -97,6 +105,7 @@ impl Engine {
         ensures err { OnErr result (IsInFront out.old out.new) }
         ensures clock { self.new.tree.clock ≡ self.old.tree.clock }
         ensures max_obj { self.new.inbox.max_obj ≡ self.old.inbox.max_obj }
+        ensures ids { StayBut (covers (commands.Plain command.now)) (whole_of self.old) (whole_of self.new) }
         ensures marks { Holds self.old self.new }
         ensures sound { IsSoundEngine self.new }
     {
@@ -105,7 +114,7 @@ impl Engine {
         Ok(())
     }
 
-    #[tactic(auto, using(crate::proofs::Held::holds_self, crate::proofs::Held::holds_then, crate::proofs::Giving::lone_gives))]
+    #[tactic(auto, using(crate::proofs::Held::holds_self, crate::proofs::Held::holds_then, crate::proofs::Giving::lone_gives, crate::proofs::Staying::stay_self, crate::proofs::Staying::stay_then, crate::proofs::Staying::none_then, crate::proofs::Staying::then_none))]
     fn run_alert(
         &mut self,
         caller: &[u8],
@@ -120,6 +129,7 @@ impl Engine {
         ensures err { OnErr result (IsInFront out.old out.new) }
         ensures clock { self.new.tree.clock ≡ self.old.tree.clock }
         ensures max_obj { self.new.inbox.max_obj ≡ self.old.inbox.max_obj }
+        ensures ids { StayBut none_moved (whole_of self.old) (whole_of self.new) }
         ensures marks { Holds self.old self.new }
         ensures sound { IsSoundEngine self.new }
     {
@@ -128,7 +138,7 @@ impl Engine {
         Ok(())
     }
 
-    #[tactic(auto, using(crate::proofs::Held::holds_self, crate::proofs::Held::holds_then, crate::proofs::Telling::nothing_more))]
+    #[tactic(auto, using(crate::proofs::Held::holds_self, crate::proofs::Held::holds_then, crate::proofs::Telling::nothing_more, crate::proofs::Staying::stay_self, crate::proofs::Staying::stay_then, crate::proofs::Staying::none_then, crate::proofs::Staying::then_none))]
     fn run_single(
         &mut self,
         caller: &[u8],
@@ -143,6 +153,7 @@ impl Engine {
         ensures err { OnErr result (IsInFront out.old out.new) }
         ensures clock { self.new.tree.clock ≡ self.old.tree.clock }
         ensures max_obj { self.new.inbox.max_obj ≡ self.old.inbox.max_obj }
+        ensures ids { StayBut (λ p. member_covers p member.now) (whole_of self.old) (whole_of self.new) }
         ensures marks { Holds self.old self.new }
         ensures sound { IsSoundEngine self.new }
     {
@@ -151,7 +162,7 @@ impl Engine {
         Ok(())
     }
 
-    #[tactic(auto, using(crate::proofs::Held::holds_self, crate::proofs::Held::holds_then, crate::proofs::Telling::nothing_more))]
+    #[tactic(auto, using(crate::proofs::Held::holds_self, crate::proofs::Held::holds_then, crate::proofs::Telling::nothing_more, crate::proofs::Staying::stay_self, crate::proofs::Staying::stay_then, crate::proofs::Staying::none_then, crate::proofs::Staying::then_none))]
     fn run_atomic(
         &mut self,
         caller: &[u8],
@@ -166,6 +177,10 @@ impl Engine {
         ensures err { OnErr result (IsInFront out.old out.new) }
         ensures clock { self.new.tree.clock ≡ self.old.tree.clock }
         ensures max_obj { self.new.inbox.max_obj ≡ self.old.inbox.max_obj }
+        ensures ids { StayBut (covers (commands.Atomic block.now)) (whole_of self.old) (whole_of self.new) }
+        ensures committed { OnOk result (IsSome (attempt (running self.old caller.now) (state_of self.old)
+            (members_tasks_of origin true block.now.members))
+            → (whole_of self.new).ids ≡ committed_ids (whole_of self.old)) }
         ensures marks { Holds self.old self.new }
         ensures sound { IsSoundEngine self.new }
     {
@@ -175,6 +190,7 @@ impl Engine {
         Ok(())
     }
 
+    #[tactic(auto, using(crate::proofs::Staying::stay_self, crate::proofs::Staying::stay_then, crate::proofs::Staying::none_then, crate::proofs::Staying::then_none))]
     fn run_member(
         &mut self,
         caller: &[u8],
@@ -189,6 +205,7 @@ impl Engine {
         ensures err { OnErr result (IsInFront out.old out.new) }
         ensures clock { self.new.tree.clock ≡ self.old.tree.clock }
         ensures max_obj { self.new.inbox.max_obj ≡ self.old.inbox.max_obj }
+        ensures ids { StayBut (λ p. seq_member_covers p member.now) (whole_of self.old) (whole_of self.new) }
         ensures marks { Holds self.old self.new }
         ensures sound { IsSoundEngine self.new }
     {
@@ -198,7 +215,7 @@ impl Engine {
         }
     }
 
-    #[tactic(auto, using(crate::proofs::Held::holds_self, crate::proofs::Held::holds_then, crate::proofs::Giving::giving_starts, crate::proofs::Giving::giving_breaks, crate::proofs::Giving::members_over))]
+    #[tactic(auto, using(crate::proofs::Held::holds_self, crate::proofs::Held::holds_then, crate::proofs::Giving::giving_starts, crate::proofs::Giving::giving_breaks, crate::proofs::Giving::members_over, crate::proofs::Staying::stay_self, crate::proofs::Staying::stay_then, crate::proofs::Staying::none_then, crate::proofs::Staying::then_none))]
     fn run_members(
         &mut self,
         caller: &[u8],
@@ -213,6 +230,8 @@ impl Engine {
         ensures err { OnErr result (IsInFront out.old out.new) }
         ensures clock { self.new.tree.clock ≡ self.old.tree.clock }
         ensures max_obj { self.new.inbox.max_obj ≡ self.old.inbox.max_obj }
+        ensures ids { StayBut (λ p. list_any (seq_member_covers p) members.now) (whole_of self.old)
+            (whole_of self.new) }
         ensures marks { Holds self.old self.new }
         ensures sound { IsSoundEngine self.new }
     {
@@ -222,7 +241,7 @@ impl Engine {
         Ok(())
     }
 
-    #[tactic(auto, using(crate::proofs::Held::holds_self, crate::proofs::Held::holds_then, crate::proofs::Telling::nothing_more, crate::proofs::Telling::some_more, crate::proofs::Giving::sequence_gives))]
+    #[tactic(auto, using(crate::proofs::Held::holds_self, crate::proofs::Held::holds_then, crate::proofs::Telling::nothing_more, crate::proofs::Telling::some_more, crate::proofs::Giving::sequence_gives, crate::proofs::Staying::stay_self, crate::proofs::Staying::stay_then, crate::proofs::Staying::none_then, crate::proofs::Staying::then_none))]
     fn run_sequence(
         &mut self,
         caller: &[u8],
@@ -237,6 +256,7 @@ impl Engine {
         ensures err { OnErr result (IsInFront out.old out.new) }
         ensures clock { self.new.tree.clock ≡ self.old.tree.clock }
         ensures max_obj { self.new.inbox.max_obj ≡ self.old.inbox.max_obj }
+        ensures ids { StayBut (covers (commands.Sequence block.now)) (whole_of self.old) (whole_of self.new) }
         ensures marks { Holds self.old self.new }
         ensures sound { IsSoundEngine self.new }
     {
@@ -249,7 +269,7 @@ impl Engine {
     /// Runs one command of a message's body: what it comes to is put behind `out`, or waits where it joins a group that
     /// stays open. Statuses and Results aren't commands to run. After `Memory` a part may be told, and the state may be
     /// anywhere on the way: go back to a mark.
-    #[tactic(auto, unfolding(crate::specs::Run::run_command), using(crate::proofs::Held::holds_self, crate::proofs::Giving::gives_quietly, crate::proofs::Telling::nothing_more))]
+    #[tactic(auto, unfolding(crate::specs::Run::run_command), using(crate::proofs::Held::holds_self, crate::proofs::Giving::gives_quietly, crate::proofs::Telling::nothing_more, crate::proofs::Staying::stay_self, crate::proofs::Staying::stay_then, crate::proofs::Staying::none_then, crate::proofs::Staying::then_none))]
     pub fn run(
         &mut self,
         caller: &[u8],
@@ -264,6 +284,12 @@ impl Engine {
         ensures err { OnErr result (IsInFront out.old out.new) }
         ensures clock { clock_of self.new ≡ clock_of self.old }
         ensures max_obj { max_obj_of self.new ≡ max_obj_of self.old }
+        ensures ids { StayBut (covers command.now) (whole_of self.old) (whole_of self.new) }
+        ensures kept { (state_of self.old).group ≡ None
+            → KeepIdsBut (covers command.now) (whole_of self.old).ids (whole_of self.new).ids }
+        ensures failed { OnOk result (IfAtomic command.now (λ b. IsSome (attempt (running self.old caller.now)
+            (state_of self.old) (members_tasks_of origin true b.members))
+            → (whole_of self.new).ids ≡ committed_ids (whole_of self.old))) }
         ensures marks { Holds self.old self.new }
         ensures sound { IsSoundEngine self.new }
     {

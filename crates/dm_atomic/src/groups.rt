@@ -1,8 +1,10 @@
 // Groups that open, and end.
 ghost use Rattle.std.specs.Prelude.{◌≡◌, ◌<◌, ◌∷◌, ◌++◌, [], None, true, false, vec_len, vec_capacity, OnOk, OnErr};
+ghost use Rattle.dm_commands.specs.Promises.{none_moved};
 ghost use Rattle.dm_atomic.specs.Run.{opened, opens};
 ghost use Rattle.dm_atomic.specs.Engine.{state_of, IsSoundEngine};
-ghost use Rattle.dm_atomic.specs.Marks.{Holds};
+ghost use Rattle.dm_atomic.specs.Marks.{whole_of, Holds};
+ghost use Rattle.dm_atomic.specs.Stays.{StayBut, committed_ids};
 
 use crate::engine::{EndedGroup, Engine};
 use crate::reports::Part;
@@ -30,6 +32,8 @@ impl Engine {
         ensures state { state_of self.new ≡ record (state_of self.old) { group = None } }
         ensures inbox { self.new.inbox ≡ self.old.inbox }
         ensures clock { self.new.tree.clock ≡ self.old.tree.clock }
+        ensures ids { (whole_of self.new).ids ≡ (whole_of self.old).ids }
+        ensures base { (whole_of self.new).base_ids ≡ None }
         ensures marks { Holds self.old self.new }
         ensures sound { IsSoundEngine self.new }
     {
@@ -44,6 +48,8 @@ impl Engine {
             ≡ record (state_of self.old) { tree = (opened (state_of self.old)).base; group = None } }
         ensures inbox { self.new.inbox ≡ self.old.inbox }
         ensures clock { self.new.tree.clock ≡ self.old.tree.clock }
+        ensures ids { (whole_of self.new).ids ≡ committed_ids (whole_of self.old) }
+        ensures base { (whole_of self.new).base_ids ≡ None }
         ensures marks { Holds self.old self.new }
         ensures sound { IsSoundEngine self.new }
     {
@@ -52,11 +58,12 @@ impl Engine {
     }
 
     /// The open group has one more part. After `Memory` all is as before.
-    #[tactic(auto, using(crate::proofs::Held::holds_part, crate::proofs::Held::holds_self, crate::proofs::Engines::part_sound))]
+    #[tactic(auto, using(crate::proofs::Held::holds_part, crate::proofs::Held::holds_self, crate::proofs::Engines::part_sound, crate::proofs::Staying::stay_self))]
     pub(crate) fn push_part(&mut self, part: Part) -> Result<(), Memory>
         requires sound { IsSoundEngine self.old }
         ensures ok { OnOk result (self.new ≡ record self.old { parts = self.old.parts ++ part ∷ [] }) }
         ensures err { OnErr result (self.new ≡ self.old) }
+        ensures ids { StayBut none_moved (whole_of self.old) (whole_of self.new) }
         ensures marks { Holds self.old self.new }
         ensures sound { IsSoundEngine self.new }
     {
@@ -65,7 +72,7 @@ impl Engine {
     }
 
     /// A group begins here, unless one is open. After `Memory` the state is as before.
-    #[tactic(auto, using(crate::proofs::Held::holds_self, crate::proofs::Held::holds_reserved, crate::proofs::Held::holds_opened, crate::proofs::Engines::opened_state, crate::proofs::Engines::opened_sound, crate::proofs::Engines::reserved_sound, crate::proofs::Engines::reserved_state))]
+    #[tactic(auto, using(crate::proofs::Held::holds_self, crate::proofs::Held::holds_reserved, crate::proofs::Held::holds_opened, crate::proofs::Engines::opened_state, crate::proofs::Engines::opened_sound, crate::proofs::Engines::reserved_sound, crate::proofs::Engines::reserved_state, crate::proofs::Staying::stay_self))]
     pub(crate) fn open_group(&mut self) -> Result<(), Memory>
         requires sound { IsSoundEngine self.old }
         ensures state { OnOk result (state_of self.new ≡ opens (state_of self.old)) }
@@ -73,6 +80,8 @@ impl Engine {
         ensures err { OnErr result (state_of self.new ≡ state_of self.old) }
         ensures inbox { self.new.inbox ≡ self.old.inbox }
         ensures clock { self.new.tree.clock ≡ self.old.tree.clock }
+        ensures ids { StayBut none_moved (whole_of self.old) (whole_of self.new) }
+        ensures committed { committed_ids (whole_of self.new) ≡ committed_ids (whole_of self.old) }
         ensures marks { Holds self.old self.new }
         ensures sound { IsSoundEngine self.new }
     {

@@ -1,5 +1,5 @@
 // What execution means, over its definition alone.
-ghost use Rattle.dm_atomic.specs.Updates.{BegunWithItsUpdate};
+ghost use Rattle.dm_atomic.specs.Updates.{BegunWithItsUpdate, RunsWhereStarted, BeginsTelling, CommandKeepsTelling, QuietKeepsTelling, ResultKeepsTelling};
 ghost use Rattle.dm_atomic.specs.Laws.{OneStatusEach, NoneLostInQuiet, FailedAtomicRestores, BrokenGroupRestores, QuietRestores, CommandKeepsOpen, QuietEndsBoth, TasksStartNothing, AtomicStartsNothing, FailedTaskLeavesTree, RefusedRightLeavesTree};
 
 /// Law: each step and each container of executed commands has exactly one Status made, suppressed or not: at once, or
@@ -39,4 +39,18 @@ pub fn failed_task_leaves_the_tree()
 /// Law: where an engine begins, an update was started exactly where the tree's State is 60.
 pub fn begins_with_its_update()
     ensures { BegunWithItsUpdate }
+{}
+
+/// Law: after a step an update runs exactly where one ran before, or the step started it.
+pub fn runs_where_started()
+    ensures { RunsWhereStarted }
+{}
+
+/// Law: an update was started and has no result yet exactly where State is 60, as an engine begins and whatever it does;
+/// and the same holds of the tree before an open group.
+pub fn what_was_started_is_told()
+    ensures begins { BeginsTelling }
+    ensures command { CommandKeepsTelling }
+    ensures quiet { QuietKeepsTelling }
+    ensures result { ResultKeepsTelling }
 {}

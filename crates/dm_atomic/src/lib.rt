@@ -11,8 +11,6 @@ pub mod engine;
 mod entries;
 mod groups;
 pub mod laws;
-#[cfg(test)]
-mod mark_tests;
 pub mod marks;
 pub mod reports;
 mod step;
@@ -21,8 +19,6 @@ pub mod tasks;
 #[cfg(test)]
 mod tests;
 mod unfinished;
-#[cfg(test)]
-mod update_tests;
 mod updates;
 
 pub use engine::Engine;

@@ -3,11 +3,12 @@ ghost use Rattle.std.specs.Prelude.{◌≡◌, ◌++◌, [], None, Some, IfOk, O
 ghost use Rattle.dm_uri.specs.Reading.{parse_of};
 ghost use Rattle.dm_objects.specs.Gathering.{gather as gathered};
 ghost use Rattle.dm_objects.specs.Seen.{present, holding};
-ghost use Rattle.dm_commands.specs.Promises.{IsShortStep};
+ghost use Rattle.dm_commands.specs.Promises.{IsShortStep, is_moved, none_moved};
 ghost use Rattle.dm_atomic.specs.Made.{IsInFront, told, notice};
 ghost use Rattle.dm_atomic.specs.Run.{one_step as step_run, one_piece as piece_run, by_what as what_run, whole_step as whole_run, alert_code as code_of_alert, path_of as path_in, started_by as start_by};
 ghost use Rattle.dm_atomic.specs.Engine.{state_of, running, IsSoundEngine, IsShortWhat, Only, Acts, Comes, Runs};
-ghost use Rattle.dm_atomic.specs.Marks.{Holds};
+ghost use Rattle.dm_atomic.specs.Marks.{whole_of, Holds};
+ghost use Rattle.dm_atomic.specs.Stays.{work_covers, what_covers, StayBut};
 
 use crate::copies::copy_bytes;
 use crate::engine::Engine;
@@ -85,6 +86,7 @@ impl Engine {
         requires short { IsShortStep step.now }
         ensures ok { IfOk result (λ outcome. Acts self.old self.new caller.now step.now outcome) }
         ensures only { Only self.old self.new }
+        ensures ids { StayBut (is_moved step.now) (whole_of self.old) (whole_of self.new) }
         ensures marks { Holds self.old self.new }
         ensures sound { IsSoundEngine self.new }
     {
@@ -93,7 +95,7 @@ impl Engine {
         act(self.alloc, &mut self.tree, &mut self.journal, caller, step)
     }
 
-    #[tactic(auto, using(crate::proofs::Held::holds_self, crate::proofs::Held::holds_then, crate::proofs::Held::holds_room, crate::proofs::Held::holds_started, crate::proofs::Engines::room_sound, crate::proofs::Engines::room_only, crate::proofs::Engines::started_sound, crate::proofs::Engines::started_only, crate::proofs::Engines::only_then))]
+    #[tactic(auto, using(crate::proofs::Held::holds_self, crate::proofs::Held::holds_then, crate::proofs::Held::holds_room, crate::proofs::Held::holds_started, crate::proofs::Engines::room_sound, crate::proofs::Engines::room_only, crate::proofs::Engines::started_sound, crate::proofs::Engines::started_only, crate::proofs::Engines::only_then, crate::proofs::Staying::stay_self, crate::proofs::Staying::then_none, crate::proofs::Staying::stay_more))]
     fn start(&mut self, started: bool, step: &Step) -> Result<(), Memory>
         requires sound { IsSoundEngine self.old }
         ensures ok { OnOk result (self.new ≡ record self.old {
@@ -101,6 +103,7 @@ impl Engine {
           starts = self.new.starts;
         }) }
         ensures only { Only self.old self.new }
+        ensures ids { StayBut none_moved (whole_of self.old) (whole_of self.new) }
         ensures marks { Holds self.old self.new }
         ensures sound { IsSoundEngine self.new }
     {
@@ -113,13 +116,14 @@ impl Engine {
     }
 
     // A whole step, by the step table.
-    #[tactic(auto, using(crate::proofs::Held::holds_self, crate::proofs::Held::holds_then, crate::proofs::Engines::only_then, crate::proofs::Engines::stepped))]
+    #[tactic(auto, using(crate::proofs::Held::holds_self, crate::proofs::Held::holds_then, crate::proofs::Engines::only_then, crate::proofs::Engines::stepped, crate::proofs::Staying::stay_self, crate::proofs::Staying::then_none, crate::proofs::Staying::stay_more))]
     fn whole_step(&mut self, caller: &[u8], post: &Post, step: &Step) -> Result<Report, Memory>
         requires sound { IsSoundEngine self.old }
         requires short { IsShortStep step.now }
         ensures ok { IfOk result (λ report. Comes
             (whole_run (running self.old caller.now) (state_of self.old) post.now None step.now) (state_of self.new) report) }
         ensures only { Only self.old self.new }
+        ensures ids { StayBut (is_moved step.now) (whole_of self.old) (whole_of self.new) }
         ensures marks { Holds self.old self.new }
         ensures sound { IsSoundEngine self.new }
     {
@@ -137,13 +141,14 @@ impl Engine {
         })
     }
 
-    #[tactic(auto, using(crate::proofs::Held::holds_self))]
+    #[tactic(auto, using(crate::proofs::Held::holds_self, crate::proofs::Staying::stay_self, crate::proofs::Staying::then_none, crate::proofs::Staying::stay_more))]
     fn by_what(&mut self, caller: &[u8], post: &Post, what: What) -> Result<Report, Memory>
         requires sound { IsSoundEngine self.old }
         requires short { IsShortWhat what }
         ensures ok { IfOk result (λ report. Comes
             (what_run (running self.old caller.now) (state_of self.old) post.now None what) (state_of self.new) report) }
         ensures only { Only self.old self.new }
+        ensures ids { StayBut (what_covers what) (whole_of self.old) (whole_of self.new) }
         ensures marks { Holds self.old self.new }
         ensures sound { IsSoundEngine self.new }
     {
@@ -155,7 +160,7 @@ impl Engine {
     }
 
     // A piece, gathered first.
-    #[tactic(auto, using(crate::proofs::Held::holds_then, crate::proofs::Engines::only_then, crate::proofs::Telling::nothing_more, crate::proofs::Telling::some_more))]
+    #[tactic(auto, using(crate::proofs::Held::holds_then, crate::proofs::Engines::only_then, crate::proofs::Telling::nothing_more, crate::proofs::Telling::some_more, crate::proofs::Staying::stay_self, crate::proofs::Staying::then_none, crate::proofs::Staying::stay_more))]
     fn one_piece(
         &mut self,
         caller: &[u8],
@@ -169,6 +174,7 @@ impl Engine {
             out.old out.new) }
         ensures err { OnErr result (IsInFront out.old out.new) }
         ensures only { Only self.old self.new }
+        ensures ids { StayBut (is_moved piece.now.step) (whole_of self.old) (whole_of self.new) }
         ensures marks { Holds self.old self.new }
         ensures sound { IsSoundEngine self.new }
     {
@@ -177,7 +183,7 @@ impl Engine {
     }
 
     // What a piece comes to; of an object that it broke is told.
-    #[tactic(auto, using(crate::proofs::Held::holds_inbox))]
+    #[tactic(auto, using(crate::proofs::Held::holds_inbox, crate::proofs::Staying::stay_self, crate::proofs::Staying::then_none, crate::proofs::Staying::stay_more))]
     fn gather(&mut self, piece: &Piece, out: &mut List<Command>) -> Result<What, Memory>
         requires sound { IsSoundEngine self.old }
         ensures object { OnOk result (self.new ≡ record self.old {
@@ -191,6 +197,7 @@ impl Engine {
         ensures short { IfOk result IsShortWhat }
         ensures err { OnErr result (out.new ≡ out.old) }
         ensures only { Only self.old self.new }
+        ensures ids { StayBut none_moved (whole_of self.old) (whole_of self.new) }
         ensures marks { Holds self.old self.new }
         ensures sound { IsSoundEngine self.new }
     {
@@ -200,7 +207,7 @@ impl Engine {
     }
 
     /// One task. The report isn't told.
-    #[tactic(auto, using(crate::proofs::Held::holds_self), unfolding(crate::specs::Run::one_step))]
+    #[tactic(auto, using(crate::proofs::Held::holds_self, crate::proofs::Staying::stay_self, crate::proofs::Staying::then_none, crate::proofs::Staying::stay_more), unfolding(crate::specs::Run::one_step))]
     pub(crate) fn one_step(
         &mut self,
         caller: &[u8],
@@ -213,6 +220,7 @@ impl Engine {
             out.old out.new) }
         ensures err { OnErr result (IsInFront out.old out.new) }
         ensures only { Only self.old self.new }
+        ensures ids { StayBut (work_covers task.now.work) (whole_of self.old) (whole_of self.new) }
         ensures marks { Holds self.old self.new }
         ensures sound { IsSoundEngine self.new }
     {

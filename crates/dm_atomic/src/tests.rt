@@ -1,6 +1,4 @@
 // What commands come to as tasks, and what is told of them.
-mod runs;
-
 use crate::containers::{put_failed, put_parts_done, put_parts_undone};
 use crate::entries::{put_notice, put_report, put_status};
 use crate::task_lists::{container_post, members_tasks, plain_tasks};

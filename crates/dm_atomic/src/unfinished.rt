@@ -1,9 +1,11 @@
 // What is unfinished is given up, or broken.
-ghost use Rattle.std.specs.Prelude.{◌≡◌, true, OnOk, OnErr};
+ghost use Rattle.std.specs.Prelude.{◌≡◌, None, true, OnOk, OnErr};
+ghost use Rattle.dm_commands.specs.Promises.{none_moved};
 ghost use Rattle.dm_atomic.specs.Made.{IsInFront};
 ghost use Rattle.dm_atomic.specs.Run.{abandoned, break_group as break_of, still as still_of};
 ghost use Rattle.dm_atomic.specs.Engine.{state_of, IsSoundEngine, Gives};
-ghost use Rattle.dm_atomic.specs.Marks.{Holds};
+ghost use Rattle.dm_atomic.specs.Marks.{whole_of, Holds};
+ghost use Rattle.dm_atomic.specs.Stays.{StayBut, committed_ids};
 ghost use Rattle.dm_atomic.specs.Updates.{clock_of, max_obj_of};
 
 use crate::containers::put_parts_undone;
@@ -21,6 +23,8 @@ impl Engine {
         ensures state { state_of self.new ≡ abandoned (state_of self.old) }
         ensures clock { clock_of self.new ≡ clock_of self.old }
         ensures max_obj { max_obj_of self.new ≡ max_obj_of self.old }
+        ensures ids { (whole_of self.new).ids ≡ committed_ids (whole_of self.old) }
+        ensures base { (whole_of self.new).base_ids ≡ None }
         ensures marks { Holds self.old self.new }
         ensures sound { IsSoundEngine self.new }
     {
@@ -31,7 +35,7 @@ impl Engine {
     }
 
     // The open group is broken.
-    #[tactic(auto, using(crate::proofs::Held::holds_then, crate::proofs::Held::holds_self, crate::proofs::Held::holds_next, crate::proofs::Held::holds_inbox, crate::proofs::GivenUps::cleared_sound, crate::proofs::GivenUps::broken_gives, crate::proofs::Telling::told_both, crate::proofs::Telling::nothing_more, crate::proofs::Telling::some_more))]
+    #[tactic(auto, using(crate::proofs::Held::holds_then, crate::proofs::Held::holds_self, crate::proofs::Held::holds_next, crate::proofs::Held::holds_inbox, crate::proofs::GivenUps::cleared_sound, crate::proofs::GivenUps::broken_gives, crate::proofs::Telling::told_both, crate::proofs::Telling::nothing_more, crate::proofs::Telling::some_more, crate::proofs::Staying::stay_self))]
     fn break_open(&mut self, out: &mut List<Command>) -> Result<(), Memory>
         requires sound { IsSoundEngine self.old }
         requires is_open { self.old.is_open ≡ true }
@@ -39,6 +43,9 @@ impl Engine {
         ensures err { OnErr result (IsInFront out.old out.new) }
         ensures clock { self.new.tree.clock ≡ self.old.tree.clock }
         ensures max_obj { self.new.inbox.max_obj ≡ self.old.inbox.max_obj }
+        ensures ids { StayBut none_moved (whole_of self.old) (whole_of self.new) }
+        ensures committed { OnOk result ((whole_of self.new).ids ≡ committed_ids (whole_of self.old)) }
+        ensures base { OnOk result ((whole_of self.new).base_ids ≡ None) }
         ensures marks { Holds self.old self.new }
         ensures sound { IsSoundEngine self.new }
     {
@@ -51,13 +58,15 @@ impl Engine {
 
     /// An open group is broken: its object is lost, which an Alert tells, its steps are undone, and the tree before it stands
     /// again. After `Memory` a part may be told.
-    #[tactic(auto, using(crate::proofs::Held::holds_then, crate::proofs::Held::holds_self, crate::proofs::Held::holds_next, crate::proofs::Held::holds_inbox, crate::proofs::GivenUps::unbroken_gives))]
+    #[tactic(auto, using(crate::proofs::Held::holds_then, crate::proofs::Held::holds_self, crate::proofs::Held::holds_next, crate::proofs::Held::holds_inbox, crate::proofs::GivenUps::unbroken_gives, crate::proofs::Staying::stay_self))]
     pub(crate) fn break_group(&mut self, out: &mut List<Command>) -> Result<(), Memory>
         requires sound { IsSoundEngine self.old }
         ensures gives { OnOk result (Gives (break_of (state_of self.old)) (state_of self.new) out.old out.new) }
         ensures err { OnErr result (IsInFront out.old out.new) }
         ensures clock { self.new.tree.clock ≡ self.old.tree.clock }
         ensures max_obj { self.new.inbox.max_obj ≡ self.old.inbox.max_obj }
+        ensures ids { StayBut none_moved (whole_of self.old) (whole_of self.new) }
+        ensures committed { OnOk result (committed_ids (whole_of self.new) ≡ committed_ids (whole_of self.old)) }
         ensures marks { Holds self.old self.new }
         ensures sound { IsSoundEngine self.new }
     {
@@ -69,13 +78,15 @@ impl Engine {
 
     /// A message with Final that has no step of a verb breaks what is unfinished: the object, which an Alert tells, and the
     /// open group. After `Memory` a part may be told, and a part given up: go back to a mark.
-    #[tactic(auto, using(crate::proofs::Held::holds_then, crate::proofs::Held::holds_self, crate::proofs::Held::holds_next, crate::proofs::Held::holds_inbox, crate::proofs::GivenUps::cleared_sound, crate::proofs::GivenUps::still_open, crate::proofs::GivenUps::still_closed, crate::proofs::Telling::nothing_more))]
+    #[tactic(auto, using(crate::proofs::Held::holds_then, crate::proofs::Held::holds_self, crate::proofs::Held::holds_next, crate::proofs::Held::holds_inbox, crate::proofs::GivenUps::cleared_sound, crate::proofs::GivenUps::still_open, crate::proofs::GivenUps::still_closed, crate::proofs::Telling::nothing_more, crate::proofs::Staying::stay_self))]
     pub fn still(&mut self, out: &mut List<Command>) -> Result<(), Memory>
         requires sound { IsSoundEngine self.old }
         ensures gives { OnOk result (Gives (still_of (state_of self.old)) (state_of self.new) out.old out.new) }
         ensures err { OnErr result (IsInFront out.old out.new) }
         ensures clock { clock_of self.new ≡ clock_of self.old }
         ensures max_obj { max_obj_of self.new ≡ max_obj_of self.old }
+        ensures ids { StayBut none_moved (whole_of self.old) (whole_of self.new) }
+        ensures committed { OnOk result ((whole_of self.new).ids ≡ committed_ids (whole_of self.old)) }
         ensures marks { Holds self.old self.new }
         ensures sound { IsSoundEngine self.new }
     {

@@ -112,6 +112,7 @@ impl Engine {
         ensures err { OnErr result (state_of self.new ≡ state_of self.old) }
         ensures clock { clock_of self.new ≡ clock_of self.old }
         ensures max_obj { max_obj_of self.new ≡ max_obj_of self.old }
+        ensures ids { (whole_of self.new).ids ≡ (whole_of self.old).ids }
         ensures marks { Holds self.old self.new }
         ensures sound { IsSoundEngine self.new }
     {

@@ -2,6 +2,7 @@ use Rattle.std.proofs.Common.{rules, ◌∙◌, drop}
 use Rattle.dm_atomic.specs.Run.{in_sequence}
 use Rattle.dm_atomic.specs.Engine.{state_of, running}
 use Rattle.dm_atomic.proofs.Held.{holds_then}
+use Rattle.dm_atomic.proofs.Staying.{tasks_go_on}
 use Rattle.dm_atomic.proofs.Giving.{giving_breaks, giving_ends, sequence_goes_on, sequence_over, alone_still}
 use Rattle.dm_atomic.proofs.engine.Engine.in_sequence.Goals as goal
 
@@ -26,6 +27,8 @@ loop-task-preserved c =
           c.task-item.result c.loop-task.out c.one_alone.new.out i.clock i.max_obj c.in_ok-one_alone.ensures.gives);
       clock = c.one_alone.ensures.clock ∙ i.clock;
       max_obj = c.one_alone.ensures.max_obj ∙ i.max_obj;
+      ids = tasks_go_on e c.loop-task.self c.one_alone.new.self c.args.tasks.now c.loop-task.task-index
+          c.task-item.result c.loop-task-test.true c.task-item.is i.ids c.one_alone.ensures.ids;
       marks = holds_then e c.loop-task.self c.one_alone.new.self i.marks c.one_alone.ensures.marks;
       sound = c.one_alone.ensures.sound;
     }
@@ -41,3 +44,8 @@ returns-clause-gives c =
 pub returns-in_err-one_alone-clause-marks : goal.returns-in_err-one_alone-clause-marks
 returns-in_err-one_alone-clause-marks c =
     holds_then c.args.self.now c.loop-task.self c.one_alone.new.self c.loop-task.invariant.marks c.one_alone.ensures.marks
+
+pub returns-in_err-one_alone-clause-ids : goal.returns-in_err-one_alone-clause-ids
+returns-in_err-one_alone-clause-ids c =
+    tasks_go_on c.args.self.now c.loop-task.self c.one_alone.new.self c.args.tasks.now c.loop-task.task-index
+    c.task-item.result c.loop-task-test.true c.task-item.is c.loop-task.invariant.ids c.one_alone.ensures.ids

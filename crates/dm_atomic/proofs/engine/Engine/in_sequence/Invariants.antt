@@ -1,7 +1,8 @@
 use Rattle.std.proofs.Common.{◌≡◌, drop}
 use Rattle.dm_atomic.specs.Run.{in_sequence}
 use Rattle.dm_atomic.specs.Engine.{state_of, running, IsSoundEngine}
-use Rattle.dm_atomic.specs.Marks.{Holds}
+use Rattle.dm_atomic.specs.Marks.{whole_of, Holds}
+use Rattle.dm_atomic.specs.Stays.{tasks_cover, StayBut}
 use Rattle.dm_atomic.proofs.Giving.{IsGiving}
 use Rattle.dm_atomic.proofs.engine.Engine.in_sequence.Given as goal
 
@@ -11,6 +12,7 @@ invariant-loop-task l = record {
       (in_sequence (running l.fn.self l.caller) (state_of l.fn.self) l.tasks) l.fn.out l.out;
   clock : l.self.tree.clock ≡ l.fn.self.tree.clock;
   max_obj : l.self.inbox.max_obj ≡ l.fn.self.inbox.max_obj;
+  ids : StayBut (tasks_cover l.tasks) (whole_of l.fn.self) (whole_of l.self);
   marks : Holds l.fn.self l.self;
   sound : IsSoundEngine l.self;
 }

@@ -1,5 +1,7 @@
 use Rattle.dm_atomic.specs.Engine.{state_of}
 use Rattle.dm_atomic.proofs.Engines.{pieced_ok}
+use Rattle.dm_objects.specs.Seen.{present}
+use Rattle.dm_atomic.proofs.Staying.{a_piece_stays}
 use Rattle.dm_atomic.proofs.engine.Engine.one_piece.Goals as goal
 
 pub returns-clause-ok : goal.returns-clause-ok
@@ -8,3 +10,9 @@ returns-clause-ok c =
     pieced_ok c.by_what.result c.args.self.now c.gather.new.self c.args.caller.now c.args.post.now c.args.piece.now
     c.in_ok-what.what (state_of c.by_what.new.self) c.args.out.now c.gather.new.out g.object g.what g.told
     c.by_what.ensures.ok
+
+pub returns-clause-ids : goal.returns-clause-ids
+returns-clause-ids c =
+    let e = c.args.self.now in
+    a_piece_stays e c.gather.new.self c.by_what.new.self c.args.piece.now c.in_ok-what.what (present e.inbox.objects)
+    c.in_ok-what.ensures.what c.gather.ensures.ids c.by_what.ensures.ids

@@ -2,7 +2,9 @@ use Rattle.std.proofs.Common.{rules, ◌∙◌, drop}
 use Rattle.dm_atomic.specs.Run.{run_members}
 use Rattle.dm_atomic.specs.Engine.{state_of, running}
 use Rattle.dm_atomic.proofs.Held.{holds_then}
-use Rattle.dm_atomic.proofs.Giving.{giving_breaks, giving_ends, members_go_on, members_over, member_still}
+use Rattle.dm_atomic.proofs.Giving.{giving_breaks, giving_ends, members_over, member_still}
+use Rattle.dm_atomic.proofs.Giving as giving
+use Rattle.dm_atomic.proofs.Staying.{members_go_on}
 use Rattle.dm_atomic.proofs.engine.Engine.run_members.Goals as goal
 
 pub returns-in_err-run_member-clause-err : goal.returns-in_err-run_member-clause-err
@@ -22,7 +24,7 @@ loop-member-preserved c =
     let o = c.args.origin in
     let m = c.member-item.result in
     record {
-      giving = members_go_on r o (state_of c.loop-member.self) (state_of c.run_member.new.self) c.args.members.now
+      giving = giving.members_go_on r o (state_of c.loop-member.self) (state_of c.run_member.new.self) c.args.members.now
           c.as_slice-member-items.result.now c.loop-member.member-index m
           (run_members r o (state_of e) c.args.members.now) c.args.out.now c.loop-member.out c.run_member.new.out
           i.giving c.as_slice-member-items.ensures c.loop-member-test.true c.member-item.is
@@ -31,6 +33,9 @@ loop-member-preserved c =
           c.in_ok-run_member.ensures.gives);
       clock = c.run_member.ensures.clock ∙ i.clock;
       max_obj = c.run_member.ensures.max_obj ∙ i.max_obj;
+      ids = members_go_on e c.loop-member.self c.run_member.new.self c.args.members.now
+          c.as_slice-member-items.result.now c.loop-member.member-index m c.as_slice-member-items.ensures
+          c.loop-member-test.true c.member-item.is i.ids c.run_member.ensures.ids;
       marks = holds_then e c.loop-member.self c.run_member.new.self i.marks c.run_member.ensures.marks;
       sound = c.run_member.ensures.sound;
     }
@@ -48,3 +53,9 @@ returns-clause-gives c =
 pub returns-in_err-run_member-clause-marks : goal.returns-in_err-run_member-clause-marks
 returns-in_err-run_member-clause-marks c =
     holds_then c.args.self.now c.loop-member.self c.run_member.new.self c.loop-member.invariant.marks c.run_member.ensures.marks
+
+pub returns-in_err-run_member-clause-ids : goal.returns-in_err-run_member-clause-ids
+returns-in_err-run_member-clause-ids c =
+    members_go_on c.args.self.now c.loop-member.self c.run_member.new.self c.args.members.now
+    c.as_slice-member-items.result.now c.loop-member.member-index c.member-item.result c.as_slice-member-items.ensures
+    c.loop-member-test.true c.member-item.is c.loop-member.invariant.ids c.run_member.ensures.ids

@@ -1,7 +1,9 @@
 use Rattle.std.proofs.Common.{◌≡◌, drop}
+use Rattle.std.specs.List.{list_any}
 use Rattle.dm_atomic.specs.Run.{run_members}
 use Rattle.dm_atomic.specs.Engine.{state_of, running, IsSoundEngine}
-use Rattle.dm_atomic.specs.Marks.{Holds}
+use Rattle.dm_atomic.specs.Marks.{whole_of, Holds}
+use Rattle.dm_atomic.specs.Stays.{seq_member_covers, StayBut}
 use Rattle.dm_atomic.proofs.Giving.{IsGiving}
 use Rattle.dm_atomic.proofs.engine.Engine.run_members.Given as goal
 
@@ -12,6 +14,7 @@ invariant-loop-member l = record {
       (run_members (running l.fn.self l.caller) l.origin (state_of l.fn.self) l.members) l.fn.out l.out;
   clock : l.self.tree.clock ≡ l.fn.self.tree.clock;
   max_obj : l.self.inbox.max_obj ≡ l.fn.self.inbox.max_obj;
+  ids : StayBut (λ p. list_any (seq_member_covers p) l.members) (whole_of l.fn.self) (whole_of l.self);
   marks : Holds l.fn.self l.self;
   sound : IsSoundEngine l.self;
 }

@@ -2,6 +2,7 @@ use Rattle.std.proofs.Common.{rules, ◌∙◌, sym, drop}
 use Rattle.dm_atomic.specs.Engine.{state_of, running}
 use Rattle.dm_atomic.proofs.Engines.{only_then}
 use Rattle.dm_atomic.proofs.Held.{holds_then}
+use Rattle.dm_atomic.proofs.Staying.{tasks_go_on}
 use Rattle.dm_atomic.proofs.Tried.{runs_still, trying_breaks, trying_is_cut, trying_goes_on, trying_stops, trying_ends}
 use Rattle.dm_atomic.proofs.engine.Engine.try_all.Goals as goal
 
@@ -53,6 +54,8 @@ loop-place-preserved c =
           c.loop-place.invariant.only c.in_ok-report.ensures.ok) (sym c.is_success.ensures ∙ c.if-not-is_success.false)
           c.in_ok-push.ensures.ok;
       only = only_then e m f c.loop-place.invariant.only c.one_step.ensures.only;
+      ids = tasks_go_on e m f c.args.tasks.now c.loop-place.place t c.loop-place-test.true c.index-tasks-place.is
+          c.loop-place.invariant.ids c.one_step.ensures.ids;
       marks = holds_then e m f c.loop-place.invariant.marks c.one_step.ensures.marks;
       sound = c.one_step.ensures.sound;
     }
@@ -66,4 +69,30 @@ returns-clause-tried c =
 
 pub returns-in_err-report-clause-only : goal.returns-in_err-report-clause-only
 returns-in_err-report-clause-only c =
+    only_then c.args.self.now c.loop-place.self c.one_step.new.self c.loop-place.invariant.only c.one_step.ensures.only
+
+pub returns-in_err-report-clause-ids : goal.returns-in_err-report-clause-ids
+returns-in_err-report-clause-ids c =
+    tasks_go_on c.args.self.now c.loop-place.self c.one_step.new.self c.args.tasks.now c.loop-place.place
+    c.index-tasks-place.result c.loop-place-test.true c.index-tasks-place.is c.loop-place.invariant.ids
+    c.one_step.ensures.ids
+
+pub returns-then-not-is_success-clause-ids : goal.returns-then-not-is_success-clause-ids
+returns-then-not-is_success-clause-ids c =
+    tasks_go_on c.args.self.now c.loop-place.self c.one_step.new.self c.args.tasks.now c.loop-place.place
+    c.index-tasks-place.result c.loop-place-test.true c.index-tasks-place.is c.loop-place.invariant.ids
+    c.one_step.ensures.ids
+
+pub returns-in_err-push-clause-ids : goal.returns-in_err-push-clause-ids
+returns-in_err-push-clause-ids c =
+    tasks_go_on c.args.self.now c.loop-place.self c.one_step.new.self c.args.tasks.now c.loop-place.place
+    c.index-tasks-place.result c.loop-place-test.true c.index-tasks-place.is c.loop-place.invariant.ids
+    c.one_step.ensures.ids
+
+pub returns-then-not-is_success-clause-only : goal.returns-then-not-is_success-clause-only
+returns-then-not-is_success-clause-only c =
+    only_then c.args.self.now c.loop-place.self c.one_step.new.self c.loop-place.invariant.only c.one_step.ensures.only
+
+pub returns-in_err-push-clause-only : goal.returns-in_err-push-clause-only
+returns-in_err-push-clause-only c =
     only_then c.args.self.now c.loop-place.self c.one_step.new.self c.loop-place.invariant.only c.one_step.ensures.only

@@ -1,6 +1,7 @@
 use Rattle.std.proofs.Common.{drop}
 use Rattle.dm_atomic.specs.Engine.{state_of, running, IsSoundEngine, Only}
-use Rattle.dm_atomic.specs.Marks.{Holds}
+use Rattle.dm_atomic.specs.Marks.{whole_of, Holds}
+use Rattle.dm_atomic.specs.Stays.{tasks_cover, StayBut}
 use Rattle.dm_atomic.proofs.Tried.{IsTrying}
 use Rattle.dm_atomic.proofs.engine.Engine.try_all.Given as goal
 
@@ -9,6 +10,7 @@ invariant-loop-place l = record {
   trying : IsTrying (running l.fn.self l.caller) (state_of l.fn.self) (state_of l.self) l.tasks
       (drop l.place l.tasks) l.done l.fn.out l.out;
   only : Only l.fn.self l.self;
+  ids : StayBut (tasks_cover l.tasks) (whole_of l.fn.self) (whole_of l.self);
   marks : Holds l.fn.self l.self;
   sound : IsSoundEngine l.self;
 }

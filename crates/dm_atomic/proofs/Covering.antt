@@ -1,0 +1,84 @@
+-- What the tasks of a command cover, the command covers.
+use Rattle.std.proofs.Common.{◌≡◌, ℕ, suc, Bool, true, false, List, [], ◌∷◌, refl, sym, ◌∙◌, ap}
+use Rattle.std.specs.Prelude.{◌||◌}
+use Rattle.std.specs.List.{list_any}
+use Rattle.std.proofs.lemmas.List.Folds.{list_any-append}
+use Rattle.syncml_types.specs.declared.values.Item.{Item}
+use Rattle.syncml_types.specs.declared.command.Block.{Block}
+use Rattle.syncml_types.specs.declared.command.Command.TheVariants as commands
+use Rattle.syncml_types.specs.declared.command.Member.{Member}
+use Rattle.syncml_types.specs.declared.command.Member.TheVariants as member
+use Rattle.syncml_types.specs.declared.command.Plain.{Plain}
+use Rattle.syncml_types.specs.declared.command.SeqBlock.{SeqBlock}
+use Rattle.syncml_types.specs.declared.command.SeqMember.{SeqMember}
+use Rattle.syncml_types.specs.declared.command.SeqMember.TheVariants as seq
+use Rattle.dm_tree.specs.Nodes.{Path}
+use Rattle.dm_atomic.specs.declared.tasks.Origin.{Origin}
+use Rattle.dm_atomic.specs.declared.tasks.Task.{Task}
+use Rattle.dm_atomic.specs.Tasks.{item_tasks, plain_tasks, member_tasks, members_tasks}
+use Rattle.dm_atomic.specs.Marks.{Whole as AllOf}
+use Rattle.dm_atomic.specs.Stays.{item_covers, plain_covers, member_covers, seq_member_covers, covers, task_covers, tasks_cover, StayBut}
+use Rattle.dm_atomic.proofs.Staying.{stay_within}
+
+parts-false : (a b : Bool) → a || b ≡ false → (a ≡ false) × (b ≡ false)
+parts-false true b e = absurd (cc)
+parts-false false b e = (refl, e)
+
+both-false : (a b : Bool) → a ≡ false → b ≡ false → a || b ≡ false
+both-false a b e f = ap (λ x. x || b) e ∙ f
+
+items-cover : (origin : Origin) (b : Bool) (command : Plain) (place : ℕ) (items : List Item) (p : Path)
+    → list_any (item_covers command p) items ≡ false → tasks_cover (item_tasks origin b command place items) p ≡ false
+items-cover origin b command place [] p e = refl
+items-cover origin b command place (item ∷ items) p e =
+    let parts = parts-false (item_covers command p item) (list_any (item_covers command p) items) e in
+    both-false (item_covers command p item) _ parts.0 (items-cover origin b command (suc place) items p parts.1)
+
+member-cover : (origin : Origin) (b : Bool) (m : Member) (p : Path) → member_covers p m ≡ false
+    → tasks_cover (member_tasks origin b m) p ≡ false
+member-cover origin b (member.One command) p e = items-cover origin b command 0 command.items p e
+member-cover origin b (member.Alert alert) p e = refl
+
+members-cover : (origin : Origin) (b : Bool) (ms : List Member) (p : Path) → list_any (member_covers p) ms ≡ false
+    → tasks_cover (members_tasks origin b ms) p ≡ false
+members-cover origin b [] p e = refl
+members-cover origin b (m ∷ ms) p e =
+    let parts = parts-false (member_covers p m) (list_any (member_covers p) ms) e in
+    list_any-append (task_covers p) (member_tasks origin b m) (members_tasks origin b ms)
+    ∙ both-false (tasks_cover (member_tasks origin b m) p) _ (member-cover origin b m p parts.0)
+    (members-cover origin b ms p parts.1)
+
+-- ---- so nodes stay that the command doesn't cover
+
+pub plain_stay : (origin : Origin) (b : Bool) (command : Plain) (ts : List Task) (v w : AllOf)
+    → ts ≡ plain_tasks origin b command → StayBut (tasks_cover ts) v w → StayBut (covers (commands.Plain command)) v w
+unfolding covers
+plain_stay origin b command ts v w is a =
+    stay_within (tasks_cover ts) (λ p. plain_covers p command) v w
+    (λ p u. ap (λ l. tasks_cover l p) is ∙ items-cover origin b command 0 command.items p u) a
+
+pub member_stay : (origin : Origin) (b : Bool) (m : Member) (ts : List Task) (v w : AllOf)
+    → ts ≡ member_tasks origin b m → StayBut (tasks_cover ts) v w → StayBut (λ p. member_covers p m) v w
+member_stay origin b m ts v w is a =
+    stay_within (tasks_cover ts) (λ p. member_covers p m) v w
+    (λ p u. ap (λ l. tasks_cover l p) is ∙ member-cover origin b m p u) a
+
+pub atomic_stay : (origin : Origin) (b : Bool) (block : Block) (ts : List Task) (v w : AllOf)
+    → ts ≡ members_tasks origin b block.members → StayBut (tasks_cover ts) v w
+    → StayBut (covers (commands.Atomic block)) v w
+unfolding covers
+atomic_stay origin b block ts v w is a =
+    stay_within (tasks_cover ts) (λ p. list_any (member_covers p) block.members) v w
+    (λ p u. ap (λ l. tasks_cover l p) is ∙ members-cover origin b block.members p u) a
+
+pub block_stay : (m : SeqMember) (block : Block) (v w : AllOf) → m ≡ seq.Atomic block
+    → StayBut (covers (commands.Atomic block)) v w → StayBut (λ p. seq_member_covers p m) v w
+unfolding covers
+block_stay m block v w is a =
+    stay_within (λ p. list_any (member_covers p) block.members) (λ p. seq_member_covers p m) v w
+    (λ p u. ap (seq_member_covers p) (sym is) ∙ u) a
+
+pub sequence_stay : (block : SeqBlock) (v w : AllOf) → StayBut (λ p. list_any (seq_member_covers p) block.members) v w
+    → StayBut (covers (commands.Sequence block)) v w
+unfolding covers
+sequence_stay block v w a = a

@@ -1,0 +1,95 @@
+// What is told, and what stands in a tree, as texts.
+use dm_base::{Bytes, List, Memory};
+use dm_tree::Tree;
+use dm_uri::parse;
+use std::alloc::Global;
+use syncml_types::{AlertCmd, Command, Item, ResultsCmd, StatusCmd};
+
+fn put(out: &mut Bytes, text: &[u8]) -> Option<()> {
+    out.extend(text).ok()
+}
+
+fn put_number(alloc: Global, out: &mut Bytes, number: u32) -> Option<()> {
+    let text = format!(in alloc; "{number}").ok()?;
+    put(out, text.as_bytes())
+}
+
+// The MsgRef and the CmdRef.
+fn put_refs(alloc: Global, out: &mut Bytes, msg: u32, command: u32) -> Option<()> {
+    put_number(alloc, out, msg)?;
+    put(out, b".")?;
+    put_number(alloc, out, command)?;
+    put(out, b" ")
+}
+
+fn put_status(alloc: Global, out: &mut Bytes, status: &StatusCmd) -> Option<()> {
+    put_refs(alloc, out, status.msg_ref, status.cmd_ref)?;
+    put_number(alloc, out, status.code)
+}
+
+fn first_uri(items: &List<Item>) -> Option<&Bytes> {
+    match items.as_slice() {
+        [] => None,
+        [item, ..] => match &item.source {
+            None => None,
+            Some(source) => Some(&source.uri),
+        },
+    }
+}
+
+fn put_source(out: &mut Bytes, items: &List<Item>) -> Option<()> {
+    match first_uri(items) {
+        None => put(out, b"-"),
+        Some(uri) => put(out, uri.as_slice()),
+    }
+}
+
+fn put_results(alloc: Global, out: &mut Bytes, results: &ResultsCmd) -> Option<()> {
+    put_refs(alloc, out, results.msg_ref.unwrap_or(0), results.cmd_ref)?;
+    put_source(out, &results.items)
+}
+
+fn put_alert(alloc: Global, out: &mut Bytes, alert: &AlertCmd) -> Option<()> {
+    put(out, b"! ")?;
+    put_number(alloc, out, alert.code)?;
+    put(out, b" ")?;
+    put_source(out, &alert.items)
+}
+
+fn put_entry(alloc: Global, out: &mut Bytes, command: &Command) -> Option<()> {
+    match command {
+        Command::Status(status) => put_status(alloc, out, status)?,
+        Command::Results(results) => put_results(alloc, out, results)?,
+        Command::Alert(alert) => put_alert(alloc, out, alert)?,
+        Command::Plain(_) | Command::Atomic(_) | Command::Sequence(_) => put(out, b"?")?,
+    }
+    put(out, b"|")
+}
+
+/// Of each Status MsgRef, CmdRef and code, of Results the same with the URI in place of the code, and of an Alert its
+/// code and URI. None where memory runs out.
+pub(crate) fn told(alloc: Global, entries: &[Command]) -> Option<Bytes> {
+    let mut out = Bytes::new(alloc);
+    for entry in entries {
+        put_entry(alloc, &mut out, entry)?;
+    }
+    Some(out)
+}
+
+fn put_value(alloc: Global, tree: &Tree, uri: &[u8], out: &mut Bytes) -> Option<()> {
+    let uri = parse(alloc, uri).ok()?;
+    match tree.find(&uri.path) {
+        Some(id) => put(out, tree.view(id).value.bytes.as_slice())?,
+        None => put(out, b"-")?,
+    }
+    put(out, b"|")
+}
+
+/// The values of ./A, ./L and ./T/a. None where memory runs out.
+pub(crate) fn values(alloc: Global, tree: &Tree) -> Option<Bytes> {
+    let mut out = Bytes::new(alloc);
+    put_value(alloc, tree, b"./A", &mut out)?;
+    put_value(alloc, tree, b"./L", &mut out)?;
+    put_value(alloc, tree, b"./T/a", &mut out)?;
+    Some(out)
+}
