@@ -8,7 +8,7 @@ mod hearing;
 pub mod laws;
 mod own;
 mod standings;
-mod statuses;
+pub mod statuses;
 #[cfg(test)]
 mod tests;
 
@@ -16,3 +16,4 @@ pub use checks::Side;
 pub use hearing::{Heard, hear};
 pub use own::{header_status, next_header};
 pub use standings::Standing;
+pub use statuses::{is_denied, passes};

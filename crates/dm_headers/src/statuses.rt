@@ -14,13 +14,15 @@ pub(crate) fn is_challenged(code: u32) -> bool
     code == 212 || code == 401 || code == 407
 }
 
-pub(crate) fn is_denied(code: u32) -> bool
+/// Whether a credential was wanted, and wasn't shown or is wrong: 407 or 401.
+pub fn is_denied(code: u32) -> bool
     ensures { result ≡ denied code }
 {
     code == 401 || code == 407
 }
 
-pub(crate) fn passes(code: u32) -> bool
+/// Whether the commands of a message with this header code count: 200 or 212.
+pub fn passes(code: u32) -> bool
     ensures { result ≡ passing code }
 {
     code == 200 || code == 212
