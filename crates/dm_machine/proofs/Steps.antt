@@ -13,7 +13,8 @@ use Rattle.dm_headers.specs.Checks.{is_denied, passes}
 use Rattle.dm_headers.specs.Standings.{Heard, hears}
 use Rattle.dm_atomic.specs.Run.{Next}
 use Rattle.dm_machine.specs.declared.kinds.End.TheVariants.{Aborted}
-use Rattle.dm_machine.specs.Machine.{Progress, Session, Machine}
+use Rattle.dm_machine.specs.declared.progress.Progress.{Progress}
+use Rattle.dm_machine.specs.Machine.{Session, Machine}
 use Rattle.dm_machine.specs.Sending.{sends}
 use Rattle.dm_machine.specs.Messages.{Outcome, goes_on, ends, begins, Waits, queued_again, waits_after, is_over, is_abort, account_at, closed, denied, run_of, answered, by_header, is_last_own, accepts, acts}
 use Rattle.dm_machine.specs.Events.{Event, clock, opened, message, loss, act, stale, stranger, session_of, is_number, is_of, last_of, takes, takes_message, message_outcome, outcome_answer, machine_of, after, taken_answer, sent_in, repeat_answer, message_refusal, refusal}

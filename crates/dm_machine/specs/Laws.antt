@@ -1,16 +1,19 @@
 -- What holds of the machine's runs and of its messages, over the definitions alone.
-use Rattle.std.specs.Prelude.{◌≡◌, ◌<◌, ◌⊎◌, ℕ, false, List, [], ◌∷◌, Option, Some, None, Result, Ok, Err, ⊤}
+use Rattle.std.specs.Prelude.{◌≡◌, ◌<◌, ◌≤◌, length, IfSome, ◌⊎◌, ℕ, false, List, [], ◌∷◌, Option, Some, None, Result, Ok, Err, ⊤}
 use Rattle.syncml_types.specs.Message.{Parts}
+use Rattle.syncml_types.specs.Canonical.{canonical}
 use Rattle.wbxml_tokens.specs.declared.reason.Refusal.{Refusal}
 use Rattle.dm_auth.specs.declared.accounts.Account.{Account}
 use Rattle.dm_headers.specs.Checks.{passes}
 use Rattle.dm_objects.specs.declared.object.Object.TheVariants.{Nothing}
 use Rattle.dm_atomic.specs.Posts.{NoneLost, all_asked}
 use Rattle.dm_atomic.specs.Run.{State, committed}
-use Rattle.dm_machine.specs.Machine.{Progress, Machine}
+use Rattle.dm_machine.specs.declared.progress.Progress.{Progress}
+use Rattle.dm_machine.specs.Machine.{Machine, Session}
 use Rattle.dm_machine.specs.Messages.{Outcome, goes_on, ends, origin_of, execute, run_of, accepts}
 use Rattle.dm_machine.specs.Events.{Event, opened, message, session_of}
-use Rattle.dm_machine.specs.History.{fresh, reached, answers, answers_from, state_from}
+use Rattle.dm_machine.specs.History.{fresh, reached, answers, answers_from, state_from, next}
+use Rattle.dm_machine.specs.Ready.{IsReadyMachine, IsReadyEvent}
 
 -- ---- runs
 
@@ -89,3 +92,18 @@ Leaves before (ends c end) = GivesUp before c
 
 abbrev pub EndsGiveUp : Type 0
 EndsGiveUp = (c : Machine) (p : Progress) (m : Parts) (nonce : List ℕ) → Leaves c.engine (accepts c p m nonce)
+
+-- ---- what can be sent
+
+-- what the first package tells can be sent, what is executed leaves a state as it has to be, and what it tells can be sent;
+-- so a machine stays one that has nothing else to send
+abbrev pub StaysReady : Type 0
+StaysReady = (c : Machine) (e : Event) → IsReadyMachine c → IsReadyEvent c e → IsReadyMachine (next c e)
+
+-- the message sent last is no longer than the room that the server told last before it, and a farewell than any room
+pub record IsShort (c : Machine) : Type 0 where
+  pub sent : IfSome c.session (λ (s : Session). length (canonical s.sent) ≤ s.progress.standing.room)
+  pub farewell : IfSome c.farewell (λ m. length (canonical m) ≤ 2048)
+
+abbrev pub SendsWithinRoom : Type 0
+SendsWithinRoom = (c : Machine) (e : Event) → IsReadyMachine c → IsReadyEvent c e → IsShort c → IsShort (next c e)

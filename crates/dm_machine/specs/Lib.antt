@@ -4,4 +4,5 @@ pub mod Sending
 pub mod Messages
 pub mod Events
 pub mod History
+pub mod Ready
 pub mod Laws

@@ -1,34 +1,18 @@
 -- The state of the client's machine.
-use Rattle.std.specs.Prelude.{ℕ, Bool, List, Option}
+use Rattle.std.specs.Prelude.{ℕ, List, Option}
 use Rattle.dm_base.specs.declared.values.Limits.{Limits}
 use Rattle.syncml_types.specs.Message.{Parts}
 use Rattle.dm_tree.specs.declared.nodes.Stamp.{Stamp}
 use Rattle.dm_auth.specs.declared.accounts.Account.{Account}
-use Rattle.dm_headers.specs.declared.standings.Standing.{Standing}
 use Rattle.dm_pack.specs.Entries.{Entry}
 use Rattle.dm_atomic.specs.Run.{State}
-use Rattle.dm_machine.specs.declared.kinds.Kind.{Kind}
-
--- how far a session has come
-pub record Progress : Type 0 where
-  pub number : ℕ
-  -- the place of its account
-  pub account : ℕ
-  pub kind : Kind
-  pub standing : Standing
-  -- where in the queue the entries of the first package stand that still wait, and how many they are
-  pub opening_at : ℕ
-  pub opening_left : ℕ
+use Rattle.dm_machine.specs.declared.progress.Progress.{Progress}
+use Rattle.dm_machine.specs.declared.progress.UpdateResult.{UpdateResult}
 
 -- an open session, and the message that was sent last in it
 pub record Session : Type 0 where
   pub progress : Progress
   pub sent : Parts
-
--- how an update ended, to be told in first packages until a session ends by Finished
-pub record UpdateResult : Type 0 where
-  pub correlator : Option (List ℕ)
-  pub ok : Bool
 
 pub record Machine : Type 0 where
   pub limits : Limits

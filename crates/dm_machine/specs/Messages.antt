@@ -27,7 +27,8 @@ use Rattle.dm_pack.specs.Filling.{numbered}
 use Rattle.dm_machine.specs.declared.kinds.Kind.{Kind}
 use Rattle.dm_machine.specs.declared.kinds.End.{End}
 use Rattle.dm_machine.specs.declared.kinds.End.TheVariants.{Finished, Aborted, Denied}
-use Rattle.dm_machine.specs.Machine.{Progress, Machine}
+use Rattle.dm_machine.specs.declared.progress.Progress.{Progress}
+use Rattle.dm_machine.specs.Machine.{Machine}
 use Rattle.dm_machine.specs.Opening.{alert, first_package}
 use Rattle.dm_machine.specs.Sending.{header_from, sends}
 
@@ -74,20 +75,24 @@ first_standing = record {
   welcomed = false;
 }
 
+-- the whole first package waits
+abbrev pub first_progress : ℕ → Kind → ℕ → List Entry → Progress
+first_progress account kind number first = record {
+  number = number;
+  account = account;
+  kind = kind;
+  standing = first_standing;
+  opening_at = 0;
+  opening_left = length first;
+}
+
 -- a session that is still open ends by Aborted first
 unfoldable pub begins : Machine → ℕ → Kind → ℕ → Machine
 begins c account kind number =
     let d = closed c in
     let first = first_package d kind in
     sends (record d { queue = first; begun = number; resp_uri = None; farewell = None })
-    (record {
-      number = number;
-      account = account;
-      kind = kind;
-      standing = first_standing;
-      opening_at = 0;
-      opening_left = length first;
-    }) (account_at d account)
+    (first_progress account kind number first) (account_at d account)
 
 -- ---- a message: what its header changes
 

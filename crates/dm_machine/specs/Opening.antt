@@ -13,7 +13,8 @@ use Rattle.dm_atomic.specs.Made.{source_item}
 use Rattle.dm_pack.specs.Entries.{Entry, fresh, no_meta}
 use Rattle.dm_machine.specs.declared.kinds.Kind.{Kind}
 use Rattle.dm_machine.specs.declared.kinds.Kind.TheVariants.{ByServer, ByClient}
-use Rattle.dm_machine.specs.Machine.{UpdateResult, Machine}
+use Rattle.dm_machine.specs.declared.progress.UpdateResult.{UpdateResult}
+use Rattle.dm_machine.specs.Machine.{Machine}
 
 abbrev pub kind_code : Kind → ℕ
 kind_code ByServer = 1200

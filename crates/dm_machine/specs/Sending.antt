@@ -7,7 +7,8 @@ use Rattle.dm_headers.specs.declared.checks.Side.TheVariants.{User}
 use Rattle.dm_headers.specs.Checks.{login_of}
 use Rattle.dm_headers.specs.Headers.{next_header}
 use Rattle.dm_pack.specs.Filling.{Filling, fill, is_final}
-use Rattle.dm_machine.specs.Machine.{Progress, Machine}
+use Rattle.dm_machine.specs.declared.progress.Progress.{Progress}
+use Rattle.dm_machine.specs.Machine.{Machine}
 
 -- to the server, from the device and its user
 abbrev pub header_from : Machine → Progress → Account → Header

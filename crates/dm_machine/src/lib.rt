@@ -3,5 +3,7 @@
 
 pub mod kinds;
 pub mod laws;
+pub mod progress;
 
 pub use kinds::{End, Kind};
+pub use progress::{Progress, UpdateResult};
