@@ -1,8 +1,24 @@
-//! The text of a tree.
+//! The start section of a trace, read line by line, and the text of a tree.
 #![tactic(auto)]
 
+mod accounts;
+mod errors;
+pub mod fields;
+mod forms;
+pub mod heads;
+pub mod laws;
+mod new_nodes;
+mod node_lines;
+pub mod reader;
+pub mod shorts;
+mod start_trees;
+pub mod telling;
 #[cfg(test)]
 mod tests;
 mod texts;
+mod updates;
 
+pub use errors::LineError;
+pub use reader::StartReader;
+pub use telling::Start;
 pub use texts::tree_text;

@@ -1,0 +1,227 @@
+-- What is kept from line to line of a start section.
+use Rattle.std.proofs.Common.{◌≡◌, ℕ, Bool, true, false, cond, List, [], ◌∷◌, ◌++◌, Option, None, Some, Ok, Err, refl, sym, ◌∙◌, ap, subst, inl, inr}
+use Rattle.std.specs.Prelude.{◌&&◌, ◌||◌, ◌==◌, ◌⊎◌, Result, bytes_eq, IfSome, IfOk, IfErr, OnOk, OnErr, codes}
+use Rattle.std.specs.List.{AllByRecursion}
+use Rattle.dm_base.specs.Fields.{parts, is_short, is_id, num_of}
+use Rattle.dm_base.specs.declared.values.Limits.{Limits}
+use Rattle.dm_base.specs.declared.lines.LineReason.{LineReason}
+use Rattle.dm_base.specs.declared.lines.LineReason.TheVariants as reason
+use Rattle.dm_auth.specs.declared.accounts.Account.{Account}
+use Rattle.dm_tree.specs.Nodes.{first_stamp}
+use Rattle.dm_start.specs.declared.errors.LineError.{LineError}
+use Rattle.dm_start.specs.declared.heads.Device.{Device}
+use Rattle.dm_start.specs.declared.heads.Head.{Head}
+use Rattle.dm_start.specs.declared.heads.Head.TheVariants as head
+use Rattle.dm_start.specs.Fields.{begins_with, opt_of, key_of, device_in, are_limits, limits_of, limits_in, clock_in, account_of, account_in}
+use Rattle.dm_start.specs.Growing.{or_refused}
+use Rattle.dm_start.specs.Start.{Section, opening, version_in, started, behind_limits, after_opening, after_line, is_begun, is_known, Reads}
+use Rattle.dm_start.specs.Laying.{Refuses}
+use Rattle.dm_start.specs.Laws.{IsAccount, AreApart}
+
+-- ---- what an answer tells of the tests before it
+
+pub record Said {X Y : Type 0} (o : Option X) (next : X → Result Y LineReason) (y : Y) : Type 0 where
+  pub value : X
+  pub is : o ≡ Some value
+  pub rest : next value ≡ Ok y
+
+pub said : {X Y : Type 0} (why : LineReason) (o : Option X) (next : X → Result Y LineReason) (y : Y)
+    → or_refused why o next ≡ Ok y → Said o next y
+said why None next y e = absurd (cc)
+said why (Some x) next y e = record { value = x; is = refl; rest = e }
+
+pub allowed : {Y : Type 0} (b : Bool) (r : Result Y LineReason) (why : LineReason) (y : Y) → cond b r (Err why) ≡ Ok y
+    → (b ≡ true) × (r ≡ Ok y)
+allowed true r why y e = (refl, e)
+allowed false r why y e = absurd (cc)
+
+pub passed : {Y : Type 0} (b : Bool) (r : Result Y LineReason) (why : LineReason) (y : Y) → cond b (Err why) r ≡ Ok y
+    → (b ≡ false) × (r ≡ Ok y)
+passed true r why y e = absurd (cc)
+passed false r why y e = (refl, e)
+
+pub same_ok : {Y : Type 0} (x y : Y) → ◌≡◌ {A = Result Y LineReason} (Ok x) (Ok y) → x ≡ y
+same_ok x y e = cc
+
+pub some_if : {X : Type 0} (b : Bool) (o : Option X) (x : X) → cond b o None ≡ Some x → (b ≡ true) × (o ≡ Some x)
+some_if true o x e = (refl, e)
+some_if false o x e = absurd (cc)
+
+-- ---- the first lines
+
+pub is_version : (line : List ℕ) (v : ℕ) → version_in line ≡ Some v → (v ≡ 1) ⊎ (v ≡ 2)
+is_version line v e = by_first (bytes_eq line (codes "dm-trace 1")) (bytes_eq line (codes "dm-trace 2")) e
+  where
+    by_first : (a b : Bool) → cond a (Some 1) (cond b (Some 2) None) ≡ Some v → (v ≡ 1) ⊎ (v ≡ 2)
+    by_first true b h = inl (cc)
+    by_first false true h = inr (cc)
+    by_first false false h = absurd (cc)
+
+pub record IsShortDevice (d : Device) : Type 0 where
+  pub dev_id : is_short d.dev_id ≡ true
+  pub man : is_short d.man ≡ true
+  pub model : is_short d.model ≡ true
+  pub dm_v : is_short d.dm_v ≡ true
+  pub lang : is_short d.lang ≡ true
+
+five : (a b c d e : Bool) → (a && b && c && d && e) ≡ true
+    → (a ≡ true) × (b ≡ true) × (c ≡ true) × (d ≡ true) × (e ≡ true)
+five true true true true true h = (refl, refl, refl, refl, refl)
+five false b c d e h = absurd (first b c d e h)
+  where
+    first : (b c d e : Bool) → (false && b && c && d && e) ≡ true → ⊥
+    first b c d e h = cc
+five true false c d e h = absurd (cc)
+five true true false d e h = absurd (cc)
+five true true true false e h = absurd (cc)
+five true true true true false h = absurd (cc)
+
+pub is_short_device : (fields : List (List ℕ)) (d : Device) → device_in fields ≡ Some d → IsShortDevice d
+is_short_device [] d e = absurd (cc)
+is_short_device (w ∷ []) d e = absurd (cc)
+is_short_device (w ∷ a ∷ []) d e = absurd (cc)
+is_short_device (w ∷ a ∷ b ∷ []) d e = absurd (cc)
+is_short_device (w ∷ a ∷ b ∷ c ∷ []) d e = absurd (cc)
+is_short_device (w ∷ a ∷ b ∷ c ∷ g ∷ []) d e = absurd (cc)
+is_short_device (w ∷ a ∷ b ∷ c ∷ g ∷ h ∷ []) d e =
+    let told = some_if _ (Some (record { dev_id = a; man = b; model = c; dm_v = g; lang = h })) d e in
+    let all = five (is_short a) (is_short b) (is_short c) (is_short g) (is_short h) told.0 in
+    let same : record { dev_id = a; man = b; model = c; dm_v = g; lang = h } ≡ d = some_device _ d told.1 in
+    subst IsShortDevice same (record { dev_id = all.0; man = all.1; model = all.2; dm_v = all.3; lang = all.4 })
+  where
+    some_device : (x y : Device) → Some x ≡ Some y → x ≡ y
+    some_device x y q = cc
+is_short_device (w ∷ a ∷ b ∷ c ∷ g ∷ h ∷ i ∷ rest) d e = absurd (cc)
+
+pub in_limits : (fields : List (List ℕ)) (l : Limits) → limits_in fields ≡ Some l
+    → are_limits l.max_msg l.max_obj ≡ true
+in_limits [] l e = absurd (cc)
+in_limits (w ∷ []) l e = absurd (cc)
+in_limits (w ∷ a ∷ []) l e = absurd (cc)
+in_limits (w ∷ a ∷ b ∷ []) l e = by_numbers (num_of a) (num_of b) e
+  where
+    by_numbers : (x y : Option ℕ) → limits_of x y ≡ Some l → are_limits l.max_msg l.max_obj ≡ true
+    by_numbers None y h = absurd (cc)
+    by_numbers (Some x) None h = absurd (cc)
+    by_numbers (Some x) (Some y) h =
+        let told = some_if (are_limits x y) (Some (record { max_msg = x; max_obj = y })) l h in
+        let same : record { max_msg = x; max_obj = y } ≡ l = some_limits _ l told.1 in
+        subst (λ (m : Limits). are_limits m.max_msg m.max_obj ≡ true) same told.0
+      where
+        some_limits : (m n : Limits) → Some m ≡ Some n → m ≡ n
+        some_limits m n q = cc
+in_limits (w ∷ a ∷ b ∷ c ∷ rest) l e = absurd (cc)
+
+-- ---- accounts
+
+four : (a b c d : Bool) → (a && b && c && d) ≡ true → (a ≡ true) × (b ≡ true) × (c ≡ true) × (d ≡ true)
+four true true true true h = (refl, refl, refl, refl)
+four false b c d h = absurd (cc)
+four true false c d h = absurd (cc)
+four true true false d h = absurd (cc)
+four true true true false h = absurd (cc)
+
+opt_short : (text : List ℕ) → is_short text ≡ true → IfSome (opt_of text) (λ t. is_short t ≡ true)
+opt_short text h = by_dash (bytes_eq text (codes "-"))
+  where
+    by_dash : (b : Bool) → IfSome (cond b None (Some text)) (λ t. is_short t ≡ true)
+    by_dash true = tt
+    by_dash false = h
+
+pub is_account : (fields : List (List ℕ)) (a : Account) → account_in fields ≡ Some a → IsAccount a
+is_account [] a e = absurd (cc)
+is_account (w ∷ []) a e = absurd (cc)
+is_account (w ∷ s ∷ []) a e = absurd (cc)
+is_account (w ∷ s ∷ p ∷ []) a e = absurd (cc)
+is_account (w ∷ s ∷ p ∷ n ∷ []) a e = absurd (cc)
+is_account (w ∷ s ∷ p ∷ n ∷ u ∷ []) a e = absurd (cc)
+is_account (w ∷ s ∷ p ∷ n ∷ u ∷ q ∷ []) a e = absurd (cc)
+is_account (w ∷ s ∷ p ∷ n ∷ u ∷ q ∷ m ∷ []) a e =
+    let told = some_if _ (account_of s p (key_of n) u q (key_of m)) a e in
+    let all = four (is_id s) (is_short p) (is_short u) (is_short q) told.0 in
+    by_keys all.0 all.1 all.2 all.3 (key_of n) (key_of m) told.1
+  where
+    some_account : (x y : Account) → Some x ≡ Some y → x ≡ y
+    some_account x y h = cc
+
+    by_keys : is_id s ≡ true → is_short p ≡ true → is_short u ≡ true → is_short q ≡ true → (k l : Option (List ℕ))
+        → account_of s p k u q l ≡ Some a → IsAccount a
+    by_keys hs hp hu hq None l h = absurd (cc)
+    by_keys hs hp hu hq (Some k) None h = absurd (cc)
+    by_keys hs hp hu hq (Some k) (Some l) h =
+        subst IsAccount (some_account _ a h) (record {
+          server = hs;
+          server_password = opt_short p hp;
+          user = opt_short u hu;
+          user_password = opt_short q hq;
+        })
+is_account (w ∷ s ∷ p ∷ n ∷ u ∷ q ∷ m ∷ x ∷ rest) a e = absurd (cc)
+
+pub all_push : (P : Account → Type 0) (as' : List Account) (b : Account) → AllByRecursion P as' → P b
+    → AllByRecursion P (as' ++ b ∷ [])
+all_push P [] b all h = (h, tt)
+all_push P (a ∷ rest) b all h = (all.0, all_push P rest b all.1 h)
+
+neither : (a b : Bool) → (a || b) ≡ false → (a ≡ false) × (b ≡ false)
+neither false false h = (refl, refl)
+neither false true h = absurd (cc)
+neither true b h = absurd (cc)
+
+pub apart_push : (accounts : List Account) (b : Account) → AreApart accounts → is_known accounts b.server ≡ false
+    → AreApart (accounts ++ b ∷ [])
+apart_push [] b apart unknown = (tt, tt)
+apart_push (a ∷ rest) b apart unknown =
+    let both = neither (bytes_eq a.server b.server) (is_known rest b.server) unknown in (
+      all_push
+          (λ (c : Account). bytes_eq a.server c.server ≡ false) rest b apart.0 both.0,
+      apart_push rest b apart.1 both.1,
+    )
+
+-- ---- the first lines don't end a section
+
+behind_goes_on : (version : ℕ) (d : Device) (l : Limits) → is_begun (behind_limits version d l) ≡ false
+behind_goes_on version d l = by_version (version == 2)
+  where
+    by_version : (b : Bool) → is_begun (cond b (opening (head.Clock d l)) (started version d l first_stamp)) ≡ false
+    by_version true = refl
+    by_version false = refl
+
+pub opening_goes_on : (h : Head) (line : List ℕ) (t : Section) → after_opening h line ≡ Ok t → is_begun t ≡ false
+opening_goes_on head.First line t e =
+    let s = said reason.Word (version_in line) (λ v. Ok (opening (head.Device v))) t e in
+    ap is_begun (sym (same_ok _ t s.rest))
+opening_goes_on (head.Device v) line t e =
+    let word = allowed (begins_with (codes "device") line) _ reason.Word t e in
+    let s = said reason.Fields (device_in (parts line)) (λ d. Ok (opening (head.Limits v d))) t word.1 in
+    ap is_begun (sym (same_ok _ t s.rest))
+opening_goes_on (head.Limits v d) line t e =
+    let word = allowed (begins_with (codes "limits") line) _ reason.Word t e in
+    let s = said reason.Fields (limits_in (parts line)) (λ l. Ok (behind_limits v d l)) t word.1 in
+    ap is_begun (sym (same_ok _ t s.rest)) ∙ behind_goes_on v d s.value
+opening_goes_on (head.Clock d l) line t e =
+    let word = allowed (begins_with (codes "clock") line) _ reason.Word t e in
+    let s = said reason.Fields (clock_in (parts line)) (λ clock. Ok (started 2 d l clock)) t word.1 in
+    ap is_begun (sym (same_ok _ t s.rest))
+
+pub opening_line : (h : Head) (line : List ℕ) → after_line (opening h) line ≡ after_opening h line
+unfolding after_line
+opening_line h line = refl
+
+-- ---- what a line is answered
+
+module _ (read : Result Section LineReason) (old new : Section) where
+  pub when_read : (r : Result Bool LineError) → Reads read old new r → OnOk r (read ≡ Ok new)
+  when_read (Ok last) h = h.0
+  when_read (Err e) h = tt
+
+  pub when_last : (r : Result Bool LineError) → Reads read old new r → IfOk r (λ last. last ≡ is_begun new)
+  when_last (Ok last) h = h.1
+  when_last (Err e) h = tt
+
+  pub when_bad : (r : Result Bool LineError) → Reads read old new r → IfErr r (Refuses read)
+  when_bad (Ok last) h = tt
+  when_bad (Err e) h = h.0
+
+  pub when_err : (r : Result Bool LineError) → Reads read old new r → OnErr r (new ≡ old)
+  when_err (Ok last) h = tt
+  when_err (Err e) h = h.1

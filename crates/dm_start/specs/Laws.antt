@@ -1,0 +1,35 @@
+-- Laws over the definitions alone.
+use Rattle.std.specs.Prelude.{◌≡◌, ◌≤◌, ◌<◌, ◌⊎◌, ℕ, false, IsTrue, List, [], ◌∷◌, length, bytes_eq, IfSome, Ok, ⊤}
+use Rattle.std.specs.List.{AllByRecursion}
+use Rattle.dm_base.specs.Fields.{is_id, is_short}
+use Rattle.dm_auth.specs.declared.accounts.Account.{Account}
+use Rattle.dm_tree.specs.Devices.{IsDeviceTree}
+use Rattle.dm_start.specs.declared.telling.Phase.TheVariants as phase
+use Rattle.dm_start.specs.Fields.{are_limits}
+use Rattle.dm_start.specs.Start.{Told, telling, section_of_lines}
+
+-- its names have the forms of their fields
+pub record IsAccount (a : Account) : Type 0 where
+  pub server : IsTrue (is_id a.server)
+  pub server_password : IfSome a.server_password (λ text. IsTrue (is_short text))
+  pub user : IfSome a.user (λ text. IsTrue (is_short text))
+  pub user_password : IfSome a.user_password (λ text. IsTrue (is_short text))
+
+-- no two accounts are of one server
+abbrev pub AreApart : List Account → Type 0
+AreApart [] = ⊤
+AreApart (a ∷ others) = AllByRecursion (λ (b : Account). bytes_eq a.server b.server ≡ false) others × AreApart others
+
+-- what a client may begin with
+pub record IsStart (told : Told) : Type 0 where
+  pub version : (told.version ≡ 1) ⊎ (told.version ≡ 2)
+  pub limits : IsTrue (are_limits told.limits.max_msg told.limits.max_obj)
+  pub some : 0 < length told.accounts
+  pub few : length told.accounts ≤ 16
+  pub accounts : AllByRecursion IsAccount told.accounts
+  pub apart : AreApart told.accounts
+  pub device : IsDeviceTree told.nodes
+
+-- whatever the lines of a whole section are, it tells such a start
+abbrev pub StartsAreSound : Type 0
+StartsAreSound = (lines : List (List ℕ)) (told : Told) → section_of_lines lines ≡ Ok (telling phase.Begun told) → IsStart told

@@ -1,0 +1,194 @@
+// The reader of a start section.
+ghost use Rattle.std.specs.Prelude.{◌≡◌, true, false, Ok, IfOk, IfErr, OnOk, OnErr};
+ghost use Rattle.dm_base.specs.Fields.{parts};
+ghost use Rattle.dm_start.specs.declared.heads.Head.TheVariants as head;
+ghost use Rattle.dm_start.specs.declared.telling.Phase.TheVariants as phase;
+ghost use Rattle.dm_start.specs.Laying.{Refuses, SaysAs};
+ghost use Rattle.dm_start.specs.Start as Spec;
+ghost use Rattle.dm_start.specs.Start.{after_line as section_after, section_at, section_of, told_of, is_begun, Reads};
+
+use crate::errors::{BAD_FIELDS, BAD_WORD, LineError};
+use crate::fields::begins_with;
+use crate::heads::{Device, Head, clock_in, device_in, limits_in, version_in};
+use crate::start_trees::start_tree;
+use crate::telling::{Phase, Start, after_telling};
+use dm_base::{Limits, List};
+use dm_tree::Stamp;
+use std::alloc::Global;
+
+/// Which line comes next, with what those before it told.
+#[derive(Drop)]
+pub enum Place {
+    Opening(Head),
+    Telling(Phase, Start),
+}
+
+/// Reads the start section of a trace, line by line.
+#[derive(Drop)]
+pub struct StartReader {
+    pub(crate) alloc: Global,
+    pub(crate) place: Place,
+}
+
+const FIRST_STAMP: Stamp = Stamp {
+    bytes: *b"00000000T000000Z",
+};
+
+fn started(
+    alloc: Global,
+    version: u8,
+    device: &Device,
+    limits: Limits,
+    clock: Stamp,
+) -> Result<Place, LineError>
+    ensures { SaysAs section_at (Ok (Spec.started version device.now limits clock)) result }
+{
+    Ok(Place::Telling(
+        Phase::Accounts,
+        Start {
+            version,
+            limits,
+            accounts: List::new(alloc),
+            tree: start_tree(alloc, clock, device)?,
+        },
+    ))
+}
+
+fn after_first(line: &[u8]) -> Result<Place, LineError>
+    ensures { SaysAs section_at (Spec.after_opening head.First line.now) result }
+{
+    match version_in(line) {
+        Some(version) => Ok(Place::Opening(Head::Device(version))),
+        None => Err(BAD_WORD),
+    }
+}
+
+fn after_device(alloc: Global, version: u8, line: &[u8]) -> Result<Place, LineError>
+    ensures { SaysAs section_at (Spec.after_opening (head.Device version) line.now) result }
+{
+    if !begins_with(b"device", line) {
+        return Err(BAD_WORD);
+    }
+    match device_in(alloc, line)? {
+        Some(device) => Ok(Place::Opening(Head::Limits(version, device))),
+        None => Err(BAD_FIELDS),
+    }
+}
+
+fn behind_limits(
+    alloc: Global,
+    version: u8,
+    device: &Device,
+    limits: Limits,
+) -> Result<Place, LineError>
+    ensures { SaysAs section_at (Ok (Spec.behind_limits version device.now limits)) result }
+{
+    if version == 2 {
+        Ok(Place::Opening(Head::Clock(device.copy(alloc)?, limits)))
+    } else {
+        started(alloc, version, device, limits, FIRST_STAMP)
+    }
+}
+
+fn after_limits(
+    alloc: Global,
+    version: u8,
+    device: &Device,
+    line: &[u8],
+) -> Result<Place, LineError>
+    ensures { SaysAs section_at (Spec.after_opening (head.Limits version device.now) line.now) result }
+{
+    if !begins_with(b"limits", line) {
+        return Err(BAD_WORD);
+    }
+    match limits_in(line) {
+        Some(limits) => behind_limits(alloc, version, device, limits),
+        None => Err(BAD_FIELDS),
+    }
+}
+
+fn after_clock(
+    alloc: Global,
+    device: &Device,
+    limits: Limits,
+    line: &[u8],
+) -> Result<Place, LineError>
+    ensures { SaysAs section_at (Spec.after_opening (head.Clock device.now limits) line.now) result }
+{
+    if !begins_with(b"clock", line) {
+        return Err(BAD_WORD);
+    }
+    match clock_in(line) {
+        Some(clock) => started(alloc, 2, device, limits, clock),
+        None => Err(BAD_FIELDS),
+    }
+}
+
+fn after_opening(alloc: Global, opening: &Head, line: &[u8]) -> Result<Place, LineError>
+    ensures { SaysAs section_at (Spec.after_opening opening.now line.now) result }
+{
+    match opening {
+        Head::First => after_first(line),
+        Head::Device(version) => after_device(alloc, *version, line),
+        Head::Limits(version, device) => after_limits(alloc, *version, device, line),
+        Head::Clock(device, limits) => after_clock(alloc, device, *limits, line),
+    }
+}
+
+#[tactic(auto, unfolding(crate::specs::Start::after_line))]
+fn after_line(alloc: Global, place: &mut Place, line: &[u8]) -> Result<bool, LineError>
+    requires { is_begun (section_at place.old) ≡ false }
+    ensures { Reads (section_after (section_at place.old) line.now) (section_at place.old) (section_at place.new)
+        result }
+{
+    match place {
+        Place::Opening(opening) => {
+            let next = after_opening(alloc, opening, line)?;
+            *place = next;
+            Ok(false)
+        }
+        Place::Telling(phase, start) => {
+            *phase = after_telling(alloc, *phase, start, line)?;
+            Ok(*phase == Phase::Begun)
+        }
+    }
+}
+
+impl StartReader {
+    /// A reader of a section of which no line came.
+    pub fn new(alloc: Global) -> StartReader
+        ensures { section_of result ≡ Spec.opening head.First }
+    {
+        StartReader {
+            alloc,
+            place: Place::Opening(Head::First),
+        }
+    }
+
+    /// Takes the next line, without its line feed, and answers whether it was `begin`, the last one. It goes through the
+    /// line a few times; a node is found by going down from the root.
+    ///
+    /// `Bad` tells the first reason that holds: `Word` for a first word that may not stand there, `Fields` for their
+    /// number or form, `Account` for a server that repeats or a 17th account, `Tree` for what the tree forbids. After it,
+    /// and after `Memory`, all is as before the line.
+    pub fn line(&mut self, text: &[u8]) -> Result<bool, LineError>
+        requires { is_begun (section_of self.old) ≡ false }
+        ensures read { OnOk result (section_after (section_of self.old) text.now ≡ Ok (section_of self.new)) }
+        ensures last { IfOk result (λ last. last ≡ is_begun (section_of self.new)) }
+        ensures bad { IfErr result (Refuses (section_after (section_of self.old) text.now)) }
+        ensures err { OnErr result (section_of self.new ≡ section_of self.old) }
+    {
+        after_line(self.alloc, &mut self.place, text)
+    }
+
+    /// What the section told. It takes no memory.
+    pub fn finish(self) -> Start
+        requires { is_begun (section_of self) ≡ true }
+        ensures { section_of self ≡ Spec.telling phase.Begun (told_of result) }
+    {
+        match self.place {
+            Place::Telling(_, start) => start,
+            Place::Opening(_) => unreachable!(),
+        }
+    }
+}
