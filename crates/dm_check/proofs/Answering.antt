@@ -95,7 +95,6 @@ cause_by exit.ReadFault before now other h = absurd (other refl)
 cause_by exit.Done before now other h = h
 cause_by exit.Usage before now other h = h
 cause_by exit.BadInput before now other h = h
-cause_by exit.NotBuilt before now other h = h
 cause_by exit.WriteFault before now other h = h
 cause_by exit.NoMemory before now other h = h
 cause_by exit.TooLong before now other h = h

@@ -22,7 +22,6 @@ PutsUsage old new exit.WriteFault = PutsPrefix old new usage_line
 PutsUsage old new exit.NoMemory = PutsPrefix old new usage_line
 PutsUsage old new exit.Done = ⊥
 PutsUsage old new exit.BadInput = ⊥
-PutsUsage old new exit.NotBuilt = ⊥
 PutsUsage old new exit.ReadFault = ⊥
 PutsUsage old new exit.TooLong = ⊥
 
@@ -54,4 +53,3 @@ status_of exit.ReadFault = 4
 status_of exit.WriteFault = 5
 status_of exit.NoMemory = 6
 status_of exit.TooLong = 9
-status_of exit.NotBuilt = 12

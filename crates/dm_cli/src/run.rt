@@ -55,6 +55,5 @@ pub fn status(exit: Exit) -> u8
         Exit::WriteFault => 5,
         Exit::NoMemory => 6,
         Exit::TooLong => 9,
-        Exit::NotBuilt => 12,
     }
 }

@@ -165,10 +165,9 @@ const ROWS: [Row; 21] = [
         ..PLAIN
     },
     Row {
-        name: "a trace without its open line",
+        name: "a message before any session",
         input: Text::NoOpen,
-        exit: Exit::NotBuilt,
-        output: Text::NotBuiltSeven,
+        output: Text::NoOpenAnswered,
         ..PLAIN
     },
 ];

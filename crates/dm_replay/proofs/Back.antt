@@ -1,63 +1,84 @@
--- A run that ends by Done went over a first-path trace.
-use Rattle.std.proofs.Common.{None, Some, ◌≡◌, ◌<◌, ◌≤◌, ◌+◌, ◌&&◌, ℕ, Bool, true, false, List, [], ◌∷◌, ◌++◌, refl, sym, ap, subst, ◌∙◌, rules, length, arith, if◌then◌else◌, nat_lt, not}
-use Rattle.std.specs.Prelude.{bytes_eq, codes, is_some, Option, ⊤}
-use Rattle.dm_base.specs.Fields.{parts}
-use Rattle.syncml_types.specs.Message.{Parts}
-use Rattle.dm_tree.specs.FirstTree.{leaf_of}
-use Rattle.dm_base.specs.declared.first.FirstLeaf.{FirstLeaf}
-use Rattle.dm_tree.specs.declared.tree.NamedLeaf.{NamedLeaf}
-use Rattle.dm_session.specs.State.{Event, message}
-use Rattle.dm_replay.specs.declared.events.Opened.{Opened}
+-- A run that ends by Done went over a whole trace.
+use Rattle.std.proofs.Common.{suc, zero, None, Some, Ok, Err, ◌≡◌, ◌≤◌, ◌+◌, ◌==◌, ◌&&◌, ℕ, Bool, true, false, List, [], ◌∷◌, ◌++◌, refl, sym, ap, subst, ◌∙◌, rules, length, take, arith, if◌then◌else◌, nat_lt, append-nil}
+use Rattle.std.proofs.lemmas.Bool.{eqb-true, eqb-false}
+use Rattle.std.proofs.lemmas.List.{take_all}
+use Rattle.std.specs.Prelude.{bytes_eq, codes, ⊤}
+use Rattle.std.specs.declared.option.Option.{Option}
+use Rattle.std.specs.declared.result.Result.{Result}
+use Rattle.dm_base.specs.Lines.{IsFeedless}
+use Rattle.dm_base.specs.declared.lines.LineReason.{LineReason}
+use Rattle.dm_base.specs.declared.lines.LineReason.TheVariants as reason
+use Rattle.dm_machine.specs.Events.{Event as Happening}
+use Rattle.dm_start.specs.declared.heads.Head.TheVariants.{First}
+use Rattle.dm_start.specs.declared.telling.Phase.TheVariants as phase
+use Rattle.dm_start.specs.Start.{Told, Section, opening, telling, after_line, lines_after, behind_line}
+use Rattle.dm_replay.specs.declared.events.Event.{Event}
+use Rattle.dm_replay.specs.declared.events.Event.TheVariants as event
 use Rattle.dm_replay.specs.declared.exit.Exit.TheVariants as exit
-use Rattle.dm_replay.specs.declared.start.FirstStart.{FirstStart}
-use Rattle.dm_replay.specs.declared.start.Place.{Place}
-use Rattle.dm_replay.specs.declared.start.Place.TheVariants as place
-use Rattle.dm_replay.specs.declared.start.StartStep.TheVariants as step
-use Rattle.dm_replay.specs.Start.{start_step, leaf_in, leaf_told, with_named}
-use Rattle.dm_replay.specs.Events.{open_of, message_of}
-use Rattle.dm_replay.specs.Trace.{Stop, empty, not_built, too_long, began, unbegun, stopped, no_events, is_long, tail_stop, start_from, start_line, open_from, open_line, messages_from, message_line, end_from}
-use Rattle.dm_replay.specs.Output.{section_exit, stop_exit, ending_exit}
-use Rattle.dm_replay.specs.FirstPath.{AreLeaves, AreMessages}
+use Rattle.dm_replay.specs.Input.{Split, input_of, split, with_byte}
+use Rattle.dm_base.specs.Fields.{parts, is_id, nonce_of, hex_of}
+use Rattle.dm_base.specs.declared.values.Nonce.{Nonce}
+use Rattle.dm_tree.specs.declared.nodes.Stamp.{Stamp}
+use Rattle.dm_machine.specs.declared.kinds.Kind.{Kind}
+use Rattle.dm_start.specs.Fields.{begins_with, clock_in}
+use Rattle.dm_replay.specs.Events.{event_of, kind_of, session_of, place_of, opened_at, opened_by, open_in, msg_by, msg_in, act_in, clock_by, clock_event, alone}
+use Rattle.dm_replay.specs.Trace.{Stop, bad, too_long, whole, stopped, began, unbegun, is_long, tail_stop, told_in, behind_begin, start_line, start_from, no_events, event_line, end_from, events_from, ids_of}
+use Rattle.dm_replay.specs.Output.{begun_exit, stop_exit, ending_exit, replay_exit}
+use Rattle.dm_replay.specs.Laws.{AreLines, text_of, happening_said, AreEvents, IsWholeTrace, OnlyTracesAreDone}
+use Rattle.dm_replay.proofs.WholeTraces.{of_told}
 
 -- no line has more bytes than it may
 abbrev pub AreShort : List (List ℕ) → Type 0
 AreShort [] = ⊤
 AreShort (line ∷ lines) = (length line ≤ 8400000) × AreShort lines
 
-pub is_short : (line : List ℕ) → is_long line ≡ false → length line ≤ 8400000
+is_short : (line : List ℕ) → is_long line ≡ false → length line ≤ 8400000
 is_short line h = grind arith
 
-pub stop_is_not_done : (stop : Stop) → stop_exit stop ≡ exit.Done → ⊥
-stop_is_not_done empty h = cc
-stop_is_not_done (not_built n) h = cc
+stop_is_not_done : (stop : Stop) → stop_exit stop ≡ exit.Done → ⊥
+stop_is_not_done (bad n why) h = cc
 stop_is_not_done too_long h = cc
-
-pub same_text : (xs ys : List ℕ) → bytes_eq xs ys ≡ true → xs ≡ ys
-same_text xs ys h = search rules
 
 -- ---- the events
 
-end_back : (n : ℕ) (lines : List (List ℕ)) (tail : List ℕ) (more : Bool) → ending_exit (end_from n lines tail more) ≡ exit.Done
+length_none : (xs : List ℕ) → (length xs == 0) ≡ true → xs ≡ []
+length_none [] h = refl
+length_none (x ∷ xs) h = absurd (let e = eqb-true (length (x ∷ xs)) 0 h in omega (arith, e))
+
+end_at_back : (c d : Bool) (n : ℕ) (tail : List ℕ) (more : Bool) → (length tail == 0) ≡ d
+    → ending_exit (if c then stopped (bad n reason.Extra) else if more then stopped
+    too_long else if d then whole else stopped (bad n reason.Extra)) ≡ exit.Done
+    → (tail ≡ []) × (more ≡ false)
+end_at_back true d n tail more is h = cc
+end_at_back false true n tail false is h = (length_none tail is, refl)
+end_at_back false false n tail false is h = cc
+end_at_back false d n tail true is h = cc
+
+end_back : (n : ℕ) (lines : List (List ℕ)) (tail : List ℕ) (more : Bool)
+    → ending_exit (end_from n lines tail more) ≡ exit.Done
     → (lines ≡ []) × (tail ≡ []) × (more ≡ false)
 end_back n (line ∷ lines) tail more h = cc
-end_back n [] (b ∷ tail) more h = absurd (stop_is_not_done (tail_stop n (b ∷ tail) more) h)
-end_back n [] [] true h = cc
-end_back n [] [] false h = (refl, refl, refl)
+end_back n [] tail more h = let e = end_at_back (is_long tail) (length tail == 0) n tail more refl h in (refl, e.0, e.1)
 
--- what whole messages and their end are
-pub record Messages (session last : ℕ) (lines : List (List ℕ)) (tail : List ℕ) (more : Bool) : Type 0 where
-  pub messages : List (List ℕ)
-  pub events : List Event
-  pub are : lines ≡ messages ++ codes "end" ∷ []
-  pub tell : AreMessages session last messages events
+-- what whole events and their end are
+pub record Happenings (version : ℕ) (ids : List (List ℕ)) (lines : List (List ℕ)) (tail : List ℕ)
+    (more : Bool) : Type 0 where
+  pub happenings : List (List ℕ)
+  pub events : List Happening
+  pub are : lines ≡ happenings ++ codes "end" ∷ []
+  pub tell : AreEvents version ids happenings events
   pub short : AreShort lines
   pub no_tail : tail ≡ []
   pub no_more : more ≡ false
 
-ends_messages : (session last : ℕ) (line : List ℕ) (lines : List (List ℕ)) (tail : List ℕ) (more : Bool) → length line ≤ 8400000
-    → line ≡ codes "end" → (lines ≡ []) × (tail ≡ []) × (more ≡ false) → Messages session last (line ∷ lines) tail more
-ends_messages session last line lines tail more short is h = record {
-  messages = [];
+same_text : (xs ys : List ℕ) → bytes_eq xs ys ≡ true → xs ≡ ys
+same_text xs ys h = search rules
+
+ends_there : (version : ℕ) (ids : List (List ℕ)) (line : List ℕ) (lines : List (List ℕ)) (tail : List ℕ) (more : Bool)
+    → length line ≤ 8400000
+    → line ≡ codes "end" → (lines ≡ []) × (tail ≡ []) × (more ≡ false) → Happenings version ids (line ∷ lines) tail more
+ends_there version ids line lines tail more short is h = record {
+  happenings = [];
   events = [];
   are = ap (λ l. l ∷ lines) is ∙ ap (λ ls. codes "end" ∷ ls) h.0;
   tell = refl;
@@ -66,186 +87,314 @@ ends_messages session last line lines tail more short is h = record {
   no_more = h.2;
 }
 
-other_line : (c : Bool) (n session last : ℕ) (line : List ℕ) (lines : List (List ℕ)) (tail : List ℕ) (more : Bool) → length line ≤ 8400000
-    → bytes_eq line (codes "end") ≡ c
-    → ending_exit (if c then no_events (end_from (n + 1) lines tail more) else no_events (stopped (not_built n))).ending ≡ exit.Done
-    → Messages session last (line ∷ lines) tail more
-other_line true n session last line lines tail more short is h =
-    ends_messages session last line lines tail more short (same_text line (codes "end") is) (end_back (n + 1) lines tail more h)
-other_line false n session last line lines tail more short is h = cc
-
-one_more : (session last : ℕ) (m : Parts) (line : List ℕ) (lines : List (List ℕ)) (tail : List ℕ) (more : Bool) → length line ≤ 8400000
-    → message_of session last line ≡ Some m → Messages session m.header.msg lines tail more → Messages session last (line ∷ lines) tail more
-one_more session last m line lines tail more short is rest = record {
-  messages = line ∷ rest.messages;
-  events = message m ∷ rest.events;
+one_more : (version : ℕ) (ids : List (List ℕ)) (e : Happening) (line : List ℕ) (lines : List (List ℕ)) (tail : List ℕ)
+    (more : Bool)
+    → length line ≤ 8400000 → happening_said (event_of version ids line) ≡ Some e
+    → Happenings version ids lines tail more
+    → Happenings version ids (line ∷ lines) tail more
+one_more version ids e line lines tail more short is rest = record {
+  happenings = line ∷ rest.happenings;
+  events = e ∷ rest.events;
   are = ap (λ ls. line ∷ ls) rest.are;
-  tell = (m, rest.events, is, refl, rest.tell);
+  tell = (e, rest.events, is, refl, rest.tell);
   short = (short, rest.short);
   no_tail = rest.no_tail;
   no_more = rest.no_more;
 }
 
-told_line : (o : Option Parts) (n session last : ℕ) (line : List ℕ) (lines : List (List ℕ)) (tail : List ℕ) (more : Bool) → length line ≤ 8400000
-    → ((msg : ℕ) → ending_exit (messages_from (n + 1) session msg lines tail more).ending ≡ exit.Done → Messages session msg lines tail more)
-    → message_of session last line ≡ o
-    → ending_exit (message_line n line o (end_from (n + 1) lines tail more) (λ msg. messages_from (n + 1) session msg lines tail more)).ending ≡ exit.Done
-    → Messages session last (line ∷ lines) tail more
-told_line None n session last line lines tail more short rest is h = other_line (bytes_eq line (codes "end")) n session last line lines tail more short refl h
-told_line (Some m) n session last line lines tail more short rest is h = one_more session last m line lines tail more short is (rest m.header.msg h)
+-- only the `end` line says that the trace ends
+opened_goes_on : (ids : List (List ℕ)) (fields : List (List ℕ)) → open_in ids fields ≡ Ok event.End → ⊥
+opened_goes_on ids [] h = cc
+opened_goes_on ids (a ∷ []) h = cc
+opened_goes_on ids (a ∷ b ∷ []) h = cc
+opened_goes_on ids (a ∷ b ∷ c ∷ []) h = cc
+opened_goes_on ids (a ∷ b ∷ c ∷ d ∷ []) h = opened (kind_of c) (session_of d) h
+  where
+    placed : (o : Option ℕ) (kind : Kind) (session : ℕ) → opened_at o kind session ≡ Ok event.End → ⊥
+    placed None kind session g = cc
+    placed (Some account) kind session g = cc
 
-short_line : (c : Bool) (n session last : ℕ) (line : List ℕ) (lines : List (List ℕ)) (tail : List ℕ) (more : Bool)
-    → ((msg : ℕ) → ending_exit (messages_from (n + 1) session msg lines tail more).ending ≡ exit.Done → Messages session msg lines tail more)
-    → is_long line ≡ c
-    → ending_exit (if c then no_events (stopped (not_built n))
-    else message_line n line (message_of session last line) (end_from (n + 1) lines tail more) (λ msg. messages_from (n + 1) session msg lines tail more)).ending ≡ exit.Done
-    → Messages session last (line ∷ lines) tail more
-short_line true n session last line lines tail more rest is h = cc
-short_line false n session last line lines tail more rest is h =
-    told_line (message_of session last line) n session last line lines tail more (is_short line is) rest refl h
+    known : (c : Bool) (kind : Kind) (session : ℕ)
+        → (if c then opened_at (place_of ids b) kind session else Err reason.Fields) ≡ Ok event.End → ⊥
+    known true kind session g = placed (place_of ids b) kind session g
+    known false kind session g = cc
 
-pub messages_back : (n session last : ℕ) (lines : List (List ℕ)) (tail : List ℕ) (more : Bool)
-    → ending_exit (messages_from n session last lines tail more).ending ≡ exit.Done → Messages session last lines tail more
-messages_back n session last [] tail more h = absurd (stop_is_not_done (tail_stop n tail more) h)
-messages_back n session last (line ∷ lines) tail more h =
-    short_line (is_long line) n session last line lines tail more (λ msg. messages_back (n + 1) session msg lines tail more) refl h
+    opened : (k : Option Kind) (n : Option ℕ) → opened_by ids b k n ≡ Ok event.End → ⊥
+    opened None n g = cc
+    opened (Some kind) None g = cc
+    opened (Some kind) (Some session) g = known (is_id b) kind session g
+opened_goes_on ids (a ∷ b ∷ c ∷ d ∷ e ∷ fields) h = cc
 
--- ---- the `open` line
+message_goes_on : (fields : List (List ℕ)) → msg_in fields ≡ Ok event.End → ⊥
+message_goes_on [] h = cc
+message_goes_on (a ∷ []) h = cc
+message_goes_on (a ∷ b ∷ []) h = cc
+message_goes_on (a ∷ b ∷ c ∷ []) h = read (nonce_of b) (hex_of c) h
+  where
+    read : (o : Option Nonce) (bytes : Option (List ℕ)) → msg_by o bytes ≡ Ok event.End → ⊥
+    read None bytes g = cc
+    read (Some nonce) None g = cc
+    read (Some nonce) (Some bytes) g = cc
+message_goes_on (a ∷ b ∷ c ∷ d ∷ fields) h = cc
 
-pub record Events (server : List ℕ) (lines : List (List ℕ)) (tail : List ℕ) (more : Bool) : Type 0 where
-  pub opening : List ℕ
-  pub session : Opened
-  pub messages : List (List ℕ)
-  pub events : List Event
-  pub are : lines ≡ opening ∷ (messages ++ codes "end" ∷ [])
-  pub opens : open_of server opening ≡ Some session
-  pub tell : AreMessages session.number 0 messages events
-  pub short : AreShort lines
-  pub no_tail : tail ≡ []
-  pub no_more : more ≡ false
+abbrev pub alone_if : Bool → Event → Result Event LineReason
+alone_if c said = if c then Ok said else Err reason.Fields
 
-opened_line : (o : Option Opened) (n : ℕ) (server line : List ℕ) (lines : List (List ℕ)) (tail : List ℕ) (more : Bool) → length line ≤ 8400000
-    → open_of server line ≡ o
-    → ending_exit (open_line n o (λ session. messages_from (n + 1) session 0 lines tail more)).ending ≡ exit.Done → Events server (line ∷ lines) tail more
-opened_line None n server line lines tail more short is h = cc
-opened_line (Some o) n server line lines tail more short is h =
-    let rest = messages_back (n + 1) o.number 0 lines tail more h in
-    record {
-      opening = line;
-      session = o;
-      messages = rest.messages;
-      events = rest.events;
-      are = ap (λ ls. line ∷ ls) rest.are;
-      opens = is;
-      tell = rest.tell;
-      short = (short, rest.short);
-      no_tail = rest.no_tail;
-      no_more = rest.no_more;
-    }
+abbrev pub act_if : Bool → Bool → Result Event LineReason
+act_if a b = if a then Ok (event.Act true) else if b then Ok (event.Act false) else Err reason.Fields
 
-short_open : (c : Bool) (n : ℕ) (server line : List ℕ) (lines : List (List ℕ)) (tail : List ℕ) (more : Bool) → is_long line ≡ c
-    → ending_exit (if c then no_events (stopped (not_built n))
-    else open_line n (open_of server line) (λ session. messages_from (n + 1) session 0 lines tail more)).ending ≡ exit.Done
-    → Events server (line ∷ lines) tail more
-short_open true n server line lines tail more is h = cc
-short_open false n server line lines tail more is h = opened_line (open_of server line) n server line lines tail more (is_short line is) refl h
+act_goes_on : (a b : Bool) → act_if a b ≡ Ok event.End → ⊥
+act_goes_on true b h = cc
+act_goes_on false true h = cc
+act_goes_on false false h = cc
 
-open_back : (n : ℕ) (server : List ℕ) (lines : List (List ℕ)) (tail : List ℕ) (more : Bool) → ending_exit (open_from n server lines tail more).ending ≡ exit.Done
-    → Events server lines tail more
-open_back n server [] tail more h = absurd (stop_is_not_done (tail_stop n tail more) h)
-open_back n server (line ∷ lines) tail more h = short_open (is_long line) n server line lines tail more refl h
+clock_goes_on : (o : Option Stamp) → clock_by o ≡ Ok event.End → ⊥
+clock_goes_on None h = cc
+clock_goes_on (Some stamp) h = cc
 
--- ---- the `leaf` lines
+loss_goes_on : (c : Bool) → alone_if c event.Loss ≡ Ok event.End → ⊥
+loss_goes_on true h = cc
+loss_goes_on false h = cc
 
-pub record Leaves (start : FirstStart) (lines : List (List ℕ)) (tail : List ℕ) (more : Bool) : Type 0 where
-  pub end : FirstStart
-  pub leaves : List (List ℕ)
+end_alone : (c : Bool) → alone_if c event.End ≡ Ok event.End → c ≡ true
+end_alone true h = refl
+end_alone false h = cc
+
+ends_by : (a b c d e f : Bool) (version : ℕ) (ids : List (List ℕ)) (line : List ℕ)
+    → (if a then open_in ids (parts line) else if b then msg_in (parts line) else if c then alone
+    (codes "loss") line event.Loss
+    else if d then act_in line else if e then clock_event (parts line) else if f then alone
+    (codes "end") line event.End else Err reason.Word) ≡ Ok event.End
+    → line ≡ codes "end"
+ends_by true b c d e f version ids line h = absurd (opened_goes_on ids (parts line) h)
+ends_by false true c d e f version ids line h = absurd (message_goes_on (parts line) h)
+ends_by false false true d e f version ids line h = absurd (loss_goes_on (bytes_eq line (codes "loss")) h)
+ends_by false false false true e f version ids line h =
+    absurd (act_goes_on (bytes_eq line (codes "act ok")) (bytes_eq line (codes "act fail")) h)
+ends_by false false false false true f version ids line h = absurd (clock_goes_on (clock_in (parts line)) h)
+ends_by false false false false false true version ids line h =
+    same_text line (codes "end") (end_alone (bytes_eq line (codes "end")) h)
+ends_by false false false false false false version ids line h = cc
+
+ends_only : (version : ℕ) (ids : List (List ℕ)) (line : List ℕ) → event_of version ids line ≡ Ok event.End
+    → line ≡ codes "end"
+unfolding event_of
+ends_only version ids line h =
+    ends_by (begins_with (codes "open") line) (begins_with (codes "msg") line) (begins_with (codes "loss") line)
+    (begins_with (codes "act") line)
+    (version == 2 && begins_with (codes "clock") line) (begins_with (codes "end") line) version ids line h
+
+told_line : (r : Result Event LineReason) (version : ℕ) (ids : List (List ℕ)) (n : ℕ) (line : List ℕ)
+    (lines : List (List ℕ)) (tail : List ℕ) (more : Bool)
+    → length line ≤ 8400000 → event_of version ids line ≡ r
+    → (ending_exit (events_from version ids (n + 1) lines tail more).ending ≡ exit.Done
+    → Happenings version ids lines tail more)
+    → ending_exit (event_line n r (end_from (n + 1) lines tail more)
+    (events_from version ids (n + 1) lines tail more)).ending ≡ exit.Done
+    → Happenings version ids (line ∷ lines) tail more
+told_line (Ok (event.Open account kind session)) version ids n line lines tail more short is rest h =
+    one_more version ids _ line lines tail more short (ap happening_said is) (rest h)
+told_line (Ok (event.Msg nonce bytes)) version ids n line lines tail more short is rest h =
+    one_more version ids _ line lines tail more short (ap happening_said is) (rest h)
+told_line (Ok event.Loss) version ids n line lines tail more short is rest h =
+    one_more version ids _ line lines tail more short (ap happening_said is) (rest h)
+told_line (Ok (event.Act ok)) version ids n line lines tail more short is rest h =
+    one_more version ids _ line lines tail more short (ap happening_said is) (rest h)
+told_line (Ok (event.Clock stamp)) version ids n line lines tail more short is rest h =
+    one_more version ids _ line lines tail more short (ap happening_said is) (rest h)
+told_line (Ok event.End) version ids n line lines tail more short is rest h =
+    ends_there version ids line lines tail more short (ends_only version ids line is)
+    (end_back (n + 1) lines tail more h)
+told_line (Err why) version ids n line lines tail more short is rest h = cc
+
+short_line : (c : Bool) (version : ℕ) (ids : List (List ℕ)) (n : ℕ) (line : List ℕ) (lines : List (List ℕ))
+    (tail : List ℕ) (more : Bool) → is_long line ≡ c
+    → (ending_exit (events_from version ids (n + 1) lines tail more).ending ≡ exit.Done
+    → Happenings version ids lines tail more)
+    → ending_exit (if c then no_events (stopped (bad n reason.Long))
+    else event_line n (event_of version ids line) (end_from (n + 1) lines tail more)
+    (events_from version ids (n + 1) lines tail more)).ending ≡ exit.Done
+    → Happenings version ids (line ∷ lines) tail more
+short_line true version ids n line lines tail more is rest h = cc
+short_line false version ids n line lines tail more is rest h =
+    told_line (event_of version ids line) version ids n line lines tail more (is_short line is) refl rest h
+
+events_back : (version : ℕ) (ids : List (List ℕ)) (n : ℕ) (lines : List (List ℕ)) (tail : List ℕ) (more : Bool)
+    → ending_exit (events_from version ids n lines tail more).ending ≡ exit.Done
+    → Happenings version ids lines tail more
+events_back version ids n [] tail more h = absurd (stop_is_not_done (tail_stop n tail more) h)
+events_back version ids n (line ∷ lines) tail more h =
+    short_line (is_long line) version ids n line lines tail more refl
+    (events_back version ids (n + 1) lines tail more) h
+
+-- ---- the start section
+
+pub record Beginning (n : ℕ) (s : Section) (lines : List (List ℕ)) (tail : List ℕ) (more : Bool) : Type 0 where
+  pub start : List (List ℕ)
   pub behind : List (List ℕ)
-  pub are : lines ≡ leaves ++ codes "begin" ∷ behind
-  pub tell : AreLeaves start leaves end
-  pub limits : end.limits ≡ start.limits
-  pub server : end.server ≡ start.server
-  pub short : AreShort lines
-  pub events : Events end.server behind tail more
+  pub told : Told
+  pub are : lines ≡ start ++ behind
+  pub tells : lines_after n s start ≡ Ok (telling phase.Begun told)
+  pub short : AreShort start
+  pub happenings : Happenings told.version (ids_of told.accounts) behind tail more
 
--- a `begin` line ends them
-leaves_end : (n : ℕ) (start : FirstStart) (line : List ℕ) (lines : List (List ℕ)) (tail : List ℕ) (more : Bool) → length line ≤ 8400000 → line ≡ codes "begin"
-    → section_exit (began (n + 1) start (record { lines = lines; tail = tail; more = more })) ≡ exit.Done → Leaves start (line ∷ lines) tail more
-leaves_end n start line lines tail more short is h =
-    let events = open_back (n + 1) start.server lines tail more h in
-    record {
-      end = start;
-      leaves = [];
-      behind = lines;
-      are = ap (λ l. l ∷ lines) is;
-      tell = refl;
-      limits = refl;
-      server = refl;
-      short = (short, events.short);
-      events = events;
-    }
+after_read : (n : ℕ) (s next : Section) (line : List ℕ) (start : List (List ℕ)) → after_line s line ≡ Ok next
+    → lines_after n s (line ∷ start) ≡ lines_after (n + 1) next start
+after_read n s next line start is =
+    ap (λ (r : Result Section LineReason). behind_line n r (λ x. lines_after (n + 1) x start)) is
 
-one_leaf : (start : FirstStart) (named : NamedLeaf) (line : List ℕ) (lines : List (List ℕ)) (tail : List ℕ) (more : Bool) → length line ≤ 8400000
-    → leaf_in (parts line) ≡ Some named → length start.tree.leaves < 16 → leaf_of start.tree.leaves named.name ≡ None
-    → Leaves (with_named start named) lines tail more → Leaves start (line ∷ lines) tail more
-one_leaf start named line lines tail more short is few new rest = record {
-  end = rest.end;
-  leaves = line ∷ rest.leaves;
-  behind = rest.behind;
-  are = ap (λ ls. line ∷ ls) rest.are;
-  tell = (named, is, few, new, rest.tell);
-  limits = rest.limits;
-  server = rest.server;
-  short = (short, rest.short);
-  events = rest.events;
+last_read : (n : ℕ) (s next : Section) (told : Told) (line : List ℕ) (lines : List (List ℕ)) (tail : List ℕ)
+    (more : Bool) → length line ≤ 8400000
+    → after_line s line ≡ Ok next → told_in next ≡ Some told
+    → begun_exit (began (n + 1) told (record { lines = lines; tail = tail; more = more })) ≡ exit.Done
+    → Beginning n s (line ∷ lines) tail more
+last_read n s next told line lines tail more short is last h = record {
+  start = line ∷ [];
+  behind = lines;
+  told = told;
+  are = refl;
+  tells = after_read n s next line [] is ∙ ap Ok (of_told next told last);
+  short = (short, tt);
+  happenings = events_back told.version (ids_of told.accounts) (n + 1) lines tail more h;
 }
 
-is_few : (n : ℕ) → nat_lt n 16 ≡ true → n < 16
-is_few n h = grind arith
-
-new_leaf : (c : Bool) (found : Option FirstLeaf) (n : ℕ) (start : FirstStart) (named : NamedLeaf) (line : List ℕ) (lines : List (List ℕ)) (tail : List ℕ) (more : Bool)
+more_read : (n : ℕ) (s next : Section) (line : List ℕ) (lines : List (List ℕ)) (tail : List ℕ) (more : Bool)
     → length line ≤ 8400000
-    → ((next : Place) → section_exit (start_from (n + 1) next lines tail more) ≡ exit.Done → (s : FirstStart) → next ≡ place.Leaves s → Leaves s lines tail more)
-    → leaf_in (parts line) ≡ Some named → nat_lt (length start.tree.leaves) 16 ≡ c → leaf_of start.tree.leaves named.name ≡ found
-    → section_exit (start_line n (if c && not (is_some found) then step.More (place.Leaves (with_named start named)) else step.NotBuilt) lines tail more
-    (λ p. start_from (n + 1) p lines tail more)) ≡ exit.Done
-    → Leaves start (line ∷ lines) tail more
-new_leaf true None n start named line lines tail more short rest is few new h =
-    one_leaf start named line lines tail more short is (is_few (length start.tree.leaves) few) new (rest (place.Leaves (with_named start named)) h (with_named start named) refl)
-new_leaf true (Some leaf) n start named line lines tail more short rest is few new h = cc
-new_leaf false found n start named line lines tail more short rest is few new h = cc
+    → after_line s line ≡ Ok next → Beginning (n + 1) next lines tail more → Beginning n s (line ∷ lines) tail more
+more_read n s next line lines tail more short is rest = record {
+  start = line ∷ rest.start;
+  behind = rest.behind;
+  told = rest.told;
+  are = ap (λ ls. line ∷ ls) rest.are;
+  tells = after_read n s next line rest.start is ∙ rest.tells;
+  short = (short, rest.short);
+  happenings = rest.happenings;
+}
 
-told_leaf : (o : Option NamedLeaf) (n : ℕ) (start : FirstStart) (line : List ℕ) (lines : List (List ℕ)) (tail : List ℕ) (more : Bool) → length line ≤ 8400000
-    → ((next : Place) → section_exit (start_from (n + 1) next lines tail more) ≡ exit.Done → (s : FirstStart) → next ≡ place.Leaves s → Leaves s lines tail more)
-    → leaf_in (parts line) ≡ o
-    → section_exit (start_line n (leaf_told start o) lines tail more (λ p. start_from (n + 1) p lines tail more)) ≡ exit.Done
-    → Leaves start (line ∷ lines) tail more
-told_leaf None n start line lines tail more short rest is h = cc
-told_leaf (Some named) n start line lines tail more short rest is h =
-    new_leaf (nat_lt (length start.tree.leaves) 16) (leaf_of start.tree.leaves named.name) n start named line lines tail more short rest is refl refl h
+told_next : (o : Option Told) (n : ℕ) (s next : Section) (line : List ℕ) (lines : List (List ℕ)) (tail : List ℕ)
+    (more : Bool) → length line ≤ 8400000
+    → after_line s line ≡ Ok next → told_in next ≡ o
+    → (begun_exit (start_from (n + 1) next lines tail more) ≡ exit.Done → Beginning (n + 1) next lines tail more)
+    → begun_exit (behind_begin n o (record { lines = lines; tail = tail; more = more })
+    (start_from (n + 1) next lines tail more)) ≡ exit.Done
+    → Beginning n s (line ∷ lines) tail more
+told_next None n s next line lines tail more short is new rest h =
+    more_read n s next line lines tail more short is (rest h)
+told_next (Some told) n s next line lines tail more short is last rest h =
+    last_read n s next told line lines tail more short is last h
 
-begun_line : (c : Bool) (n : ℕ) (start : FirstStart) (line : List ℕ) (lines : List (List ℕ)) (tail : List ℕ) (more : Bool) → length line ≤ 8400000
-    → ((next : Place) → section_exit (start_from (n + 1) next lines tail more) ≡ exit.Done → (s : FirstStart) → next ≡ place.Leaves s → Leaves s lines tail more)
-    → bytes_eq line (codes "begin") ≡ c
-    → section_exit (start_line n (if c then step.Begin start else leaf_told start (leaf_in (parts line))) lines tail more (λ p. start_from (n + 1) p lines tail more)) ≡ exit.Done
-    → Leaves start (line ∷ lines) tail more
-begun_line true n start line lines tail more short rest is h = leaves_end n start line lines tail more short (same_text line (codes "begin") is) h
-begun_line false n start line lines tail more short rest is h = told_leaf (leaf_in (parts line)) n start line lines tail more short rest refl h
+read_line : (r : Result Section LineReason) (n : ℕ) (s : Section) (line : List ℕ) (lines : List (List ℕ))
+    (tail : List ℕ) (more : Bool) → length line ≤ 8400000
+    → after_line s line ≡ r
+    → ((next : Section) → begun_exit (start_from (n + 1) next lines tail more) ≡ exit.Done
+    → Beginning (n + 1) next lines tail more)
+    → begun_exit (start_line n r (record { lines = lines; tail = tail; more = more })
+    (λ next. start_from (n + 1) next lines tail more)) ≡ exit.Done
+    → Beginning n s (line ∷ lines) tail more
+read_line (Ok next) n s line lines tail more short is rest h =
+    told_next (told_in next) n s next line lines tail more short is refl (rest next) h
+read_line (Err why) n s line lines tail more short is rest h = cc
 
-short_leaf : (c : Bool) (n : ℕ) (start : FirstStart) (line : List ℕ) (lines : List (List ℕ)) (tail : List ℕ) (more : Bool)
-    → ((next : Place) → section_exit (start_from (n + 1) next lines tail more) ≡ exit.Done → (s : FirstStart) → next ≡ place.Leaves s → Leaves s lines tail more)
+short_read : (c : Bool) (n : ℕ) (s : Section) (line : List ℕ) (lines : List (List ℕ)) (tail : List ℕ) (more : Bool)
     → is_long line ≡ c
-    → section_exit (if c then unbegun (not_built n)
-    else start_line n (start_step (place.Leaves start) line) lines tail more (λ p. start_from (n + 1) p lines tail more)) ≡ exit.Done
-    → Leaves start (line ∷ lines) tail more
-unfolding start_step
-short_leaf true n start line lines tail more rest is h = cc
-short_leaf false n start line lines tail more rest is h =
-    begun_line (bytes_eq line (codes "begin")) n start line lines tail more (is_short line is) rest refl h
+    → ((next : Section) → begun_exit (start_from (n + 1) next lines tail more) ≡ exit.Done
+    → Beginning (n + 1) next lines tail more)
+    → begun_exit (if c then unbegun (bad n reason.Long)
+    else start_line n (after_line s line) (record { lines = lines; tail = tail; more = more })
+    (λ next. start_from (n + 1) next lines tail more)) ≡ exit.Done
+    → Beginning n s (line ∷ lines) tail more
+short_read true n s line lines tail more is rest h = cc
+short_read false n s line lines tail more is rest h =
+    read_line (after_line s line) n s line lines tail more (is_short line is) refl rest h
 
-pub leaves_back : (n : ℕ) (next : Place) (lines : List (List ℕ)) (tail : List ℕ) (more : Bool) → section_exit (start_from n next lines tail more) ≡ exit.Done
-    → (start : FirstStart) → next ≡ place.Leaves start → Leaves start lines tail more
-leaves_back n next [] tail more h start is = absurd (stop_is_not_done (tail_stop n tail more) h)
-leaves_back n next (line ∷ lines) tail more h start is =
-    short_leaf (is_long line) n start line lines tail more (λ p. leaves_back (n + 1) p lines tail more) refl
-    (subst (λ p. section_exit (start_from n p (line ∷ lines) tail more) ≡ exit.Done) is h)
+begun_back : (n : ℕ) (s : Section) (lines : List (List ℕ)) (tail : List ℕ) (more : Bool)
+    → begun_exit (start_from n s lines tail more) ≡ exit.Done
+    → Beginning n s lines tail more
+begun_back n s [] tail more h = absurd (stop_is_not_done (tail_stop n tail more) h)
+begun_back n s (line ∷ lines) tail more h =
+    short_read (is_long line) n s line lines tail more refl (λ next. begun_back (n + 1) next lines tail more) h
+
+-- ---- the bytes
+
+abbrev pub AreFeedless : List (List ℕ) → Type 0
+AreFeedless [] = ⊤
+AreFeedless (line ∷ lines) = IsFeedless line × AreFeedless lines
+
+no_feed : (b : ℕ) (bs : List ℕ) → (b == 10) ≡ false → IsFeedless bs → IsFeedless (b ∷ bs)
+no_feed b bs is h zero below = eqb-false b 10 is
+no_feed b bs is h (suc k) below = h k (omega (arith, below))
+
+nothing_feedless : IsFeedless []
+nothing_feedless k below = omega (arith, below)
+
+fed : (b : ℕ) (lines : List (List ℕ)) (tail : List ℕ) → (b == 10) ≡ false → AreFeedless lines
+    → AreFeedless (with_byte b lines tail).lines
+fed b [] tail is h = tt
+fed b (line ∷ lines) tail is h = (no_feed b line is h.0, h.1)
+
+joined_byte : (b : ℕ) (lines : List (List ℕ)) (tail bs : List ℕ) → text_of lines ++ tail ≡ bs
+    → text_of (with_byte b lines tail).lines ++ (with_byte b lines tail).tail ≡ b ∷ bs
+joined_byte b [] tail bs h = ap (λ xs. b ∷ xs) h
+joined_byte b (line ∷ lines) tail bs h = ap (λ xs. b ∷ xs) h
+
+joined_if : (c : Bool) (b : ℕ) (s : Split) (bs : List ℕ) → (b == 10) ≡ c → text_of s.lines ++ s.tail ≡ bs
+    → text_of (if c then record { lines = [] ∷ s.lines; tail = s.tail } else with_byte b s.lines s.tail).lines
+    ++ (if c then record { lines = [] ∷ s.lines; tail = s.tail } else with_byte b s.lines s.tail).tail ≡ b ∷ bs
+joined_if true b s bs is h = ap (λ xs. 10 ∷ xs) h ∙ ap (λ x. x ∷ bs) (sym (eqb-true b 10 is))
+joined_if false b s bs is h = joined_byte b s.lines s.tail bs h
+
+joined : (bytes : List ℕ) → text_of (split bytes).lines ++ (split bytes).tail ≡ bytes
+joined [] = refl
+joined (b ∷ bs) = joined_if (b == 10) b (split bs) bs refl (joined bs)
+
+feedless_if : (c : Bool) (b : ℕ) (s : Split) → (b == 10) ≡ c → AreFeedless s.lines
+    → AreFeedless (if c then record { lines = [] ∷ s.lines; tail = s.tail } else with_byte b s.lines s.tail).lines
+feedless_if true b s is h = (nothing_feedless, h)
+feedless_if false b s is h = fed b s.lines s.tail is h
+
+feedless : (bytes : List ℕ) → AreFeedless (split bytes).lines
+feedless [] = tt
+feedless (b ∷ bs) = feedless_if (b == 10) b (split bs) refl (feedless bs)
+
+are_lines : (lines : List (List ℕ)) → AreFeedless lines → AreShort lines → AreLines lines
+are_lines [] h s = tt
+are_lines (line ∷ lines) h s = ((h.0, s.0), are_lines lines h.1 s.1)
+
+-- ---- the whole run
+
+all_short : (front behind : List (List ℕ)) → AreShort front → AreShort behind → AreShort (front ++ behind)
+all_short [] behind f b = b
+all_short (line ∷ front) behind f b = (f.0, all_short front behind f.1 b)
+
+is_within : (n m : ℕ) → nat_lt n m ≡ false → m ≤ n
+is_within n m h = grind arith
+
+found_trace : (lines : List (List ℕ)) (tail : List ℕ) (more : Bool) → AreFeedless lines
+    → (b : Beginning 1 (opening First) lines tail more)
+    → IsWholeTrace lines b.told b.happenings.events
+found_trace lines tail more feedless b = record {
+  start = b.start;
+  happenings = b.happenings.happenings;
+  in_order = b.are ∙ ap (λ ls. b.start ++ ls) b.happenings.are;
+  are_lines = are_lines lines feedless (subst AreShort (sym b.are)
+      (all_short b.start b.behind b.short b.happenings.short));
+  begins = b.tells;
+  tells = b.happenings.tell;
+}
+
+pub only_traces_are_done : OnlyTracesAreDone
+unfolding replay_exit
+only_traces_are_done bytes h =
+    let i = input_of 67108864 bytes in
+    let b = begun_back 1 (opening First) i.lines i.tail i.more h in
+    let few = is_within 67108864 (length bytes) b.happenings.no_more in
+    record {
+      lines = i.lines;
+      told = b.told;
+      events = b.happenings.events;
+      whole = found_trace i.lines i.tail i.more (feedless (take 67108864 bytes)) b;
+      text =
+          sym (take_all 67108864 bytes few) ∙ sym (joined (take 67108864 bytes))
+          ∙ ap (λ xs. text_of i.lines ++ xs) b.happenings.no_tail ∙ append-nil (text_of i.lines);
+      few = few;
+    }

@@ -1,39 +1,85 @@
--- A line moves the start section on.
-use Rattle.std.proofs.Common.{◌≡◌, ◌<◌, ◌+◌, ◌&&◌, ◌==◌, ℕ, Bool, true, false, if◌then◌else◌, List, ◌∷◌, Option, Some, None, refl, sym, ap, ◌∙◌, arith}
-use Rattle.std.proofs.lemmas.Bool.{ne_eqb}
-use Rattle.dm_replay.specs.declared.start.Place.{Place}
-use Rattle.dm_replay.specs.declared.start.Place.TheVariants as place
-use Rattle.dm_replay.specs.declared.start.StartStep.{StartStep}
-use Rattle.dm_replay.specs.declared.start.StartStep.TheVariants as step
+-- A line moves the start section on, ends it, or is refused.
+use Rattle.std.proofs.Common.{◌≡◌, ◌+◌, ℕ, true, false, if◌then◌else◌, List, Option, Some, None, Ok, Err, refl, sym, ap, ◌∙◌}
+use Rattle.std.specs.declared.result.Result.{Result}
+use Rattle.dm_base.specs.declared.lines.LineReason.{LineReason}
+use Rattle.dm_base.specs.declared.lines.LineReason.TheVariants as reason
+use Rattle.dm_start.specs.declared.heads.Head.TheVariants.{First}
+use Rattle.dm_start.specs.declared.telling.Phase.TheVariants as phase
+use Rattle.dm_start.specs.declared.errors.LineError.{LineError}
+use Rattle.dm_start.specs.declared.errors.LineError.TheVariants as line_error
+use Rattle.dm_start.specs.Start.{Told, Section, opening, telling, after_line, is_begun, Reads}
 use Rattle.dm_replay.specs.Input.{Input}
-use Rattle.dm_replay.specs.Start.{start_step}
-use Rattle.dm_replay.specs.Trace.{empty, unbegun, not_built, is_long, start_line, start_from}
-use Rattle.dm_replay.specs.From.{Between, Leads, with_front, is_nothing, section_at}
+use Rattle.dm_replay.specs.Trace.{bad, began, unbegun, is_long, start_line, behind_begin, told_in}
+use Rattle.dm_replay.specs.From.{OfInput, Between, Leads, OfStop, with_front, begun_at, halt_for}
 
-otherwise : {A : Type 0} (c : Bool) (x y : A) → c ≡ false → (if c then x else y) ≡ y
-otherwise c x y is = rw is refl
+-- the step of a line that isn't too long
+stepped : (n : ℕ) (s : Section) (line : List ℕ) (j : Input) → is_long line ≡ false
+    → begun_at n s (with_front line j) ≡ start_line n (after_line s line) j (λ p. begun_at (n + 1) p j)
+stepped n s line j short =
+    ap (λ c. if c then unbegun (bad n reason.Long) else start_line n (after_line s line) j (λ p. begun_at (n + 1) p j))
+    short
 
-never : (b : Bool) → (b && false) ≡ false
-never true = refl
-never false = refl
+not_told : (s : Section) → is_begun s ≡ false → told_in s ≡ None
+not_told (opening h) e = refl
+not_told (telling phase.Accounts told) e = refl
+not_told (telling phase.Nodes told) e = refl
+not_told (telling phase.Begun told) e = cc
 
-not_first : (n : ℕ) (nothing : Bool) → 0 < n → ((n + 1 == 1) && nothing) ≡ false
-not_first n nothing some = let other = ne_eqb (n + 1) 1 (λ e. omega (arith, e, some)) in rw other refl
+behind_line : (n : ℕ) (s next : Section) (line : List ℕ) (j : Input) → is_long line ≡ false
+    → after_line s line ≡ Ok next → is_begun next ≡ false
+    → begun_at n s (with_front line j) ≡ begun_at (n + 1) next j
+behind_line n s next line j short is more =
+    stepped n s line j short ∙ ap (λ (r : Result Section LineReason). start_line n r j (λ p. begun_at (n + 1) p j)) is
+    ∙ goes (told_in next) (not_told next more)
+  where
+    goes : (o : Option Told) → o ≡ None → behind_begin n o j (begun_at (n + 1) next j) ≡ begun_at (n + 1) next j
+    goes None e = refl
+    goes (Some told) e = cc
 
--- behind a line that isn't the first one
-behind_line : (n : ℕ) (place next : Place) (line : List ℕ) (j : Input) → 0 < n → is_long line ≡ false → start_step place line ≡ step.More next
-    → section_at n place (with_front line j) ≡ section_at (n + 1) next j
-behind_line n place next line j some short more =
-    otherwise ((n == 1) && false) (unbegun empty) (start_from n place (line ∷ j.lines) j.tail j.more) (never (n == 1))
-    ∙ otherwise (is_long line) (unbegun (not_built n)) (start_line n (start_step place line) j.lines j.tail j.more (λ p. start_from (n + 1) p j.lines j.tail j.more)) short
-    ∙ ap (λ (s : StartStep). start_line n s j.lines j.tail j.more (λ p. start_from (n + 1) p j.lines j.tail j.more)) more
-    ∙ sym (otherwise ((n + 1 == 1) && is_nothing j.lines j.tail j.more) (unbegun empty) (start_from (n + 1) next j.lines j.tail j.more) (not_first n _ some))
+behind_last : (n : ℕ) (s next : Section) (told : Told) (line : List ℕ) (j : Input) → is_long line ≡ false
+    → after_line s line ≡ Ok next
+    → next ≡ telling phase.Begun told → begun_at n s (with_front line j) ≡ began (n + 1) told j
+behind_last n s next told line j short is last =
+    stepped n s line j short ∙ ap (λ (r : Result Section LineReason). start_line n r j (λ p. begun_at (n + 1) p j))
+    (is ∙ ap Ok last)
 
-pub section_more : (a b c : Option Input) (n : ℕ) (at next : Place) (line looked : List ℕ) → 0 < n → looked ≡ line → step.More next ≡ start_step at looked
-    → Between a b (λ i j. section_at 1 place.Head i ≡ section_at n at j) → Between b c (λ i j. Leads line i j)
-    → Between a c (λ i j. section_at 1 place.Head i ≡ section_at (n + 1) next j)
-section_more None b c n at next line looked some is more before leads = tt
-section_more (Some i) None c n at next line looked some is more before leads = absurd before
-section_more (Some i) (Some j) None n at next line looked some is more before leads = absurd leads
-section_more (Some i) (Some j) (Some k) n at next line looked some is more before leads =
-    before ∙ ap (section_at n at) leads.0 ∙ behind_line n at next line k some leads.1 (ap (start_step at) (sym is) ∙ sym more)
+behind_bad : (n : ℕ) (s : Section) (why : LineReason) (line : List ℕ) (j : Input) → is_long line ≡ false
+    → after_line s line ≡ Err why
+    → begun_at n s (with_front line j) ≡ unbegun (bad n why)
+behind_bad n s why line j short is =
+    stepped n s line j short ∙ ap (λ (r : Result Section LineReason). start_line n r j (λ p. begun_at (n + 1) p j)) is
+
+pub section_more : (a b c : Option Input) (n : ℕ) (at next : Section) (line looked : List ℕ) → looked ≡ line
+    → Reads (after_line at looked) at next (Ok false)
+    → Between a b (λ i j. begun_at 1 (opening First) i ≡ begun_at n at j) → Between b c (λ i j. Leads line i j)
+    → Between a c (λ i j. begun_at 1 (opening First) i ≡ begun_at (n + 1) next j)
+section_more None b c n at next line looked is read before leads = tt
+section_more (Some i) None c n at next line looked is read before leads = absurd before
+section_more (Some i) (Some j) None n at next line looked is read before leads = absurd leads
+section_more (Some i) (Some j) (Some k) n at next line looked is read before leads =
+    before ∙ ap (begun_at n at) leads.0 ∙ behind_line n at next line k leads.1 (ap (after_line at) (sym is) ∙ read.0)
+    (sym read.1)
+
+pub section_whole : (a b c : Option Input) (n : ℕ) (at next : Section) (told : Told) (line looked : List ℕ)
+    → looked ≡ line
+    → Reads (after_line at looked) at next (Ok true) → next ≡ telling phase.Begun told
+    → Between a b (λ i j. begun_at 1 (opening First) i ≡ begun_at n at j) → Between b c (λ i j. Leads line i j)
+    → Between a c (λ i j. begun_at 1 (opening First) i ≡ began (n + 1) told j)
+section_whole None b c n at next told line looked is read last before leads = tt
+section_whole (Some i) None c n at next told line looked is read last before leads = absurd before
+section_whole (Some i) (Some j) None n at next told line looked is read last before leads = absurd leads
+section_whole (Some i) (Some j) (Some k) n at next told line looked is read last before leads =
+    before ∙ ap (begun_at n at) leads.0 ∙ behind_last n at next told line k leads.1
+    (ap (after_line at) (sym is) ∙ read.0) last
+
+pub section_bad : (a b c : Option Input) (n : ℕ) (at next : Section) (error : LineError) (line looked : List ℕ)
+    → looked ≡ line
+    → Reads (after_line at looked) at next (Err error)
+    → Between a b (λ i j. begun_at 1 (opening First) i ≡ begun_at n at j) → Between b c (λ i j. Leads line i j)
+    → OfInput a (λ i. OfStop (halt_for n error) (λ stop. begun_at 1 (opening First) i ≡ unbegun stop))
+section_bad None b c n at next error line looked is read before leads = tt
+section_bad (Some i) None c n at next error line looked is read before leads = absurd before
+section_bad (Some i) (Some j) None n at next error line looked is read before leads = absurd leads
+section_bad (Some i) (Some j) (Some k) n at next (line_error.Bad why) line looked is read before leads =
+    before ∙ ap (begun_at n at) leads.0 ∙ behind_bad n at why line k leads.1 (ap (after_line at) (sym is) ∙ read.0)
+section_bad (Some i) (Some j) (Some k) n at next line_error.Memory line looked is read before leads = tt

@@ -12,7 +12,9 @@ one_past a b new last fresh taken limit =
     let none = ap (λ (s : LinesState). s.taken) fresh in (taken.0, taken.1, omega (arith, none, taken.2, limit))
 
 -- the same in two steps
-pub one_past_then : (a b c : Option (List ℕ)) (new mid last : LinesState) → new ≡ record { pending = []; past = []; taken = 0 }
-    → CountsTaken a b new.taken mid.taken → CountsTaken b c mid.taken last.taken → last.taken ≤ 67108865 → TakesOnePast a c
+pub one_past_then : (a b c : Option (List ℕ)) (new mid last : LinesState)
+    → new ≡ record { pending = []; past = []; taken = 0 }
+    → CountsTaken a b new.taken mid.taken → CountsTaken b c mid.taken last.taken → last.taken ≤ 67108865
+    → TakesOnePast a c
 one_past_then a b c new mid last fresh first then_ limit =
     one_past a c new last fresh (taken_more a b c new.taken mid.taken last.taken first then_) limit

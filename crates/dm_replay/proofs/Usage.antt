@@ -10,7 +10,8 @@ use Rattle.dm_replay.specs.From.{PutsPart, PutsEnd, PutsHalt}
 pub part_is_no_usage : (old new : Option (List ℕ)) (text : List ℕ) (e : Exit) → PutsPart old new text e → e ≢ exit.Usage
 part_is_no_usage old new text e h is = subst (PutsPart old new text) is h
 
-pub end_is_no_usage : (text : List ℕ) (good : Exit) (old new : Option (List ℕ)) (e : Exit) → good ≢ exit.Usage → PutsEnd text good old new e → e ≢ exit.Usage
+pub end_is_no_usage : (text : List ℕ) (good : Exit) (old new : Option (List ℕ)) (e : Exit) → good ≢ exit.Usage
+    → PutsEnd text good old new e → e ≢ exit.Usage
 end_is_no_usage text good old new e other h is =
     elim h [ inl put ↦ other (sym put.1 ∙ is) | inr part ↦ part_is_no_usage old new text e part is ]
 
@@ -18,8 +19,7 @@ other_is_no_usage : (good e : Exit) → e ≡ good → good ≢ exit.Usage → e
 other_is_no_usage good e same other is = other (sym same ∙ is)
 
 pub halt_is_no_usage : (h : Halt) (old new : Option (List ℕ)) (e : Exit) → PutsHalt h old new e → e ≢ exit.Usage
-halt_is_no_usage halt.Empty old new e p = end_is_no_usage _ exit.BadInput old new e (λ is. cc) p
-halt_is_no_usage (halt.NotBuilt n) old new e p = end_is_no_usage _ exit.NotBuilt old new e (λ is. cc) p
+halt_is_no_usage (halt.Bad n why) old new e p = end_is_no_usage _ exit.BadInput old new e (λ is. cc) p
 halt_is_no_usage halt.TooLong old new e p = other_is_no_usage exit.TooLong e p.1 (λ is. cc)
 halt_is_no_usage halt.Read old new e p = other_is_no_usage exit.ReadFault e p.1 (λ is. cc)
 halt_is_no_usage halt.Memory old new e p = other_is_no_usage exit.NoMemory e p.1 (λ is. cc)

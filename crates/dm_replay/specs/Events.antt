@@ -1,47 +1,130 @@
--- The event lines of a first-path trace.
-use Rattle.std.specs.Prelude.{◌&&◌, ◌^◌, ℕ, if◌then◌else◌, nat_lt, nat_le, List, [], ◌∷◌, bytes_eq, codes, Option, Some, None}
-use Rattle.std.specs.Fmt.{decimal}
-use Rattle.dm_base.specs.Fields.{parts, is_nonce, num_of, hex_of}
-use Rattle.syncml_types.specs.Message.{Parts}
-use Rattle.syncml_codec.specs.FirstGet.{first_message}
-use Rattle.dm_session.specs.declared.values.Kind.{Kind}
-use Rattle.dm_session.specs.declared.values.Kind.TheVariants.{ByServer, ByClient}
-use Rattle.dm_replay.specs.declared.events.Opened.{Opened}
+-- What the lines behind a start section say.
+use Rattle.std.specs.Prelude.{◌==◌, ◌&&◌, ◌+◌, ◌^◌, ◌≡◌, ◌<◌, ℕ, Bool, true, false, if◌then◌else◌, nat_lt, List, [], ◌∷◌, bytes_eq, codes, Option, Some, None, Result, Ok, Err, ⊤}
+use Rattle.dm_base.specs.Fields.{parts, is_id, nonce_of, num_of, hex_of}
+use Rattle.dm_base.specs.declared.lines.LineReason.{LineReason}
+use Rattle.dm_base.specs.declared.lines.LineReason.TheVariants as reason
+use Rattle.dm_base.specs.declared.values.Nonce.{Nonce}
+use Rattle.syncml_codec.specs.Decoding.{read_of}
+use Rattle.dm_tree.specs.declared.nodes.Stamp.{Stamp}
+use Rattle.dm_machine.specs.declared.kinds.Kind.{Kind}
+use Rattle.dm_machine.specs.declared.kinds.Kind.TheVariants.{ByServer, ByClient}
+use Rattle.dm_machine.specs.Events.{Event as Happening, clock, opened, message, loss, act}
+use Rattle.dm_start.specs.declared.errors.LineError.{LineError}
+use Rattle.dm_start.specs.declared.errors.LineError.TheVariants as line_error
+use Rattle.dm_start.specs.Fields.{begins_with, clock_in}
+use Rattle.dm_replay.specs.declared.events.Event.{Event}
+use Rattle.dm_replay.specs.declared.events.Event.TheVariants as event
+
+-- ---- the fields of each line
 
 abbrev pub kind_of : List ℕ → Option Kind
 kind_of text =
-    if bytes_eq text (codes "server") then Some ByServer else if bytes_eq text (codes "client") then Some ByClient else None
+    if bytes_eq text (codes "server") then Some ByServer else if bytes_eq text
+    (codes "client") then Some ByClient else None
 
-abbrev pub opened_as : Option Kind → Option ℕ → Option Opened
-opened_as None number = None
-opened_as (Some kind) None = None
-opened_as (Some kind) (Some number) =
-    if nat_lt 0 number && nat_lt number (2 ^ 32) then Some (record { kind = kind; number = number }) else None
+-- a session's number, 1 to 4,294,967,295
+abbrev pub session_by : Option ℕ → Option ℕ
+session_by None = None
+session_by (Some number) = if nat_lt 0 number && nat_lt number (2 ^ 32) then Some number else None
 
-abbrev pub opened_in : List ℕ → List (List ℕ) → Option Opened
-opened_in server (word ∷ id ∷ kind ∷ number ∷ []) =
-    if bytes_eq word (codes "open") && bytes_eq id server then opened_as (kind_of kind) (num_of number) else None
-opened_in server other = None
+abbrev pub session_of : List ℕ → Option ℕ
+session_of text = session_by (num_of text)
 
--- `open ID KIND NUM` with the account's ID
-unfoldable pub open_of : List ℕ → List ℕ → Option Opened
-open_of server line = opened_in server (parts line)
+-- where a server stands among the accounts, of which the first here has this place
+abbrev pub place_from : ℕ → List (List ℕ) → List ℕ → Option ℕ
+place_from at [] server = None
+place_from at (id ∷ ids) server = if bytes_eq id server then Some at else place_from (at + 1) ids server
 
--- a message of the opened session whose MsgID isn't below the one before it
-abbrev pub in_turn : ℕ → ℕ → Option Parts → Option Parts
-in_turn number last None = None
-in_turn number last (Some m) =
-    if bytes_eq m.header.session (decimal number) && nat_le last m.header.msg then Some m else None
+abbrev pub place_of : List (List ℕ) → List ℕ → Option ℕ
+place_of ids server = place_from 0 ids server
 
-abbrev pub spelled_in : ℕ → ℕ → Option (List ℕ) → Option Parts
-spelled_in number last None = None
-spelled_in number last (Some bytes) = in_turn number last (first_message bytes)
+abbrev pub opened_at : Option ℕ → Kind → ℕ → Result Event LineReason
+opened_at None kind session = Err reason.Account
+opened_at (Some account) kind session = Ok (event.Open account kind session)
 
-abbrev pub message_in : ℕ → ℕ → List (List ℕ) → Option Parts
-message_in number last (word ∷ nonce ∷ bytes ∷ []) =
-    if bytes_eq word (codes "msg") && is_nonce nonce then spelled_in number last (hex_of bytes) else None
-message_in number last other = None
+-- the account is looked for once all fields are in their forms
+abbrev pub opened_by : List (List ℕ) → List ℕ → Option Kind → Option ℕ → Result Event LineReason
+opened_by ids server None session = Err reason.Fields
+opened_by ids server (Some kind) None = Err reason.Fields
+opened_by ids server (Some kind) (Some session) =
+    if is_id server then opened_at (place_of ids server) kind session else Err reason.Fields
 
--- `msg NONCE HEX` with a message of the first path
-unfoldable pub message_of : ℕ → ℕ → List ℕ → Option Parts
-message_of number last line = message_in number last (parts line)
+-- `open ID KIND NUM`
+abbrev pub open_in : List (List ℕ) → List (List ℕ) → Result Event LineReason
+open_in ids (word ∷ server ∷ kind ∷ number ∷ []) = opened_by ids server (kind_of kind) (session_of number)
+open_in ids other = Err reason.Fields
+
+abbrev pub msg_by : Option Nonce → Option (List ℕ) → Result Event LineReason
+msg_by None bytes = Err reason.Fields
+msg_by (Some nonce) None = Err reason.Fields
+msg_by (Some nonce) (Some bytes) = Ok (event.Msg nonce bytes)
+
+-- `msg NONCE HEX`
+abbrev pub msg_in : List (List ℕ) → Result Event LineReason
+msg_in (word ∷ nonce ∷ bytes ∷ []) = msg_by (nonce_of nonce) (hex_of bytes)
+msg_in other = Err reason.Fields
+
+-- `act ok` and `act fail`
+abbrev pub act_in : List ℕ → Result Event LineReason
+act_in line =
+    if bytes_eq line (codes "act ok") then Ok (event.Act true)
+    else if bytes_eq line (codes "act fail") then Ok (event.Act false)
+    else Err reason.Fields
+
+abbrev pub clock_by : Option Stamp → Result Event LineReason
+clock_by None = Err reason.Fields
+clock_by (Some stamp) = Ok (event.Clock stamp)
+
+-- `clock STAMP`
+abbrev pub clock_event : List (List ℕ) → Result Event LineReason
+clock_event fields = clock_by (clock_in fields)
+
+-- a line that is its word alone
+abbrev pub alone : List ℕ → List ℕ → Event → Result Event LineReason
+alone word line said = if bytes_eq line word then Ok said else Err reason.Fields
+
+-- ---- any line
+
+-- what a line says in a trace of this version whose accounts have these servers, or the first reason why it is refused
+unfoldable pub event_of : ℕ → List (List ℕ) → List ℕ → Result Event LineReason
+event_of version ids line =
+    if begins_with (codes "open") line then open_in ids (parts line)
+    else if begins_with (codes "msg") line then msg_in (parts line)
+    else if begins_with (codes "loss") line then alone (codes "loss") line event.Loss
+    else if begins_with (codes "act") line then act_in line
+    else if version == 2 && begins_with (codes "clock") line then clock_event (parts line)
+    else if begins_with (codes "end") line then alone (codes "end") line event.End
+    else Err reason.Word
+
+-- what happens to the machine; nothing at the end
+abbrev pub happening_of : Event → Option Happening
+happening_of (event.Open account kind session) = Some (opened account kind session)
+happening_of (event.Msg nonce bytes) = Some (message (read_of bytes) nonce.bytes)
+happening_of event.Loss = Some loss
+happening_of (event.Act ok) = Some (act ok)
+happening_of (event.Clock stamp) = Some (clock stamp)
+happening_of event.End = None
+
+-- the trace ends
+abbrev pub is_end : Event → Bool
+is_end (event.Open account kind session) = false
+is_end (event.Msg nonce bytes) = false
+is_end event.Loss = false
+is_end (event.Act ok) = false
+is_end (event.Clock stamp) = false
+is_end event.End = true
+
+-- an event of a client that has so many accounts
+abbrev pub IsOf : ℕ → Event → Type 0
+IsOf accounts (event.Open account kind session) = account < accounts
+IsOf accounts (event.Msg nonce bytes) = ⊤
+IsOf accounts event.Loss = ⊤
+IsOf accounts (event.Act ok) = ⊤
+IsOf accounts (event.Clock stamp) = ⊤
+IsOf accounts event.End = ⊥
+
+-- what is answered to a line that says this; want of memory says nothing
+abbrev pub Reads : {T : Type 0} → Result T LineReason → Result T LineError → Type 0
+Reads said (Ok x) = said ≡ Ok x
+Reads said (Err (line_error.Bad why)) = said ≡ Err why
+Reads said (Err line_error.Memory) = ⊤

@@ -1,23 +1,31 @@
 -- The rest of a run, from a state, a line number and the input that is to come.
-use Rattle.std.specs.Prelude.{◌≡◌, ◌⊎◌, ◌==◌, ◌+◌, ◌&&◌, ℕ, Bool, false, not, if◌then◌else◌, List, [], ◌∷◌, ◌++◌, Option, Some, None, Result, Ok, Err, ⊤, option_map}
+use Rattle.std.specs.Prelude.{◌≡◌, ◌⊎◌, ◌+◌, ℕ, Bool, false, if◌then◌else◌, List, [], ◌∷◌, ◌++◌, Option, Some, None, Result, Ok, Err, ⊤, IsSomeAnd, option_map}
+use Rattle.std.specs.List.{AllByRecursion}
 use Rattle.std.specs.Io.KnownBytes.{Appends, Keeps}
-use Rattle.syncml_types.specs.Message.{Parts}
 use Rattle.dm_base.specs.Outside.{Rose}
+use Rattle.dm_base.specs.declared.lines.LineReason.TheVariants as reason
 use Rattle.dm_base.specs.declared.outside.TakeError.{TakeError}
 use Rattle.dm_base.specs.declared.outside.TakeError.TheVariants as take_error
 use Rattle.dm_base.specs.Lines.{LinesState, ahead, room}
-use Rattle.dm_session.specs.State.{State, opened, message, Answer}
-use Rattle.dm_replay.specs.declared.events.Opened.{Opened}
+use Rattle.dm_tree.specs.Devices.{IsDeviceTree}
+use Rattle.dm_tree.specs.Rows.{nodes}
+use Rattle.dm_machine.specs.Machine.{Machine}
+use Rattle.dm_machine.specs.Events.{Event as Happening, Answer}
+use Rattle.dm_machine.specs.Ready.{IsReadyAccount, IsReadyLimits}
+use Rattle.dm_start.specs.declared.errors.LineError.{LineError}
+use Rattle.dm_start.specs.declared.errors.LineError.TheVariants as line_error
+use Rattle.dm_start.specs.declared.telling.Start.{Start}
+use Rattle.dm_start.specs.Start.{Section, told_of}
+use Rattle.dm_replay.specs.declared.events.Event.{Event}
 use Rattle.dm_replay.specs.declared.exit.Exit.{Exit}
 use Rattle.dm_replay.specs.declared.exit.Exit.TheVariants as exit
 use Rattle.dm_replay.specs.declared.reading.Halt.{Halt}
 use Rattle.dm_replay.specs.declared.reading.Halt.TheVariants as halt
 use Rattle.dm_replay.specs.declared.reading.Started.{Started}
-use Rattle.dm_replay.specs.declared.start.FirstStart.{FirstStart}
-use Rattle.dm_replay.specs.declared.start.Place.{Place}
 use Rattle.dm_replay.specs.Input.{Input, input_of}
-use Rattle.dm_replay.specs.Trace.{Stop, empty, not_built, too_long, Ending, whole, stopped, Trace, Section, began, unbegun, is_long, tail_stop, start_from, end_from, messages_from, no_events, with_event, trace_of}
-use Rattle.dm_replay.specs.Output.{answer_text, stop_text, ending_exit, trace_text, client_of, PutsPrefix}
+use Rattle.dm_replay.specs.Events.{happening_of}
+use Rattle.dm_replay.specs.Trace.{Stop, bad, too_long, Ending, whole, stopped, Trace, Begun, began, unbegun, is_long, tail_stop, start_from, end_from, events_from, no_events, with_event, trace_of}
+use Rattle.dm_replay.specs.Output.{answer_text, bad_line, ending_exit, trace_text, client_of, PutsPrefix}
 
 -- ---- the input to come
 
@@ -44,15 +52,9 @@ with_front line i = record { lines = line ∷ i.lines; tail = i.tail; more = i.m
 abbrev pub Leads : List ℕ → Input → Input → Type 0
 Leads line i j = (i ≡ with_front line j) × (is_long line ≡ false)
 
--- no byte, and none comes
-abbrev pub is_nothing : List (List ℕ) → List ℕ → Bool → Bool
-is_nothing [] [] more = not more
-is_nothing [] (b ∷ tail) more = false
-is_nothing (line ∷ lines) tail more = false
-
 abbrev pub stop_of_front : ℕ → List (List ℕ) → List ℕ → Bool → Option Stop
-stop_of_front n [] tail more = Some (if n == 1 && is_nothing [] tail more then empty else tail_stop n tail more)
-stop_of_front n (line ∷ lines) tail more = if is_long line then Some (not_built n) else None
+stop_of_front n [] tail more = Some (tail_stop n tail more)
+stop_of_front n (line ∷ lines) tail more = if is_long line then Some (bad n reason.Long) else None
 
 -- why there is no line n
 abbrev pub stop_at : ℕ → Input → Option Stop
@@ -60,23 +62,22 @@ stop_at n i = stop_of_front n i.lines i.tail i.more
 
 -- ---- the rest of each phase
 
--- the start section from line n on; at line 1 nothing was read before it
-abbrev pub section_at : ℕ → Place → Input → Section
-section_at n place i =
-    if n == 1 && is_nothing i.lines i.tail i.more then unbegun empty else start_from n place i.lines i.tail i.more
+-- the start section from line n on
+abbrev pub begun_at : ℕ → Section → Input → Begun
+begun_at n s i = start_from n s i.lines i.tail i.more
 
-abbrev pub messages_at : ℕ → ℕ → ℕ → Input → Trace
-messages_at n session last i = messages_from n session last i.lines i.tail i.more
+-- the events from line n on
+abbrev pub events_at : ℕ → List (List ℕ) → ℕ → Input → Trace
+events_at version ids n i = events_from version ids n i.lines i.tail i.more
 
-abbrev pub end_at : ℕ → Input → Ending
-end_at n i = end_from n i.lines i.tail i.more
+abbrev pub ending_at : ℕ → Input → Ending
+ending_at n i = end_from n i.lines i.tail i.more
 
 -- ---- why the reading halts
 
 -- for a halt that is one of a trace this holds of its stop
 abbrev pub OfStop : Halt → (Stop → Type 0) → Type 0
-OfStop halt.Empty P = P empty
-OfStop (halt.NotBuilt n) P = P (not_built n)
+OfStop (halt.Bad n why) P = P (bad n why)
 OfStop halt.TooLong P = P too_long
 OfStop halt.Read P = ⊤
 OfStop halt.Memory P = ⊤
@@ -84,8 +85,7 @@ OfStop halt.Memory P = ⊤
 -- a read that halts for a fault comes only where the source's count rose; every other answer leaves the count
 abbrev pub HaltCounts : {T : Type 0} → ℕ → ℕ → Result T Halt → Type 0
 HaltCounts before now (Ok x) = now ≡ before
-HaltCounts before now (Err halt.Empty) = now ≡ before
-HaltCounts before now (Err (halt.NotBuilt n)) = now ≡ before
+HaltCounts before now (Err (halt.Bad n why)) = now ≡ before
 HaltCounts before now (Err halt.TooLong) = now ≡ before
 HaltCounts before now (Err halt.Read) = Rose before now
 HaltCounts before now (Err halt.Memory) = now ≡ before
@@ -95,33 +95,35 @@ halt_after take_error.Read = halt.Read
 halt_after take_error.TooLong = halt.TooLong
 halt_after take_error.Memory = halt.Memory
 
--- why there is no line of this number at the end of an input
-abbrev pub end_halt_of : ℕ → Halt
-end_halt_of n = if n == 1 then halt.Empty else halt.NotBuilt n
+-- at a line that isn't taken
+abbrev pub halt_for : ℕ → LineError → Halt
+halt_for n (line_error.Bad why) = halt.Bad n why
+halt_for n line_error.Memory = halt.Memory
 
 -- the start section from here, by what was read of it: it is whole and line n comes next, or it stops
-abbrev pub StartsAs : Option Input → Option Input → ℕ → Place → Result Started Halt → Type 0
-StartsAs a b n place (Ok s) = Between a b (λ i j. section_at n place i ≡ began s.number s.start j)
-StartsAs a b n place (Err h) = OfInput a (λ i. OfStop h (λ stop. section_at n place i ≡ unbegun stop))
+abbrev pub StartsAs : Option Input → Option Input → ℕ → Section → Result Started Halt → Type 0
+StartsAs a b n s (Ok started) = Between a b (λ i j. begun_at n s i ≡ began started.number (told_of started.start) j)
+StartsAs a b n s (Err h) = OfInput a (λ i. OfStop h (λ stop. begun_at n s i ≡ unbegun stop))
 
--- the events from here, by what was read of them: a message comes next, or the trace is whole, or it stops
-abbrev pub GoesOn : Option Input → Option Input → ℕ → ℕ → ℕ → Result (Option Parts) Halt → Type 0
-GoesOn a b n session last (Ok (Some m)) =
-    Between a b (λ i j. messages_at n session last i ≡ with_event (message m) (messages_at (n + 1) session m.header.msg j))
-GoesOn a b n session last (Ok None) = OfInput a (λ i. messages_at n session last i ≡ no_events whole)
-GoesOn a b n session last (Err h) =
-    OfInput a (λ i. OfStop h (λ stop. messages_at n session last i ≡ no_events (stopped stop)))
+-- what a client needs of the start that it is made of
+pub record CanBegin (s : Start) : Type 0 where
+  pub accounts : AllByRecursion IsReadyAccount s.accounts
+  pub device : IsDeviceTree (nodes s.tree.rows)
+  pub limits : IsReadyLimits s.limits
 
--- the same of the first event, which opens a session
-abbrev pub OpensAs : Option Input → Option Input → ℕ → FirstStart → Result Opened Halt → Type 0
-OpensAs a b n start (Ok o) =
-    Between a b (λ i j. trace_of n start i ≡ with_event (opened o.kind o.number) (messages_at (n + 1) o.number 0 j))
-OpensAs a b n start (Err h) = OfInput a (λ i. OfStop h (λ stop. trace_of n start i ≡ no_events (stopped stop)))
+-- the events from here, by what was read of them: one comes next, or the trace is whole, or it stops
+abbrev pub GoesOn : Option Input → Option Input → ℕ → List (List ℕ) → ℕ → Result (Option Event) Halt → Type 0
+GoesOn a b version ids n (Ok (Some event)) =
+    IsSomeAnd (happening_of event)
+    (λ (e : Happening). Between a b (λ i j. events_at version ids n i ≡ with_event e (events_at version ids (n + 1) j)))
+GoesOn a b version ids n (Ok None) = OfInput a (λ i. events_at version ids n i ≡ no_events whole)
+GoesOn a b version ids n (Err h) =
+    OfInput a (λ i. OfStop h (λ stop. events_at version ids n i ≡ no_events (stopped stop)))
 
 -- the same of what stands behind the `end` line
 abbrev pub EndsAs : Option Input → ℕ → Result (Unit {0}) Halt → Type 0
-EndsAs a n (Ok u) = OfInput a (λ i. end_at n i ≡ whole)
-EndsAs a n (Err h) = OfInput a (λ i. OfStop h (λ stop. end_at n i ≡ stopped stop))
+EndsAs a n (Ok u) = OfInput a (λ i. ending_at n i ≡ whole)
+EndsAs a n (Err h) = OfInput a (λ i. OfStop h (λ stop. ending_at n i ≡ stopped stop))
 
 -- ---- what is put
 
@@ -132,7 +134,6 @@ PutsPart old new text exit.NoMemory = PutsPrefix old new text
 PutsPart old new text exit.Done = ⊥
 PutsPart old new text exit.Usage = ⊥
 PutsPart old new text exit.BadInput = ⊥
-PutsPart old new text exit.NotBuilt = ⊥
 PutsPart old new text exit.ReadFault = ⊥
 PutsPart old new text exit.TooLong = ⊥
 
@@ -145,7 +146,6 @@ PutsAnswer a old new (Err e) = PutsPart old new (answer_text a) e
 abbrev pub Ends : List ℕ → Exit → Option (List ℕ) → Option (List ℕ) → Exit → Type 0
 Ends text good old new exit.Done = Appends old new text × (good ≡ exit.Done)
 Ends text good old new exit.BadInput = Appends old new text × (good ≡ exit.BadInput)
-Ends text good old new exit.NotBuilt = Appends old new text × (good ≡ exit.NotBuilt)
 Ends text good old new exit.TooLong = Appends old new text × (good ≡ exit.TooLong)
 Ends text good old new exit.ReadFault = PutsPrefix old new text
 Ends text good old new exit.WriteFault = PutsPrefix old new text
@@ -153,12 +153,14 @@ Ends text good old new exit.NoMemory = PutsPrefix old new text
 Ends text good old new exit.Usage = ⊥
 
 -- the rest of a run from a state and a trace
-abbrev pub EndsTrace : State → Trace → Option (List ℕ) → Option (List ℕ) → Exit → Type 0
-EndsTrace s t old new e = Ends (trace_text s t) (ending_exit t.ending) old new e
+abbrev pub EndsTrace : ℕ → Machine → Trace → Option (List ℕ) → Option (List ℕ) → Exit → Type 0
+EndsTrace version c t old new e = Ends (trace_text version c t) (ending_exit t.ending) old new e
 
 -- the rest of a run behind a start section
 abbrev pub EndsEvents : Started → Option Input → Option (List ℕ) → Option (List ℕ) → Exit → Type 0
-EndsEvents s a old new e = OfInput a (λ i. EndsTrace (client_of s.start) (trace_of s.number s.start i) old new e)
+EndsEvents s a old new e =
+    OfInput a (λ i. EndsTrace s.start.version (client_of (told_of s.start))
+    (trace_of s.number (told_of s.start) i) old new e)
 
 -- a text and then its answer: no answer but this one, a write fault and want of memory
 abbrev pub PutsEnd : List ℕ → Exit → Option (List ℕ) → Option (List ℕ) → Exit → Type 0
@@ -166,8 +168,7 @@ PutsEnd text good old new e = (Appends old new text × (e ≡ good)) ⊎ PutsPar
 
 -- a halted run puts its stop; a fault of the source and want of memory put nothing
 abbrev pub PutsHalt : Halt → Option (List ℕ) → Option (List ℕ) → Exit → Type 0
-PutsHalt halt.Empty old new e = PutsEnd (stop_text empty) exit.BadInput old new e
-PutsHalt (halt.NotBuilt n) old new e = PutsEnd (stop_text (not_built n)) exit.NotBuilt old new e
+PutsHalt (halt.Bad n why) old new e = PutsEnd (bad_line n why) exit.BadInput old new e
 PutsHalt halt.TooLong old new e = Keeps old new × (e ≡ exit.TooLong)
 PutsHalt halt.Read old new e = Keeps old new × (e ≡ exit.ReadFault)
 PutsHalt halt.Memory old new e = Keeps old new × (e ≡ exit.NoMemory)
@@ -175,12 +176,13 @@ PutsHalt halt.Memory old new e = Keeps old new × (e ≡ exit.NoMemory)
 -- ---- a run that goes on
 
 -- with this text put, the text and the ending of the first trace are those of the second
-pub record Follows (s : State) (t : Trace) (done : List ℕ) (now : State) (rest : Trace) : Type 0 where
-  pub text : trace_text s t ≡ done ++ trace_text now rest
+pub record Follows (version : ℕ) (c : Machine) (t : Trace) (done : List ℕ) (now : Machine) (rest : Trace) : Type 0 where
+  pub text : trace_text version c t ≡ done ++ trace_text version now rest
   pub ending : t.ending ≡ rest.ending
 
--- a run over messages that began at the one and has come to the other
-pub record SoFar (a b : Option Input) (old new : Option (List ℕ)) (n session : ℕ) (s : State) (m last : ℕ) (now : State) : Type 0 where
+-- a run over events that began at the one and has come to the other
+pub record SoFar (a b : Option Input) (old new : Option (List ℕ)) (version : ℕ) (ids : List (List ℕ)) (n : ℕ)
+    (c : Machine) (m : ℕ) (now : Machine) : Type 0 where
   pub done : List ℕ
   pub put : Appends old new done
-  pub follows : Between a b (λ i j. Follows s (messages_at n session 0 i) done now (messages_at m session last j))
+  pub follows : Between a b (λ i j. Follows version c (events_at version ids n i) done now (events_at version ids m j))

@@ -1,35 +1,65 @@
 -- What `replay` writes and answers.
-use Rattle.std.specs.Prelude.{◌≡◌, ℕ, take, List, [], ◌∷◌, ◌++◌, codes, Option}
+use Rattle.std.specs.Prelude.{◌≡◌, ℕ, take, List, [], ◌∷◌, ◌++◌, codes, Option, Some, None}
 use Rattle.std.specs.Fmt.{decimal}
 use Rattle.std.specs.Io.KnownBytes.{Appends}
+use Rattle.wbxml_tokens.specs.declared.reason.Refusal.{Refusal}
+use Rattle.wbxml_tokens.specs.Reasons.{word_of}
+use Rattle.dm_base.specs.declared.lines.LineReason.{LineReason}
+use Rattle.dm_base.specs.declared.lines.LineReason.TheVariants as reason
 use Rattle.dm_base.specs.Fields.{hex_text}
 use Rattle.syncml_types.specs.Canonical.{canonical}
-use Rattle.dm_tree.specs.FirstTree.{FirstNodes, tree_text}
-use Rattle.dm_session.specs.declared.values.End.{End}
-use Rattle.dm_session.specs.declared.values.End.TheVariants as ends
-use Rattle.dm_session.specs.State.{State, Answer, sent, kept, stale, stranger, no_session, exhausted, ended, beginning}
-use Rattle.dm_session.specs.History.{answers, fresh, reached, answers_from, state_from}
-use Rattle.dm_replay.specs.declared.start.FirstStart.{FirstStart}
+use Rattle.syncml_types.specs.Message.{Parts}
+use Rattle.dm_tree.specs.Nodes.{Nodes}
+use Rattle.dm_atomic.specs.Updates.{begun as begun_state}
+use Rattle.dm_machine.specs.declared.kinds.End.{End}
+use Rattle.dm_machine.specs.declared.kinds.End.TheVariants.{Finished, Aborted, Denied}
+use Rattle.dm_machine.specs.Machine.{Machine}
+use Rattle.dm_machine.specs.Events.{Answer, clocked, sent, kept, again, stale, stranger, no_session, refused, exhausted, ended, acted, not_now}
+use Rattle.dm_machine.specs.History.{answers, fresh, reached, answers_from, state_from}
+use Rattle.dm_start.specs.Start.{Told}
+use Rattle.dm_start.specs.TreeText.{tree_text}
 use Rattle.dm_replay.specs.declared.exit.Exit.{Exit}
 use Rattle.dm_replay.specs.declared.exit.Exit.TheVariants as exit
-use Rattle.dm_replay.specs.Trace.{Stop, empty, not_built, too_long, Ending, whole, stopped, Trace, Section, began, unbegun, section_of, trace_of}
+use Rattle.dm_replay.specs.Trace.{Stop, bad, too_long, Ending, whole, stopped, Trace, Begun, began, unbegun, begun_of, trace_of}
 
 abbrev pub line_feed : List ℕ
 line_feed = 10 ∷ []
 
 -- ---- the answers, one line each
 
-abbrev pub end_word : End → List ℕ
-end_word ends.Aborted = codes "aborted"
+abbrev pub message_line : List ℕ → Parts → List ℕ
+message_line word m = word ++ hex_text (canonical m)
 
-unfoldable pub answer_text : Answer → List ℕ
-answer_text (sent m) = codes "sent " ++ hex_text (canonical m) ++ line_feed
-answer_text (kept m) = codes "kept " ++ hex_text (canonical m) ++ line_feed
-answer_text (stale last) = codes "stale " ++ decimal last ++ line_feed
-answer_text stranger = codes "stranger" ++ line_feed
-answer_text no_session = codes "nosession" ++ line_feed
-answer_text (exhausted last) = codes "exhausted " ++ decimal last ++ line_feed
-answer_text (ended end) = codes "ended " ++ end_word end ++ line_feed
+-- where and why bytes are no message
+abbrev pub refused_line : Refusal → List ℕ
+refused_line refusal = codes "refused " ++ decimal refusal.at ++ codes " " ++ word_of refusal.reason
+
+-- with its farewell
+abbrev pub denied_line : Option Parts → List ℕ
+denied_line None = codes "denied"
+denied_line (Some m) = message_line (codes "denied ") m
+
+abbrev pub ended_line : End → Option Parts → List ℕ
+ended_line Finished farewell = codes "ended finished"
+ended_line Aborted farewell = codes "ended aborted"
+ended_line Denied farewell = denied_line farewell
+
+unfoldable pub answer_line : Answer → List ℕ
+answer_line clocked = codes "clocked"
+answer_line (sent m) = message_line (codes "sent ") m
+answer_line (kept m) = message_line (codes "kept ") m
+answer_line (again m) = message_line (codes "again ") m
+answer_line (stale last) = codes "stale " ++ decimal last
+answer_line stranger = codes "stranger"
+answer_line no_session = codes "nosession"
+answer_line (refused refusal) = refused_line refusal
+answer_line (exhausted last) = codes "exhausted " ++ decimal last
+answer_line (ended end farewell) = ended_line end farewell
+answer_line acted = codes "acted"
+answer_line not_now = codes "notnow"
+
+abbrev pub answer_text : Answer → List ℕ
+answer_text a = answer_line a ++ line_feed
 
 abbrev pub answers_text : List Answer → List ℕ
 answers_text [] = []
@@ -37,18 +67,33 @@ answers_text (a ∷ as') = answer_text a ++ answers_text as'
 
 -- ---- the end
 
+abbrev pub reason_word : LineReason → List ℕ
+reason_word reason.Cut = codes "cut"
+reason_word reason.Long = codes "long"
+reason_word reason.Word = codes "word"
+reason_word reason.Fields = codes "fields"
+reason_word reason.Account = codes "account"
+reason_word reason.Tree = codes "tree"
+reason_word reason.Extra = codes "extra"
+reason_word reason.Message = codes "message"
+
+abbrev pub bad_line : ℕ → LineReason → List ℕ
+bad_line n why = codes "bad " ++ decimal n ++ codes " " ++ reason_word why ++ line_feed
+
 abbrev pub stop_text : Stop → List ℕ
-stop_text empty = codes "bad 1 cut" ++ line_feed
-stop_text (not_built n) = codes "notbuilt " ++ decimal n ++ line_feed
+stop_text (bad n why) = bad_line n why
 stop_text too_long = []
 
-abbrev pub ending_text : FirstNodes → Ending → List ℕ
-ending_text tree whole = tree_text tree ++ codes "done" ++ line_feed
-ending_text tree (stopped stop) = stop_text stop
+-- the tree of a whole trace, and the last line
+abbrev pub tree_and_done : ℕ → Nodes → List ℕ
+tree_and_done version tree = tree_text version tree ++ codes "done" ++ line_feed
+
+abbrev pub ending_text : ℕ → Nodes → Ending → List ℕ
+ending_text version tree whole = tree_and_done version tree
+ending_text version tree (stopped stop) = stop_text stop
 
 abbrev pub stop_exit : Stop → Exit
-stop_exit empty = exit.BadInput
-stop_exit (not_built n) = exit.NotBuilt
+stop_exit (bad n why) = exit.BadInput
 stop_exit too_long = exit.TooLong
 
 abbrev pub ending_exit : Ending → Exit
@@ -58,28 +103,40 @@ ending_exit (stopped stop) = stop_exit stop
 -- ---- the whole run
 
 -- the client before its first session
-abbrev pub client_of : FirstStart → State
-client_of start = beginning start.limits start.server start.tree
+abbrev pub client_of : Told → Machine
+client_of told = record {
+  limits = told.limits;
+  clock = told.clock;
+  engine = begun_state told.nodes;
+  queue = [];
+  accounts = told.accounts;
+  session = None;
+  begun = 0;
+  results = [];
+  resp_uri = None;
+  farewell = None;
+}
 
--- the answers of the machine to the events, and its tree in the end
-abbrev pub events_text : State → Trace → List ℕ
-events_text s t = answers_text (answers s t.events) ++ ending_text (reached s (fresh s t.events)).tree t.ending
+-- the answers of the machine to the events by their whole history, and its tree in the end
+abbrev pub events_text : ℕ → Machine → Trace → List ℕ
+events_text version c t =
+    answers_text (answers c t.events) ++ ending_text version (reached c (fresh c t.events)).engine.tree t.ending
 
-abbrev pub section_text : Section → List ℕ
-section_text (unbegun stop) = stop_text stop
-section_text (began n start input) = events_text (client_of start) (trace_of n start input)
+abbrev pub begun_text : Begun → List ℕ
+begun_text (unbegun stop) = stop_text stop
+begun_text (began n told input) = events_text told.version (client_of told) (trace_of n told input)
 
-abbrev pub section_exit : Section → Exit
-section_exit (unbegun stop) = stop_exit stop
-section_exit (began n start input) = ending_exit (trace_of n start input).ending
+abbrev pub begun_exit : Begun → Exit
+begun_exit (unbegun stop) = stop_exit stop
+begun_exit (began n told input) = ending_exit (trace_of n told input).ending
 
 -- the text of replay
 unfoldable pub replay_text : List ℕ → List ℕ
-replay_text bytes = section_text (section_of bytes)
+replay_text bytes = begun_text (begun_of bytes)
 
 -- its answer, where nothing fails
 unfoldable pub replay_exit : List ℕ → Exit
-replay_exit bytes = section_exit (section_of bytes)
+replay_exit bytes = begun_exit (begun_of bytes)
 
 -- a prefix of the text was put
 abbrev pub PutsPrefix : Option (List ℕ) → Option (List ℕ) → List ℕ → Type 0
@@ -93,7 +150,6 @@ PutsWhole bytes old new e = Appends old new (replay_text bytes) × (replay_exit 
 abbrev pub Replays : List ℕ → Option (List ℕ) → Option (List ℕ) → Exit → Type 0
 Replays bytes old new exit.Done = PutsWhole bytes old new exit.Done
 Replays bytes old new exit.BadInput = PutsWhole bytes old new exit.BadInput
-Replays bytes old new exit.NotBuilt = PutsWhole bytes old new exit.NotBuilt
 Replays bytes old new exit.TooLong = PutsWhole bytes old new exit.TooLong
 Replays bytes old new exit.ReadFault = PutsPrefix old new (replay_text bytes)
 Replays bytes old new exit.WriteFault = PutsPrefix old new (replay_text bytes)
@@ -102,5 +158,6 @@ Replays bytes old new exit.Usage = ⊥
 
 -- ---- the same by the state of the machine alone, which is how a run goes on
 
-abbrev pub trace_text : State → Trace → List ℕ
-trace_text s t = answers_text (answers_from s t.events) ++ ending_text (state_from s t.events).tree t.ending
+abbrev pub trace_text : ℕ → Machine → Trace → List ℕ
+trace_text version c t =
+    answers_text (answers_from c t.events) ++ ending_text version (state_from c t.events).engine.tree t.ending

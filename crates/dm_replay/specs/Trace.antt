@@ -1,22 +1,20 @@
--- A first-path trace: its start section, its events, and how it ends.
-use Rattle.std.specs.Prelude.{◌+◌, ◌&&◌, ℕ, Bool, true, false, if◌then◌else◌, nat_lt, nat_le, List, [], ◌∷◌, length, bytes_eq, codes, Option, Some, None}
-use Rattle.syncml_types.specs.Message.{Parts}
-use Rattle.dm_session.specs.State.{Event, opened, message}
-use Rattle.dm_replay.specs.declared.start.FirstStart.{FirstStart}
-use Rattle.dm_replay.specs.declared.start.Place.{Place}
-use Rattle.dm_replay.specs.declared.start.Place.TheVariants as place
-use Rattle.dm_replay.specs.declared.start.StartStep.{StartStep}
-use Rattle.dm_replay.specs.declared.start.StartStep.TheVariants as step
-use Rattle.dm_replay.specs.declared.events.Opened.{Opened}
+-- A trace: its start section, its events, and how it ends.
+use Rattle.std.specs.Prelude.{◌+◌, ◌==◌, ℕ, Bool, if◌then◌else◌, nat_lt, List, [], ◌∷◌, length, map, Option, Some, None, Result, Ok, Err}
+use Rattle.dm_base.specs.declared.lines.LineReason.{LineReason}
+use Rattle.dm_base.specs.declared.lines.LineReason.TheVariants as reason
+use Rattle.dm_auth.specs.declared.accounts.Account.{Account}
+use Rattle.dm_machine.specs.Events.{Event as Happening}
+use Rattle.dm_start.specs.declared.heads.Head.TheVariants as head
+use Rattle.dm_start.specs.declared.telling.Phase.TheVariants as phase
+use Rattle.dm_start.specs.Start.{Told, Section, opening, telling, after_line}
+use Rattle.dm_replay.specs.declared.events.Event.{Event}
 use Rattle.dm_replay.specs.Input.{Input, input_of}
-use Rattle.dm_replay.specs.Start.{start_step}
-use Rattle.dm_replay.specs.Events.{open_of, message_of}
+use Rattle.dm_replay.specs.Events.{event_of, happening_of}
 
--- where a run stops before the end of a whole trace: at an input of no byte, at the first line that isn't of the first
--- path, or past the bytes that a run looks at
+-- where a run stops before the end of a whole trace: at the first line that is refused, or past the bytes that it looks
+-- at
 pub data Stop : Type 0 where
-  empty : Stop
-  not_built : ℕ → Stop
+  bad : ℕ → LineReason → Stop
   too_long : Stop
 
 pub data Ending : Type 0 where
@@ -24,7 +22,7 @@ pub data Ending : Type 0 where
   stopped : Stop → Ending
 
 pub record Trace : Type 0 where
-  pub events : List Event
+  pub events : List Happening
   pub ending : Ending
 
 -- more than a line may have, without its line feed
@@ -33,70 +31,86 @@ is_long line = nat_lt 8400000 (length line)
 
 -- where no whole line is left for line n
 abbrev pub tail_stop : ℕ → List ℕ → Bool → Stop
-tail_stop n tail more = if more && nat_le (length tail) 8400000 then too_long else not_built n
+tail_stop n tail more = if is_long tail then bad n reason.Long else if more then too_long else bad n reason.Cut
 
 -- ---- the start section
 
 -- it is whole and line n comes next, or the run stops
-pub data Section : Type 0 where
-  began : ℕ → FirstStart → Input → Section
-  unbegun : Stop → Section
+pub data Begun : Type 0 where
+  began : ℕ → Told → Input → Begun
+  unbegun : Stop → Begun
 
-abbrev pub start_line : ℕ → StartStep → List (List ℕ) → List ℕ → Bool → (Place → Section) → Section
-start_line n (step.More place) lines tail more rest = rest place
-start_line n (step.Begin start) lines tail more rest = began (n + 1) start (record { lines = lines; tail = tail; more = more })
-start_line n step.NotBuilt lines tail more rest = unbegun (not_built n)
+-- what was told, where `begin` came
+abbrev pub told_in : Section → Option Told
+told_in (opening h) = None
+told_in (telling phase.Accounts told) = None
+told_in (telling phase.Nodes told) = None
+told_in (telling phase.Begun told) = Some told
 
--- the lines from line n on, where the start section has come to a place
-abbrev pub start_from : ℕ → Place → List (List ℕ) → List ℕ → Bool → Section
-start_from n place [] tail more = unbegun (tail_stop n tail more)
-start_from n place (line ∷ lines) tail more =
-    if is_long line then unbegun (not_built n)
-    else start_line n (start_step place line) lines tail more (λ next. start_from (n + 1) next lines tail more)
+-- the lines behind line n, which made this section
+abbrev pub behind_begin : ℕ → Option Told → Input → Begun → Begun
+behind_begin n None input rest = rest
+behind_begin n (Some told) input rest = began (n + 1) told input
 
--- the start section of the whole input
-abbrev pub section_of : List ℕ → Section
-section_of [] = unbegun empty
-section_of (b ∷ bs) =
-    start_from 1 place.Head (input_of 67108864 (b ∷ bs)).lines (input_of 67108864 (b ∷ bs)).tail (input_of 67108864 (b ∷ bs)).more
+abbrev pub start_line : ℕ → Result Section LineReason → Input → (Section → Begun) → Begun
+start_line n (Ok s) input rest = behind_begin n (told_in s) input (rest s)
+start_line n (Err why) input rest = unbegun (bad n why)
+
+-- the lines from line n on, where the start section has come so far
+abbrev pub start_from : ℕ → Section → List (List ℕ) → List ℕ → Bool → Begun
+start_from n s [] tail more = unbegun (tail_stop n tail more)
+start_from n s (line ∷ lines) tail more =
+    if is_long line then unbegun (bad n reason.Long)
+    else start_line n (after_line s line) (record { lines = lines; tail = tail; more = more })
+    (λ next. start_from (n + 1) next lines tail more)
+
+-- the start section of a whole input
+abbrev pub begun_in : Input → Begun
+begun_in i = start_from 1 (opening head.First) i.lines i.tail i.more
+
+abbrev pub begun_of : List ℕ → Begun
+begun_of bytes = begun_in (input_of 67108864 bytes)
 
 -- ---- the events
 
 abbrev pub no_events : Ending → Trace
 no_events ending = record { events = []; ending = ending }
 
-abbrev pub with_event : Event → Trace → Trace
+abbrev pub with_event : Happening → Trace → Trace
 with_event e t = record { events = e ∷ t.events; ending = t.ending }
 
--- nothing may stand behind the `end` line
+-- what stands behind the `end` line, which is to be nothing
+abbrev pub end_at : ℕ → List ℕ → Bool → Ending
+end_at n tail more =
+    if is_long tail then stopped (bad n reason.Extra)
+    else if more then stopped too_long
+    else if length tail == 0 then whole
+    else stopped (bad n reason.Extra)
+
 abbrev pub end_from : ℕ → List (List ℕ) → List ℕ → Bool → Ending
-end_from n (line ∷ lines) tail more = stopped (not_built n)
-end_from n [] (b ∷ tail) more = stopped (tail_stop n (b ∷ tail) more)
-end_from n [] [] true = stopped too_long
-end_from n [] [] false = whole
+end_from n [] tail more = end_at n tail more
+end_from n (line ∷ lines) tail more = stopped (bad n reason.Extra)
 
-abbrev pub message_line : ℕ → List ℕ → Option Parts → Ending → (ℕ → Trace) → Trace
-message_line n line (Some m) behind rest = with_event (message m) (rest m.header.msg)
-message_line n line None behind rest = if bytes_eq line (codes "end") then no_events behind else no_events (stopped (not_built n))
+-- the rest of a trace behind a line that says this, or nothing but that the trace ends
+abbrev pub behind_said : Option Happening → Ending → Trace → Trace
+behind_said (Some e) behind rest = with_event e rest
+behind_said None behind rest = no_events behind
 
--- `msg` lines of a session and then `end`, from line n on, where no MsgID is below the last one
-abbrev pub messages_from : ℕ → ℕ → ℕ → List (List ℕ) → List ℕ → Bool → Trace
-messages_from n session last [] tail more = no_events (stopped (tail_stop n tail more))
-messages_from n session last (line ∷ lines) tail more =
-    if is_long line then no_events (stopped (not_built n))
-    else message_line n line (message_of session last line) (end_from (n + 1) lines tail more) (λ msg. messages_from (n + 1) session msg lines tail more)
+abbrev pub event_line : ℕ → Result Event LineReason → Ending → Trace → Trace
+event_line n (Ok said) behind rest = behind_said (happening_of said) behind rest
+event_line n (Err why) behind rest = no_events (stopped (bad n why))
 
-abbrev pub open_line : ℕ → Option Opened → (ℕ → Trace) → Trace
-open_line n None rest = no_events (stopped (not_built n))
-open_line n (Some o) rest = with_event (opened o.kind o.number) (rest o.number)
+-- events and then `end`, from line n on, in a trace of this version whose accounts have these servers
+abbrev pub events_from : ℕ → List (List ℕ) → ℕ → List (List ℕ) → List ℕ → Bool → Trace
+events_from version ids n [] tail more = no_events (stopped (tail_stop n tail more))
+events_from version ids n (line ∷ lines) tail more =
+    if is_long line then no_events (stopped (bad n reason.Long))
+    else event_line n (event_of version ids line) (end_from (n + 1) lines tail more)
+    (events_from version ids (n + 1) lines tail more)
 
--- the `open` line, and what follows it
-abbrev pub open_from : ℕ → List ℕ → List (List ℕ) → List ℕ → Bool → Trace
-open_from n server [] tail more = no_events (stopped (tail_stop n tail more))
-open_from n server (line ∷ lines) tail more =
-    if is_long line then no_events (stopped (not_built n))
-    else open_line n (open_of server line) (λ session. messages_from (n + 1) session 0 lines tail more)
+abbrev pub ids_of : List Account → List (List ℕ)
+ids_of accounts = map (λ (a : Account). a.server) accounts
 
 -- the events behind a start section
-abbrev pub trace_of : ℕ → FirstStart → Input → Trace
-trace_of n start input = open_from n start.server input.lines input.tail input.more
+abbrev pub trace_of : ℕ → Told → Input → Trace
+trace_of n told i = events_from told.version (ids_of told.accounts) n i.lines i.tail i.more

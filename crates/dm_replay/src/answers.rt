@@ -1,81 +1,177 @@
 // The lines that answer events.
-ghost use Rattle.std.specs.Prelude.{◌≡◌, ◌++◌, IfOk, IfSome, IsSome, OnOk};
+ghost use Rattle.std.specs.Prelude.{◌≡◌, ◌++◌, ◌<◌, length, IfOk, IfSome, IsSome, OnOk};
 ghost use Rattle.std.specs.Fmt.{decimal};
 ghost use Rattle.dm_base.specs.Fields.{hex_text};
-ghost use Rattle.syncml_types.specs.Canonical.{canonical};
-ghost use Rattle.dm_session.specs.State.{opened as opens, message as came};
-ghost use Rattle.dm_session.specs.History.{answer_now, next};
-ghost use Rattle.dm_replay.specs.Output.{line_feed, answer_text};
+ghost use Rattle.syncml_codec.specs.Decoding.{read_of};
+ghost use Rattle.dm_machine.specs.Events.{opened, message as came, loss, act as acts, clock};
+ghost use Rattle.dm_machine.specs.History.{answer_now, next};
+ghost use Rattle.dm_replay.specs.Events.{IsOf, happening_of};
+ghost use Rattle.dm_replay.specs.Output as Spec;
+ghost use Rattle.dm_replay.specs.Output.{answer_line};
 
-use crate::events::Opened;
-use dm_base::{Bytes, Memory, hex_into};
-use dm_session::{Answer, BeginError, Client, End};
+use crate::events::Event;
+use dm_base::{Bytes, Memory, Nonce, hex_into};
+use dm_machine::{End, Kind};
+use dm_session::{Acted, Answer, BeginError, Client};
+use dm_tree::Stamp;
 use itoa::Buffer;
 use std::alloc::Global;
-use syncml_types::Message;
+use wbxml_tokens::Refusal;
 
-// A line of its own text.
-fn word_line(alloc: Global, word: &[u8], text: &[u8]) -> Result<Bytes, Memory>
-    ensures { IfOk result (λ t. t ≡ word.now ++ text.now ++ line_feed) }
+// A word and a number.
+fn number_line(alloc: Global, word: &[u8], number: u64) -> Result<Bytes, Memory>
+    ensures { IfOk result (λ t. t ≡ word.now ++ decimal number) }
 {
     let mut line = Bytes::of_slice(alloc, word)?;
-    line.extend(text)?;
-    line.push(b'\n')?;
+    add_number(&mut line, number)?;
     Ok(line)
 }
 
-/// A line with a number.
-pub fn number_line(alloc: Global, word: &[u8], number: u64) -> Result<Bytes, Memory>
-    ensures { IfOk result (λ t. t ≡ word.now ++ decimal number ++ line_feed) }
+// Adds a number in decimal digits.
+pub(crate) fn add_number(line: &mut Bytes, number: u64) -> Result<(), Memory>
+    ensures { OnOk result (line.new ≡ line.old ++ decimal number) }
 {
     let mut buffer = Buffer::new();
-    word_line(alloc, word, buffer.format(number).as_bytes())
+    line.extend(buffer.format(number).as_bytes())
 }
 
-// A line with the message that was sent last.
+// A word and the bytes of a message.
+fn message_line(alloc: Global, word: &[u8], message: &[u8]) -> Result<Bytes, Memory>
+    ensures { IfOk result (λ t. t ≡ word.now ++ hex_text message.now) }
+{
+    let mut line = Bytes::of_slice(alloc, word)?;
+    hex_into(alloc, &mut line, message)?;
+    Ok(line)
+}
+
+// A word and the message that was sent last.
 fn sent_line(alloc: Global, word: &[u8], client: &Client) -> Result<Bytes, Memory>
-    requires { IsSome client.now.session }
-    ensures { IfOk result (λ t. IfSome client.now.session
-        (λ x. t ≡ word.now ++ hex_text (canonical x.sent) ++ line_feed)) }
+    requires { IsSome client.now.machine.session }
+    ensures { IfOk result (λ t. IfSome client.now.machine.session (λ s. t ≡ Spec.message_line word.now s.sent)) }
 {
     match client.again() {
-        Some(bytes) => {
-            let mut line = Bytes::of_slice(alloc, word)?;
-            hex_into(alloc, &mut line, bytes)?;
-            line.push(b'\n')?;
-            Ok(line)
-        }
+        Some(message) => message_line(alloc, word, message),
         None => unreachable!(),
     }
 }
 
-/// Begins a session, and gives the line that answers it.
-#[tactic(auto, unfolding(crate::specs::Output::answer_text))]
-pub fn begin_line(alloc: Global, client: &mut Client, opened: Opened) -> Result<Bytes, Memory>
-    ensures text { IfOk result
-        (λ t. t ≡ answer_text (answer_now client.old (opens opened.kind opened.number))) }
-    ensures state { OnOk result (client.new ≡ next client.old (opens opened.kind opened.number)) }
+// Where and why bytes are no message.
+fn refused_line(alloc: Global, refusal: Refusal) -> Result<Bytes, Memory>
+    ensures { IfOk result (λ line. line ≡ Spec.refused_line refusal) }
 {
-    match client.begin(opened.kind, opened.number) {
+    let mut line = Bytes::of_slice(alloc, b"refused ")?;
+    add_number(&mut line, refusal.at)?;
+    line.push(b' ')?;
+    line.extend(refusal.reason.word().as_bytes())?;
+    Ok(line)
+}
+
+fn ended_line(alloc: Global, end: End, client: &Client) -> Result<Bytes, Memory>
+    ensures { IfOk result (λ t. t ≡ Spec.ended_line end client.now.machine.farewell) }
+{
+    match end {
+        End::Finished => Bytes::of_slice(alloc, b"ended finished"),
+        End::Aborted => Bytes::of_slice(alloc, b"ended aborted"),
+        End::Denied => match client.farewell() {
+            Some(message) => message_line(alloc, b"denied ", message),
+            None => Bytes::of_slice(alloc, b"denied"),
+        },
+    }
+}
+
+// Begins a session.
+#[tactic(auto, unfolding(crate::specs::Output::answer_line))]
+fn open(
+    alloc: Global,
+    client: &mut Client,
+    account: usize,
+    kind: Kind,
+    session: u32,
+) -> Result<Bytes, Memory>
+    requires { account < length client.old.machine.accounts }
+    ensures line { IfOk result (λ t. t ≡ answer_line (answer_now client.old.machine (opened account kind session))) }
+    ensures state { OnOk result (client.new.machine ≡ next client.old.machine (opened account kind session)) }
+{
+    match client.begin(account, kind, session) {
         Ok(()) => sent_line(alloc, b"sent ", client),
         Err(BeginError::Exhausted { last }) => number_line(alloc, b"exhausted ", last as u64),
         Err(BeginError::Memory) => Err(Memory),
     }
 }
 
-/// Delivers a message, and gives the line that answers it.
-#[tactic(auto, unfolding(crate::specs::Output::answer_text))]
-pub fn answer_line(alloc: Global, client: &mut Client, message: &Message) -> Result<Bytes, Memory>
-    ensures text { IfOk result (λ t. t ≡ answer_text (answer_now client.old (came message.now))) }
-    ensures state { OnOk result (client.new ≡ next client.old (came message.now)) }
+// Delivers a message.
+#[tactic(auto, unfolding(crate::specs::Output::answer_line))]
+fn deliver(alloc: Global, client: &mut Client, bytes: &[u8], nonce: &Nonce) -> Result<Bytes, Memory>
+    ensures line { IfOk result (λ t. t ≡ answer_line (answer_now client.old.machine
+        (came (read_of bytes.now) nonce.now.bytes))) }
+    ensures state { OnOk result (client.new.machine ≡ next client.old.machine
+        (came (read_of bytes.now) nonce.now.bytes)) }
 {
-    match client.deliver(message) {
+    match client.deliver(bytes, *nonce) {
         Ok(Answer::Sent) => sent_line(alloc, b"sent ", client),
         Ok(Answer::Kept) => sent_line(alloc, b"kept ", client),
         Ok(Answer::Stale { last }) => number_line(alloc, b"stale ", last as u64),
-        Ok(Answer::Stranger) => word_line(alloc, b"stranger", b""),
-        Ok(Answer::NoSession) => word_line(alloc, b"nosession", b""),
-        Ok(Answer::Ended(End::Aborted)) => word_line(alloc, b"ended ", b"aborted"),
-        Err(_) => Err(Memory),
+        Ok(Answer::Stranger) => Bytes::of_slice(alloc, b"stranger"),
+        Ok(Answer::NoSession) => Bytes::of_slice(alloc, b"nosession"),
+        Ok(Answer::Refused(refusal)) => refused_line(alloc, refusal),
+        Ok(Answer::Ended(end)) => ended_line(alloc, end, client),
+        Err(memory) => Err(memory),
+    }
+}
+
+// No reply came.
+#[tactic(auto, using(crate::proofs::Answering::again_line, crate::proofs::Answering::nobody_line, crate::proofs::Answering::loss_keeps))]
+fn lose(alloc: Global, client: &Client) -> Result<Bytes, Memory>
+    ensures line { IfOk result (λ t. t ≡ answer_line (answer_now client.now.machine loss)) }
+    ensures state { client.now.machine ≡ next client.now.machine loss }
+{
+    match client.again() {
+        Some(message) => message_line(alloc, b"again ", message),
+        None => Bytes::of_slice(alloc, b"nosession"),
+    }
+}
+
+// The end of an update.
+#[tactic(auto, unfolding(crate::specs::Output::answer_line))]
+fn act(alloc: Global, client: &mut Client, ok: bool) -> Result<Bytes, Memory>
+    ensures line { IfOk result (λ t. t ≡ answer_line (answer_now client.old.machine (acts ok))) }
+    ensures state { OnOk result (client.new.machine ≡ next client.old.machine (acts ok)) }
+{
+    match client.acted(ok) {
+        Ok(Acted::Done) => Bytes::of_slice(alloc, b"acted"),
+        Ok(Acted::NotNow) => Bytes::of_slice(alloc, b"notnow"),
+        Err(memory) => Err(memory),
+    }
+}
+
+#[tactic(auto, unfolding(crate::specs::Output::answer_line), using(crate::proofs::Answering::clock_answered))]
+fn set_clock(alloc: Global, client: &mut Client, now: Stamp) -> Result<Bytes, Memory>
+    ensures line { IfOk result (λ t. t ≡ answer_line (answer_now client.old.machine (clock now))) }
+    ensures state { OnOk result (client.new.machine ≡ next client.old.machine (clock now)) }
+{
+    client.set_clock(now);
+    Bytes::of_slice(alloc, b"clocked")
+}
+
+/// Does what an event says, and gives the line that answers it, without its line feed. After `Memory` the client isn't
+/// to be used again.
+pub fn step(alloc: Global, client: &mut Client, event: &Event) -> Result<Bytes, Memory>
+    requires { IsOf (length client.old.machine.accounts) event.now }
+    ensures line { IfOk result (λ t. IfSome (happening_of event.now)
+        (λ e. t ≡ answer_line (answer_now client.old.machine e))) }
+    ensures state { OnOk result (IfSome (happening_of event.now)
+        (λ e. client.new.machine ≡ next client.old.machine e)) }
+{
+    match event {
+        Event::Open {
+            account,
+            kind,
+            session,
+        } => open(alloc, client, *account, *kind, *session),
+        Event::Msg { nonce, bytes } => deliver(alloc, client, bytes.as_slice(), nonce),
+        Event::Loss => lose(alloc, client),
+        Event::Act(ok) => act(alloc, client, *ok),
+        Event::Clock(now) => set_clock(alloc, client, *now),
+        Event::End => unreachable!(),
     }
 }

@@ -1,17 +1,18 @@
 // What a run puts, and how it ends.
-ghost use Rattle.std.specs.Prelude.{◌≡◌, ◌++◌, IfOk, MatchResult, codes};
+ghost use Rattle.std.specs.Prelude.{◌≡◌, IfOk, MatchResult};
 ghost use Rattle.std.specs.Io.KnownBytes.{Appends};
-ghost use Rattle.dm_tree.specs.FirstTree.{tree_text};
-ghost use Rattle.dm_replay.specs.Trace.{empty, not_built, whole};
-ghost use Rattle.dm_replay.specs.Output.{line_feed, ending_text, stop_text};
+ghost use Rattle.dm_tree.specs.Rows.{nodes};
+ghost use Rattle.dm_replay.specs.Output as Spec;
+ghost use Rattle.dm_replay.specs.Output.{bad_line, tree_and_done};
 ghost use Rattle.dm_replay.specs.Causes.{SinkCause};
 ghost use Rattle.dm_replay.specs.From.{PutsPart, PutsEnd, PutsHalt};
 
-use crate::answers::number_line;
+use crate::answers::add_number;
 use crate::exit::Exit;
 use crate::reading::Halt;
-use dm_base::{Bytes, Fault, Memory, Sink, put_all};
-use dm_tree::FirstTree;
+use dm_base::{Bytes, Fault, LineReason, Memory, Sink, put_all};
+use dm_start::tree_text;
+use dm_tree::Tree;
 use std::alloc::Global;
 
 /// Puts a text, or says how the run ends.
@@ -29,20 +30,21 @@ pub fn put_text<K: Sink>(out: &mut K, text: &[u8]) -> Result<(), Exit>
 }
 
 // The tree text and the last line.
-fn whole_text(alloc: Global, tree: &FirstTree) -> Result<Bytes, Memory>
-    ensures { IfOk result (λ t. t ≡ ending_text tree.now whole) }
+fn whole_text(alloc: Global, tree: &Tree, version: u8) -> Result<Bytes, Memory>
+    ensures { IfOk result (λ t. t ≡ tree_and_done version (nodes tree.now.rows)) }
 {
-    let mut text = tree.text(alloc)?;
+    let mut text = tree_text(alloc, tree, version)?;
     text.extend(b"done\n")?;
     Ok(text)
 }
 
 /// Ends a run whose trace is whole.
-pub fn put_whole<K: Sink>(alloc: Global, out: &mut K, tree: &FirstTree) -> Exit
-    ensures bytes { PutsEnd (ending_text tree.now whole) Exit.Done (K.got out.old) (K.got out.new) result }
+pub fn put_whole<K: Sink>(alloc: Global, out: &mut K, tree: &Tree, version: u8) -> Exit
+    ensures bytes { PutsEnd (tree_and_done version (nodes tree.now.rows)) Exit.Done (K.got out.old)
+        (K.got out.new) result }
     ensures count { SinkCause (K.faults out.old) (K.faults out.new) result }
 {
-    match whole_text(alloc, tree) {
+    match whole_text(alloc, tree, version) {
         Ok(text) => match put_text(out, text.as_slice()) {
             Ok(()) => Exit::Done,
             Err(exit) => exit,
@@ -51,26 +53,40 @@ pub fn put_whole<K: Sink>(alloc: Global, out: &mut K, tree: &FirstTree) -> Exit
     }
 }
 
-// Ends a run over an input of no byte.
-fn put_empty<K: Sink>(out: &mut K) -> Exit
-    ensures bytes { PutsEnd (stop_text empty) Exit.BadInput (K.got out.old) (K.got out.new) result }
-    ensures count { SinkCause (K.faults out.old) (K.faults out.new) result }
+fn reason_word(reason: LineReason) -> &'static str
+    ensures { result.now ≡ Spec.reason_word reason }
 {
-    match put_text(out, b"bad 1 cut\n") {
-        Ok(()) => Exit::BadInput,
-        Err(exit) => exit,
+    match reason {
+        LineReason::Cut => "cut",
+        LineReason::Long => "long",
+        LineReason::Word => "word",
+        LineReason::Fields => "fields",
+        LineReason::Account => "account",
+        LineReason::Tree => "tree",
+        LineReason::Extra => "extra",
+        LineReason::Message => "message",
     }
 }
 
-// Ends a run at a line that isn't of the first path.
-fn put_not_built<K: Sink>(alloc: Global, out: &mut K, number: u64) -> Exit
-    ensures bytes { PutsEnd (stop_text (not_built number)) Exit.NotBuilt (K.got out.old) (K.got out.new)
-        result }
+fn bad_line(alloc: Global, number: u64, reason: LineReason) -> Result<Bytes, Memory>
+    ensures { IfOk result (λ line. line ≡ bad_line number reason) }
+{
+    let mut line = Bytes::of_slice(alloc, b"bad ")?;
+    add_number(&mut line, number)?;
+    line.push(b' ')?;
+    line.extend(reason_word(reason).as_bytes())?;
+    line.push(b'\n')?;
+    Ok(line)
+}
+
+// Ends a run at a line that is refused.
+fn put_bad<K: Sink>(alloc: Global, out: &mut K, number: u64, reason: LineReason) -> Exit
+    ensures bytes { PutsEnd (bad_line number reason) Exit.BadInput (K.got out.old) (K.got out.new) result }
     ensures count { SinkCause (K.faults out.old) (K.faults out.new) result }
 {
-    match number_line(alloc, b"notbuilt ", number) {
+    match bad_line(alloc, number, reason) {
         Ok(line) => match put_text(out, line.as_slice()) {
-            Ok(()) => Exit::NotBuilt,
+            Ok(()) => Exit::BadInput,
             Err(exit) => exit,
         },
         Err(_) => Exit::NoMemory,
@@ -83,8 +99,7 @@ pub fn put_halt<K: Sink>(alloc: Global, out: &mut K, halt: Halt) -> Exit
     ensures count { SinkCause (K.faults out.old) (K.faults out.new) result }
 {
     match halt {
-        Halt::Empty => put_empty(out),
-        Halt::NotBuilt { number } => put_not_built(alloc, out, number),
+        Halt::Bad { number, reason } => put_bad(alloc, out, number, reason),
         Halt::TooLong => Exit::TooLong,
         Halt::Read => Exit::ReadFault,
         Halt::Memory => Exit::NoMemory,

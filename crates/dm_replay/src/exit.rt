@@ -9,8 +9,6 @@ pub enum Exit {
     Usage,
     /// The input is outside its grammar; the line and the reason were written.
     BadInput,
-    /// The input holds what isn't built yet; the line was written.
-    NotBuilt,
     ReadFault,
     WriteFault,
     NoMemory,

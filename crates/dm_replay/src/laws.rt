@@ -1,12 +1,13 @@
 // Laws over the definitions of a trace and of its text.
-ghost use Rattle.dm_replay.specs.FirstPath.{FirstPathIsAnswered, OnlyTracesAreDone};
+ghost use Rattle.dm_replay.specs.Laws.{WholeTracesAreAnswered, OnlyTracesAreDone};
 
-/// Each trace of the first path is answered whole: its text is the answers to its events, the tree and `done`.
-pub fn first_path_is_answered()
-    ensures { FirstPathIsAnswered }
+/// Law: each whole trace of at most 67,108,864 bytes is answered whole. Its text is the machine's answers to its events
+/// by their whole history, the tree that those which act lead to, and `done`.
+pub fn whole_traces_are_answered()
+    ensures { WholeTracesAreAnswered }
 {}
 
-/// A run ends by `Done` over such traces alone.
+/// Law: a run ends by `Done` over such traces alone.
 pub fn only_traces_are_done()
     ensures { OnlyTracesAreDone }
 {}

@@ -1,16 +1,16 @@
 //! Traces of the client, answered line by line.
 #![tactic(auto)]
 
-mod answers;
+pub mod answers;
 mod endings;
 pub mod events;
 pub mod exit;
-mod fields;
 pub mod laws;
 mod reading;
-pub mod start;
 pub mod trace;
 
+pub use answers::step;
+pub use events::{Event, read_event};
 pub use exit::Exit;
-pub use laws::{first_path_is_answered, only_traces_are_done};
+pub use laws::{only_traces_are_done, whole_traces_are_answered};
 pub use trace::replay;

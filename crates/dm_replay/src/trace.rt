@@ -1,80 +1,85 @@
 // A trace, read and answered line by line.
-ghost use Rattle.std.specs.Prelude.{◌≡◌, ◌≢◌, ◌<◌, ◌≤◌, ◌+◌, ◌^◌, IfOk, OnOk, MatchResult};
+ghost use Rattle.std.specs.Prelude.{◌≡◌, ◌≢◌, ◌<◌, ◌≤◌, ◌+◌, ◌^◌, length, IfOk, IfSome, OnOk, MatchResult};
 ghost use Rattle.dm_base.specs.Outside.{OfKnown};
 ghost use Rattle.dm_base.specs.Lines.{room, CountsTaken};
-ghost use Rattle.dm_session.specs.State.{opened as opens, message as came};
-ghost use Rattle.dm_session.specs.History.{answer_now, next};
+ghost use Rattle.dm_machine.specs.History.{answer_now, next};
+ghost use Rattle.dm_replay.specs.Events.{IsOf, happening_of};
+ghost use Rattle.dm_replay.specs.Trace as Spec;
 ghost use Rattle.dm_replay.specs.Input.{TakesOnePast};
-ghost use Rattle.dm_replay.specs.Output.{Replays};
+ghost use Rattle.dm_replay.specs.Output.{Replays, answer_text};
 ghost use Rattle.dm_replay.specs.Causes.{SourceCause, SinkCause};
-ghost use Rattle.dm_replay.specs.From.{seen, OfInput, PutsAnswer, EndsTrace, EndsEvents, messages_at};
+ghost use Rattle.dm_replay.specs.From.{seen, OfInput, PutsAnswer, EndsTrace, EndsEvents, CanBegin, events_at};
 
-use crate::answers::{answer_line, begin_line};
+use crate::answers::step;
 use crate::endings::{put_halt, put_text, put_whole};
-use crate::events::Opened;
+use crate::events::Event;
 use crate::exit::Exit;
-use crate::reading::{Started, next_message, next_open, read_start};
-use dm_base::{Lines, Sink, Source};
+use crate::reading::{Started, next_event, read_start};
+use dm_auth::Account;
+use dm_base::{Bytes, Lines, List, Memory, Sink, Source};
 use dm_session::Client;
 use std::alloc::Global;
-use syncml_types::Message;
 
-// Begins a session and puts its answer.
-fn begin<K: Sink>(
+// The servers of accounts, in their order.
+fn ids_of(alloc: Global, accounts: &List<Account>) -> Result<List<Bytes>, Memory>
+    ensures { IfOk result (λ ids. ids ≡ Spec.ids_of accounts.now) }
+{
+    let mut ids = List::new(alloc);
+    for at in 0..accounts.len() {
+        ids.push(accounts.as_slice()[at].server.copy(alloc)?)?;
+    }
+    Ok(ids)
+}
+
+// The line of an answer.
+fn line_of(alloc: Global, client: &mut Client, event: &Event) -> Result<Bytes, Memory>
+    requires { IsOf (length client.old.machine.accounts) event.now }
+    ensures line { IfOk result (λ t. IfSome (happening_of event.now)
+        (λ e. t ≡ answer_text (answer_now client.old.machine e))) }
+    ensures state { OnOk result (IfSome (happening_of event.now)
+        (λ e. client.new.machine ≡ next client.old.machine e)) }
+{
+    let mut line = step(alloc, client, event)?;
+    line.push(b'\n')?;
+    Ok(line)
+}
+
+// Does an event and puts its answer.
+fn answer<K: Sink>(
     alloc: Global,
     client: &mut Client,
     out: &mut K,
-    opened: Opened,
+    event: Event,
 ) -> Result<(), Exit>
-    ensures state { OnOk result (client.new ≡ next client.old (opens opened.kind opened.number)) }
-    ensures bytes { PutsAnswer (answer_now client.old (opens opened.kind opened.number)) (K.got out.old)
-        (K.got out.new) result }
+    requires { IsOf (length client.old.machine.accounts) event }
+    ensures state { OnOk result (IfSome (happening_of event)
+        (λ e. client.new.machine ≡ next client.old.machine e)) }
+    ensures bytes { IfSome (happening_of event)
+        (λ e. PutsAnswer (answer_now client.old.machine e) (K.got out.old) (K.got out.new) result) }
     ensures count { MatchResult result (λ _. K.faults out.new ≡ K.faults out.old)
         (λ e. SinkCause (K.faults out.old) (K.faults out.new) e) }
 {
-    match begin_line(alloc, client, opened) {
+    match line_of(alloc, client, &event) {
         Ok(line) => put_text(out, line.as_slice()),
         Err(_) => Err(Exit::NoMemory),
     }
 }
 
-// Delivers a message and puts its answer. It gives the MsgID of the message.
-fn answer<K: Sink>(
-    alloc: Global,
-    client: &mut Client,
-    out: &mut K,
-    message: Message,
-) -> Result<u32, Exit>
-    ensures number { IfOk result (λ msg. msg ≡ message.header.msg) }
-    ensures state { OnOk result (client.new ≡ next client.old (came message)) }
-    ensures bytes { PutsAnswer (answer_now client.old (came message)) (K.got out.old) (K.got out.new)
-        result }
-    ensures count { MatchResult result (λ _. K.faults out.new ≡ K.faults out.old)
-        (λ e. SinkCause (K.faults out.old) (K.faults out.new) e) }
-{
-    let line = match answer_line(alloc, client, &message) {
-        Ok(line) => line,
-        Err(_) => return Err(Exit::NoMemory),
-    };
-    match put_text(out, line.as_slice()) {
-        Ok(()) => Ok(message.header().msg),
-        Err(exit) => Err(exit),
-    }
-}
-
-// Answers the messages of a session from line `first` on, one by one.
-fn answer_messages<S: Source, K: Sink>(
+// Answers the events from line `first` on, one by one.
+fn answer_events<S: Source, K: Sink>(
     alloc: Global,
     lines: &mut Lines,
     client: &mut Client,
     src: &mut S,
     out: &mut K,
-    session: u32,
     first: u64,
+    version: u8,
+    ids: &List<Bytes>,
 ) -> Exit
-    requires { (1 < first) × (first + room lines.old < 2 ^ 60) }
-    ensures output { OfInput (seen lines.old (S.left src.old)) (λ i. EndsTrace client.old
-        (messages_at first session 0 i) (K.got out.old) (K.got out.new) result) }
+    requires number { first + room lines.old < 2 ^ 60 }
+    requires accounts { length ids.now ≡ length client.old.machine.accounts }
+    ensures output { OfInput (seen lines.old (S.left src.old)) (λ i. EndsTrace version client.old.machine
+        (events_at version ids.now first i) (K.got out.old) (K.got out.new) result) }
     ensures usage { result ≢ Exit.Usage }
     ensures taken { CountsTaken (S.left src.old) (S.left src.new) lines.old.taken lines.new.taken }
     ensures limit { lines.new.taken ≤ 67108865 }
@@ -82,31 +87,29 @@ fn answer_messages<S: Source, K: Sink>(
     ensures sink { SinkCause (K.faults out.old) (K.faults out.new) result }
 {
     let mut number = first;
-    let mut last = 0u32;
-    'messages: loop {
-        match next_message(alloc, lines, src, number, session, last) {
-            Ok(Some(message)) => match answer(alloc, client, out, message) {
-                Ok(msg) => {
-                    last = msg;
-                    number += 1;
-                }
+    'events: loop {
+        match next_event(alloc, lines, src, number, version, ids) {
+            Ok(Some(event)) => match answer(alloc, client, out, event) {
+                Ok(()) => number += 1,
                 Err(exit) => return exit,
             },
-            Ok(None) => return put_whole(alloc, out, client.tree()),
+            Ok(None) => return put_whole(alloc, out, client.tree(), version),
             Err(halt) => return put_halt(alloc, out, halt),
         }
     }
 }
 
-// Answers the events behind a start section.
-fn answer_events<S: Source, K: Sink>(
+// Answers what stands behind a start section.
+fn answer_all<S: Source, K: Sink>(
     alloc: Global,
     lines: &mut Lines,
     src: &mut S,
     out: &mut K,
     started: Started,
 ) -> Exit
-    requires { (1 < started.number) × (started.number + room lines.old < 2 ^ 59) }
+    requires number { started.number + room lines.old < 2 ^ 60 }
+    requires limit { lines.old.taken ≤ 67108865 }
+    requires client { CanBegin started.start }
     ensures output { EndsEvents started (seen lines.old (S.left src.old)) (K.got out.old) (K.got out.new) result }
     ensures usage { result ≢ Exit.Usage }
     ensures taken { CountsTaken (S.left src.old) (S.left src.new) lines.old.taken lines.new.taken }
@@ -115,33 +118,21 @@ fn answer_events<S: Source, K: Sink>(
     ensures sink { SinkCause (K.faults out.old) (K.faults out.new) result }
 {
     let Started { start, number } = started;
-    let opened = match next_open(lines, src, number, &start) {
-        Ok(opened) => opened,
-        Err(halt) => return put_halt(alloc, out, halt),
-    };
-    let mut client = match Client::new(alloc, start.limits, start.server, start.tree) {
-        Ok(client) => client,
+    let version = start.version;
+    let ids = match ids_of(alloc, &start.accounts) {
+        Ok(ids) => ids,
         Err(_) => return Exit::NoMemory,
     };
-    match begin(alloc, &mut client, out, opened) {
-        Ok(()) => answer_messages(
-            alloc,
-            lines,
-            &mut client,
-            src,
-            out,
-            opened.number,
-            number + 1,
-        ),
-        Err(exit) => exit,
+    match Client::new(alloc, start.accounts, start.tree, start.limits) {
+        Ok(mut client) => answer_events(alloc, lines, &mut client, src, out, number, version, &ids),
+        Err(_) => Exit::NoMemory,
     }
 }
 
 /// Replays a trace: reads its lines one by one, answers each event before the next line is read, and writes the tree
 /// and `done` behind the last. It answers
-/// - `Done` where the trace is whole and of the first path,
-/// - `BadInput` where the input has no byte,
-/// - `NotBuilt` at the first line that isn't of the first path, which is told behind the answers before it,
+/// - `Done` where the trace is whole,
+/// - `BadInput` at the first line that is refused, which is told behind the answers before it,
 /// - `TooLong` where no whole line is left in the first 67,108,864 bytes and another byte comes,
 /// - `ReadFault` and `WriteFault` after a fault of the source and of the sink, and `NoMemory` at any place; then what was
 ///   written is a prefix of the text.
@@ -156,7 +147,7 @@ pub fn replay<S: Source, K: Sink>(alloc: Global, src: &mut S, out: &mut K) -> Ex
 {
     let mut lines = Lines::new(alloc);
     match read_start(alloc, &mut lines, src) {
-        Ok(started) => answer_events(alloc, &mut lines, src, out, started),
+        Ok(started) => answer_all(alloc, &mut lines, src, out, started),
         Err(halt) => put_halt(alloc, out, halt),
     }
 }

@@ -1,3 +1,13 @@
-pub mod Steps
 pub mod Runs
-pub mod Rising
+pub mod Machines
+pub mod Updates
+pub mod Farewells
+pub mod Queues
+pub mod Told
+pub mod Sendable
+pub mod Clients
+pub mod Closed
+pub mod NewClients
+pub mod EndedUpdates
+pub mod Outcomes
+pub mod Kept

@@ -1,31 +1,62 @@
 -- What a client's fields stand for.
-use Rattle.std.specs.Prelude.{◌≡◌, Option, Some, None, ⊤, option_map}
+use Rattle.std.specs.Prelude.{◌≡◌, List, Option, None, Some, option_map, IfSome}
+use Rattle.syncml_types.specs.Message.{Parts}
 use Rattle.syncml_types.specs.Canonical.{canonical}
-use Rattle.dm_session.specs.State.{State, Session}
+use Rattle.dm_tree.specs.Nodes.{Ids}
+use Rattle.dm_pack.specs.Entries.{Entry}
+use Rattle.dm_atomic.specs.declared.engine.Engine.{Engine}
+use Rattle.dm_atomic.specs.Engine.{state_of, IsSoundEngine}
+use Rattle.dm_atomic.specs.Marks.{whole_of}
+use Rattle.dm_atomic.specs.Updates.{clock_of, max_obj_of}
+use Rattle.dm_machine.specs.Machine.{Machine, Session}
+use Rattle.dm_machine.specs.Ready.{IsReadyMachine}
+use Rattle.dm_session.specs.declared.rest.Sent.{Sent}
+use Rattle.dm_session.specs.declared.rest.Session.{Session as Held}
+use Rattle.dm_session.specs.declared.rest.Rest.{Rest}
 use Rattle.dm_session.specs.declared.client.Client.TheInside.{Inside}
-use Rattle.dm_session.specs.declared.client.Session.{Session as Held}
+use Rattle.dm_session.specs.View.{Whole}
 
-abbrev pub held : Held → Session
-held x = record { number = x.number; last = x.last; own = x.own; sent = x.sent }
+abbrev pub session_of : Held → Session
+session_of s = record { progress = s.progress; sent = s.sent.message }
 
-abbrev pub state_of : Inside → State
-state_of c = record {
-  limits = c.ends.limits;
-  server = c.ends.server;
-  tree = c.tree;
-  begun = c.begun;
-  session = option_map held c.session;
+abbrev pub message_in : Sent → Parts
+message_in s = s.message
+
+-- the machine of an engine, a queue and the rest
+abbrev pub machine_of : Engine → List Entry → Rest → Machine
+machine_of e q r = record {
+  limits = r.limits;
+  clock = clock_of e;
+  engine = state_of e;
+  queue = q;
+  accounts = r.accounts;
+  session = option_map session_of r.session;
+  begun = r.begun;
+  results = r.results;
+  resp_uri = r.resp_uri;
+  farewell = option_map message_in r.farewell;
 }
 
--- a session as it is held, whose bytes spell the message that is kept
-abbrev pub Holds : Held → Session → Type 0
-Holds x y = (held x ≡ y) × (x.bytes ≡ canonical x.sent)
+abbrev pub whole_client : Inside → Whole
+whole_client c = record {
+  machine = machine_of c.engine c.queue c.rest;
+  ids = (whole_of c.engine).ids;
+  base_ids = (whole_of c.engine).base_ids;
+}
 
--- the bytes that are kept spell the message that is kept
-abbrev pub IsSpelled : Option Held → Type 0
-IsSpelled None = ⊤
-IsSpelled (Some x) = x.bytes ≡ canonical x.sent
+-- the bytes that are kept beside a message spell it
+abbrev pub IsSpelled : Sent → Type 0
+IsSpelled s = s.bytes ≡ canonical s.message
+
+-- what holds of a machine whose engine can go on
+pub record CanGoOn (e : Engine) (q : List Entry) (r : Rest) : Type 0 where
+  pub engine : IsSoundEngine e
+  pub max_obj : max_obj_of e ≡ r.limits.max_obj
+  pub ready : IsReadyMachine (machine_of e q r)
 
 pub record IsSound (c : Inside) : Type 0 where
-  pub device : c.ends.device ≡ c.tree.info.dev_id
-  pub spelled : IsSpelled c.session
+  pub goes_on : CanGoOn c.engine c.queue c.rest
+  pub sent : IfSome c.rest.session (λ (s : Held). IsSpelled s.sent)
+  pub farewell : IfSome c.rest.farewell IsSpelled
+  -- a group is open only while a session is
+  pub closed : c.rest.session ≡ None → (state_of c.engine).group ≡ None

@@ -1,5 +1,4 @@
-pub mod State
-pub mod Machine
-pub mod History
-pub mod View
 pub mod Inside
+pub mod Stays
+pub mod View
+pub mod Working

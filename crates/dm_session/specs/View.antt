@@ -1,27 +1,53 @@
--- The state that a client stands for, and what its calls tell of it.
-use Rattle.std.specs.Prelude.{◌≡◌, ℕ, List, Option, Result, Ok, Err, ⊤, IsSomeAnd, option_map}
+-- A client as it is seen, and what its calls tell.
+use Rattle.std.specs.Prelude.{◌≡◌, ◌==◌, ◌&&◌, ℕ, Bool, if◌then◌else◌, List, Option, Result, Ok, Err, ⊤, IsSomeAnd, is_some, option_map, option_and_then, Some, None, not}
 use Rattle.syncml_types.specs.Canonical.{canonical}
-use Rattle.dm_session.specs.State.{Session, State, Answer as Answered, sent, kept, stale, stranger, no_session, exhausted, ended}
-use Rattle.dm_session.specs.declared.values.Answer.{Answer}
-use Rattle.dm_session.specs.declared.values.Answer.TheVariants as answers
-use Rattle.dm_session.specs.declared.values.BeginError.{BeginError}
-use Rattle.dm_session.specs.declared.values.BeginError.TheVariants as errors
+use Rattle.syncml_types.specs.Message.{Parts}
+use Rattle.dm_tree.specs.Nodes.{Nodes, Ids}
+use Rattle.dm_tree.specs.Devices.{pkg_data, value_at}
+use Rattle.dm_atomic.specs.Updates.{is_updating}
+use Rattle.dm_machine.specs.Machine.{Session, Machine}
+use Rattle.dm_machine.specs.Events.{Answer as Answered, sent, kept, stale, stranger, no_session, refused, exhausted, ended, acted, not_now}
+use Rattle.dm_session.specs.declared.answers.Answer.{Answer}
+use Rattle.dm_session.specs.declared.answers.Answer.TheVariants as answers
+use Rattle.dm_session.specs.declared.answers.BeginError.{BeginError}
+use Rattle.dm_session.specs.declared.answers.BeginError.TheVariants as errors
+use Rattle.dm_session.specs.declared.answers.Acted.{Acted}
+use Rattle.dm_session.specs.declared.answers.Acted.TheVariants as acts
 
--- the answer of a delivery is this one, where Sent and Kept speak of the message sent last
-abbrev pub Tells : Answer → State → Answered → Type 0
-Tells answers.Sent s a = IsSomeAnd s.session (λ (x : Session). a ≡ sent x.sent)
-Tells answers.Kept s a = IsSomeAnd s.session (λ (x : Session). a ≡ kept x.sent)
-Tells (answers.Stale last) s a = a ≡ stale last
-Tells answers.Stranger s a = a ≡ stranger
-Tells answers.NoSession s a = a ≡ no_session
-Tells (answers.Ended end) s a = a ≡ ended end
+-- its machine, and the numbers of its tree's nodes, also of those before an open group
+pub record Whole : Type 0 where
+  pub machine : Machine
+  pub ids : Ids
+  pub base_ids : Option Ids
+
+-- the answer to a message is this one, where Sent and Kept speak of the message sent last, and Ended of the farewell
+abbrev pub Tells : Answer → Machine → Answered → Type 0
+Tells answers.Sent c a = IsSomeAnd c.session (λ (s : Session). a ≡ sent s.sent)
+Tells answers.Kept c a = IsSomeAnd c.session (λ (s : Session). a ≡ kept s.sent)
+Tells (answers.Stale last) c a = a ≡ stale last
+Tells answers.Stranger c a = a ≡ stranger
+Tells answers.NoSession c a = a ≡ no_session
+Tells (answers.Refused refusal) c a = a ≡ refused refusal
+Tells (answers.Ended end) c a = a ≡ ended end c.farewell
 
 -- what begins: a session whose first message is sent, or none since its number isn't above the last
-abbrev pub Begins : Result (Unit {0}) BeginError → State → Answered → Type 0
-Begins (Ok u) s a = IsSomeAnd s.session (λ (x : Session). a ≡ sent x.sent)
-Begins (Err (errors.Exhausted last)) s a = a ≡ exhausted last
-Begins (Err errors.Memory) s a = ⊤
+abbrev pub Begins : Result (Unit {0}) BeginError → Machine → Answered → Type 0
+Begins (Ok u) c a = IsSomeAnd c.session (λ (s : Session). a ≡ sent s.sent)
+Begins (Err (errors.Exhausted last)) c a = a ≡ exhausted last
+Begins (Err errors.Memory) c a = ⊤
+
+abbrev pub TellsActed : Acted → Answered → Type 0
+TellsActed acts.Done a = a ≡ acted
+TellsActed acts.NotNow a = a ≡ not_now
 
 -- the message sent last, while a session is open
-abbrev pub sent_last : State → Option (List ℕ)
-sent_last s = option_map (λ (x : Session). canonical x.sent) s.session
+abbrev pub sent_last : Machine → Option (List ℕ)
+sent_last c = option_map (λ (s : Session). canonical s.sent) c.session
+
+-- the value of PkgData, where an update runs
+abbrev pub package_started : Nodes → Option (List ℕ)
+package_started m = if is_updating m then option_map (value_at m) (pkg_data m) else None
+
+-- where an open session stands: its number, and the MsgID of the last accepted message
+abbrev pub position : Session → ℕ × ℕ
+position s = (s.progress.number, s.progress.standing.last)

@@ -1,314 +1,338 @@
-// The client, which is seen as the state of its machine.
-ghost use Rattle.std.specs.Prelude.{◌≡◌, ◌<◌, ◌-◌, ◌^◌, true, false, IfOk, IfNone, IsErrOf, IfSome, OnOk, OnErr, option_map};
-ghost use Rattle.syncml_types.specs.Message.{IsShortData};
-ghost use Rattle.syncml_codec.specs.FirstMessages as First;
-ghost use Rattle.dm_session.specs.State.{beginning, opened, message as came};
-ghost use Rattle.dm_session.specs.Machine.{after, taken_answer, takes, session_begun, session_of, session_replied, is_number, leaf_got, alert_code as code_of};
-ghost use Rattle.dm_session.specs.Inside.{held, Holds};
-ghost use Rattle.dm_session.specs.History.{answer_now, next};
-ghost use Rattle.dm_session.specs.View.{Tells, sent_last, Begins};
-ghost use Rattle.dm_session.specs.declared.values.BeginError.TheVariants as error;
+// The client, which is seen as its machine.
+ghost use Rattle.std.specs.Prelude.{◌≡◌, ◌≤◌, ◌<◌, ◌^◌, [], true, None, ℕ, get_or, length, option_map, IfOk, IsErrOf, OnOk, OnErr, Ok as Good};
+ghost use Rattle.std.specs.List.{AllByRecursion};
+ghost use Rattle.std.specs.Option.{option_copied};
+ghost use Rattle.syncml_types.specs.Message.{Parts};
+ghost use Rattle.syncml_types.specs.Canonical.{canonical};
+ghost use Rattle.syncml_codec.specs.Decoding.{read_of};
+ghost use Rattle.dm_tree.specs.Rows.{nodes, ids};
+ghost use Rattle.dm_tree.specs.Devices.{IsDeviceTree};
+ghost use Rattle.dm_commands.specs.Promises.{none_moved};
+ghost use Rattle.dm_atomic.specs.Stays.{StayBut};
+ghost use Rattle.dm_atomic.specs.Updates.{begun as begun_state};
+ghost use Rattle.dm_machine.specs.Events.{clock, opened, message as came, act, takes};
+ghost use Rattle.dm_machine.specs.History.{answer_now, next};
+ghost use Rattle.dm_machine.specs.Messages.{correlator_of as correlator_in};
+ghost use Rattle.dm_machine.specs.Ready.{IsReadyAccount, IsReadyLimits, IsReadyMessage};
+ghost use Rattle.dm_session.specs.Stays.{body_covers, read_covers, engine_in};
+ghost use Rattle.dm_session.specs.View.{Tells, Begins, TellsActed, sent_last, package_started, position};
+ghost use Rattle.dm_session.specs.declared.answers.BeginError.TheVariants as error;
 
-use crate::values::{Answer, BeginError, End, Kind};
-use dm_base::{Bytes, FirstLeaf, FirstText, Limits, Memory, num};
-use dm_tree::FirstTree;
+use crate::answers::{Acted, Answer, BeginError};
+use crate::beginning::open;
+use crate::headers::copy_text;
+use crate::hearing::answer_to_old;
+use crate::rest::Rest;
+use crate::working::accept;
+use dm_atomic::{Engine, Started};
+use dm_auth::Account;
+use dm_base::{Bytes, Limits, List, Memory, Nonce};
+use dm_machine::{Kind, UpdateResult};
+use dm_pack::Queue;
+use dm_tree::{Stamp, Tree};
 use std::alloc::Global;
 use std::marker::Model;
-use syncml_codec::{FirstEnds, encode, got_of, name_in_uri, write_open, write_reply};
+use syncml_codec::{DecodeError, decode};
 use syncml_types::Message;
 
-/// An open session. The message that was sent last is kept with its bytes.
-#[derive(Drop)]
-struct Session {
-    number: u32,
-    last: u32,
-    own: u32,
-    sent: Message,
-    bytes: Bytes,
-}
-
-/// A device's end of the protocol, with one account.
+/// A device's end of the protocol: its tree, its accounts, and at most one open session.
+///
+/// A message costs what it holds, what it names in the tree, and what is sent for it. What waits to be sent is copied where
+/// the server asks for the client's credential again, which it may once in a session.
 #[derive(Drop)]
 pub struct Client {
-    alloc: Global,
-    ends: FirstEnds,
-    tree: FirstTree,
-    begun: u32,
-    session: Option<Session>,
+    engine: Engine,
+    queue: Queue,
+    rest: Rest,
 }
 
 impl Model for Client {
-    ghost use Rattle.dm_session.specs.State.{State};
+    ghost use Rattle.dm_session.specs.View.{Whole};
 
-    ghost Value = { State };
+    ghost Value = { Whole };
 
-    ghost use Rattle.dm_session.specs.Inside.{state_of, IsSound};
+    ghost use Rattle.std.specs.FinMap as map;
+    ghost use Rattle.std.specs.Coded.{codes};
 
-    ghost view = { state_of };
+    ghost coded = { Prim.hlevel (codes, map.code) };
+
+    ghost use Rattle.dm_session.specs.Inside.{whole_client, IsSound};
+
+    ghost view = { whole_client };
 
     ghost invariant = { IsSound };
 }
 
-// The session that holds a message as the one that it sent last.
-fn hold(alloc: Global, number: u32, last: u32, own: u32, sent: Message) -> Result<Session, Memory>
-    ensures { IfOk result (λ x. Holds x
-        (record { number = number; last = last; own = own; sent = sent })) }
+// The Correlator with which an update was started.
+fn correlator_of(alloc: Global, started: &Option<Started>) -> Result<Option<Bytes>, Memory>
+    ensures { IfOk result (λ text. text ≡ correlator_in started.now) }
 {
-    let bytes = encode(alloc, &sent)?;
-    Ok(Session {
-        number,
-        last,
-        own,
-        sent,
-        bytes,
-    })
-}
-
-// The code of the Alert that begins a session.
-fn alert_code(kind: Kind) -> u32
-    ensures { result ≡ code_of kind }
-{
-    match kind {
-        Kind::ByServer => 1200,
-        Kind::ByClient => 1201,
+    match started {
+        None => Ok(None),
+        Some(started) => Ok(copy_text(alloc, &started.correlator)?),
     }
 }
 
-// Whether a message is of the session of a number.
-fn is_of(message: &Message, number: u32) -> bool
-    ensures { result ≡ is_number (session_of message.now) number }
-{
-    match num(message.header().session.as_slice()) {
-        None => false,
-        Some(session) => session == u64::from(number),
-    }
-}
+// What is known of each nonce.
+fn whole(nonce: Nonce)
+    ensures long { length nonce.bytes ≡ 16 }
+    ensures bytes { (k : ℕ) → k < 16 → get_or nonce.bytes k 0 < 256 }
+{}
 
-#[tactic(auto, unfolding(crate::specs::History::next, crate::specs::History::answer_now, crate::specs::Machine::takes, crate::specs::Machine::after, crate::specs::Machine::taken_answer, crate::specs::Machine::refusal))]
+#[tactic(auto, unfolding(dm_machine::specs::History::next, dm_machine::specs::History::answer_now, dm_machine::specs::Events::takes, dm_machine::specs::Events::after, dm_machine::specs::Events::taken_answer, dm_machine::specs::Events::refusal))]
 impl Client {
-    /// A client with the account of one server.
+    /// A client with a device's tree, and accounts whose names are SHORT. No session was begun on it. An update that runs
+    /// was started, without a Correlator. The only error is want of memory.
     pub fn new(
         alloc: Global,
+        accounts: List<Account>,
+        tree: Tree,
         limits: Limits,
-        server: FirstText,
-        tree: FirstTree,
     ) -> Result<Client, Memory>
-        ensures { IfOk result (λ client. client ≡ beginning limits server tree) }
+        requires accounts { AllByRecursion IsReadyAccount accounts }
+        requires device { IsDeviceTree (nodes tree.rows) }
+        requires limits { IsReadyLimits limits }
+        ensures machine { IfOk result (λ client. client.machine ≡ record {
+          limits = limits;
+          clock = tree.clock;
+          engine = begun_state (nodes tree.rows);
+          queue = [];
+          accounts = accounts;
+          session = None;
+          begun = 0;
+          results = [];
+          resp_uri = None;
+          farewell = None;
+        }) }
+        ensures ids { IfOk result (λ client. client.ids ≡ ids tree.rows) }
     {
-        let device = tree.info().dev_id.copy(alloc)?;
+        // It tells that the stamp is one.
+        let _ = tree.clock();
+        let _ = tree.root();
+        let engine = Engine::new(alloc, tree, limits.max_obj)?;
         Ok(Client {
-            alloc,
-            ends: FirstEnds {
-                server,
-                device,
+            engine,
+            queue: Queue::new(alloc),
+            rest: Rest {
+                alloc,
                 limits,
+                accounts,
+                session: None,
+                begun: 0,
+                results: List::new(alloc),
+                resp_uri: None,
+                farewell: None,
             },
-            tree,
-            begun: 0,
-            session: None,
         })
     }
 
-    // The session of a number, with its first message.
-    fn open(&self, kind: Kind, number: u32) -> Result<Session, Memory>
-        ensures { IfOk result (λ x. Holds x (session_begun self.now kind number)) }
-    {
-        let code = alert_code(kind);
-        let sent = write_open(self.alloc, &self.ends, number, code, self.tree.info())?;
-        hold(self.alloc, number, 0, 1, sent)
-    }
-
-    /// Begins a session. `Exhausted` comes exactly where the number isn't above the last one begun, which is told, and
-    /// takes no memory: `Memory` comes only in place of a session.
-    pub fn begin(&mut self, kind: Kind, session: u32) -> Result<(), BeginError>
-        ensures answer { Begins result self.new (answer_now self.old (opened kind session)) }
-        ensures memory { IsErrOf result error.Memory → takes self.old (opened kind session) ≡ true }
-        ensures ok { OnOk result (self.new ≡ next self.old (opened kind session)) }
+    /// Begins a session with the account at a place. A session that is open is over then: what waits in it and what is
+    /// unfinished is given up. `Exhausted` comes exactly where the number isn't above the last one begun, which is told,
+    /// and takes no memory. After any error all is as before.
+    pub fn begin(&mut self, account: usize, kind: Kind, session: u32) -> Result<(), BeginError>
+        requires { account < length self.old.machine.accounts }
+        ensures answer { Begins result self.new.machine (answer_now self.old.machine (opened account kind session)) }
+        ensures memory { IsErrOf result error.Memory → takes self.old.machine (opened account kind session) ≡ true }
+        ensures ok { OnOk result (self.new.machine ≡ next self.old.machine (opened account kind session)) }
         ensures err { OnErr result (self.new ≡ self.old) }
+        ensures ids { StayBut none_moved (engine_in self.old) (engine_in self.new) }
     {
-        if session <= self.begun {
-            return Err(BeginError::Exhausted { last: self.begun });
+        if session <= self.rest.begun {
+            return Err(BeginError::Exhausted {
+                last: self.rest.begun,
+            });
         }
-        match self.open(kind, session) {
-            Err(Memory) => Err(BeginError::Memory),
-            Ok(open) => {
-                self.begun = session;
-                self.session = Some(open);
+        let mark = self.engine.mark();
+        self.engine.abandon();
+        match open(&self.engine, &self.rest, account, kind, session) {
+            Err(Memory) => {
+                self.engine.back(mark);
+                Err(BeginError::Memory)
+            }
+            Ok((queue, first)) => {
+                self.engine.settle();
+                self.queue = queue;
+                self.rest.begin(session, first);
                 Ok(())
             }
         }
     }
 
-    // The leaf that a message's Get finds.
-    fn got_leaf(&self, message: &Message) -> Option<&FirstLeaf>
-        ensures found { option_map (λ leaf. leaf.now) result
-            ≡ leaf_got self.now.tree (First.got_of message.now.body) }
-        ensures short { IfSome result (λ leaf. IsShortData leaf.now.value) }
-    {
-        let got = got_of(message.body().as_slice())?;
-        match name_in_uri(got.uri.as_slice()) {
-            None => None,
-            Some(name) => self.tree.leaf(name),
-        }
-    }
-
-    // The session after a message that it accepts, with the reply.
-    fn reply(&self, session: &Session, message: &Message) -> Result<Session, Memory>
-        requires { session.now.own < 2 ^ 32 - 1 }
-        ensures { IfOk result (λ x. Holds x (session_replied self.now (held session.now) message.now)) }
-    {
-        let own = session.own + 1;
-        let leaf = self.got_leaf(message);
-        let sent = write_reply(self.alloc, &self.ends, session.number, own, message, leaf)?;
-        hold(self.alloc, session.number, message.header().msg, own, sent)
-    }
-
-    // What is answered to a message that isn't new. None comes where it is new to the open session.
-    fn refuse(&self, message: &Message) -> Option<Answer>
-        ensures new { IfNone result (takes self.now (came message.now) ≡ true) }
-        ensures old { IfSome result (λ a. (takes self.now (came message.now) ≡ false)
-            × Tells a self.now (answer_now self.now (came message.now))) }
-    {
-        let session = match &self.session {
-            None => return Some(Answer::NoSession),
-            Some(session) => session,
-        };
-        if !is_of(message, session.number) {
-            return Some(Answer::Stranger);
-        }
-        let msg = message.header().msg;
-        if session.last < msg {
-            return None;
-        }
-        if session.last == msg && msg > 0 {
-            return Some(Answer::Kept);
-        }
-        Some(Answer::Stale { last: session.last })
-    }
-
-    // Accepts a message that is new.
-    fn accept(&mut self, message: &Message) -> Result<Answer, Memory>
-        ensures answer { IfOk result (λ a. Tells a self.new (taken_answer self.old (came message.now))) }
-        ensures ok { OnOk result (self.new ≡ after self.old (came message.now)) }
+    // A message that is new.
+    fn accept(&mut self, message: &Message, nonce: &Nonce) -> Result<Answer, Memory>
+        requires takes { takes self.old.machine (came (Good message.now) nonce.now.bytes) ≡ true }
+        requires message { IsReadyMessage message.now nonce.now.bytes }
+        ensures answer { IfOk result (λ a. Tells a self.new.machine
+            (answer_now self.old.machine (came (Good message.now) nonce.now.bytes))) }
+        ensures ok { OnOk result (self.new.machine ≡ next self.old.machine (came (Good message.now) nonce.now.bytes)) }
         ensures err { OnErr result (self.new ≡ self.old) }
+        ensures ids { StayBut (body_covers message.now.body) (engine_in self.old) (engine_in self.new) }
     {
-        let session = match &self.session {
+        let progress = match &self.rest.session {
             None => return Ok(Answer::NoSession),
-            Some(session) => session,
+            Some(session) => session.progress,
         };
-        if session.own == u32::MAX {
-            self.session = None;
-            return Ok(Answer::Ended(End::Aborted));
+        let mark = self.engine.mark();
+        match accept(
+            &mut self.engine,
+            &mut self.queue,
+            &self.rest,
+            &progress,
+            message,
+            nonce,
+        ) {
+            Err(memory) => {
+                self.engine.back(mark);
+                Err(memory)
+            }
+            Ok(draft) => {
+                self.engine.settle();
+                Ok(self.rest.take_up(progress.account, draft))
+            }
         }
-        let replied = self.reply(session, message)?;
-        self.session = Some(replied);
-        Ok(Answer::Sent)
     }
 
-    /// Delivers a message. After `Memory` nothing has changed.
-    pub fn deliver(&mut self, message: &Message) -> Result<Answer, Memory>
-        ensures answer { IfOk result (λ a. Tells a self.new (answer_now self.old (came message.now))) }
-        ensures ok { OnOk result (self.new ≡ next self.old (came message.now)) }
+    fn take(&mut self, message: &Message, nonce: &Nonce) -> Result<Answer, Memory>
+        requires message { IsReadyMessage message.now nonce.now.bytes }
+        ensures answer { IfOk result (λ a. Tells a self.new.machine
+            (answer_now self.old.machine (came (Good message.now) nonce.now.bytes))) }
+        ensures ok { OnOk result (self.new.machine ≡ next self.old.machine (came (Good message.now) nonce.now.bytes)) }
         ensures err { OnErr result (self.new ≡ self.old) }
+        ensures ids { StayBut (body_covers message.now.body) (engine_in self.old) (engine_in self.new) }
     {
-        match self.refuse(message) {
+        match answer_to_old(&self.rest.session, message) {
             Some(answer) => Ok(answer),
-            None => self.accept(message),
+            None => self.accept(message, nonce),
         }
+    }
+
+    /// Delivers the bytes of a message, which a challenge tells `nonce`. After `Memory` nothing has changed, so the same
+    /// bytes may be delivered again.
+    pub fn deliver(&mut self, bytes: &[u8], nonce: Nonce) -> Result<Answer, Memory>
+        ensures answer { IfOk result (λ a. Tells a self.new.machine
+            (answer_now self.old.machine (came (read_of bytes.now) nonce.bytes))) }
+        ensures ok { OnOk result (self.new.machine ≡ next self.old.machine (came (read_of bytes.now) nonce.bytes)) }
+        ensures err { OnErr result (self.new ≡ self.old) }
+        ensures ids { StayBut (read_covers (read_of bytes.now)) (engine_in self.old) (engine_in self.new) }
+    {
+        match decode(self.rest.alloc, bytes) {
+            Err(DecodeError::Memory) => Err(Memory),
+            Err(DecodeError::Refused(refusal)) => Ok(Answer::Refused(refusal)),
+            Ok(message) => {
+                // They tell that the message is fit, and the nonce whole.
+                let _ = message.header();
+                whole(nonce);
+                let answer = self.take(&message, &nonce);
+                drop(message);
+                answer
+            }
+        }
+    }
+
+    fn end_update(&mut self, ok: bool) -> Result<(), Memory>
+        requires { takes self.old.machine (act ok) ≡ true }
+        ensures ok { OnOk result (self.new.machine ≡ next self.old.machine (act ok)) }
+        ensures err { OnErr result (self.new ≡ self.old) }
+        ensures ids { (self.new.ids ≡ self.old.ids) × (self.new.base_ids ≡ self.old.base_ids) }
+    {
+        let correlator = correlator_of(self.rest.alloc, self.engine.started())?;
+        self.rest.results.push(UpdateResult { correlator, ok })?;
+        let mark = self.engine.mark();
+        match self.engine.finish_update(ok) {
+            Err(memory) => {
+                self.engine.back(mark);
+                let _ = self.rest.results.pop();
+                Err(memory)
+            }
+            Ok(()) => {
+                self.engine.settle();
+                Ok(())
+            }
+        }
+    }
+
+    /// The update that runs has ended, which a later first package tells. `NotNow` comes exactly where a session is open or
+    /// no update runs: State isn't 60. After `Memory` nothing has changed.
+    pub fn acted(&mut self, ok: bool) -> Result<Acted, Memory>
+        ensures answer { IfOk result (λ a. TellsActed a (answer_now self.old.machine (act ok))) }
+        ensures ok { OnOk result (self.new.machine ≡ next self.old.machine (act ok)) }
+        ensures err { OnErr result (self.new ≡ self.old) }
+        ensures ids { (self.new.ids ≡ self.old.ids) × (self.new.base_ids ≡ self.old.base_ids) }
+    {
+        if self.rest.session.is_some() || !self.engine.is_updating() {
+            return Ok(Acted::NotNow);
+        }
+        self.end_update(ok)?;
+        Ok(Acted::Done)
+    }
+
+    /// Sets the clock, which stamps what is changed from now on.
+    pub fn set_clock(&mut self, now: Stamp)
+        ensures machine { self.new.machine ≡ next self.old.machine (clock now) }
+        ensures ids { (self.new.ids ≡ self.old.ids) × (self.new.base_ids ≡ self.old.base_ids) }
+    {
+        self.engine.set_clock(now);
     }
 
     /// The message sent last, in its bytes. None comes exactly where no session is open.
     pub fn again(&self) -> Option<&[u8]>
-        ensures { option_map (λ bytes. bytes.now) result ≡ sent_last self.now }
+        ensures { option_map (λ bytes. bytes.now) result ≡ sent_last self.now.machine }
     {
-        match &self.session {
+        match &self.rest.session {
             None => None,
-            Some(session) => Some(session.bytes.as_slice()),
+            Some(session) => Some(session.sent.bytes.as_slice()),
         }
     }
 
-    pub fn tree(&self) -> &FirstTree
-        ensures { result.now ≡ self.now.tree }
+    /// The message with which the session begun last was denied, in its bytes. None comes exactly where it wasn't.
+    pub fn farewell(&self) -> Option<&[u8]>
+        ensures { option_map (λ bytes. bytes.now) result ≡ option_map (λ (m : Parts). canonical m) self.now.machine.farewell }
     {
-        &self.tree
-    }
-}
-
-#[cfg(test)]
-mod tests {
-    use super::*;
-    use dm_base::FirstInfo;
-    use std::test::Fail;
-
-    struct Row {
-        name: &'static str,
-        kind: Kind,
-        session: u32,
-        begun: Result<(), BeginError>,
-    }
-
-    const ROWS: [Row; 5] = [
-        Row {
-            name: "the first",
-            kind: Kind::ByClient,
-            session: 1,
-            begun: Ok(()),
-        },
-        Row {
-            name: "the same once more",
-            kind: Kind::ByClient,
-            session: 1,
-            begun: Err(BeginError::Exhausted { last: 1 }),
-        },
-        Row {
-            name: "a later one",
-            kind: Kind::ByServer,
-            session: 7,
-            begun: Ok(()),
-        },
-        Row {
-            name: "one between",
-            kind: Kind::ByServer,
-            session: 3,
-            begun: Err(BeginError::Exhausted { last: 7 }),
-        },
-        Row {
-            name: "the greatest",
-            kind: Kind::ByClient,
-            session: u32::MAX,
-            begun: Ok(()),
-        },
-    ];
-
-    fn device(alloc: Global) -> Result<Client, Memory> {
-        let info = FirstInfo {
-            dev_id: FirstText::of_slice(alloc, b"IMEI:004400152020000")?,
-            man: Bytes::of_slice(alloc, b"Maker")?,
-            model: Bytes::of_slice(alloc, b"Model")?,
-            dm_v: Bytes::of_slice(alloc, b"1.2")?,
-            lang: Bytes::of_slice(alloc, b"en")?,
-        };
-        let limits = Limits {
-            max_msg: 4096,
-            max_obj: 65536,
-        };
-        let server = FirstText::of_slice(alloc, b"server")?;
-        Client::new(alloc, limits, server, FirstTree::new(alloc, info))
-    }
-
-    #[test]
-    fn each_number_begins_once(rt: HostRuntime) -> Result<(), Fail> {
-        let mut client = device(rt.alloc())?;
-        assert!(rt; client.again().is_none());
-        for row in &ROWS {
-            assert_eq!(rt;
-                client.begin(row.kind, row.session),
-                row.begun,
-                "{}",
-                row.name
-            );
-            assert!(rt; client.again().is_some(), "{}", row.name);
+        match &self.rest.farewell {
+            None => None,
+            Some(sent) => Some(sent.bytes.as_slice()),
         }
-        Ok(())
+    }
+
+    /// The package to install: the value of PkgData, where an update runs.
+    pub fn started(&self) -> Option<&[u8]>
+        ensures { option_map (λ bytes. bytes.now) result ≡ package_started self.now.machine.engine.tree }
+    {
+        if !self.engine.is_updating() {
+            return None;
+        }
+        let tree = self.engine.tree();
+        let found = tree.update_ids()?;
+        Some(tree.view(found.pkg_data).value.bytes.as_slice())
+    }
+
+    /// The working tree.
+    pub fn tree(&self) -> &Tree
+        ensures nodes { nodes result.now.rows ≡ self.now.machine.engine.tree }
+        ensures ids { ids result.now.rows ≡ self.now.ids }
+        ensures clock { result.now.clock ≡ self.now.machine.clock }
+        ensures device { IsDeviceTree (nodes result.now.rows) }
+    {
+        self.engine.tree()
+    }
+
+    /// The open session's number, and the MsgID of its last accepted message, 0 at first.
+    pub fn last(&self) -> Option<(u32, u32)>
+        ensures { result ≡ option_map position self.now.machine.session }
+    {
+        match &self.rest.session {
+            None => None,
+            Some(session) => Some((session.progress.number, session.progress.standing.last)),
+        }
+    }
+
+    /// The RespURI of the last accepted message that had one since the last begin.
+    pub fn resp_uri(&self) -> Option<&[u8]>
+        ensures { option_map (λ bytes. bytes.now) result ≡ self.now.machine.resp_uri }
+    {
+        match &self.rest.resp_uri {
+            None => None,
+            Some(uri) => Some(uri.as_slice()),
+        }
     }
 }

@@ -1,9 +1,22 @@
-//! The client's session. So far: the order of messages, and Gets of named leaves.
+//! The device's end of a session: what a server's messages come to, and what is answered, exactly as the client's machine
+//! says.
 #![tactic(auto)]
 
+mod answering;
+pub mod answers;
+mod beginning;
+mod bodies;
 pub mod client;
-pub mod laws;
-pub mod values;
+mod device;
+mod drafts;
+mod ending;
+mod executing;
+mod headers;
+mod hearing;
+mod opening;
+mod rest;
+mod sending;
+mod working;
 
+pub use answers::{Acted, Answer, BeginError};
 pub use client::Client;
-pub use values::{Answer, BeginError, End, Kind};

@@ -190,6 +190,18 @@ msg 00000000000000000000000000000000 03a4016a006d6c7103312e3200017203444d2f312e3
 100016e570364310001016757037331000101016b534b03310001546e57032e2f410001010101120101\n\
 end\n";
 
+const NO_OPEN_ANSWERED: &[u8] = b"\
+nosession\n\
+node . 0 p Add=*&Get=* - -\n\
+leaf ./A 0 - - - chr 746578742f706c61696e 78\n\
+node ./DevInfo 0 p - - -\n\
+leaf ./DevInfo/DevId 0 p - - chr 746578742f706c61696e 6431\n\
+leaf ./DevInfo/DmV 0 p - - chr 746578742f706c61696e 312e32\n\
+leaf ./DevInfo/Lang 0 p - - chr 746578742f706c61696e 656e\n\
+leaf ./DevInfo/Man 0 p - - chr 746578742f706c61696e 41636d65\n\
+leaf ./DevInfo/Mod 0 p - - chr 746578742f706c61696e 426f78\n\
+done\n";
+
 const FIRST_ANSWER: &[u8] = b"\
 sent 03a4016a006d6c7103312e3200017203444d2f312e32000165033100015b033100016e5703733100010167570364310\
 001015a00014c03313633383400015503343139343330340001010100006b464b033100014f0331323031000101604b03320\
@@ -231,7 +243,6 @@ pub enum Text {
     Nothing,
     Usage,
     BadCut,
-    NotBuiltSeven,
     OneGet,
     OneGetAnswered,
     Repeated,
@@ -241,6 +252,7 @@ pub enum Text {
     Sixteen,
     SixteenAnswered,
     NoOpen,
+    NoOpenAnswered,
     FirstAnswer,
     BothAnswers,
     Get,
@@ -253,7 +265,6 @@ pub fn bytes_of(text: Text) -> &'static [u8] {
         Text::Nothing => b"",
         Text::Usage => b"usage: dmtool replay | show | check\n",
         Text::BadCut => b"bad 1 cut\n",
-        Text::NotBuiltSeven => b"notbuilt 7\n",
         Text::OneGet => ONE_GET,
         Text::OneGetAnswered => ONE_GET_ANSWERED,
         Text::Repeated => REPEATED,
@@ -263,6 +274,7 @@ pub fn bytes_of(text: Text) -> &'static [u8] {
         Text::Sixteen => SIXTEEN,
         Text::SixteenAnswered => SIXTEEN_ANSWERED,
         Text::NoOpen => NO_OPEN,
+        Text::NoOpenAnswered => NO_OPEN_ANSWERED,
         Text::FirstAnswer => FIRST_ANSWER,
         Text::BothAnswers => BOTH_ANSWERS,
         Text::Get => GET,

@@ -3,11 +3,12 @@ use Rattle.dm_replay.proofs.reading.next_line.Goals as goal
 
 pub returns-in-Ok-Line-clause-line : goal.returns-in-Ok-Line-clause-line
 returns-in-Ok-Line-clause-line g c =
-    line_leads _ _ _ _ c.in-Ok-Line.line (rw c.in-Ok-Line.field-0-is at c.in-Ok-Line.ensures.line) (rw c.in-Ok-Line.field-0-is at c.in-Ok-Line.ensures.room)
+    line_leads _ _ _ _ c.in-Ok-Line.line (rw c.in-Ok-Line.field-0-is at c.in-Ok-Line.ensures.line)
+    (rw c.in-Ok-Line.field-0-is at c.in-Ok-Line.ensures.room)
 
 pub returns-in-Ok-Bad-clause-halt : goal.returns-in-Ok-Bad-clause-halt
 returns-in-Ok-Bad-clause-halt g c =
-    bad_stops _ _ _ c.args.number c.in-Ok-Bad.field-0-0 (rw c.in-Ok-Bad.field-0-is at c.in-Ok-Bad.ensures.line)
+    bad_stops _ _ _ c.args.number c.in-Ok-Bad.reason (rw c.in-Ok-Bad.field-0-is at c.in-Ok-Bad.ensures.line)
 
 pub returns-in-Err-clause-halt : goal.returns-in-Err-clause-halt
 returns-in-Err-clause-halt g c =

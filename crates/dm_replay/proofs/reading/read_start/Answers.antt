@@ -1,5 +1,8 @@
-use Rattle.std.proofs.Common.{arith, ◌∙◌}
+use Rattle.std.proofs.Common.{arith, ◌∙◌, sym}
 use Rattle.dm_base.proofs.Pending.{taken_more}
+use Rattle.dm_start.specs.Start.{section_of}
+use Rattle.dm_start.proofs.Sound.{sound_line}
+use Rattle.dm_replay.proofs.Beginning.{can_begin}
 use Rattle.dm_replay.proofs.Sections.{section_more}
 use Rattle.dm_replay.proofs.reading.read_start.Goals as goal
 
@@ -7,12 +10,15 @@ pub lines-preserved : goal.lines-preserved
 lines-preserved g c =
     let few = c.lines.invariant.few in
     let room = c.in-Ok.ensures.room in
-    let some = c.lines.invariant.some in
+    let read = rw c.in-Ok-false.field-0-test at c.in-Ok-false.ensures in
     record {
       few = omega (arith, few, room);
-      some = omega (arith, some);
-      section = section_more _ _ _ c.lines.number c.lines.place c.in-Ok-More.next c.in-Ok.line c.as_slice.result.now some c.as_slice.ensures
-          (rw c.in-Ok-More.field-0-is at c.in-Ok-More.ensures) c.lines.invariant.section c.in-Ok.ensures.line;
+      open_ = sym read.last;
+      sound = sound_line (section_of c.lines.reader) c.as_slice.result.now
+          (section_of c.line-in-lines.new.self) c.lines.invariant.sound read.read;
+      section = section_more _ _ _ c.lines.number (section_of c.lines.reader)
+          (section_of c.line-in-lines.new.self) c.in-Ok.line c.as_slice.result.now c.as_slice.ensures
+          (read.read, read.last) c.lines.invariant.section c.in-Ok.ensures.line;
       taken = taken_more _ _ _ _ c.lines.lines.taken _ c.lines.invariant.taken c.in-Ok.ensures.taken;
       count = c.in-Ok.ensures.count ∙ c.lines.invariant.count;
     }
@@ -21,14 +27,17 @@ pub returns-in-Err-clause-taken : goal.returns-in-Err-clause-taken
 returns-in-Err-clause-taken g c =
     taken_more _ _ _ _ c.lines.lines.taken _ c.lines.invariant.taken c.in-Err.ensures.taken
 
-pub returns-in-Ok-Begin-clause-taken : goal.returns-in-Ok-Begin-clause-taken
-returns-in-Ok-Begin-clause-taken g c =
+pub returns-in-Ok-true-clause-taken : goal.returns-in-Ok-true-clause-taken
+returns-in-Ok-true-clause-taken g c =
     taken_more _ _ _ _ c.lines.lines.taken _ c.lines.invariant.taken c.in-Ok.ensures.taken
 
-pub returns-in-Ok-NotBuilt-clause-taken : goal.returns-in-Ok-NotBuilt-clause-taken
-returns-in-Ok-NotBuilt-clause-taken g c =
+pub returns-in-Err-line-clause-taken : goal.returns-in-Err-line-clause-taken
+returns-in-Err-line-clause-taken g c =
     taken_more _ _ _ _ c.lines.lines.taken _ c.lines.invariant.taken c.in-Ok.ensures.taken
 
-pub returns-in-Err-start_step-clause-taken : goal.returns-in-Err-start_step-clause-taken
-returns-in-Err-start_step-clause-taken g c =
-    taken_more _ _ _ _ c.lines.lines.taken _ c.lines.invariant.taken c.in-Ok.ensures.taken
+pub returns-in-Ok-true-clause-client : goal.returns-in-Ok-true-clause-client
+returns-in-Ok-true-clause-client g c =
+    let read = rw c.in-Ok-true.field-0-test at c.in-Ok-true.ensures in
+    can_begin c.finish.result (section_of c.line-in-lines.new.self) c.finish.ensures
+    (sound_line (section_of c.lines.reader) c.as_slice.result.now
+    (section_of c.line-in-lines.new.self) c.lines.invariant.sound read.read)

@@ -1,0 +1,18 @@
+-- What a device tells of itself.
+use Rattle.std.proofs.Common.{◌≡◌, ℕ, List, codes, Some, ◌∙◌, ap}
+use Rattle.syncml_types.specs.declared.values.Meta.{Meta}
+use Rattle.dm_uri.specs.Names.{printed_path}
+use Rattle.dm_tree.specs.Nodes.{Path, Nodes}
+use Rattle.dm_tree.specs.Devices.{device_path, value_at}
+use Rattle.dm_atomic.specs.Made.{source_item}
+use Rattle.dm_machine.specs.Opening.{meta_of, device_item}
+
+pub device_item_is : (m : Nodes) (name uri value : List ℕ) (path : Path) (meta : Meta) → path ≡ device_path name
+    → uri ≡ printed_path path → value ≡ value_at m path → meta ≡ meta_of (codes "chr") (codes "text/plain")
+    → source_item uri (Some meta) (Some value) ≡ device_item m name
+device_item_is m name uri value path meta p u v t =
+    ap (λ x. source_item x (Some meta) (Some value)) (u ∙ ap printed_path p)
+    ∙ ap (λ x. source_item (printed_path (device_path name)) (Some x) (Some value)) t
+    ∙ ap (λ x. source_item (printed_path (device_path name)) (Some (meta_of (codes "chr") (codes "text/plain")))
+    (Some x))
+    (v ∙ ap (value_at m) p)

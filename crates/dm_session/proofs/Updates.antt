@@ -1,0 +1,34 @@
+-- The update node of a tree whose update part is in order.
+use Rattle.std.proofs.Common.{◌≡◌, true, [], Option, None, Some, refl, sym, ap, inl, inr}
+use Rattle.std.specs.Prelude.{◌⊎◌}
+use Rattle.std.specs.List.{find}
+use Rattle.std.specs.Option.{option_map, option_map_or}
+use Rattle.std.specs.FinMap.{entries}
+use Rattle.dm_uri.specs.Names.{printed_path}
+use Rattle.dm_tree.specs.declared.nodes.Node.{Node}
+use Rattle.dm_tree.specs.Nodes.{Path, Nodes}
+use Rattle.dm_tree.specs.Devices.{is_update_node, is_of_update, pkg_data, state_node, HasNoUpdate, HasUpdate, IsUpdateInOrder}
+use Rattle.dm_tree.proofs.Devices.{role_is, update_is_found}
+use Rattle.dm_tree.proofs.Firsts.{entry_there}
+use Rattle.dm_machine.specs.Opening.{update_uri}
+
+no_role : (m : Nodes) → HasNoUpdate m → update_uri m ≡ []
+no_role m without = by_entry (find (λ e. is_update_node e.1.role) (entries m)) refl
+  where
+    by_entry : (o : Option (Path × Node)) → find (λ e. is_update_node e.1.role) (entries m) ≡ o
+        → option_map_or printed_path (option_map (λ e. e.0) o) [] ≡ []
+    by_entry None is = refl
+    by_entry (Some d) is =
+        let there = entry_there m (λ e. is_update_node e.1.role) d is in
+        let none = without d.0 d.1 there.0 in
+        let one : is_of_update d.1.role ≡ true = ap is_of_update (role_is d.1.role there.1) in
+        absurd (cc)
+
+has_both : (m : Nodes) (p : Path) → HasUpdate m p → (pkg_data m ≡ None) ⊎ (state_node m ≡ None) → ⊥
+has_both m p has (inl h) = let some = (update_is_found m p has).1 in cc
+has_both m p has (inr h) = let some = (update_is_found m p has).2 in cc
+
+-- where PkgData or State is missing, there is no update node
+pub no_update_uri : (m : Nodes) → IsUpdateInOrder m → (pkg_data m ≡ None) ⊎ (state_node m ≡ None) → [] ≡ update_uri m
+no_update_uri m (inl without) h = sym (no_role m without)
+no_update_uri m (inr has) h = absurd (has_both m has.0 has.1 h)

@@ -1,0 +1,27 @@
+use Rattle.std.proofs.Common.{◌≡◌, sym, subst, Ok}
+use Rattle.syncml_codec.proofs.InRange.{spelled_is_in_range}
+use Rattle.syncml_codec.specs.Decoding.{read_of}
+use Rattle.dm_session.proofs.Clients.{read_as}
+use Rattle.dm_session.specs.Stays.{engine_in}
+use Rattle.dm_session.proofs.Kept.{read_stay}
+use Rattle.dm_session.proofs.client.Client.deliver.Goals as goal
+
+pub take-answer-requires : goal.take-answer-requires
+take-answer-requires c = record {
+  message = record {
+    fit = c.header.ensures.fit;
+    numbers = spelled_is_in_range c.args.bytes.now c.in-Ok.message c.in-Ok.ensures.exact;
+    nonce_long = c.whole.ensures.long;
+    nonce_bytes = c.whole.ensures.bytes;
+  };
+}
+
+pub returns-in-Ok-clause-answer : goal.returns-in-Ok-clause-answer
+returns-in-Ok-clause-answer c =
+    read_as c.take-answer.result _ c.args.self.now.machine (read_of c.args.bytes.now) (Ok c.in-Ok.message) c.args.nonce.bytes
+    c.in-Ok.ensures.read c.take-answer.ensures.answer
+
+pub returns-in-Ok-clause-ids : goal.returns-in-Ok-clause-ids
+returns-in-Ok-clause-ids c =
+    read_stay (read_of c.args.bytes.now) c.in-Ok.message (engine_in c.args.self.now) (engine_in c.take-answer.new.self)
+    c.in-Ok.ensures.read c.take-answer.ensures.ids

@@ -1,0 +1,281 @@
+// What a message that is accepted is answered.
+ghost use Rattle.std.specs.Prelude.{◌≡◌, ◌≤◌, ◌<◌, ◌+◌, ◌^◌, ◌++◌, List as ListOf, ℕ, Option as OptionOf, Some, if◌then◌else◌, length, map, IfOk, OnErr};
+ghost use Rattle.std.specs.List.{AllByRecursion};
+ghost use Rattle.std.specs.Option.{option_to_list};
+ghost use Rattle.dm_auth.specs.declared.accounts.Account.{Account as AnAccount};
+ghost use Rattle.dm_headers.specs.Standings as Standings;
+ghost use Rattle.dm_tree.specs.Devices.{IsUpdateInOrder};
+ghost use Rattle.dm_pack.specs.Entries.{fresh, IsReady};
+ghost use Rattle.dm_atomic.specs.Engine.{state_of, IsSoundEngine};
+ghost use Rattle.dm_commands.specs.Promises.{none_moved};
+ghost use Rattle.dm_atomic.specs.Marks.{whole_of, Holds};
+ghost use Rattle.dm_atomic.specs.Stays.{StayBut};
+ghost use Rattle.dm_atomic.specs.Updates.{clock_of, max_obj_of};
+ghost use Rattle.dm_machine.specs.declared.progress.Progress.{Progress as AProgress};
+ghost use Rattle.dm_machine.specs.Machine.{Machine as AMachine};
+ghost use Rattle.dm_machine.specs.declared.kinds.End.TheVariants.{Finished};
+ghost use Rattle.dm_machine.specs.Messages as Spec;
+ghost use Rattle.dm_machine.specs.Messages.{goes_on, ends};
+ghost use Rattle.dm_machine.specs.Sending.{sends};
+ghost use Rattle.dm_machine.specs.Ready.{IsDevice, IsReadyAccount, IsReadyLimits, IsReadyMessage, IsReadyProgress};
+ghost use Rattle.dm_session.specs.Inside.{machine_of, IsSpelled, CanGoOn};
+ghost use Rattle.dm_session.specs.Stays.{body_covers};
+ghost use Rattle.dm_session.specs.Working.{told, outcome, rest_behind, IsNextSpelled, HeardAs, Ran};
+
+use crate::bodies::are_reports;
+use crate::drafts::Next;
+use crate::ending::close;
+use crate::executing::execute;
+use crate::headers::header_from;
+use crate::opening::opening;
+use crate::rest::{Rest, Session};
+use crate::sending::{push_all, send, session_after};
+use dm_atomic::Engine;
+use dm_auth::Account;
+use dm_base::{List, Memory, Nonce};
+use dm_headers::{Heard, header_status, is_denied, passes};
+use dm_machine::{End, Progress};
+use dm_pack::Queue;
+use std::alloc::Global;
+use syncml_types::{Command, Message};
+
+// How far the session has come with so many entries more in front.
+fn pushed_back(progress: &Progress, by: usize) -> Result<Progress, Memory>
+    ensures { IfOk result (λ behind. behind ≡ record progress.now { opening_at = progress.now.opening_at + by }) }
+{
+    // As many entries as that can't be held.
+    let Some(opening_at) = progress.opening_at.checked_add(by) else {
+        return Err(Memory);
+    };
+    Ok(Progress {
+        opening_at,
+        ..*progress
+    })
+}
+
+fn count_of(entry: &Option<Command>) -> usize
+    ensures { result ≡ length (option_to_list entry.now) }
+{
+    match entry {
+        None => 0,
+        Some(_) => 1,
+    }
+}
+
+// The message that answers: a Status for the header in front of what waits, and what was made behind it.
+fn answer(
+    engine: &Engine,
+    queue: &mut Queue,
+    rest: &Rest,
+    account: &Account,
+    progress: &Progress,
+    status: Option<Command>,
+    made: List<Command>,
+) -> Result<Session, Memory>
+    requires limits { IsReadyLimits rest.now.limits }
+    requires device { IsDevice (state_of engine.now).tree }
+    requires account { IsReadyAccount account.now }
+    requires ready { AllByRecursion IsReady (map fresh (option_to_list status) ++ (queue.old ++ map fresh made)) }
+    requires number { progress.now.number < 2 ^ 32 }
+    requires own { progress.now.standing.own + 1 < 2 ^ 32 }
+    requires room { (2048 ≤ progress.now.standing.room) × (progress.now.standing.room ≤ 65536) }
+    ensures state { IfOk result (λ session. (accounts : ListOf AnAccount) (uri : OptionOf (ListOf ℕ))
+        → machine_of engine.now queue.new (record (told rest.now accounts uri) { session = Some session })
+        ≡ sends (machine_of engine.now (map fresh (option_to_list status) ++ (queue.old ++ map fresh made))
+        (told rest.now accounts uri))
+        (record progress.now { opening_at = progress.now.opening_at + length (option_to_list status) }) account.now) }
+    ensures spelled { IfOk result (λ session. IsSpelled session.sent) }
+    ensures err { OnErr result (queue.new ≡ queue.old) }
+{
+    let behind = pushed_back(progress, count_of(&status))?;
+    let header = header_from(rest.alloc, rest.limits, engine.tree(), progress, account)?;
+    let standing = &progress.standing;
+    let filled = send(queue, status, made, &header, standing.room, standing.heard)?;
+    Ok(session_after(&behind, filled))
+}
+
+// The queue with the whole first package behind all else, in place of what waits of it; and how far the session has come
+// then. The copy is made at most once in a session, since a second failure ends it.
+fn queued_again(
+    engine: &Engine,
+    queue: &Queue,
+    rest: &Rest,
+    progress: &Progress,
+) -> Result<(Queue, Progress), Memory>
+    requires update { IsUpdateInOrder (state_of engine.now).tree }
+    requires opening { progress.now.opening_at + progress.now.opening_left ≤ length queue.now }
+    ensures again { IfOk result (λ again. (c : AMachine) → c.results ≡ rest.now.results
+        → c.engine.tree ≡ (state_of engine.now).tree
+        → record { progress = again.1; queue = again.0 }
+        ≡ Spec.queued_again c (record { progress = progress.now; queue = queue.now })) }
+{
+    let first = opening(rest.alloc, engine.tree(), progress.kind, &rest.results)?;
+    let mut again = queue.copy()?;
+    again.remove(progress.opening_at, progress.opening_left);
+    let next = Progress {
+        opening_at: again.len(),
+        opening_left: first.len(),
+        ..*progress
+    };
+    push_all(&mut again, first)?;
+    Ok((again, next))
+}
+
+// A message with Final that holds nothing to execute, where no entry waits.
+fn is_over(message: &Message, code: u32, queue: &Queue, made: &List<Command>) -> bool
+    ensures { result ≡ Spec.is_over message.now code (queue.now ++ map fresh made.now) }
+{
+    passes(code)
+        && message.last()
+        && are_reports(message.body().as_slice())
+        && queue.len() == 0
+        && made.is_empty()
+}
+
+// The commands of a message that passes: what they come to.
+#[tactic(auto, using(dm_atomic::proofs::Held::holds_self, dm_atomic::proofs::Staying::stay_self))]
+fn run(
+    alloc: Global,
+    engine: &mut Engine,
+    account: &Account,
+    message: &Message,
+    code: u32,
+) -> Result<List<Command>, Memory>
+    requires sound { IsSoundEngine engine.old }
+    ensures ran { IfOk result (λ made. (c : AMachine) → c.engine ≡ state_of engine.old → c.clock ≡ clock_of engine.old
+        → c.limits.max_obj ≡ max_obj_of engine.old → Ran (Spec.run_of c account.now message.now code) (state_of engine.new) made) }
+    ensures clock { clock_of engine.new ≡ clock_of engine.old }
+    ensures max_obj { max_obj_of engine.new ≡ max_obj_of engine.old }
+    ensures ids { StayBut (body_covers message.now.body) (whole_of engine.old) (whole_of engine.new) }
+    ensures marks { Holds engine.old engine.new }
+    ensures sound { IsSoundEngine engine.new }
+{
+    let mut made = List::new(alloc);
+    if !passes(code) {
+        return Ok(made);
+    }
+    execute(engine, account.server.as_slice(), message, &mut made)?;
+    Ok(made)
+}
+
+// The answer out of the queue that holds the whole first package again.
+fn answer_again(
+    engine: &Engine,
+    queue: &mut Queue,
+    rest: &Rest,
+    account: &Account,
+    again: (Queue, Progress),
+    status: Option<Command>,
+    made: List<Command>,
+) -> Result<Next, Memory>
+    requires limits { IsReadyLimits rest.now.limits }
+    requires device { IsDevice (state_of engine.now).tree }
+    requires account { IsReadyAccount account.now }
+    requires ready { AllByRecursion IsReady (map fresh (option_to_list status) ++ (again.0 ++ map fresh made)) }
+    requires number { again.1.number < 2 ^ 32 }
+    requires own { again.1.standing.own + 1 < 2 ^ 32 }
+    requires room { (2048 ≤ again.1.standing.room) × (again.1.standing.room ≤ 65536) }
+    ensures state { IfOk result (λ next. (accounts : ListOf AnAccount) (uri : OptionOf (ListOf ℕ))
+        → outcome (machine_of engine.now queue.new (rest_behind (told rest.now accounts uri) next)) next
+        ≡ goes_on (sends (machine_of engine.now (map fresh (option_to_list status) ++ (again.0 ++ map fresh made))
+        (told rest.now accounts uri))
+        (record again.1 { opening_at = again.1.opening_at + length (option_to_list status) }) account.now)) }
+    ensures spelled { IfOk result IsNextSpelled }
+    ensures err { OnErr result (queue.new ≡ queue.old) }
+{
+    let (mut waiting, progress) = again;
+    let session = answer(engine, &mut waiting, rest, account, &progress, status, made)?;
+    *queue = waiting;
+    Ok(Next::GoesOn(session))
+}
+
+// The answer, or the end of the session where nothing is left on either side.
+#[tactic(auto, using(dm_atomic::proofs::Staying::stay_self))]
+fn answer_or_end(
+    engine: &mut Engine,
+    queue: &mut Queue,
+    rest: &Rest,
+    account: &Account,
+    progress: &Progress,
+    message: &Message,
+    code: u32,
+    status: Option<Command>,
+    made: List<Command>,
+) -> Result<Next, Memory>
+    requires sound { IsSoundEngine engine.old }
+    requires limits { IsReadyLimits rest.now.limits }
+    requires device { IsDevice (state_of engine.old).tree }
+    requires account { IsReadyAccount account.now }
+    requires ready { AllByRecursion IsReady (map fresh (option_to_list status) ++ (queue.old ++ map fresh made)) }
+    requires number { progress.now.number < 2 ^ 32 }
+    requires own { progress.now.standing.own + 1 < 2 ^ 32 }
+    requires room { (2048 ≤ progress.now.standing.room) × (progress.now.standing.room ≤ 65536) }
+    ensures state { IfOk result (λ next. (accounts : ListOf AnAccount) (uri : OptionOf (ListOf ℕ))
+        → outcome (machine_of engine.new queue.new (rest_behind (told rest.now accounts uri) next)) next
+        ≡ (if Spec.is_over message.now code (queue.old ++ map fresh made)
+        then ends (Spec.finished (machine_of engine.old queue.old (told rest.now accounts uri))) Finished
+        else goes_on (sends (machine_of engine.old (map fresh (option_to_list status) ++ (queue.old ++ map fresh made))
+        (told rest.now accounts uri))
+        (record progress.now { opening_at = progress.now.opening_at + length (option_to_list status) }) account.now))) }
+    ensures spelled { IfOk result IsNextSpelled }
+    ensures err { OnErr result (queue.new ≡ queue.old) }
+    ensures clock { clock_of engine.new ≡ clock_of engine.old }
+    ensures max_obj { max_obj_of engine.new ≡ max_obj_of engine.old }
+    ensures ids { StayBut none_moved (whole_of engine.old) (whole_of engine.new) }
+    ensures marks { Holds engine.old engine.new }
+    ensures sound { IsSoundEngine engine.new }
+{
+    if is_over(message, code, queue, &made) {
+        close(engine, queue);
+        return Ok(Next::Ends(End::Finished, None));
+    }
+    let session = answer(engine, queue, rest, account, progress, status, made)?;
+    Ok(Next::GoesOn(session))
+}
+
+// A message that is answered, or with which the session is finished.
+#[tactic(auto, using(dm_atomic::proofs::Staying::stay_self, dm_atomic::proofs::Staying::then_none))]
+pub(crate) fn answered(
+    engine: &mut Engine,
+    queue: &mut Queue,
+    rest: &Rest,
+    account: &Account,
+    progress: &Progress,
+    message: &Message,
+    nonce: &Nonce,
+    heard: &Heard,
+) -> Result<Next, Memory>
+    requires goes_on { CanGoOn engine.old queue.old rest.now }
+    requires progress { IsReadyProgress (machine_of engine.old queue.old rest.now) progress.now }
+    requires account { IsReadyAccount account.now }
+    requires own { progress.now.standing.own + 1 < 2 ^ 32 }
+    requires code { heard.now.code < 2 ^ 32 }
+    requires message { IsReadyMessage message.now nonce.now.bytes }
+    ensures state { IfOk result (λ next. (accounts : ListOf AnAccount) (uri : OptionOf (ListOf ℕ)) (p : AProgress)
+        (h : Standings.Heard) → HeardAs heard.now account.now h → record p { standing = h.standing } ≡ progress.now
+        → outcome (machine_of engine.new queue.new (rest_behind (told rest.now accounts uri) next)) next
+        ≡ Spec.answered (machine_of engine.old queue.old (told rest.now accounts uri))
+        (Spec.waits_after (machine_of engine.old queue.old (told rest.now accounts uri)) p h) message.now h
+        nonce.now.bytes
+        (Spec.run_of (machine_of engine.old queue.old (told rest.now accounts uri)) h.account message.now h.code)) }
+    ensures spelled { IfOk result IsNextSpelled }
+    ensures err { OnErr result (queue.new ≡ queue.old) }
+    ensures clock { clock_of engine.new ≡ clock_of engine.old }
+    ensures max_obj { max_obj_of engine.new ≡ max_obj_of engine.old }
+    ensures ids { StayBut (body_covers message.now.body) (whole_of engine.old) (whole_of engine.new) }
+    ensures marks { Holds engine.old engine.new }
+    ensures sound { IsSoundEngine engine.new }
+{
+    let status = header_status(rest.alloc, message.header(), heard.code, nonce)?;
+    if is_denied(heard.status) {
+        let again = queued_again(engine, queue, rest, progress)?;
+        let made = run(rest.alloc, engine, account, message, heard.code)?;
+        let next = answer_again(engine, queue, rest, account, again, status, made)?;
+        return Ok(next);
+    }
+    let made = run(rest.alloc, engine, account, message, heard.code)?;
+    let next = answer_or_end(
+        engine, queue, rest, account, progress, message, heard.code, status, made,
+    )?;
+    Ok(next)
+}

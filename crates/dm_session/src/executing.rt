@@ -1,0 +1,70 @@
+// The commands of a message that passes, one after the other.
+ghost use Rattle.std.specs.Prelude.{◌≡◌, OnOk, OnErr};
+ghost use Rattle.dm_auth.specs.declared.accounts.Account.{Account as AnAccount};
+ghost use Rattle.dm_atomic.specs.Run.{run_all};
+ghost use Rattle.dm_atomic.specs.Engine.{state_of, running, IsSoundEngine, Gives};
+ghost use Rattle.dm_atomic.specs.Made.{IsInFront};
+ghost use Rattle.dm_atomic.specs.Marks.{whole_of, Holds};
+ghost use Rattle.dm_atomic.specs.Stays.{StayBut};
+ghost use Rattle.dm_atomic.specs.Updates.{clock_of, max_obj_of};
+ghost use Rattle.dm_machine.specs.Messages as Spec;
+ghost use Rattle.dm_session.specs.Stays.{body_covers};
+
+use crate::bodies::is_quiet;
+use dm_atomic::{Engine, Origin};
+use dm_base::{List, Memory};
+use syncml_types::{Command, Message};
+
+#[tactic(auto, using(dm_atomic::proofs::Staying::stay_self))]
+fn run_all(
+    engine: &mut Engine,
+    caller: &[u8],
+    origin: Origin,
+    body: &[Command],
+    out: &mut List<Command>,
+) -> Result<(), Memory>
+    requires sound { IsSoundEngine engine.old }
+    ensures gives { OnOk result (Gives (run_all (running engine.old caller.now) origin (state_of engine.old) body.now)
+        (state_of engine.new) out.old out.new) }
+    ensures clock { clock_of engine.new ≡ clock_of engine.old }
+    ensures max_obj { max_obj_of engine.new ≡ max_obj_of engine.old }
+    ensures ids { StayBut (body_covers body.now) (whole_of engine.old) (whole_of engine.new) }
+    ensures marks { Holds engine.old engine.new }
+    ensures sound { IsSoundEngine engine.new }
+{
+    for command in body {
+        engine.run(caller, origin, command, out)?;
+    }
+    Ok(())
+}
+
+/// Executes a message's commands in document order, and breaks what it leaves unfinished where it is quiet. What they come
+/// to is put behind `out`. After `Memory` the engine may be anywhere on the way: go back to a mark.
+#[tactic(auto, using(crate::proofs::Runs::noisy_gives, dm_atomic::proofs::Held::holds_then, dm_atomic::proofs::Staying::then_none))]
+pub(crate) fn execute(
+    engine: &mut Engine,
+    caller: &[u8],
+    message: &Message,
+    out: &mut List<Command>,
+) -> Result<(), Memory>
+    requires sound { IsSoundEngine engine.old }
+    ensures gives { OnOk result (Gives (Spec.quiet_after message.now
+        (run_all (running engine.old caller.now) (Spec.origin_of message.now) (state_of engine.old) message.now.body))
+        (state_of engine.new) out.old out.new) }
+    ensures clock { clock_of engine.new ≡ clock_of engine.old }
+    ensures max_obj { max_obj_of engine.new ≡ max_obj_of engine.old }
+    ensures ids { StayBut (body_covers message.now.body) (whole_of engine.old) (whole_of engine.new) }
+    ensures marks { Holds engine.old engine.new }
+    ensures sound { IsSoundEngine engine.new }
+{
+    let header = message.header();
+    let origin = Origin {
+        msg: header.msg,
+        quiet: header.no_resp,
+    };
+    run_all(engine, caller, origin, message.body().as_slice(), out)?;
+    if is_quiet(message) {
+        engine.still(out)?;
+    }
+    Ok(())
+}

@@ -1,0 +1,60 @@
+// The headers of the client's messages.
+ghost use Rattle.std.specs.Prelude.{◌≡◌, ◌+◌, ◌<◌, ◌^◌, None, IfOk};
+ghost use Rattle.dm_tree.specs.Rows.{nodes};
+ghost use Rattle.dm_tree.specs.Devices.{device_id as id_of};
+ghost use Rattle.dm_headers.specs.declared.checks.Side.TheVariants.{User};
+ghost use Rattle.dm_headers.specs.Checks.{login_of};
+ghost use Rattle.dm_headers.specs.Headers as Spec;
+
+use crate::device::device_id;
+use dm_auth::Account;
+use dm_base::{Bytes, Limits, Memory};
+use dm_headers::{Side, next_header};
+use dm_machine::Progress;
+use dm_tree::Tree;
+use std::alloc::Global;
+use syncml_types::{Header, Loc};
+
+/// A copy of what may be left out.
+pub(crate) fn copy_text(alloc: Global, text: &Option<Bytes>) -> Result<Option<Bytes>, Memory>
+    ensures { IfOk result (λ copy. copy ≡ text.now) }
+{
+    match text {
+        Some(text) => Ok(Some(text.copy(alloc)?)),
+        None => Ok(None),
+    }
+}
+
+/// The header of the next message of a session, to the account's server, from the device and its user.
+pub(crate) fn header_from(
+    alloc: Global,
+    limits: Limits,
+    tree: &Tree,
+    progress: &Progress,
+    account: &Account,
+) -> Result<Header, Memory>
+    requires own { progress.now.standing.own + 1 < 2 ^ 32 }
+    ensures { IfOk result (λ header. header
+        ≡ Spec.next_header (login_of User account.now) progress.now.standing limits progress.now.number
+        (record { uri = account.now.server; name = None })
+        (record { uri = id_of (nodes tree.now.rows); name = account.now.user })) }
+{
+    let target = Loc {
+        uri: account.server.copy(alloc)?,
+        name: None,
+    };
+    let source = Loc {
+        uri: device_id(alloc, tree)?,
+        name: copy_text(alloc, &account.user)?,
+    };
+    next_header(
+        alloc,
+        Side::User,
+        account,
+        &progress.standing,
+        limits,
+        progress.number,
+        target,
+        source,
+    )
+}

@@ -1,0 +1,37 @@
+// What a client keeps beside its engine and its queue.
+use dm_auth::Account;
+use dm_base::{Bytes, Limits, List};
+use dm_machine::{Progress, UpdateResult};
+use std::alloc::Global;
+use syncml_types::Message;
+
+/// A message that was sent, with its bytes.
+#[derive(Drop)]
+pub(crate) struct Sent {
+    pub message: Message,
+    pub bytes: Bytes,
+}
+
+/// An open session, and the message that was sent last in it.
+#[derive(Drop)]
+pub(crate) struct Session {
+    pub progress: Progress,
+    pub sent: Sent,
+}
+
+/// All of a client but its engine and its queue.
+#[derive(Drop)]
+pub(crate) struct Rest {
+    pub alloc: Global,
+    pub limits: Limits,
+    pub accounts: List<Account>,
+    pub session: Option<Session>,
+    /// The number of the session begun last.
+    pub begun: u32,
+    /// How updates ended that weren't told yet.
+    pub results: List<UpdateResult>,
+    /// The RespURI told last in the session begun last.
+    pub resp_uri: Option<Bytes>,
+    /// The message with which the session begun last was denied.
+    pub farewell: Option<Sent>,
+}

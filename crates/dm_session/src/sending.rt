@@ -1,0 +1,137 @@
+// The next message, out of what waits.
+ghost use Rattle.std.specs.Prelude.{◌≡◌, ◌≤◌, ◌<◌, ◌+◌, ◌^◌, ◌++◌, length, map, take, IfOk, OnOk, OnErr};
+ghost use Rattle.std.specs.List.{AllByRecursion};
+ghost use Rattle.std.specs.Option.{option_to_list};
+ghost use Rattle.syncml_types.specs.Canonical.{canonical};
+ghost use Rattle.dm_pack.specs.Entries.{fresh, IsReady, Entry as AnEntry};
+ghost use Rattle.dm_pack.specs.Filling.{fill as fill_of, IsReadyHeader, Filling};
+ghost use Rattle.dm_machine.specs.Sending.{moved_on as moved};
+
+use crate::rest::{Sent, Session};
+use dm_base::{List, Memory};
+use dm_machine::Progress;
+use dm_pack::{Filled, Queue, Tail, fill};
+use syncml_types::{Command, Header};
+
+// How many entries it is.
+fn push_front(queue: &mut Queue, entry: Option<Command>) -> Result<usize, Memory>
+    ensures ok { OnOk result (queue.new ≡ map fresh (option_to_list entry) ++ queue.old) }
+    ensures count { IfOk result (λ count. count ≡ length (option_to_list entry)) }
+    ensures err { OnErr result (queue.new ≡ queue.old) }
+{
+    match entry {
+        None => Ok(0),
+        Some(entry) => {
+            queue.push_front(entry)?;
+            Ok(1)
+        }
+    }
+}
+
+/// Puts entries behind the queue. After `Memory` some of them may stand there.
+#[tactic(auto, using(crate::proofs::Queues::front_still))]
+pub(crate) fn push_all(queue: &mut Queue, entries: List<Command>) -> Result<(), Memory>
+    ensures ok { OnOk result (queue.new ≡ queue.old ++ map fresh entries) }
+    ensures err { OnErr result (take (length queue.old) queue.new ≡ queue.old) }
+{
+    for entry in entries.into_vec() {
+        queue.push_back(entry)?;
+    }
+    Ok(())
+}
+
+// After `Memory` some of the entries may stand behind the queue.
+#[tactic(auto, using(crate::proofs::Queues::front_stays, crate::proofs::Queues::left_is))]
+fn send_behind(
+    queue: &mut Queue,
+    entries: List<Command>,
+    header: &Header,
+    room: u64,
+    heard: bool,
+) -> Result<Filled, Memory>
+    requires ready { AllByRecursion IsReady (queue.old ++ map fresh entries) }
+    requires header { IsReadyHeader header.now }
+    requires room { (2048 ≤ room) × (room ≤ 65536) }
+    ensures message { IfOk result (λ f. f.message ≡ (fill_of (queue.old ++ map fresh entries) header.now room heard).message) }
+    ensures bytes { IfOk result (λ f. f.bytes ≡ canonical f.message) }
+    ensures whole { IfOk result (λ f. f.whole ≡ (fill_of (queue.old ++ map fresh entries) header.now room heard).whole) }
+    ensures tail { IfOk result (λ f. f.tail ≡ (fill_of (queue.old ++ map fresh entries) header.now room heard).tail) }
+    ensures within { IfOk result (λ f. length f.bytes ≤ room) }
+    ensures ok { OnOk result (queue.new ≡ (fill_of (queue.old ++ map fresh entries) header.now room heard).left) }
+    ensures err { OnErr result (take (length queue.old) queue.new ≡ queue.old) }
+{
+    push_all(queue, entries)?;
+    let filled = fill(queue, header, room, heard)?;
+    queue.commit(&filled);
+    Ok(filled)
+}
+
+/// Puts an entry in front of the queue, where there is one, and others behind it, and takes the next message out. After
+/// `Memory` the queue is as before.
+#[tactic(auto, using(crate::proofs::Queues::front_gone, crate::proofs::Queues::front_long))]
+pub(crate) fn send(
+    queue: &mut Queue,
+    front: Option<Command>,
+    entries: List<Command>,
+    header: &Header,
+    room: u64,
+    heard: bool,
+) -> Result<Filled, Memory>
+    requires ready { AllByRecursion IsReady (map fresh (option_to_list front) ++ (queue.old ++ map fresh entries)) }
+    requires header { IsReadyHeader header.now }
+    requires room { (2048 ≤ room) × (room ≤ 65536) }
+    ensures message { IfOk result (λ f. f.message
+        ≡ (fill_of (map fresh (option_to_list front) ++ (queue.old ++ map fresh entries)) header.now room heard).message) }
+    ensures bytes { IfOk result (λ f. f.bytes ≡ canonical f.message) }
+    ensures whole { IfOk result (λ f. f.whole
+        ≡ (fill_of (map fresh (option_to_list front) ++ (queue.old ++ map fresh entries)) header.now room heard).whole) }
+    ensures tail { IfOk result (λ f. f.tail
+        ≡ (fill_of (map fresh (option_to_list front) ++ (queue.old ++ map fresh entries)) header.now room heard).tail) }
+    ensures within { IfOk result (λ f. length f.bytes ≤ room) }
+    ensures ok { OnOk result (queue.new
+        ≡ (fill_of (map fresh (option_to_list front) ++ (queue.old ++ map fresh entries)) header.now room heard).left) }
+    ensures err { OnErr result (queue.new ≡ queue.old) }
+{
+    let fronts = push_front(queue, front)?;
+    let waiting = queue.len();
+    match send_behind(queue, entries, header, room, heard) {
+        Ok(filled) => Ok(filled),
+        Err(memory) => {
+            queue.cut_to(waiting);
+            queue.remove(0, fronts);
+            Err(memory)
+        }
+    }
+}
+
+/// How far the session has come once a message is sent: what it takes leaves the queue, entries of the first package too, and
+/// with Final it is the server's turn.
+pub(crate) fn moved_on(progress: &Progress, filled: &Filled) -> Progress
+    requires own { progress.now.standing.own + 1 < 2 ^ 32 }
+    ensures { (f : Filling) → filled.now.whole ≡ f.whole → filled.now.tail ≡ f.tail → result ≡ moved progress.now f }
+{
+    let mut next = *progress;
+    next.standing.own += 1;
+    if filled.tail == Tail::Final {
+        next.standing.heard = false;
+    }
+    let behind = filled.whole.saturating_sub(progress.opening_at);
+    next.opening_at = progress.opening_at.saturating_sub(filled.whole);
+    next.opening_left = progress.opening_left.saturating_sub(behind);
+    next
+}
+
+/// The session once the message is sent.
+pub(crate) fn session_after(progress: &Progress, filled: Filled) -> Session
+    requires own { progress.now.standing.own + 1 < 2 ^ 32 }
+    ensures progress { (f : Filling) → filled.whole ≡ f.whole → filled.tail ≡ f.tail → result.progress ≡ moved progress.now f }
+    ensures message { result.sent.message ≡ filled.message }
+    ensures bytes { result.sent.bytes ≡ filled.bytes }
+{
+    let progress = moved_on(progress, &filled);
+    let Filled { message, bytes, .. } = filled;
+    Session {
+        progress,
+        sent: Sent { message, bytes },
+    }
+}

@@ -1,0 +1,166 @@
+// What a message that is accepted does.
+ghost use Rattle.std.specs.Prelude.{◌≡◌, ◌<◌, ◌+◌, ◌^◌, List as ListOf, ℕ, Option as OptionOf, Some, set, unwrap_or, IfOk, OnErr};
+ghost use Rattle.dm_auth.specs.declared.accounts.Account.{Account as AnAccount};
+ghost use Rattle.dm_headers.specs.Standings as Standings;
+ghost use Rattle.dm_atomic.specs.Engine.{state_of, IsSoundEngine};
+ghost use Rattle.dm_atomic.specs.Marks.{whole_of, Holds};
+ghost use Rattle.dm_atomic.specs.Stays.{StayBut};
+ghost use Rattle.dm_atomic.specs.Updates.{clock_of, max_obj_of};
+ghost use Rattle.dm_machine.specs.declared.progress.Progress.{Progress as AProgress};
+ghost use Rattle.dm_machine.specs.Machine.{Machine as AMachine};
+ghost use Rattle.dm_machine.specs.Messages as Spec;
+ghost use Rattle.dm_machine.specs.Messages.{goes_on};
+ghost use Rattle.dm_machine.specs.Ready.{IsDevice, IsReadyAccount, IsReadyLimits, IsReadyMessage, IsReadyProgress};
+ghost use Rattle.dm_session.specs.Inside.{machine_of, IsSpelled, CanGoOn};
+ghost use Rattle.dm_session.specs.Stays.{body_covers};
+ghost use Rattle.dm_session.specs.Working.{told, outcome, rest_behind, drafted, IsNextSpelled, HeardAs};
+
+use crate::answering::answered;
+use crate::bodies::has_abort;
+use crate::drafts::{Draft, Next};
+use crate::ending::{close, farewell};
+use crate::headers::{copy_text, header_from};
+use crate::rest::{Rest, Sent};
+use dm_atomic::Engine;
+use dm_auth::Account;
+use dm_base::{Memory, Nonce};
+use dm_headers::{Heard, Side, header_status, hear, passes};
+use dm_machine::{End, Progress};
+use dm_pack::Queue;
+use syncml_types::Message;
+
+// The message with which the session is denied.
+fn denial(
+    engine: &Engine,
+    rest: &Rest,
+    account: &Account,
+    progress: &Progress,
+    message: &Message,
+    nonce: &Nonce,
+    code: u32,
+) -> Result<Sent, Memory>
+    requires limits { IsReadyLimits rest.now.limits }
+    requires device { IsDevice (state_of engine.now).tree }
+    requires account { IsReadyAccount account.now }
+    requires number { progress.now.number < 2 ^ 32 }
+    requires own { progress.now.standing.own + 1 < 2 ^ 32 }
+    requires message { IsReadyMessage message.now nonce.now.bytes }
+    ensures message { IfOk result (λ sent. (c : AMachine) → c.limits ≡ rest.now.limits → c.engine.tree ≡ (state_of engine.now).tree
+        → sent.message ≡ Spec.farewell_of c progress.now account.now message.now code nonce.now.bytes) }
+    ensures spelled { IfOk result IsSpelled }
+{
+    let header = header_from(rest.alloc, rest.limits, engine.tree(), progress, account)?;
+    let status = header_status(rest.alloc, message.header(), code, nonce)?;
+    farewell(rest.alloc, header, status)
+}
+
+// A message whose header was heard.
+#[tactic(auto, using(dm_atomic::proofs::Staying::stay_self, dm_atomic::proofs::Staying::stay_more))]
+fn by_header(
+    engine: &mut Engine,
+    queue: &mut Queue,
+    rest: &Rest,
+    account: &Account,
+    progress: &Progress,
+    message: &Message,
+    nonce: &Nonce,
+    heard: &Heard,
+) -> Result<Next, Memory>
+    requires goes_on { CanGoOn engine.old queue.old rest.now }
+    requires progress { IsReadyProgress (machine_of engine.old queue.old rest.now) progress.now }
+    requires account { IsReadyAccount account.now }
+    requires own { progress.now.standing.own + 1 < 2 ^ 32 }
+    requires code { heard.now.code < 2 ^ 32 }
+    requires message { IsReadyMessage message.now nonce.now.bytes }
+    ensures state { IfOk result (λ next. (accounts : ListOf AnAccount) (uri : OptionOf (ListOf ℕ)) (p : AProgress)
+        (h : Standings.Heard) → HeardAs heard.now account.now h → record p { standing = h.standing } ≡ progress.now
+        → outcome (machine_of engine.new queue.new (rest_behind (told rest.now (set accounts p.account account.now) uri) next)) next
+        ≡ Spec.by_header (machine_of engine.old queue.old (told rest.now accounts uri)) p message.now nonce.now.bytes h) }
+    ensures spelled { IfOk result IsNextSpelled }
+    ensures err { OnErr result (queue.new ≡ queue.old) }
+    ensures clock { clock_of engine.new ≡ clock_of engine.old }
+    ensures max_obj { max_obj_of engine.new ≡ max_obj_of engine.old }
+    ensures ids { StayBut (body_covers message.now.body) (whole_of engine.old) (whole_of engine.new) }
+    ensures marks { Holds engine.old engine.new }
+    ensures sound { IsSoundEngine engine.new }
+{
+    if heard.second {
+        let farewell = denial(engine, rest, account, progress, message, nonce, heard.code)?;
+        close(engine, queue);
+        return Ok(Next::Ends(End::Denied, Some(farewell)));
+    }
+    if passes(heard.code) && has_abort(message.body().as_slice()) {
+        close(engine, queue);
+        return Ok(Next::Ends(End::Aborted, None));
+    }
+    answered(
+        engine, queue, rest, account, progress, message, nonce, heard,
+    )
+}
+
+// The account with the nonces to use next.
+fn renewed_by<'a>(heard: &'a Heard, account: &'a Account) -> &'a Account
+    ensures { result.now ≡ unwrap_or heard.now.account account.now }
+{
+    match &heard.account {
+        Some(renewed) => renewed,
+        None => account,
+    }
+}
+
+/// A message that is new to the session at its open progress. After `Memory` the queue is as before, and the engine may be
+/// anywhere on the way: go back to a mark.
+#[tactic(auto, using(dm_atomic::proofs::Staying::stay_self, dm_atomic::proofs::Staying::stay_more))]
+pub(crate) fn accept(
+    engine: &mut Engine,
+    queue: &mut Queue,
+    rest: &Rest,
+    progress: &Progress,
+    message: &Message,
+    nonce: &Nonce,
+) -> Result<Draft, Memory>
+    requires goes_on { CanGoOn engine.old queue.old rest.now }
+    requires progress { IsReadyProgress (machine_of engine.old queue.old rest.now) progress.now }
+    requires message { IsReadyMessage message.now nonce.now.bytes }
+    ensures state { IfOk result (λ draft. outcome (machine_of engine.new queue.new (drafted rest.now progress.now.account draft)) draft.next
+        ≡ Spec.accepts (machine_of engine.old queue.old rest.now) progress.now message.now nonce.now.bytes) }
+    ensures spelled { IfOk result (λ draft. IsNextSpelled draft.next) }
+    ensures err { OnErr result (queue.new ≡ queue.old) }
+    ensures clock { clock_of engine.new ≡ clock_of engine.old }
+    ensures max_obj { max_obj_of engine.new ≡ max_obj_of engine.old }
+    ensures ids { StayBut (body_covers message.now.body) (whole_of engine.old) (whole_of engine.new) }
+    ensures marks { Holds engine.old engine.new }
+    ensures sound { IsSoundEngine engine.new }
+{
+    let resp_uri = copy_text(rest.alloc, &message.header().resp_uri)?;
+    if progress.standing.own == u32::MAX {
+        close(engine, queue);
+        return Ok(Draft {
+            resp_uri,
+            account: None,
+            next: Next::Ends(End::Aborted, None),
+        });
+    }
+    let account = &rest.accounts.as_slice()[progress.account];
+    let heard = hear(
+        rest.alloc,
+        Side::Server,
+        account,
+        &progress.standing,
+        message,
+        nonce,
+    )?;
+    let behind = Progress {
+        standing: heard.standing,
+        ..*progress
+    };
+    let renewed = renewed_by(&heard, account);
+    let next = by_header(
+        engine, queue, rest, renewed, &behind, message, nonce, &heard,
+    )?;
+    Ok(Draft {
+        resp_uri,
+        account: heard.account,
+        next,
+    })
+}

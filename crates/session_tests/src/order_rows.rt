@@ -1,0 +1,353 @@
+// Which messages are new, and what is told of them.
+use crate::rows::{Call, Row};
+use dm_machine::Kind;
+
+pub const ORDER: [Row; 6] = [
+    // The first message, and the answer to a Get, byte for byte; the tree.
+    Row {
+        name: "one_get_is_answered",
+        account: "s1 - - - - -",
+        tree: &[],
+        large: 0,
+        calls: &[
+            (
+                Call::Begin(Kind::ByClient, 1),
+                "sent 1, alert 1201, device d1 Acme Box 1.2 en, final",
+            ),
+            (
+                Call::AgainWhole,
+                "03a4016a006d6c7103312e3200017203444d2f312e32000165033100015b033100016e570373310001\
+                    0167570364310001015a00014c03313633383400015503343139343330340001010100006b464b0\
+                    33100014f0331323031000101604b03320001546757032e2f446576496e666f2f44657649640001\
+                    015a0001470363687200015303746578742f706c61696e00010100004f036431000101546757032\
+                    e2f446576496e666f2f4d616e0001015a0001470363687200015303746578742f706c61696e0001\
+                    0100004f0341636d65000101546757032e2f446576496e666f2f4d6f640001015a0001470363687\
+                    200015303746578742f706c61696e00010100004f03426f78000101546757032e2f446576496e66\
+                    6f2f446d560001015a0001470363687200015303746578742f706c61696e00010100004f03312e3\
+                    2000101546757032e2f446576496e666f2f4c616e670001015a0001470363687200015303746578\
+                    742f706c61696e00010100004f03656e00010101120101",
+            ),
+            // Get ./A.
+            (
+                Call::Deliver(
+                    0,
+                    "03a4016a006d6c7103312e3200017203444d2f312e32000165033100015b033100016e57036431\
+                        0001016757037331000101016b534b03310001546e57032e2f410001010101120101",
+                ),
+                "sent 2, 1.0 200, 1.1 200, 1.1 found ./A x, final",
+            ),
+            (
+                Call::AgainWhole,
+                "03a4016a006d6c7103312e3200017203444d2f312e32000165033100015b033200016e570373310001\
+                    0167570364310001015a00014c03313633383400015503343139343330340001010100006b694b0\
+                    33100015c033100014c033000014a0353796e6348647200014f03323030000101694b033200015c\
+                    033100014c033100014a0347657400014f03323030000101624b033300015c033100014c0331000\
+                    1546757032e2f410001015a0001470363687200015303746578742f706c61696e00010100004f03\
+                    7800010101120101",
+            ),
+            (Call::Last, "1 1"),
+            (
+                Call::TreeText,
+                "node . 0 p Add=*&Get=* - -
+leaf ./A 0 - - - chr 746578742f706c61696e 78
+node ./DevInfo 0 p - - -
+leaf ./DevInfo/DevId 0 p - - chr 746578742f706c61696e 6431
+leaf ./DevInfo/DmV 0 p - - chr 746578742f706c61696e 312e32
+leaf ./DevInfo/Lang 0 p - - chr 746578742f706c61696e 656e
+leaf ./DevInfo/Man 0 p - - chr 746578742f706c61696e 41636d65
+leaf ./DevInfo/Mod 0 p - - chr 746578742f706c61696e 426f78
+",
+            ),
+        ],
+    },
+    // What is refused, of no session, of another one, the last message once more, or an old one; none of these
+    // changes anything.
+    Row {
+        name: "order_of_messages",
+        account: "s1 - - - - -",
+        tree: &[],
+        large: 0,
+        calls: &[
+            (Call::Again, "again none"),
+            (Call::Last, "none"),
+            // Get ./A.
+            (
+                Call::Deliver(
+                    0,
+                    "03a4016a006d6c7103312e3200017203444d2f312e32000165033100015b033100016e57036431\
+                        0001016757037331000101016b534b03310001546e57032e2f410001010101120101",
+                ),
+                "nosession",
+            ),
+            // The first 40 bytes of it.
+            (
+                Call::Deliver(
+                    0,
+                    "03a4016a006d6c7103312e3200017203444d2f312e32000165033100015b033100016e57036431\
+                        00",
+                ),
+                "refused 40 truncated",
+            ),
+            (
+                Call::Begin(Kind::ByClient, 1),
+                "sent 1, alert 1201, device d1 Acme Box 1.2 en, final",
+            ),
+            (Call::Last, "1 0"),
+            // Get ./A, MsgID 5.
+            (
+                Call::Deliver(
+                    0,
+                    "03a4016a006d6c7103312e3200017203444d2f312e32000165033100015b033500016e57036431\
+                        0001016757037331000101016b534b03310001546e57032e2f410001010101120101",
+                ),
+                "sent 2, 5.0 200, 5.1 200, 5.1 found ./A x, final",
+            ),
+            // Add ./B, MsgID 5.
+            (
+                Call::Deliver(
+                    0,
+                    "03a4016a006d6c7103312e3200017203444d2f312e32000165033100015b033500016e57036431\
+                        0001016757037331000101016b454b03310001546e57032e2f420001014f036200010101120\
+                        101",
+                ),
+                "kept 2, 5.0 200, 5.1 200, 5.1 found ./A x, final",
+            ),
+            // Get ./A, MsgID 4.
+            (
+                Call::Deliver(
+                    0,
+                    "03a4016a006d6c7103312e3200017203444d2f312e32000165033100015b033400016e57036431\
+                        0001016757037331000101016b534b03310001546e57032e2f410001010101120101",
+                ),
+                "stale 5",
+            ),
+            // Get ./A, SessionID 2 and MsgID 4.
+            (
+                Call::Deliver(
+                    0,
+                    "03a4016a006d6c7103312e3200017203444d2f312e32000165033200015b033400016e57036431\
+                        0001016757037331000101016b534b03310001546e57032e2f410001010101120101",
+                ),
+                "stranger",
+            ),
+            // Get ./A, SessionID 01 and MsgID 6.
+            (
+                Call::Deliver(
+                    0,
+                    "03a4016a006d6c7103312e3200017203444d2f312e3200016503303100015b033600016e570364\
+                        310001016757037331000101016b534b03310001546e57032e2f410001010101120101",
+                ),
+                "stranger",
+            ),
+            (Call::Begin(Kind::ByClient, 1), "exhausted 1"),
+            (Call::Begin(Kind::ByClient, 0), "exhausted 1"),
+            (Call::Acted(true), "notnow"),
+            (Call::Last, "1 5"),
+            (
+                Call::Again,
+                "again 2, 5.0 200, 5.1 200, 5.1 found ./A x, final",
+            ),
+        ],
+    },
+    // A message that comes again is executed once, also behind a loss.
+    Row {
+        name: "repeats_and_losses",
+        account: "s1 - - - - -",
+        tree: &[],
+        large: 0,
+        calls: &[
+            (
+                Call::Begin(Kind::ByClient, 1),
+                "sent 1, alert 1201, device d1 Acme Box 1.2 en, final",
+            ),
+            // Add ./B.
+            (
+                Call::Deliver(
+                    0,
+                    "03a4016a006d6c7103312e3200017203444d2f312e32000165033100015b033100016e57036431\
+                        0001016757037331000101016b454b03310001546e57032e2f420001014f036200010101120\
+                        101",
+                ),
+                "sent 2, 1.0 200, 1.1 200, final",
+            ),
+            // The same message.
+            (
+                Call::Deliver(
+                    0,
+                    "03a4016a006d6c7103312e3200017203444d2f312e32000165033100015b033100016e57036431\
+                        0001016757037331000101016b454b03310001546e57032e2f420001014f036200010101120\
+                        101",
+                ),
+                "kept 2, 1.0 200, 1.1 200, final",
+            ),
+            (Call::Again, "again 2, 1.0 200, 1.1 200, final"),
+            // The same message.
+            (
+                Call::Deliver(
+                    0,
+                    "03a4016a006d6c7103312e3200017203444d2f312e32000165033100015b033100016e57036431\
+                        0001016757037331000101016b454b03310001546e57032e2f420001014f036200010101120\
+                        101",
+                ),
+                "kept 2, 1.0 200, 1.1 200, final",
+            ),
+            // Get ./B?prop=VerNo and ./B.
+            (
+                Call::Deliver(
+                    0,
+                    "03a4016a006d6c7103312e3200017203444d2f312e32000165033100015b033200016e57036431\
+                        0001016757037331000101016b534b03310001546e57032e2f423f70726f703d5665724e6f0\
+                        001010101534b03320001546e57032e2f420001010101120101",
+                ),
+                "sent 3, 2.0 200, 2.1 200, 2.1 found ./B?prop=VerNo 0, 2.2 200, 2.2 found ./B b, \
+                    final",
+            ),
+        ],
+    },
+    // Final is sent where the server has sent its own since, else Alert 1222; a message with Final and without a
+    // command ends the session.
+    Row {
+        name: "final_and_next_message",
+        account: "s1 - - - - -",
+        tree: &[],
+        large: 0,
+        calls: &[
+            (
+                Call::Begin(Kind::ByClient, 1),
+                "sent 1, alert 1201, device d1 Acme Box 1.2 en, final",
+            ),
+            // Get ./A without Final.
+            (
+                Call::Deliver(
+                    0,
+                    "03a4016a006d6c7103312e3200017203444d2f312e32000165033100015b033100016e57036431\
+                        0001016757037331000101016b534b03310001546e57032e2f4100010101010101",
+                ),
+                "sent 2, 1.0 200, 1.1 200, 1.1 found ./A x, alert 1222",
+            ),
+            // No command, no Final.
+            (
+                Call::Deliver(
+                    0,
+                    "03a4016a006d6c7103312e3200017203444d2f312e32000165033100015b033200016e57036431\
+                        0001016757037331000101012b01",
+                ),
+                "sent 3, 2.0 200, alert 1222",
+            ),
+            // No command, Final.
+            (
+                Call::Deliver(
+                    0,
+                    "03a4016a006d6c7103312e3200017203444d2f312e32000165033100015b033300016e57036431\
+                        0001016757037331000101016b120101",
+                ),
+                "finished",
+            ),
+            (Call::Again, "again none"),
+            (
+                Call::Deliver(
+                    0,
+                    "03a4016a006d6c7103312e3200017203444d2f312e32000165033100015b033400016e57036431\
+                        0001016757037331000101016b120101",
+                ),
+                "nosession",
+            ),
+        ],
+    },
+    // A header that fails is all that is told of its message; NoResp on a command, and in the header, suppresses
+    // Statuses and nothing else.
+    Row {
+        name: "no_resp",
+        account: "s1 - - - - -",
+        tree: &["acl . Add=*&Delete=*&Exec=*&Get=*&Replace=*"],
+        large: 0,
+        calls: &[
+            (
+                Call::Begin(Kind::ByClient, 1),
+                "sent 1, alert 1201, device d1 Acme Box 1.2 en, final",
+            ),
+            // Two Gets with CmdID 1.
+            (
+                Call::Deliver(
+                    0,
+                    "03a4016a006d6c7103312e3200017203444d2f312e32000165033100015b033100016e57036431\
+                        0001016757037331000101016b534b03310001546e57032e2f410001010101534b033100015\
+                        46e57032e2f410001010101120101",
+                ),
+                "sent 2, 1.0 400, final",
+            ),
+            // Replace ./A by y, with NoResp.
+            (
+                Call::Deliver(
+                    0,
+                    "03a4016a006d6c7103312e3200017203444d2f312e32000165033100015b033200016e57036431\
+                        0001016757037331000101016b604b033100011d546e57032e2f410001014f0379000101011\
+                        20101",
+                ),
+                "sent 3, 2.0 200, final",
+            ),
+            // Get ./A and Replace ./A by z, with NoResp in the header.
+            (
+                Call::Deliver(
+                    0,
+                    "03a4016a006d6c7103312e3200017203444d2f312e32000165033100015b033300016e57036431\
+                        00010167570373310001011d016b534b03310001546e57032e2f410001010101604b0332000\
+                        1546e57032e2f410001014f037a00010101120101",
+                ),
+                "sent 4, 3.1 found ./A y, final",
+            ),
+            // Get ./A.
+            (
+                Call::Deliver(
+                    0,
+                    "03a4016a006d6c7103312e3200017203444d2f312e32000165033100015b033400016e57036431\
+                        0001016757037331000101016b534b03310001546e57032e2f410001010101120101",
+                ),
+                "sent 5, 4.0 200, 4.1 200, 4.1 found ./A z, final",
+            ),
+        ],
+    },
+    // The clock stamps what is changed; the last RespURI of a session holds.
+    Row {
+        name: "clock_and_resp_uri",
+        account: "s1 - - - - -",
+        tree: &["acl . Add=*&Delete=*&Exec=*&Get=*&Replace=*"],
+        large: 0,
+        calls: &[
+            (
+                Call::Begin(Kind::ByClient, 1),
+                "sent 1, alert 1201, device d1 Acme Box 1.2 en, final",
+            ),
+            (Call::RespUri, "none"),
+            // Get ./A?prop=TStamp, with a RespURI.
+            (
+                Call::Deliver(
+                    0,
+                    "03a4016a006d6c7103312e3200017203444d2f312e32000165033100015b033100016e57036431\
+                        00010167570373310001016103687474703a2f2f73312f610001016b534b03310001546e570\
+                        32e2f413f70726f703d545374616d700001010101120101",
+                ),
+                "sent 2, 1.0 200, 1.1 200, 1.1 found ./A?prop=TStamp 00000000T000000Z, final",
+            ),
+            (Call::RespUri, "http://s1/a"),
+            (Call::SetClock(b"20261128T140000Z"), "set"),
+            // Replace ./A by y, Get ./A?prop=TStamp, without a RespURI.
+            (
+                Call::Deliver(
+                    0,
+                    "03a4016a006d6c7103312e3200017203444d2f312e32000165033100015b033200016e57036431\
+                        0001016757037331000101016b604b03310001546e57032e2f410001014f037900010101534\
+                        b03320001546e57032e2f413f70726f703d545374616d700001010101120101",
+                ),
+                "sent 3, 2.0 200, 2.1 200, 2.2 200, 2.2 found ./A?prop=TStamp 20261128T140000Z, \
+                    final",
+            ),
+            (Call::RespUri, "http://s1/a"),
+            (
+                Call::Begin(Kind::ByClient, 2),
+                "sent 1, alert 1201, device d1 Acme Box 1.2 en, final",
+            ),
+            (Call::RespUri, "none"),
+        ],
+    },
+];
