@@ -18,7 +18,8 @@ short name h = (and_parts (has_name_form name) (is_short name) h).1
 bound : (name : List ℕ) → is_name name ≡ true → length name ≤ 64
 bound name h = at_most (length name) 64 (short name h)
 
-within : (names : List (List ℕ)) → list_all is_short names ≡ true → length names ≤ 16 → length (printed_path names) ≤ 255 → is_within_limits names ≡ true
+within : (names : List (List ℕ)) → list_all is_short names ≡ true → length names ≤ 16
+    → length (printed_path names) ≤ 255 → is_within_limits names ≡ true
 within names h few print =
     and_from (list_all is_short names && nat_le (length names) 16) (nat_le (length (printed_path names)) 255)
     (and_from (list_all is_short names) (nat_le (length names) 16) h (is_at_most (length names) 16 few))
@@ -31,18 +32,29 @@ one_fits a h =
 
 two_fit : (a b : List ℕ) → is_name a ≡ true → is_name b ≡ true → is_within_limits (a ∷ b ∷ []) ≡ true
 two_fit a b h g =
-    within (a ∷ b ∷ []) (and_from (is_short a) (is_short b && true) (short a h) (and_from (is_short b) true (short b g) refl)) (omega arith)
+    within (a ∷ b ∷ []) (and_from (is_short a) (is_short b && true) (short a h)
+    (and_from (is_short b) true (short b g) refl)) (omega arith)
     (omega (arith, length-append (codes "./") (a ++ 47 ∷ b), length-append a (47 ∷ b), bound a h, bound b g))
 
-three_fit : (a b c : List ℕ) → is_name a ≡ true → is_name b ≡ true → is_name c ≡ true → is_within_limits (a ∷ b ∷ c ∷ []) ≡ true
+three_fit : (a b c : List ℕ) → is_name a ≡ true → is_name b ≡ true → is_name c ≡ true
+    → is_within_limits (a ∷ b ∷ c ∷ []) ≡ true
 three_fit a b c h g f =
     within (a ∷ b ∷ c ∷ [])
     (and_from (is_short a) (is_short b && (is_short c && true)) (short a h)
     (and_from (is_short b) (is_short c && true) (short b g) (and_from (is_short c) true (short c f) refl)))
     (omega arith)
-    (omega (arith, length-append (codes "./") (a ++ 47 ∷ (b ++ 47 ∷ c)), length-append a (47 ∷ (b ++ 47 ∷ c)), length-append b (47 ∷ c), bound a h, bound b g, bound c f))
+    (omega (
+      arith,
+      length-append (codes "./") (a ++ 47 ∷ (b ++ 47 ∷ c)),
+      length-append a (47 ∷ (b ++ 47 ∷ c)),
+      length-append b (47 ∷ c),
+      bound a h,
+      bound b g,
+      bound c f,
+    ))
 
-pub few_names_fit : (p : List (List ℕ)) (name : List ℕ) → IsPath p → is_name name ≡ true → length p ≤ 2 → is_within_limits (p ++ name ∷ []) ≡ true
+pub few_names_fit : (p : List (List ℕ)) (name : List ℕ) → IsPath p → is_name name ≡ true → length p ≤ 2
+    → is_within_limits (p ++ name ∷ []) ≡ true
 few_names_fit [] name path h few = one_fits name h
 few_names_fit (a ∷ []) name path h few = two_fit a name (and_parts (is_name a) true path.names).0 h
 few_names_fit (a ∷ b ∷ []) name path h few =

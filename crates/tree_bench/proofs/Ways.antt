@@ -22,10 +22,12 @@ root_is_there : (m : Nodes) → IsWellFormed m → IsSome (get m [])
 root_is_there m well = ap is_some well.root.1
 
 all_below : (m : Nodes) → length (below m []) ≡ len m
-all_below m = ap length (all_pass (is_below []) root_begins (keys m)) ∙ length-map (entries m) (λ e. e.0) ∙ sym (len-entries m)
+all_below m = ap length (all_pass (is_below []) root_begins (keys m)) ∙ length-map (entries m) (λ e. e.0)
+    ∙ sym (len-entries m)
 
 -- the root, and all that stands behind it, are the nodes of the tree
-pub way_has_all : (rows : List Row) → SubtreeBegins → IsWellFormed (nodes rows) → (top : ℕ) → path_of rows top ≡ [] → left rows top (Some top) ≡ len (nodes rows)
+pub way_has_all : (rows : List Row) → SubtreeBegins → IsWellFormed (nodes rows) → (top : ℕ) → path_of rows top ≡ []
+    → left rows top (Some top) ≡ len (nodes rows)
 way_has_all rows begins well top is =
     ap (λ p. suc (length (behind (nodes rows) p p false))) is
     ∙ sym (ap length (begins (nodes rows) [] (root_is_there (nodes rows) well))) ∙ all_below (nodes rows)
