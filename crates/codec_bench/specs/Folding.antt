@@ -1,5 +1,6 @@
 -- Tokens and bytes folded into two numbers.
-use Rattle.std.specs.Prelude.{◌+◌, ◌*◌, ◌%◌, ◌^◌, ℕ, if◌then◌else◌, List, [], ◌∷◌, length, None, Result, Ok, Err, ⊤, ◌≡◌}
+use Rattle.std.specs.Prelude.{◌+◌, ◌*◌, ◌%◌, ◌^◌, ℕ, if◌then◌else◌, List, [], ◌∷◌, length, None, Result, Ok, Err, ⊤}
+use Rattle.std.specs.Prelude.{◌≡◌}
 use Rattle.wbxml_tables.specs.Tables.{code_on_page}
 use Rattle.wbxml_tokens.specs.declared.token.Token.{Token}
 use Rattle.wbxml_tokens.specs.declared.token.Token.TheVariants.{Tag, End, Text, Opaque}

@@ -1,6 +1,6 @@
-//! Measures how fast documents are read into tokens and messages, and how fast messages are spelled and measured. Without words it does
-//! each once, and tells what it folds to. The words FILE SECONDS PIECE READER, encode SECONDS MESSAGE and
-//! length SECONDS MESSAGE ask for nanoseconds a byte.
+//! Measures how fast documents are read into tokens and messages, and how fast messages are spelled and measured.
+//! Without words it does each once, and tells what it folds to. The words FILE SECONDS PIECE READER, encode SECONDS
+//! MESSAGE and length SECONDS MESSAGE ask for nanoseconds a byte.
 #![tactic(auto)]
 
 mod fold;

@@ -1,5 +1,7 @@
 -- An entry and its text.
-use Rattle.std.proofs.Common.{◌≡◌, ◌==◌, ◌&&◌, ℕ, List, [], ◌∷◌, ◌++◌, length, drop, refl, ap, sym, ◌∙◌, subst, Bool, true, false, not, if◌then◌else◌, rules, Option, Some, None, Decides, bytes_eq, nat_lt, nat_le}
+use Rattle.std.proofs.Common.{◌≡◌, ◌==◌, ◌&&◌, ℕ, List, [], ◌∷◌, ◌++◌, length, drop, refl, ap, sym, ◌∙◌, subst, Bool}
+use Rattle.std.proofs.Common.{true, false, not, if◌then◌else◌, rules, Option, Some, None, Decides, bytes_eq, nat_lt}
+use Rattle.std.proofs.Common.{nat_le}
 use Rattle.std.specs.Prelude.{codes}
 use Rattle.std.specs.List.{join_with_byte, list_all, AllByRecursion}
 use Rattle.std.proofs.lemmas.Slice.Eq.{bytes_eq-Decides, starts_is}
@@ -12,7 +14,8 @@ use Rattle.dm_acl.specs.declared.values.Right.TheVariants as right
 use Rattle.dm_acl.specs.declared.values.Servers.{Servers}
 use Rattle.dm_acl.specs.declared.values.Servers.TheVariants.{Everybody, Named}
 use Rattle.dm_acl.specs.declared.values.Entry.{Entry}
-use Rattle.dm_acl.specs.Grammar.{is_name_byte, is_server_name, IsServers, IsEntry, servers_text, head_of, entry_text, meant, meant_entry, unrepeated}
+use Rattle.dm_acl.specs.Grammar.{is_name_byte, is_server_name, IsServers, IsEntry, servers_text, head_of, entry_text}
+use Rattle.dm_acl.specs.Grammar.{meant, meant_entry, unrepeated}
 use Rattle.dm_acl.specs.Reading.{names_in, named, servers_in, begins, right_in, entry_with, entry_behind, entry_in}
 use Rattle.dm_acl.specs.Laws.{has_no}
 use Rattle.dm_acl.proofs.Splits.{and_true, both_true, not_true, split_joined, joined_split}
@@ -35,13 +38,15 @@ no_signs c (b ∷ bs) sign good =
     let parts = and_true (is_name_byte b) (list_all is_name_byte bs) good in
     both_true (not (b == c)) (has_no c bs) (no_sign c b sign parts.0) (no_signs c bs sign parts.1)
 
-name_parts : (name : List ℕ) → is_server_name name ≡ true → (nat_lt 0 (length name) ≡ true) × (list_all is_name_byte name ≡ true)
+name_parts : (name : List ℕ) → is_server_name name ≡ true
+    → (nat_lt 0 (length name) ≡ true) × (list_all is_name_byte name ≡ true)
 name_parts name good =
     let outer = and_true (nat_lt 0 (length name) && nat_le (length name) 64) (list_all is_name_byte name) good in
     let inner = and_true (nat_lt 0 (length name)) (nat_le (length name) 64) outer.0 in
     (inner.0, outer.1)
 
-clear_names : (c : ℕ) (names : List (List ℕ)) → is_acl_sign c ≡ true → list_all is_server_name names ≡ true → AllByRecursion (λ part. has_no c part ≡ true) names
+clear_names : (c : ℕ) (names : List (List ℕ)) → is_acl_sign c ≡ true → list_all is_server_name names ≡ true
+    → AllByRecursion (λ part. has_no c part ≡ true) names
 clear_names c [] sign good = tt
 clear_names c (n ∷ ns) sign good =
     let parts = and_true (is_server_name n) (list_all is_server_name ns) good in
@@ -52,10 +57,12 @@ clear_names c (n ∷ ns) sign good =
 not_star : (b : ℕ) (bs : List ℕ) → is_name_byte b ≡ true → bytes_eq (b ∷ bs) (codes "*") ≡ false
 not_star b bs good = ap (λ t. t && bytes_eq bs []) (not_true (b == 42) (no_sign 42 b refl good))
 
-list_read : (b : ℕ) (bs : List ℕ) (names : List (List ℕ)) → is_name_byte b ≡ true → list_all is_server_name names ≡ true → names_in (b ∷ bs) ≡ names
+list_read : (b : ℕ) (bs : List ℕ) (names : List (List ℕ)) → is_name_byte b ≡ true → list_all is_server_name names ≡ true
+    → names_in (b ∷ bs) ≡ names
     → servers_in (b ∷ bs) ≡ Some (Named (unrepeated names))
 list_read b bs names first good is =
-    ap (λ t. if t then Some Everybody else named (list_all is_server_name (names_in (b ∷ bs))) (names_in (b ∷ bs))) (not_star b bs first)
+    ap (λ t. if t then Some Everybody else named (list_all is_server_name (names_in (b ∷ bs))) (names_in (b ∷ bs)))
+    (not_star b bs first)
     ∙ ap (λ ns. named (list_all is_server_name ns) ns) is
     ∙ ap (λ t. named t names) good
 
@@ -70,12 +77,14 @@ servers_read (Named ((b ∷ bs) ∷ [])) h =
 servers_read (Named ((b ∷ bs) ∷ n ∷ ns)) h =
     let good = (and_true (is_server_name (b ∷ bs)) (list_all is_server_name (n ∷ ns)) h).0 in
     let first = and_true (is_name_byte b) (list_all is_name_byte bs) (name_parts (b ∷ bs) good).1 in
-    list_read b (bs ++ 43 ∷ join_with_byte 43 (n ∷ ns)) ((b ∷ bs) ∷ n ∷ ns) first.0 h (split_joined 43 (b ∷ bs) (n ∷ ns) (clear_names 43 ((b ∷ bs) ∷ n ∷ ns) refl h))
+    list_read b (bs ++ 43 ∷ join_with_byte 43 (n ∷ ns)) ((b ∷ bs) ∷ n ∷ ns) first.0 h
+    (split_joined 43 (b ∷ bs) (n ∷ ns) (clear_names 43 ((b ∷ bs) ∷ n ∷ ns) refl h))
 
 none≢some : {A : Type 0} {x : A} → None ≡ Some x → ⊥
 none≢some e = cc
 
-named_of : (t : Bool) (names : List (List ℕ)) (s : Servers) → list_all is_server_name names ≡ t → named t names ≡ Some s → (list_all is_server_name names ≡ true) × (s ≡ meant (Named names))
+named_of : (t : Bool) (names : List (List ℕ)) (s : Servers) → list_all is_server_name names ≡ t → named t names ≡ Some s
+    → (list_all is_server_name names ≡ true) × (s ≡ meant (Named names))
 named_of true names s is h = (is, cc)
 named_of false names s is h = absurd (none≢some h)
 
@@ -87,7 +96,8 @@ servers_by false b bs s is h =
     let got = named_of (list_all is_server_name (names_in (b ∷ bs))) (names_in (b ∷ bs)) s refl h in
     (Named (names_in (b ∷ bs)), got.0, sym (joined_split 43 (b ∷ bs)), got.1)
 
-servers_of : (list : List ℕ) (s : Servers) → servers_in list ≡ Some s → (w : Servers) × IsServers w × (list ≡ servers_text w) × (s ≡ meant w)
+servers_of : (list : List ℕ) (s : Servers) → servers_in list ≡ Some s
+    → (w : Servers) × IsServers w × (list ≡ servers_text w) × (s ≡ meant w)
 servers_of [] s h = (Named [], refl, refl, cc)
 servers_of (b ∷ bs) s h = servers_by (bytes_eq (b ∷ bs) (codes "*")) b bs s refl h
 
@@ -122,7 +132,8 @@ eqb-both a b = (λ h. search (rules, tests), λ h. search (rules, tests))
 begun : (part : List ℕ) (r : Right) → begins part r ≡ true → part ≡ head_of r ++ drop (length (head_of r)) part
 begun part r h = (starts_is eqb-both part (head_of r) (begins part r) refl).0 h
 
-right_by : (part : List ℕ) (r got : Right) (t : Bool) (rest : Option Right) → begins part r ≡ t → (rest ≡ Some got → begins part got ≡ true)
+right_by : (part : List ℕ) (r got : Right) (t : Bool) (rest : Option Right) → begins part r ≡ t
+    → (rest ≡ Some got → begins part got ≡ true)
     → (if t then Some r else rest) ≡ Some got → begins part got ≡ true
 right_by part r got true rest is below h = subst (λ r. begins part r ≡ true) (some_same r got h) is
   where
@@ -139,7 +150,8 @@ right_of part got h =
     (right_by part right.Replace got (begins part right.Replace) None refl (λ e. absurd (none≢some e))))))
     h
 
-with_of : (r : Right) (o : Option Servers) (e : Entry) → entry_with r o ≡ Some e → (s : Servers) × (o ≡ Some s) × (e ≡ record { right = r; servers = s })
+with_of : (r : Right) (o : Option Servers) (e : Entry) → entry_with r o ≡ Some e
+    → (s : Servers) × (o ≡ Some s) × (e ≡ record { right = r; servers = s })
 with_of r None e h = absurd (none≢some h)
 with_of r (Some s) e h = (s, refl, cc)
 
@@ -149,7 +161,8 @@ behind_of part None e h = absurd (none≢some h)
 behind_of part (Some r) e h = (r, refl, h)
 
 -- what is read as an entry is the text of one, as what it means
-pub entry_from : (part : List ℕ) (e : Entry) → entry_in part ≡ Some e → (w : Entry) × IsEntry w × (part ≡ entry_text w) × (e ≡ meant_entry w)
+pub entry_from : (part : List ℕ) (e : Entry) → entry_in part ≡ Some e → (w : Entry) × IsEntry w × (part ≡ entry_text w)
+    × (e ≡ meant_entry w)
 entry_from part e h =
     let named = behind_of part (right_in part) e h in
     let r = named.0 in
@@ -163,7 +176,8 @@ entry_from part e h =
 
 -- ---- no `&` stands in an entry
 
-clear_more : (names : List (List ℕ)) (n : List ℕ) → has_no 38 n ≡ true → AllByRecursion (λ part. has_no 38 part ≡ true) names → has_no 38 (join_with_byte 43 (n ∷ names)) ≡ true
+clear_more : (names : List (List ℕ)) (n : List ℕ) → has_no 38 n ≡ true
+    → AllByRecursion (λ part. has_no 38 part ≡ true) names → has_no 38 (join_with_byte 43 (n ∷ names)) ≡ true
 clear_more [] n one h = one
 clear_more (m ∷ ms) n one h =
     list_all-append (λ b. not (b == 38)) n (43 ∷ join_with_byte 43 (m ∷ ms))

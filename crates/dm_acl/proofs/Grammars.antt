@@ -1,5 +1,7 @@
 -- The grammar of access lists, both ways.
-use Rattle.std.proofs.Common.{◌≡◌, ◌⊎◌, inl, inr, ◌<◌, ◌≤◌, ◌==◌, ℕ, List, [], ◌∷◌, ◌++◌, length, map, refl, ap, sym, ◌∙◌, subst, Bool, true, false, arith, rules, if◌then◌else◌, nat_lt, Result, Ok, Err, append_assoc, append-nil}
+use Rattle.std.proofs.Common.{◌≡◌, ◌⊎◌, inl, inr, ◌<◌, ◌≤◌, ◌==◌, ℕ, List, [], ◌∷◌, ◌++◌, length, map, refl, ap, sym}
+use Rattle.std.proofs.Common.{◌∙◌, subst, Bool, true, false, arith, rules, if◌then◌else◌, nat_lt, Result, Ok, Err}
+use Rattle.std.proofs.Common.{append_assoc, append-nil}
 use Rattle.std.specs.List.{AllByRecursion, join_with_byte}
 use Rattle.std.proofs.lemmas.List.Splits.{slice_split_none, slice_split_at}
 use borrow.Author.Tests.{tests}
@@ -7,9 +9,12 @@ use Rattle.dm_acl.specs.declared.values.AclError.{AclError}
 use Rattle.dm_acl.specs.declared.values.AclError.TheVariants as error
 use Rattle.dm_acl.specs.declared.values.Entry.{Entry}
 use Rattle.dm_acl.specs.declared.values.Entries.{Entries}
-use Rattle.dm_acl.specs.Grammar.{IsEntry, entry_text, entries_text, IsTextOf, no_entries, meaning, entries_in, printed, IsAcl}
+use Rattle.dm_acl.specs.Grammar.{IsEntry, entry_text, entries_text, IsTextOf, no_entries, meaning, entries_in, printed}
+use Rattle.dm_acl.specs.Grammar.{IsAcl}
 use Rattle.dm_acl.specs.Reading.{parts_in, after_parts, parse_of, Answers}
-use Rattle.dm_acl.specs.Laws.{WhatIsReadIsMeant, WhatIsWrittenIsRead, has_no, front_text, IsBehind, HasFaultAt, IsRefusedAt, FirstFaultIsTold, OnlyFaultsAreTold, PrintedIsRead, PrintedIsNoLonger, PrintedIsShort, WhatIsReadIsReadAgain, ReadIsAcl, EntriesAllow, EntriesName}
+use Rattle.dm_acl.specs.Laws.{WhatIsReadIsMeant, WhatIsWrittenIsRead, has_no, front_text, IsBehind, HasFaultAt}
+use Rattle.dm_acl.specs.Laws.{IsRefusedAt, FirstFaultIsTold, OnlyFaultsAreTold, PrintedIsRead, PrintedIsNoLonger}
+use Rattle.dm_acl.specs.Laws.{PrintedIsShort, WhatIsReadIsReadAgain, ReadIsAcl, EntriesAllow, EntriesName}
 use Rattle.dm_acl.proofs.Parts.{some-parts}
 use Rattle.dm_acl.proofs.Splits.{none_passes, split_joined, clear_split, joined_split}
 use Rattle.dm_acl.proofs.Commands.{AreNew, new_of_once, once_from_new, has_from_named, named_of_has}
@@ -55,7 +60,8 @@ some_map : (es : List Entry) → 0 < length (map entry_text es) → 0 < length e
 some_map [] h = h
 some_map (e ∷ es) h = omega arith
 
-taken : (text : List ℕ) (acl : Entries) → parse_of text ≡ Ok acl → (es : List Entry) × IsTextOf es text × (acl ≡ meaning es)
+taken : (text : List ℕ) (acl : Entries) → parse_of text ≡ Ok acl
+    → (es : List Entry) × IsTextOf es text × (acl ≡ meaning es)
 taken text acl h =
     let short = read_short text acl h in
     let got = parts_taken (parts_in text) no_entries acl 0 (sym (parse_short text short) ∙ h) in
@@ -92,15 +98,18 @@ printed_is_short text acl h =
 
 -- ---- what is in the grammar is read
 
-clear_entries : (es : List Entry) → AllByRecursion IsEntry es → AllByRecursion (λ part. has_no 38 part ≡ true) (map entry_text es)
+clear_entries : (es : List Entry) → AllByRecursion IsEntry es
+    → AllByRecursion (λ part. has_no 38 part ≡ true) (map entry_text es)
 clear_entries [] h = tt
 clear_entries (e ∷ es) h = (clear_entry e h.0, clear_entries es h.1)
 
-parts_of : (es : List Entry) → 0 < length es → AllByRecursion IsEntry es → parts_in (entries_text es) ≡ map entry_text es
+parts_of : (es : List Entry) → 0 < length es → AllByRecursion IsEntry es
+    → parts_in (entries_text es) ≡ map entry_text es
 parts_of [] some good = absurd (omega arith)
 parts_of (e ∷ es) some good = split_joined 38 (entry_text e) (map entry_text es) (clear_entries (e ∷ es) good)
 
-written : (es : List Entry) (text : List ℕ) → 0 < length es → AllByRecursion IsEntry es → AreNew no_entries es → text ≡ entries_text es → length text ≤ 4096
+written : (es : List Entry) (text : List ℕ) → 0 < length es → AllByRecursion IsEntry es → AreNew no_entries es
+    → text ≡ entries_text es → length text ≤ 4096
     → parse_of text ≡ Ok (meaning es)
 written es text some good new is short =
     parse_short text short
@@ -113,7 +122,8 @@ what_is_written_is_read es text is = written es text is.some is.good (new_of_onc
 pub printed_is_read : PrintedIsRead
 unfolding printed
 printed_is_read acl is short =
-    written (entries_in acl) (entries_text (entries_in acl)) (entries_some acl is) (entries_good acl is) (entries_new acl is) refl short
+    written (entries_in acl) (entries_text (entries_in acl)) (entries_some acl is) (entries_good acl is)
+    (entries_new acl is) refl short
     ∙ ap (λ a. Ok a) (entries_mean acl is)
 
 pub what_is_read_is_read_again : WhatIsReadIsReadAgain
@@ -125,7 +135,8 @@ behind_text : List (List ℕ) → List ℕ
 behind_text [] = []
 behind_text (l ∷ ls) = 38 ∷ join_with_byte 38 (l ∷ ls)
 
-joined_more : (x : List ℕ) (xs : List (List ℕ)) (y : List ℕ) (ys : List (List ℕ)) → join_with_byte 38 (x ∷ (xs ++ y ∷ ys)) ≡ x ++ 38 ∷ join_with_byte 38 (xs ++ y ∷ ys)
+joined_more : (x : List ℕ) (xs : List (List ℕ)) (y : List ℕ) (ys : List (List ℕ))
+    → join_with_byte 38 (x ∷ (xs ++ y ∷ ys)) ≡ x ++ 38 ∷ join_with_byte 38 (xs ++ y ∷ ys)
 joined_more x [] y ys = refl
 joined_more x (z ∷ zs) y ys = refl
 
@@ -138,7 +149,8 @@ joined_part part (l ∷ ls) = refl
 regroup : (e front more : List ℕ) → e ++ 38 ∷ (front ++ more) ≡ ((e ++ 38 ∷ []) ++ front) ++ more
 regroup e front more = sym (append_assoc (e ++ 38 ∷ []) front more ∙ append_assoc e (38 ∷ []) (front ++ more))
 
-joined_front : (es : List Entry) (part : List ℕ) (later : List (List ℕ)) → join_with_byte 38 (map entry_text es ++ part ∷ later) ≡ front_text es ++ (part ++ behind_text later)
+joined_front : (es : List Entry) (part : List ℕ) (later : List (List ℕ))
+    → join_with_byte 38 (map entry_text es ++ part ∷ later) ≡ front_text es ++ (part ++ behind_text later)
 joined_front [] part later = joined_part part later
 joined_front (e ∷ es) part later =
     joined_more (entry_text e) (map entry_text es) part later
@@ -150,7 +162,8 @@ unfolding behind_text
 is_behind [] = tt
 is_behind (l ∷ ls) = refl
 
-part_clear : (xs : List (List ℕ)) (part : List ℕ) (later : List (List ℕ)) → AllByRecursion (λ part. has_no 38 part ≡ true) (xs ++ part ∷ later) → has_no 38 part ≡ true
+part_clear : (xs : List (List ℕ)) (part : List ℕ) (later : List (List ℕ))
+    → AllByRecursion (λ part. has_no 38 part ≡ true) (xs ++ part ∷ later) → has_no 38 part ≡ true
 part_clear [] part later h = h.0
 part_clear (x ∷ xs) part later h = part_clear xs part later h.1
 
@@ -161,8 +174,12 @@ fault_of text at s = record {
   rest = behind_text s.later;
   good = s.good;
   once = (once_from_new s.before no_entries s.new).0;
-  text_is = sym (joined_split 38 text) ∙ ap (join_with_byte 38) s.parts_are ∙ joined_front s.before s.part s.later ∙ sym (append_assoc (front_text s.before) s.part (behind_text s.later));
-  whole = part_clear (map entry_text s.before) s.part s.later (subst (λ ps. AllByRecursion (λ part. has_no 38 part ≡ true) ps) s.parts_are (clear_split 38 text));
+  text_is =
+      sym (joined_split 38 text) ∙ ap (join_with_byte 38) s.parts_are ∙ joined_front s.before s.part s.later
+      ∙ sym (append_assoc (front_text s.before) s.part (behind_text s.later));
+  whole =
+      part_clear (map entry_text s.before) s.part s.later
+      (subst (λ ps. AllByRecursion (λ part. has_no 38 part ≡ true) ps) s.parts_are (clear_split 38 text));
   behind = is_behind s.later;
   fault = λ e good is. named_of_has s.before e.right (s.fault e good is);
   at_is = omega (arith, s.bad_is);
@@ -176,14 +193,17 @@ told text at h = by_length (short_or_long text)
   where
     by_length : (4096 < length text) ⊎ (length text ≤ 4096) → IsRefusedAt text at
     by_length (inl long) = inl (long, same_fault at 4096 (sym h ∙ parse_long text long))
-    by_length (inr short) = inr (short, fault_of text at (parts_stop (parts_in text) no_entries 0 at (sym (parse_short text short) ∙ h)))
+    by_length (inr short) =
+        inr (short, fault_of text at (parts_stop (parts_in text) no_entries 0 at (sym (parse_short text short) ∙ h)))
 
 -- a text is cut behind the entries before a fault
-cut_front : (es : List Entry) (more : List ℕ) → AllByRecursion IsEntry es → parts_in (front_text es ++ more) ≡ map entry_text es ++ parts_in more
+cut_front : (es : List Entry) (more : List ℕ) → AllByRecursion IsEntry es
+    → parts_in (front_text es ++ more) ≡ map entry_text es ++ parts_in more
 cut_front [] more good = refl
 cut_front (e ∷ es) more good =
     ap parts_in (sym (regroup (entry_text e) (front_text es) more))
-    ∙ slice_split_at (λ b. b == 38) (entry_text e) 38 (front_text es ++ more) (none_passes 38 (entry_text e) (clear_entry e good.0)) refl
+    ∙ slice_split_at (λ b. b == 38) (entry_text e) 38 (front_text es ++ more)
+    (none_passes 38 (entry_text e) (clear_entry e good.0)) refl
     ∙ ap (λ ps. entry_text e ∷ ps) (cut_front es more good.1)
 
 later_in : List ℕ → List (List ℕ)
@@ -192,7 +212,8 @@ later_in (b ∷ bs) = parts_in bs
 
 cut_part : (part rest : List ℕ) → has_no 38 part ≡ true → IsBehind rest → parts_in (part ++ rest) ≡ part ∷ later_in rest
 unfolding later_in
-cut_part part [] clear h = ap parts_in (append-nil part) ∙ slice_split_none (λ b. b == 38) part (none_passes 38 part clear)
+cut_part part [] clear h =
+    ap parts_in (append-nil part) ∙ slice_split_none (λ b. b == 38) part (none_passes 38 part clear)
 cut_part part (b ∷ bs) clear h =
     ap (λ b. parts_in (part ++ b ∷ bs)) h
     ∙ slice_split_at (λ b. b == 38) part 38 bs (none_passes 38 part clear) refl
@@ -205,7 +226,8 @@ refused text at short f =
     ∙ cut_front f.before (f.part ++ f.rest) f.good
     ∙ ap (λ ps. map entry_text f.before ++ ps) (cut_part f.part f.rest f.whole f.behind)
     )
-    ∙ parts_stopped f.before no_entries 0 f.part (later_in f.rest) f.good (new_of_once f.before f.once) (λ e good is. has_from_named f.before no_entries e.right (f.fault e good is))
+    ∙ parts_stopped f.before no_entries 0 f.part (later_in f.rest) f.good (new_of_once f.before f.once)
+    (λ e good is. has_from_named f.before no_entries e.right (f.fault e good is))
     ∙ ap (λ n. Err (error.Malformed n)) (omega (arith, f.at_is))
 
 refuses : (text : List ℕ) (at : ℕ) → IsRefusedAt text at → parse_of text ≡ Err (error.Malformed at)
@@ -235,8 +257,10 @@ entries_name es right = (named_of_has es right, has_from_named es no_entries rig
 
 -- ---- the reader of a whole text
 
-pub answers_short : (text : List ℕ) (r : Result Entries AclError) → length text ≤ 4096 → Answers r (after_parts no_entries 0 (parts_in text)) → Answers r (parse_of text)
+pub answers_short : (text : List ℕ) (r : Result Entries AclError) → length text ≤ 4096
+    → Answers r (after_parts no_entries 0 (parts_in text)) → Answers r (parse_of text)
 answers_short text r short h = subst (Answers r) (sym (parse_short text short)) h
 
-pub read_acl : (text : List ℕ) (acl : Entries) → length text ≤ 4096 → after_parts no_entries 0 (parts_in text) ≡ Ok acl → IsAcl acl
+pub read_acl : (text : List ℕ) (acl : Entries) → length text ≤ 4096 → after_parts no_entries 0 (parts_in text) ≡ Ok acl
+    → IsAcl acl
 read_acl text acl short h = read_is_acl text acl (parse_short text short ∙ h)

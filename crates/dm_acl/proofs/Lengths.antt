@@ -1,5 +1,6 @@
 -- How long texts are: what is read is printed in no more bytes.
-use Rattle.std.proofs.Common.{◌≡◌, ◌≤◌, ◌+◌, ℕ, List, [], ◌∷◌, ◌++◌, length, map, arith, refl, ap, ◌∙◌, Bool, true, false, if◌then◌else◌, bytes_eq, Option, Some, None}
+use Rattle.std.proofs.Common.{◌≡◌, ◌≤◌, ◌+◌, ℕ, List, [], ◌∷◌, ◌++◌, length, map, arith, refl, ap, ◌∙◌, Bool, true}
+use Rattle.std.proofs.Common.{false, if◌then◌else◌, bytes_eq, Option, Some, None}
 use Rattle.std.specs.List.{join_with_byte, list_any}
 use Rattle.std.proofs.lemmas.List.{length-append, map-append}
 use Rattle.dm_acl.specs.declared.values.Right.{Right}
@@ -8,7 +9,9 @@ use Rattle.dm_acl.specs.declared.values.Servers.{Servers}
 use Rattle.dm_acl.specs.declared.values.Servers.TheVariants.{Everybody, Named}
 use Rattle.dm_acl.specs.declared.values.Entry.{Entry}
 use Rattle.dm_acl.specs.declared.values.Entries.{Entries}
-use Rattle.dm_acl.specs.Grammar.{servers_text, head_of, entry_text, entries_text, with_name, with_names, unrepeated, meant, meant_entry, with_servers, with_entry, with_entries, no_entries, entry_for, entries_in, printed}
+use Rattle.dm_acl.specs.Grammar.{servers_text, head_of, entry_text, entries_text, with_name, with_names, unrepeated}
+use Rattle.dm_acl.specs.Grammar.{meant, meant_entry, with_servers, with_entry, with_entries, no_entries, entry_for}
+use Rattle.dm_acl.specs.Grammar.{entries_in, printed}
 
 -- the bytes of pieces, and one for each
 abbrev size : List (List ℕ) → ℕ
@@ -28,7 +31,8 @@ joined_size c x (y ∷ ys) =
 
 -- ---- names without repeats
 
-name_by : (found : Bool) (names : List (List ℕ)) (name : List ℕ) → size (if found then names else names ++ name ∷ []) ≤ size names + (length name + 1)
+name_by : (found : Bool) (names : List (List ℕ)) (name : List ℕ)
+    → size (if found then names else names ++ name ∷ []) ≤ size names + (length name + 1)
 name_by true names name = omega arith
 name_by false names name = let e = size_append names (name ∷ []) in omega (arith, e)
 
@@ -39,7 +43,8 @@ names_size names (x ∷ xs) =
     let b = name_by (list_any (λ other. bytes_eq other x) names) names x in
     omega (arith, a, b)
 
-joined_shorter : (c : ℕ) (xs ys : List (List ℕ)) → size xs ≤ size ys → length (join_with_byte c xs) ≤ length (join_with_byte c ys)
+joined_shorter : (c : ℕ) (xs ys : List (List ℕ)) → size xs ≤ size ys
+    → length (join_with_byte c xs) ≤ length (join_with_byte c ys)
 joined_shorter c [] ys h = omega arith
 joined_shorter c (x ∷ xs) [] h = absurd (omega (arith, h))
 joined_shorter c (x ∷ xs) (y ∷ ys) h =
@@ -53,7 +58,8 @@ meant_shorter (Named names) =
     let h = names_size [] names in
     joined_shorter 43 (unrepeated names) names (omega (arith, h))
 
-entry_shorter : (r : Right) (s : Servers) → length (head_of r ++ servers_text (meant s)) ≤ length (head_of r ++ servers_text s)
+entry_shorter : (r : Right) (s : Servers)
+    → length (head_of r ++ servers_text (meant s)) ≤ length (head_of r ++ servers_text s)
 entry_shorter r s =
     let h = meant_shorter s in
     let a = length-append (head_of r) (servers_text (meant s)) in
@@ -68,7 +74,9 @@ cost r None = 0
 cost r (Some s) = length (head_of r ++ servers_text s) + 1
 
 total : Entries → ℕ
-total acl = cost right.Add acl.add + cost right.Delete acl.delete + cost right.Exec acl.exec + cost right.Get acl.get + cost right.Replace acl.replace
+total acl =
+    cost right.Add acl.add + cost right.Delete acl.delete + cost right.Exec acl.exec + cost right.Get acl.get
+    + cost right.Replace acl.replace
 
 put_total : (acl : Entries) (r : Right) (s : Servers) → total (with_servers acl r s) ≤ total acl + cost r (Some s)
 unfolding total
@@ -100,12 +108,14 @@ unfolding cost
 for_size r None = refl
 for_size r (Some s) = omega arith
 
-both_size : (xs ys : List Entry) → size (map entry_text (xs ++ ys)) ≡ size (map entry_text xs) + size (map entry_text ys)
+both_size : (xs ys : List Entry)
+    → size (map entry_text (xs ++ ys)) ≡ size (map entry_text xs) + size (map entry_text ys)
 both_size xs ys = ap size (map-append entry_text xs ys) ∙ size_append (map entry_text xs) (map entry_text ys)
 
 -- five lists of entries, one behind the other
 five_size : (a b c d e : List Entry) → size (map entry_text (a ++ b ++ c ++ d ++ e))
-    ≡ size (map entry_text a) + size (map entry_text b) + size (map entry_text c) + size (map entry_text d) + size (map entry_text e)
+    ≡ size (map entry_text a) + size (map entry_text b) + size (map entry_text c) + size (map entry_text d)
+    + size (map entry_text e)
 five_size a b c d e =
     let w = both_size (a ++ b ++ c ++ d) e in
     let x = both_size (a ++ b ++ c) d in
@@ -117,7 +127,8 @@ in_total : (acl : Entries) → size (map entry_text (entries_in acl)) ≡ total 
 unfolding total
 in_total acl =
     let all : size (map entry_text (entries_in acl)) ≡ _ =
-    five_size (entry_for right.Add acl.add) (entry_for right.Delete acl.delete) (entry_for right.Exec acl.exec) (entry_for right.Get acl.get) (entry_for right.Replace acl.replace) in
+    five_size (entry_for right.Add acl.add) (entry_for right.Delete acl.delete) (entry_for right.Exec acl.exec)
+    (entry_for right.Get acl.get) (entry_for right.Replace acl.replace) in
     let a = for_size right.Add acl.add in
     let d = for_size right.Delete acl.delete in
     let e = for_size right.Exec acl.exec in

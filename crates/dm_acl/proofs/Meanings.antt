@@ -1,5 +1,6 @@
 -- What the entries of a text mean, and what an access list is written as.
-use Rattle.std.proofs.Common.{◌≡◌, ◌⊎◌, inl, inr, ◌<◌, ℕ, List, [], ◌∷◌, ◌++◌, length, refl, ap, sym, ◌∙◌, subst, Bool, true, false, ◌||◌, is_some, arith, if◌then◌else◌, bytes_eq, Option, Some, None}
+use Rattle.std.proofs.Common.{◌≡◌, ◌⊎◌, inl, inr, ◌<◌, ℕ, List, [], ◌∷◌, ◌++◌, length, refl, ap, sym, ◌∙◌, subst, Bool}
+use Rattle.std.proofs.Common.{true, false, ◌||◌, is_some, arith, if◌then◌else◌, bytes_eq, Option, Some, None}
 use Rattle.std.specs.List.{AllByRecursion, list_any}
 use Rattle.std.proofs.lemmas.List.Folds.{list_any-append}
 use Rattle.std.proofs.lemmas.Slice.Eq.{bytes_eq-Decides}
@@ -9,7 +10,9 @@ use Rattle.dm_acl.specs.declared.values.Servers.{Servers}
 use Rattle.dm_acl.specs.declared.values.Servers.TheVariants.{Everybody, Named}
 use Rattle.dm_acl.specs.declared.values.Entry.{Entry}
 use Rattle.dm_acl.specs.declared.values.Entries.{Entries}
-use Rattle.dm_acl.specs.Grammar.{is_server_name, IsServers, IsEntry, Names, AreOnce, entry_of, with_name, with_names, meant, meant_entry, with_entry, with_entries, no_entries, entry_for, entries_in, AreMeant, IsAcl, allowed_by, allowed_in, allowed}
+use Rattle.dm_acl.specs.Grammar.{is_server_name, IsServers, IsEntry, Names, AreOnce, entry_of, with_name, with_names}
+use Rattle.dm_acl.specs.Grammar.{meant, meant_entry, with_entry, with_entries, no_entries, entry_for, entries_in}
+use Rattle.dm_acl.specs.Grammar.{AreMeant, IsAcl, allowed_by, allowed_in, allowed}
 use Rattle.dm_acl.specs.Laws.{Allow, is_one_of, AreDistinct, RepeatsAreLeftOut}
 use Rattle.std.proofs.lemmas.Bool.{false≢true}
 use Rattle.dm_acl.proofs.Names.{again, good_from}
@@ -22,15 +25,18 @@ meant_good Everybody h = (tt, refl)
 meant_good (Named names) h = (good_from is_server_name [] names refl h, ap (λ ns. Named ns) (again names))
 
 meant_by : (acl : Entries) (e : Entry) (r : Right) → IsEntry e → AreMeant (entry_of acl r)
-    → ((e.right ≡ r) × (entry_of (with_entry acl (meant_entry e)) r ≡ Some (meant e.servers))) ⊎ (entry_of (with_entry acl (meant_entry e)) r ≡ entry_of acl r)
+    → ((e.right ≡ r) × (entry_of (with_entry acl (meant_entry e)) r ≡ Some (meant e.servers)))
+    ⊎ (entry_of (with_entry acl (meant_entry e)) r ≡ entry_of acl r)
     → AreMeant (entry_of (with_entry acl (meant_entry e)) r)
 meant_by acl e r good had (inl same) = subst AreMeant (sym same.1) (meant_good e.servers good)
 meant_by acl e r good had (inr kept) = subst AreMeant (sym kept) had
 
-meant_all : (es : List Entry) (acl : Entries) → AllByRecursion IsEntry es → ((r : Right) → AreMeant (entry_of acl r)) → (r : Right) → AreMeant (entry_of (with_entries acl es) r)
+meant_all : (es : List Entry) (acl : Entries) → AllByRecursion IsEntry es → ((r : Right) → AreMeant (entry_of acl r))
+    → (r : Right) → AreMeant (entry_of (with_entries acl es) r)
 meant_all [] acl good had r = had r
 meant_all (e ∷ es) acl good had r =
-    meant_all es (with_entry acl (meant_entry e)) good.1 (λ r. meant_by acl e r good.0 (had r) (put acl e.right r (meant e.servers))) r
+    meant_all es (with_entry acl (meant_entry e)) good.1
+    (λ r. meant_by acl e r good.0 (had r) (put acl e.right r (meant e.servers))) r
 
 pub acl_of : (es : List Entry) → 0 < length es → AllByRecursion IsEntry es → IsAcl (with_entries no_entries es)
 acl_of [] some good = absurd (omega arith)
@@ -41,11 +47,13 @@ acl_of (e ∷ es) some good = record {
 
 -- ---- the entries in the order of the commands mean the access list
 
-all_append : (xs ys : List Entry) → AllByRecursion IsEntry xs → AllByRecursion IsEntry ys → AllByRecursion IsEntry (xs ++ ys)
+all_append : (xs ys : List Entry) → AllByRecursion IsEntry xs → AllByRecursion IsEntry ys
+    → AllByRecursion IsEntry (xs ++ ys)
 all_append [] ys a b = b
 all_append (x ∷ xs) ys a b = (a.0, all_append xs ys a.1 b)
 
-new_append : (xs ys : List Entry) (acl : Entries) → AreNew acl xs → AreNew (with_entries acl xs) ys → AreNew acl (xs ++ ys)
+new_append : (xs ys : List Entry) (acl : Entries) → AreNew acl xs → AreNew (with_entries acl xs) ys
+    → AreNew acl (xs ++ ys)
 new_append [] ys acl a b = b
 new_append (x ∷ xs) ys acl a b = (a.0, new_append xs ys (with_entry acl (meant_entry x)) a.1 b)
 
@@ -67,14 +75,16 @@ own_option acl right.Exec = refl
 own_option acl right.Get = refl
 own_option acl right.Replace = refl
 
-some_option : (acl : Entries) (r : Right) (s : Servers) → with_entries acl (record { right = r; servers = s } ∷ []) ≡ with_option acl r (Some (meant s))
+some_option : (acl : Entries) (r : Right) (s : Servers)
+    → with_entries acl (record { right = r; servers = s } ∷ []) ≡ with_option acl r (Some (meant s))
 some_option acl right.Add s = refl
 some_option acl right.Delete s = refl
 some_option acl right.Exec s = refl
 some_option acl right.Get s = refl
 some_option acl right.Replace s = refl
 
-for_option : (acl : Entries) (r : Right) (o : Option Servers) → AreMeant o → entry_of acl r ≡ None → with_entries acl (entry_for r o) ≡ with_option acl r o
+for_option : (acl : Entries) (r : Right) (o : Option Servers) → AreMeant o → entry_of acl r ≡ None
+    → with_entries acl (entry_for r o) ≡ with_option acl r o
 for_option acl r None h free = sym (own_option acl r) ∙ ap (with_option acl r) free
 for_option acl r (Some s) h free = some_option acl r s ∙ ap (λ s. with_option acl r (Some s)) h.1
 
@@ -92,11 +102,16 @@ record Mean (es : List Entry) (acl : Entries) : Type 0 where
   new : AreNew no_entries es
   means : with_entries no_entries es ≡ acl
 
-mean_more : (es : List Entry) (acl : Entries) (r : Right) (o : Option Servers) → AreMeant o → entry_of acl r ≡ None → Mean es acl → Mean (es ++ entry_for r o) (with_option acl r o)
+mean_more : (es : List Entry) (acl : Entries) (r : Right) (o : Option Servers) → AreMeant o → entry_of acl r ≡ None
+    → Mean es acl → Mean (es ++ entry_for r o) (with_option acl r o)
 mean_more es acl r o h free m = record {
   good = all_append es (entry_for r o) m.good (for_good r o h);
-  new = new_append es (entry_for r o) no_entries m.new (subst (λ a. AreNew a (entry_for r o)) (sym m.means) (for_new acl r o free));
-  means = with_append es (entry_for r o) no_entries ∙ ap (λ a. with_entries a (entry_for r o)) m.means ∙ for_option acl r o h free;
+  new =
+      new_append es (entry_for r o) no_entries m.new
+      (subst (λ a. AreNew a (entry_for r o)) (sym m.means) (for_new acl r o free));
+  means =
+      with_append es (entry_for r o) no_entries ∙ ap (λ a. with_entries a (entry_for r o)) m.means
+      ∙ for_option acl r o h free;
 }
 
 mean_in : (acl : Entries) → IsAcl acl → Mean (entries_in acl) acl
@@ -108,9 +123,14 @@ mean_in acl is =
     let none : Mean [] no_entries = record { good = tt; new = tt; means = refl } in
     let m1 = mean_more [] no_entries right.Add acl.add (is.good right.Add) refl none in
     let m2 = mean_more (entry_for right.Add acl.add) a1 right.Delete acl.delete (is.good right.Delete) refl m1 in
-    let m3 = mean_more (entry_for right.Add acl.add ++ entry_for right.Delete acl.delete) a2 right.Exec acl.exec (is.good right.Exec) refl m2 in
-    let m4 = mean_more (entry_for right.Add acl.add ++ entry_for right.Delete acl.delete ++ entry_for right.Exec acl.exec) a3 right.Get acl.get (is.good right.Get) refl m3 in
-    mean_more (entry_for right.Add acl.add ++ entry_for right.Delete acl.delete ++ entry_for right.Exec acl.exec ++ entry_for right.Get acl.get) a4 right.Replace acl.replace (is.good right.Replace) refl m4
+    let m3 =
+    mean_more (entry_for right.Add acl.add ++ entry_for right.Delete acl.delete) a2 right.Exec acl.exec
+    (is.good right.Exec) refl m2 in
+    let m4 =
+    mean_more (entry_for right.Add acl.add ++ entry_for right.Delete acl.delete ++ entry_for right.Exec acl.exec) a3
+    right.Get acl.get (is.good right.Get) refl m3 in
+    mean_more (entry_for right.Add acl.add ++ entry_for right.Delete acl.delete ++ entry_for right.Exec acl.exec
+    ++ entry_for right.Get acl.get) a4 right.Replace acl.replace (is.good right.Replace) refl m4
 
 pub entries_good : (acl : Entries) → IsAcl acl → AllByRecursion IsEntry (entries_in acl)
 entries_good acl is = (mean_in acl is).good
@@ -134,7 +154,8 @@ entries_some acl is =
 -- ---- whom entries allow
 
 -- a name stays among names without repeats
-found_any : (names : List (List ℕ)) (name server : List ℕ) → list_any (λ other. bytes_eq other name) names ≡ true → name ≡ server → list_any (λ n. bytes_eq n server) names ≡ true
+found_any : (names : List (List ℕ)) (name server : List ℕ) → list_any (λ other. bytes_eq other name) names ≡ true
+    → name ≡ server → list_any (λ n. bytes_eq n server) names ≡ true
 found_any names name server found same = subst (λ s. list_any (λ n. bytes_eq n s) names ≡ true) same found
 
 or_same : (a b : Bool) → (b ≡ true → a ≡ true) → a ≡ (a || b)
@@ -146,10 +167,13 @@ or_false : (a : Bool) → (a || false) ≡ a
 or_false true = refl
 or_false false = refl
 
-any_by : (found : Bool) (names : List (List ℕ)) (name server : List ℕ) → list_any (λ other. bytes_eq other name) names ≡ found
-    → list_any (λ n. bytes_eq n server) (if found then names else names ++ name ∷ []) ≡ (list_any (λ n. bytes_eq n server) names || bytes_eq name server)
+any_by : (found : Bool) (names : List (List ℕ)) (name server : List ℕ)
+    → list_any (λ other. bytes_eq other name) names ≡ found
+    → list_any (λ n. bytes_eq n server) (if found then names else names ++ name ∷ [])
+    ≡ (list_any (λ n. bytes_eq n server) names || bytes_eq name server)
 any_by true names name server is =
-    or_same (list_any (λ n. bytes_eq n server) names) (bytes_eq name server) (λ h. found_any names name server is ((bytes_eq-Decides name server).0 h))
+    or_same (list_any (λ n. bytes_eq n server) names) (bytes_eq name server)
+    (λ h. found_any names name server is ((bytes_eq-Decides name server).0 h))
 any_by false names name server is =
     list_any-append (λ n. bytes_eq n server) names (name ∷ [])
     ∙ ap (λ b. list_any (λ n. bytes_eq n server) names || b) (or_false (bytes_eq name server))
@@ -159,11 +183,13 @@ or_assoc true b c = refl
 or_assoc false b c = refl
 
 any_kept : (names more : List (List ℕ)) (server : List ℕ)
-    → list_any (λ n. bytes_eq n server) (with_names names more) ≡ (list_any (λ n. bytes_eq n server) names || list_any (λ n. bytes_eq n server) more)
+    → list_any (λ n. bytes_eq n server) (with_names names more)
+    ≡ (list_any (λ n. bytes_eq n server) names || list_any (λ n. bytes_eq n server) more)
 any_kept names [] server = sym (or_false (list_any (λ n. bytes_eq n server) names))
 any_kept names (x ∷ xs) server =
     any_kept (with_name names x) xs server
-    ∙ ap (λ b. b || list_any (λ n. bytes_eq n server) xs) (any_by (list_any (λ other. bytes_eq other x) names) names x server refl)
+    ∙ ap (λ b. b || list_any (λ n. bytes_eq n server) xs)
+    (any_by (list_any (λ other. bytes_eq other x) names) names x server refl)
     ∙ or_assoc (list_any (λ n. bytes_eq n server) names) (bytes_eq x server) (list_any (λ n. bytes_eq n server) xs)
 
 -- ---- each name stands once
@@ -181,7 +207,8 @@ or_parts : (a b : Bool) → (a || b) ≡ false → (a ≡ false) × (b ≡ false
 or_parts true b e = cc
 or_parts false b e = (refl, e)
 
-distinct_push : (names : List (List ℕ)) (name : List ℕ) → AreDistinct names → is_one_of name names ≡ false → AreDistinct (names ++ name ∷ [])
+distinct_push : (names : List (List ℕ)) (name : List ℕ) → AreDistinct names → is_one_of name names ≡ false
+    → AreDistinct (names ++ name ∷ [])
 distinct_push [] name h none = (refl, tt)
 distinct_push (n ∷ ns) name h none =
     let parts = or_parts (bytes_eq n name) (is_one_of name ns) none in (
@@ -191,7 +218,8 @@ distinct_push (n ∷ ns) name h none =
       distinct_push ns name h.1 parts.1,
     )
 
-distinct_by : (found : Bool) (names : List (List ℕ)) (name : List ℕ) → is_one_of name names ≡ found → AreDistinct names → AreDistinct (if found then names else names ++ name ∷ [])
+distinct_by : (found : Bool) (names : List (List ℕ)) (name : List ℕ) → is_one_of name names ≡ found → AreDistinct names
+    → AreDistinct (if found then names else names ++ name ∷ [])
 distinct_by true names name is h = h
 distinct_by false names name is h = distinct_push names name h is
 
@@ -208,36 +236,49 @@ meant_allows : (s : Servers) (server : List ℕ) → allowed_by (meant s) server
 meant_allows Everybody server = refl
 meant_allows (Named names) server = any_kept [] names server
 
-not_named : (acl : Entries) (e : Entry) (r : Right) → (e.right ≡ r → ⊥) → entry_of (with_entry acl (meant_entry e)) r ≡ entry_of acl r
+not_named : (acl : Entries) (e : Entry) (r : Right) → (e.right ≡ r → ⊥)
+    → entry_of (with_entry acl (meant_entry e)) r ≡ entry_of acl r
 not_named acl e r other = by_put (put acl e.right r (meant e.servers))
   where
-    by_put : ((e.right ≡ r) × (entry_of (with_entry acl (meant_entry e)) r ≡ Some (meant e.servers))) ⊎ (entry_of (with_entry acl (meant_entry e)) r ≡ entry_of acl r) → entry_of (with_entry acl (meant_entry e)) r ≡ entry_of acl r
+    by_put : ((e.right ≡ r) × (entry_of (with_entry acl (meant_entry e)) r ≡ Some (meant e.servers)))
+        ⊎ (entry_of (with_entry acl (meant_entry e)) r ≡ entry_of acl r)
+        → entry_of (with_entry acl (meant_entry e)) r ≡ entry_of acl r
     by_put (inl same) = absurd (other same.0)
     by_put (inr kept) = kept
 
-stays : (es : List Entry) (acl : Entries) (r : Right) → (Names es r → ⊥) → entry_of (with_entries acl es) r ≡ entry_of acl r
+stays : (es : List Entry) (acl : Entries) (r : Right) → (Names es r → ⊥)
+    → entry_of (with_entries acl es) r ≡ entry_of acl r
 stays [] acl r none = refl
-stays (e ∷ es) acl r none = stays es (with_entry acl (meant_entry e)) r (λ named. none (inr named)) ∙ not_named acl e r (λ same. none (inl same))
+stays (e ∷ es) acl r none =
+    stays es (with_entry acl (meant_entry e)) r (λ named. none (inr named))
+    ∙ not_named acl e r (λ same. none (inl same))
 
-allow_to : (es : List Entry) (acl : Entries) (server : List ℕ) (r : Right) → AreOnce es → Allow es server r → allowed (with_entries acl es) server r ≡ true
+allow_to : (es : List Entry) (acl : Entries) (server : List ℕ) (r : Right) → AreOnce es → Allow es server r
+    → allowed (with_entries acl es) server r ≡ true
 allow_to [] acl server r once h = absurd h
 allow_to (e ∷ es) acl server r once (inl here) =
-    ap (λ o. allowed_in o server) (stays es (with_entry acl (meant_entry e)) r (λ named. once.0 (subst (Names es) (sym here.0) named))
+    ap (λ o. allowed_in o server)
+    (stays es (with_entry acl (meant_entry e)) r (λ named. once.0 (subst (Names es) (sym here.0) named))
     ∙ sym (ap (entry_of (with_entry acl (meant_entry e))) here.0) ∙ put_here acl e.right (meant e.servers))
     ∙ meant_allows e.servers server ∙ here.1
 allow_to (e ∷ es) acl server r once (inr later) = allow_to es (with_entry acl (meant_entry e)) server r once.1 later
 
-allow_from : (es : List Entry) (acl : Entries) (server : List ℕ) (r : Right) → allowed (with_entries acl es) server r ≡ true → Allow es server r ⊎ (allowed acl server r ≡ true)
+allow_from : (es : List Entry) (acl : Entries) (server : List ℕ) (r : Right)
+    → allowed (with_entries acl es) server r ≡ true → Allow es server r ⊎ (allowed acl server r ≡ true)
 allow_from [] acl server r h = inr h
 allow_from (e ∷ es) acl server r h =
     by_rest (allow_from es (with_entry acl (meant_entry e)) server r h)
   where
-    by_rest : Allow es server r ⊎ (allowed (with_entry acl (meant_entry e)) server r ≡ true) → Allow (e ∷ es) server r ⊎ (allowed acl server r ≡ true)
+    by_rest : Allow es server r ⊎ (allowed (with_entry acl (meant_entry e)) server r ≡ true)
+        → Allow (e ∷ es) server r ⊎ (allowed acl server r ≡ true)
     by_rest (inl later) = inl (inr later)
     by_rest (inr now) = by_put (put acl e.right r (meant e.servers))
       where
-        by_put : ((e.right ≡ r) × (entry_of (with_entry acl (meant_entry e)) r ≡ Some (meant e.servers))) ⊎ (entry_of (with_entry acl (meant_entry e)) r ≡ entry_of acl r) → Allow (e ∷ es) server r ⊎ (allowed acl server r ≡ true)
-        by_put (inl same) = inl (inl (same.0, sym (meant_allows e.servers server) ∙ sym (ap (λ o. allowed_in o server) same.1) ∙ now))
+        by_put : ((e.right ≡ r) × (entry_of (with_entry acl (meant_entry e)) r ≡ Some (meant e.servers)))
+            ⊎ (entry_of (with_entry acl (meant_entry e)) r ≡ entry_of acl r)
+            → Allow (e ∷ es) server r ⊎ (allowed acl server r ≡ true)
+        by_put (inl same) =
+            inl (inl (same.0, sym (meant_allows e.servers server) ∙ sym (ap (λ o. allowed_in o server) same.1) ∙ now))
         by_put (inr kept) = inr (sym (ap (λ o. allowed_in o server) kept) ∙ now)
 
 none_allowed : (server : List ℕ) (r : Right) → allowed no_entries server r ≡ true → ⊥
@@ -247,8 +288,10 @@ none_allowed server r h = false_true (sym (ap (λ o. allowed_in o server) (none_
     false_true e = cc
 
 pub entries_allow : (es : List Entry) (server : List ℕ) (r : Right) → AreOnce es
-    → (allowed (with_entries no_entries es) server r ≡ true → Allow es server r) × (Allow es server r → allowed (with_entries no_entries es) server r ≡ true)
-entries_allow es server r once = (λ h. by_from (allow_from es no_entries server r h), allow_to es no_entries server r once)
+    → (allowed (with_entries no_entries es) server r ≡ true → Allow es server r)
+    × (Allow es server r → allowed (with_entries no_entries es) server r ≡ true)
+entries_allow es server r once =
+    (λ h. by_from (allow_from es no_entries server r h), allow_to es no_entries server r once)
   where
     by_from : Allow es server r ⊎ (allowed no_entries server r ≡ true) → Allow es server r
     by_from (inl h) = h

@@ -1,5 +1,6 @@
 -- What stands between the signs of a text, part by part.
-use Rattle.std.proofs.Common.{◌≡◌, ◌<◌, ◌≤◌, ◌+◌, ◌==◌, ℕ, List, [], ◌∷◌, length, drop, get_or, arith, refl, ap, sym, ◌∙◌, subst, Bool, true, false, cond, Result, Ok, Err}
+use Rattle.std.proofs.Common.{◌≡◌, ◌<◌, ◌≤◌, ◌+◌, ◌==◌, ℕ, List, [], ◌∷◌, length, drop, get_or, arith, refl, ap, sym}
+use Rattle.std.proofs.Common.{◌∙◌, subst, Bool, true, false, cond, Result, Ok, Err}
 use Rattle.std.specs.Prelude.{IsOk}
 use Rattle.std.specs.List.{slice_split, onto_first, sum_by}
 use Rattle.std.proofs.lemmas.List.{at_drop_more, at_drop_all}
@@ -36,7 +37,8 @@ pub some-parts : (c : ℕ) (text : List ℕ) → 0 < length (slice_split (λ b. 
 some-parts c [] = omega arith
 some-parts c (b ∷ bs) = some-by (b == c) b (slice_split (λ b. b == c) bs)
 
-room-by : (t : Bool) (b : ℕ) (parts : List (List ℕ)) → 0 < length parts → room (cond t ([] ∷ parts) (onto_first b parts)) ≡ room parts + 1
+room-by : (t : Bool) (b : ℕ) (parts : List (List ℕ)) → 0 < length parts
+    → room (cond t ([] ∷ parts) (onto_first b parts)) ≡ room parts + 1
 room-by true b parts h =
     let a = room-cons [] parts in
     omega (arith, a)
@@ -51,20 +53,25 @@ room-parts (b ∷ bs) =
 
 -- ---- a step
 
-took : (acl new : Entries) (at : ℕ) (u : Unit {0}) (part : List ℕ) (parts : List (List ℕ)) → Leaves (Ok u) new (after_part acl at part)
+took : (acl new : Entries) (at : ℕ) (u : Unit {0}) (part : List ℕ) (parts : List (List ℕ))
+    → Leaves (Ok u) new (after_part acl at part)
     → after_parts acl at (part ∷ parts) ≡ after_parts new (at + (length part + 1)) parts
 took acl new at u part parts h = ap (λ r. go_on r (λ next. after_parts next (at + (length part + 1)) parts)) h
 
-stopped : (bad : ℕ) (acl : Entries) (at : ℕ) (part : List ℕ) (parts : List (List ℕ)) → after_part acl at part ≡ Err (error.Malformed bad)
+stopped : (bad : ℕ) (acl : Entries) (at : ℕ) (part : List ℕ) (parts : List (List ℕ))
+    → after_part acl at part ≡ Err (error.Malformed bad)
     → after_parts acl at (part ∷ parts) ≡ Err (error.Malformed bad)
 stopped bad acl at part parts h = ap (λ r. go_on r (λ next. after_parts next (at + (length part + 1)) parts)) h
 
-next_is : (parts : List (List ℕ)) (n : ℕ) (part : List ℕ) (acl : Entries) (at : ℕ) → (n < length parts) × (part ≡ get_or parts n part)
+next_is : (parts : List (List ℕ)) (n : ℕ) (part : List ℕ) (acl : Entries) (at : ℕ)
+    → (n < length parts) × (part ≡ get_or parts n part)
     → after_parts acl at (drop n parts) ≡ after_parts acl at (part ∷ drop (n + 1) parts)
 next_is parts n part acl at turn =
-    at_drop_more (after_parts acl at) parts n part turn.0 ∙ ap (λ p. after_parts acl at (p ∷ drop (n + 1) parts)) (sym turn.1)
+    at_drop_more (after_parts acl at) parts n part turn.0
+    ∙ ap (λ p. after_parts acl at (p ∷ drop (n + 1) parts)) (sym turn.1)
 
-pub kept_more : (parts : List (List ℕ)) (n m : ℕ) (part : List ℕ) (acl new : Entries) (at : ℕ) (u : Unit {0}) (whole : Result Entries AclError)
+pub kept_more : (parts : List (List ℕ)) (n m : ℕ) (part : List ℕ) (acl new : Entries) (at : ℕ) (u : Unit {0})
+    (whole : Result Entries AclError)
     → m ≡ n + 1 → (n < length parts) × (part ≡ get_or parts n part) → Leaves (Ok u) new (after_part acl at part)
     → after_parts acl at (drop n parts) ≡ whole → after_parts new (at + (length part + 1)) (drop m parts) ≡ whole
 kept_more parts n m part acl new at u whole is turn h kept =
@@ -73,16 +80,19 @@ kept_more parts n m part acl new at u whole is turn h kept =
     ∙ sym (next_is parts n part acl at turn)
     ∙ kept
 
-pub fault_at : (parts : List (List ℕ)) (n : ℕ) (part : List ℕ) (bad : ℕ) (acl : Entries) (at : ℕ) (whole : Result Entries AclError)
+pub fault_at : (parts : List (List ℕ)) (n : ℕ) (part : List ℕ) (bad : ℕ) (acl : Entries) (at : ℕ)
+    (whole : Result Entries AclError)
     → (n < length parts) × (part ≡ get_or parts n part) → after_part acl at part ≡ Err (error.Malformed bad)
     → after_parts acl at (drop n parts) ≡ whole → whole ≡ Err (error.Malformed bad)
 fault_at parts n part bad acl at whole turn h kept =
     sym kept ∙ next_is parts n part acl at turn ∙ stopped bad acl at part (drop (n + 1) parts) h
 
-pub stopped_at : (parts : List (List ℕ)) (n : ℕ) (part : List ℕ) (e : AclError) (acl new : Entries) (at : ℕ) (whole : Result Entries AclError)
+pub stopped_at : (parts : List (List ℕ)) (n : ℕ) (part : List ℕ) (e : AclError) (acl new : Entries) (at : ℕ)
+    (whole : Result Entries AclError)
     → (n < length parts) × (part ≡ get_or parts n part) → Leaves (Err e) new (after_part acl at part)
     → after_parts acl at (drop n parts) ≡ whole → IsOk whole → Answers {T = Entries} (Err e) whole
-stopped_at parts n part (error.Malformed bad) acl new at whole turn h kept good = fault_at parts n part bad acl at whole turn h kept
+stopped_at parts n part (error.Malformed bad) acl new at whole turn h kept good =
+    fault_at parts n part bad acl at whole turn h kept
 stopped_at parts n part error.Memory acl new at whole turn h kept good = good
 
 pub room_more : (parts : List (List ℕ)) (n m : ℕ) (part : List ℕ) (at limit : ℕ)

@@ -1,5 +1,6 @@
 -- Two access lists are one where each of their entries is the same.
-use Rattle.std.proofs.Common.{◌≡◌, ℕ, List, [], ◌∷◌, refl, ap, sym, ◌∙◌, subst, Bool, true, false, ◌&&◌, bytes_eq, Option, Some, None}
+use Rattle.std.proofs.Common.{◌≡◌, ℕ, List, [], ◌∷◌, refl, ap, sym, ◌∙◌, subst, Bool, true, false, ◌&&◌, bytes_eq}
+use Rattle.std.proofs.Common.{Option, Some, None}
 use Rattle.std.proofs.lemmas.Slice.Eq.{bytes_eq-Decides}
 use Rattle.dm_acl.specs.declared.values.Servers.{Servers}
 use Rattle.dm_acl.specs.declared.values.Servers.TheVariants.{Everybody, Named}
@@ -39,7 +40,8 @@ entry_itself : (a : Option Servers) → same_entry a a ≡ true
 entry_itself None = refl
 entry_itself (Some s) = servers_itself s
 
-five : (a b c d e : Bool) → (a && b && c && d && e) ≡ true → (a ≡ true) × (b ≡ true) × (c ≡ true) × (d ≡ true) × (e ≡ true)
+five : (a b c d e : Bool) → (a && b && c && d && e) ≡ true → (a ≡ true) × (b ≡ true) × (c ≡ true) × (d ≡ true)
+    × (e ≡ true)
 five true true true true true h = (refl, refl, refl, refl, refl)
 five false b c d e h = cc
 five true false c d e h = cc
@@ -52,7 +54,9 @@ all_five a b c d e ha hb hc hd he = rw (ha, hb, hc, hd, he) refl
 
 entries_are : (x y : Entries) → same_entries x y ≡ true → x ≡ y
 entries_are x y h =
-    let all = five (same_entry x.add y.add) (same_entry x.delete y.delete) (same_entry x.exec y.exec) (same_entry x.get y.get) (same_entry x.replace y.replace) h in
+    let all =
+    five (same_entry x.add y.add) (same_entry x.delete y.delete) (same_entry x.exec y.exec) (same_entry x.get y.get)
+    (same_entry x.replace y.replace) h in
     let a = entry_is x.add y.add all.0 in
     let d = entry_is x.delete y.delete all.1 in
     let e = entry_is x.exec y.exec all.2 in
@@ -65,7 +69,9 @@ entries_are x y h =
     ∙ ap (λ (o : Option Servers). let z : Entries = record y { replace = o } in z) r
 
 entries_itself : (x : Entries) → same_entries x x ≡ true
-entries_itself x = all_five _ _ _ _ _ (entry_itself x.add) (entry_itself x.delete) (entry_itself x.exec) (entry_itself x.get) (entry_itself x.replace)
+entries_itself x =
+    all_five _ _ _ _ _ (entry_itself x.add) (entry_itself x.delete) (entry_itself x.exec) (entry_itself x.get)
+    (entry_itself x.replace)
 
 pub same_means : (r : Bool) (x y : Entries) → r ≡ same_entries x y → (r ≡ true → x ≡ y) × (x ≡ y → r ≡ true)
 same_means r x y is = (

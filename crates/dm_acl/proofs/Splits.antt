@@ -1,5 +1,6 @@
 -- Texts that are cut at a sign and joined by it.
-use Rattle.std.proofs.Common.{◌≡◌, ◌==◌, ◌&&◌, ℕ, List, [], ◌∷◌, refl, ap, ◌∙◌, Bool, true, false, not, cond, rules, All}
+use Rattle.std.proofs.Common.{◌≡◌, ◌==◌, ◌&&◌, ℕ, List, [], ◌∷◌, refl, ap, ◌∙◌, Bool, true, false, not, cond, rules}
+use Rattle.std.proofs.Common.{All}
 use Rattle.std.specs.List.{slice_split, onto_first, join_with_byte, AllByRecursion}
 use Rattle.std.proofs.lemmas.List.Splits.{slice_split_none, slice_split_at, join_with_byte-slice_split}
 use Rattle.std.proofs.lemmas.List.Sums.{AllPass-from_list_all}
@@ -24,21 +25,24 @@ itself : (n : ℕ) → (n == n) ≡ true
 itself n = search rules
 
 -- parts without the sign, joined by it, are what stands between the signs
-pub split_joined : (c : ℕ) (part : List ℕ) (parts : List (List ℕ)) → AllByRecursion (λ part. has_no c part ≡ true) (part ∷ parts)
+pub split_joined : (c : ℕ) (part : List ℕ) (parts : List (List ℕ))
+    → AllByRecursion (λ part. has_no c part ≡ true) (part ∷ parts)
     → slice_split (λ b. b == c) (join_with_byte c (part ∷ parts)) ≡ part ∷ parts
 split_joined c part [] h = slice_split_none (λ b. b == c) part (none_passes c part h.0)
 split_joined c part (next ∷ parts) h =
     slice_split_at (λ b. b == c) part c (join_with_byte c (next ∷ parts)) (none_passes c part h.0) (itself c)
     ∙ ap (λ ps. part ∷ ps) (split_joined c next parts h.1)
 
-clear_by : (t : Bool) (b c : ℕ) (parts : List (List ℕ)) → (b == c) ≡ t → AllByRecursion (λ part. has_no c part ≡ true) parts
+clear_by : (t : Bool) (b c : ℕ) (parts : List (List ℕ)) → (b == c) ≡ t
+    → AllByRecursion (λ part. has_no c part ≡ true) parts
     → AllByRecursion (λ part. has_no c part ≡ true) (cond t ([] ∷ parts) (onto_first b parts))
 clear_by true b c parts is h = (refl, h)
 clear_by false b c [] is h = (both_true (not (b == c)) true (ap not is) refl, tt)
 clear_by false b c (part ∷ parts) is h = (both_true (not (b == c)) (has_no c part) (ap not is) h.0, h.1)
 
 -- what stands between the signs has none
-pub clear_split : (c : ℕ) (text : List ℕ) → AllByRecursion (λ part. has_no c part ≡ true) (slice_split (λ b. b == c) text)
+pub clear_split : (c : ℕ) (text : List ℕ)
+    → AllByRecursion (λ part. has_no c part ≡ true) (slice_split (λ b. b == c) text)
 clear_split c [] = (refl, tt)
 clear_split c (b ∷ bs) = clear_by (b == c) b c (slice_split (λ b. b == c) bs) refl (clear_split c bs)
 

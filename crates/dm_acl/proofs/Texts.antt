@@ -1,5 +1,6 @@
 -- How the parts of a text stand one behind the other.
-use Rattle.std.proofs.Common.{◌≡◌, ℕ, List, [], ◌∷◌, ◌++◌, map, refl, ap, sym, ◌∙◌, append_assoc, append-nil, Option, Some, None}
+use Rattle.std.proofs.Common.{◌≡◌, ℕ, List, [], ◌∷◌, ◌++◌, map, refl, ap, sym, ◌∙◌, append_assoc, append-nil, Option}
+use Rattle.std.proofs.Common.{Some, None}
 use Rattle.std.specs.List.{join_with_byte, flat_map}
 use Rattle.dm_acl.specs.declared.values.Right.{Right}
 use Rattle.dm_acl.specs.declared.values.Right.TheVariants as right
@@ -35,11 +36,16 @@ more : (out : List ℕ) (xs ys : List Entry) → add_texts (add_texts out xs) ys
 more out [] ys = refl
 more out (x ∷ xs) ys = more (behind_sign out (entry_text x)) xs ys
 
-behind : (b : ℕ) (bs : List ℕ) (es : List Entry) → add_texts (b ∷ bs) es ≡ (b ∷ bs) ++ flat_map (λ y. 38 ∷ y) (map entry_text es)
+behind : (b : ℕ) (bs : List ℕ) (es : List Entry)
+    → add_texts (b ∷ bs) es ≡ (b ∷ bs) ++ flat_map (λ y. 38 ∷ y) (map entry_text es)
 behind b bs [] = sym (append-nil (b ∷ bs))
-behind b bs (e ∷ es) = behind b (bs ++ 38 ∷ entry_text e) es ∙ append_assoc (b ∷ bs) (38 ∷ entry_text e) (flat_map (λ y. 38 ∷ y) (map entry_text es))
+behind b bs (e ∷ es) =
+    behind b (bs ++ 38 ∷ entry_text e) es
+    ∙ append_assoc (b ∷ bs) (38 ∷ entry_text e) (flat_map (λ y. 38 ∷ y) (map entry_text es))
 
-first : (r : Right) (s : Servers) (es : List Entry) → add_texts (head_of r ++ servers_text s) es ≡ (head_of r ++ servers_text s) ++ flat_map (λ y. 38 ∷ y) (map entry_text es)
+first : (r : Right) (s : Servers) (es : List Entry)
+    → add_texts (head_of r ++ servers_text s) es ≡ (head_of r ++ servers_text s)
+    ++ flat_map (λ y. 38 ∷ y) (map entry_text es)
 first right.Add s es = behind _ _ es
 first right.Delete s es = behind _ _ es
 first right.Exec s es = behind _ _ es
@@ -50,11 +56,14 @@ all : (es : List Entry) → add_texts [] es ≡ entries_text es
 all [] = refl
 all (e ∷ es) = first e.right e.servers es ∙ sym (joined 38 (entry_text e) (map entry_text es))
 
-two : (out next : List ℕ) (xs : List Entry) (r : Right) (o : Option Servers) → out ≡ add_texts [] xs → next ≡ with_entry_text out r o → next ≡ add_texts [] (xs ++ entry_for r o)
-two out next xs r o before e = e ∙ one out r o ∙ ap (λ t. add_texts t (entry_for r o)) before ∙ more [] xs (entry_for r o)
+two : (out next : List ℕ) (xs : List Entry) (r : Right) (o : Option Servers) → out ≡ add_texts [] xs
+    → next ≡ with_entry_text out r o → next ≡ add_texts [] (xs ++ entry_for r o)
+two out next xs r o before e =
+    e ∙ one out r o ∙ ap (λ t. add_texts t (entry_for r o)) before ∙ more [] xs (entry_for r o)
 
 pub written : (acl : Entries) (a b c d e : List ℕ)
-    → a ≡ with_entry_text [] right.Add acl.add → b ≡ with_entry_text a right.Delete acl.delete → c ≡ with_entry_text b right.Exec acl.exec
+    → a ≡ with_entry_text [] right.Add acl.add → b ≡ with_entry_text a right.Delete acl.delete
+    → c ≡ with_entry_text b right.Exec acl.exec
     → d ≡ with_entry_text c right.Get acl.get → e ≡ with_entry_text d right.Replace acl.replace → e ≡ printed acl
 unfolding printed
 written acl a b c d e ha hb hc hd he =

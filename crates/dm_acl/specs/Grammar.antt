@@ -1,5 +1,6 @@
 -- The grammar of access lists: what is written, and what it means.
-use Rattle.std.specs.Prelude.{◌≡◌, ◌⊎◌, ◌≤◌, ◌<◌, ◌&&◌, ℕ, Bool, true, false, not, if◌then◌else◌, nat_lt, nat_le, List, [], ◌∷◌, ◌++◌, length, map, codes, bytes_eq, Option, Some, None, is_some, ⊤}
+use Rattle.std.specs.Prelude.{◌≡◌, ◌⊎◌, ◌≤◌, ◌<◌, ◌&&◌, ℕ, Bool, true, false, not, if◌then◌else◌, nat_lt, nat_le, List}
+use Rattle.std.specs.Prelude.{[], ◌∷◌, ◌++◌, length, map, codes, bytes_eq, Option, Some, None, is_some, ⊤}
 use Rattle.std.specs.List.{AllByRecursion, list_all, list_any, join_with_byte}
 use Rattle.dm_base.specs.Fields.{is_visible, is_acl_sign}
 use Rattle.dm_acl.specs.declared.values.Right.{Right}

@@ -1,17 +1,20 @@
 -- What reading, printing and the tests of an access list mean, in the words of the grammar.
-use Rattle.std.specs.Prelude.{◌≡◌, ◌⊎◌, ◌↔◌, ◌==◌, ◌<◌, ◌≤◌, ℕ, Bool, true, false, not, bytes_eq, List, [], ◌∷◌, ◌++◌, length, Ok, Err, ⊤}
+use Rattle.std.specs.Prelude.{◌≡◌, ◌⊎◌, ◌↔◌, ◌==◌, ◌<◌, ◌≤◌, ℕ, Bool, true, false, not, bytes_eq, List, [], ◌∷◌, ◌++◌}
+use Rattle.std.specs.Prelude.{length, Ok, Err, ⊤}
 use Rattle.std.specs.List.{AllByRecursion, list_all, list_any, flat_map}
 use Rattle.dm_acl.specs.declared.values.Right.{Right}
 use Rattle.dm_acl.specs.declared.values.AclError.TheVariants as error
 use Rattle.dm_acl.specs.declared.values.Entry.{Entry}
 use Rattle.dm_acl.specs.declared.values.Entries.{Entries}
-use Rattle.dm_acl.specs.Grammar.{IsEntry, Names, AreOnce, entry_text, IsTextOf, meaning, printed, IsAcl, allowed, has_entry, allowed_by, unrepeated}
+use Rattle.dm_acl.specs.Grammar.{IsEntry, Names, AreOnce, entry_text, IsTextOf, meaning, printed, IsAcl, allowed}
+use Rattle.dm_acl.specs.Grammar.{has_entry, allowed_by, unrepeated}
 use Rattle.dm_acl.specs.Reading.{parse_of}
 
 -- ---- a text is read exactly where it is one, as what it means
 
 abbrev pub WhatIsReadIsMeant : Type 0
-WhatIsReadIsMeant = (text : List ℕ) (acl : Entries) → parse_of text ≡ Ok acl → (es : List Entry) × IsTextOf es text × (acl ≡ meaning es)
+WhatIsReadIsMeant =
+    (text : List ℕ) (acl : Entries) → parse_of text ≡ Ok acl → (es : List Entry) × IsTextOf es text × (acl ≡ meaning es)
 
 abbrev pub WhatIsWrittenIsRead : Type 0
 WhatIsWrittenIsRead = (es : List Entry) (text : List ℕ) → IsTextOf es text → parse_of text ≡ Ok (meaning es)
@@ -92,7 +95,9 @@ AreDistinct (name ∷ names) = (is_one_of name names ≡ false) × AreDistinct n
 
 -- without repeats no name stands twice, and the same names stand there
 abbrev pub RepeatsAreLeftOut : Type 0
-RepeatsAreLeftOut = (names : List (List ℕ)) → AreDistinct (unrepeated names) × ((name : List ℕ) → is_one_of name (unrepeated names) ≡ is_one_of name names)
+RepeatsAreLeftOut =
+    (names : List (List ℕ))
+    → AreDistinct (unrepeated names) × ((name : List ℕ) → is_one_of name (unrepeated names) ≡ is_one_of name names)
 
 -- ---- what entries as written allow
 

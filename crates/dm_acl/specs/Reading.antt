@@ -1,5 +1,6 @@
 -- How a text is read: the value that it means, or the place of the first entry that is bad or names a command again.
-use Rattle.std.specs.Prelude.{◌≡◌, ◌==◌, ◌+◌, ℕ, Bool, true, false, if◌then◌else◌, nat_lt, nat_eq, List, [], ◌∷◌, length, drop, codes, bytes_eq, Option, Some, None, is_some, Result, Ok, Err, IsOk, ⊤}
+use Rattle.std.specs.Prelude.{◌≡◌, ◌==◌, ◌+◌, ℕ, Bool, true, false, if◌then◌else◌, nat_lt, nat_eq, List, [], ◌∷◌}
+use Rattle.std.specs.Prelude.{length, drop, codes, bytes_eq, Option, Some, None, is_some, Result, Ok, Err, IsOk, ⊤}
 use Rattle.std.specs.List.{list_all, slice_split, starts_with}
 use Rattle.dm_acl.specs.declared.values.Right.{Right}
 use Rattle.dm_acl.specs.declared.values.Right.TheVariants as right

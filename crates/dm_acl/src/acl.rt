@@ -41,8 +41,8 @@ impl Acl {
     /// first are left out. The time is linear in the text, but for the search for repeats, which compares a name with
     /// those before it in its entry.
     ///
-    /// `Malformed` tells the first byte of the first entry that is bad or names a command again, 4,096 for a longer text.
-    /// `Memory` comes only in place of an access list: a text that is refused is refused without memory.
+    /// `Malformed` tells the first byte of the first entry that is bad or names a command again, 4,096 for a longer
+    /// text. `Memory` comes only in place of an access list: a text that is refused is refused without memory.
     pub fn parse(alloc: Global, text: &[u8]) -> Result<Acl, AclError>
         ensures { Answers result (parse_of text.now) }
     {

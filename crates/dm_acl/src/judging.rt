@@ -1,5 +1,6 @@
 // Where a text has its first fault. Nothing here takes memory.
-ghost use Rattle.std.specs.Prelude.{◌≡◌, ◌≤◌, Ok, Err, Some, None, true, length, is_some, IsOk, IsTrue, IsFalse, MatchOption, option_map};
+ghost use Rattle.std.specs.Prelude.{◌≡◌, ◌≤◌, Ok, Err, Some, None, true, length, is_some, IsOk, IsTrue, IsFalse};
+ghost use Rattle.std.specs.Prelude.{MatchOption, option_map};
 ghost use Rattle.dm_acl.specs.declared.values.Entry.{Entry};
 ghost use Rattle.dm_acl.specs.declared.values.AclError.TheVariants as error;
 ghost use Rattle.dm_acl.specs.declared.values.Servers.TheVariants.{Everybody};

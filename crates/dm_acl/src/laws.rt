@@ -1,5 +1,7 @@
 // What the contracts of an access list mean, over their definitions alone.
-ghost use Rattle.dm_acl.specs.Laws.{WhatIsReadIsMeant, WhatIsWrittenIsRead, FirstFaultIsTold, OnlyFaultsAreTold, ReadIsAcl, PrintedIsRead, PrintedIsNoLonger, PrintedIsShort, WhatIsReadIsReadAgain, RepeatsAreLeftOut, EntriesAllow, EntriesName};
+ghost use Rattle.dm_acl.specs.Laws.{WhatIsReadIsMeant, WhatIsWrittenIsRead, FirstFaultIsTold, OnlyFaultsAreTold};
+ghost use Rattle.dm_acl.specs.Laws.{ReadIsAcl, PrintedIsRead, PrintedIsNoLonger, PrintedIsShort, WhatIsReadIsReadAgain};
+ghost use Rattle.dm_acl.specs.Laws.{RepeatsAreLeftOut, EntriesAllow, EntriesName};
 
 /// A text is read exactly where it is written as the grammar says, and then as what it means.
 #[tactic(auto, using(crate::proofs::Grammars::what_is_read_is_meant, crate::proofs::Grammars::what_is_written_is_read))]
@@ -21,8 +23,8 @@ pub fn printed_lists_are_read()
     ensures again { PrintedIsRead }
 {}
 
-/// What is read of a text is printed in no more bytes than the text has, so in 4,096 at most, and is always read again as the
-/// same. So a list that was read can be kept as its text wherever 4,096 bytes are free for it.
+/// What is read of a text is printed in no more bytes than the text has, so in 4,096 at most, and is always read again
+/// as the same. So a list that was read can be kept as its text wherever 4,096 bytes are free for it.
 pub fn lists_that_are_read_are_short()
     ensures length { PrintedIsNoLonger }
     ensures limit { PrintedIsShort }

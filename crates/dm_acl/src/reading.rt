@@ -1,8 +1,10 @@
 // Texts are read entry by entry.
 ghost use Rattle.std.specs.Prelude.{◌≡◌, ◌≤◌, length, bytes_eq, IsTrue, IsOk, IfSome, IfOk, OnOk};
 ghost use Rattle.std.specs.List.{list_all, list_any};
-ghost use Rattle.dm_acl.specs.Grammar.{is_name_byte, is_server_name, head_of, with_name, unrepeated, no_entries, has_entry};
-ghost use Rattle.dm_acl.specs.Reading.{names_in, parts_in, servers_in, begins, right_in, entry_in, put_new, after_part, after_parts, Answers, Leaves};
+ghost use Rattle.dm_acl.specs.Grammar.{is_name_byte, is_server_name, head_of, with_name, unrepeated, no_entries};
+ghost use Rattle.dm_acl.specs.Grammar.{has_entry};
+ghost use Rattle.dm_acl.specs.Reading.{names_in, parts_in, servers_in, begins, right_in, entry_in, put_new, after_part};
+ghost use Rattle.dm_acl.specs.Reading.{after_parts, Answers, Leaves};
 
 use crate::values::{AclError, Entries, Entry, Right, Servers};
 use dm_base::{Bytes, List, Memory};

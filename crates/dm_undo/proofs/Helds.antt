@@ -1,5 +1,6 @@
 -- What is parked is held.
-use Rattle.std.proofs.Common.{◌≡◌, ℕ, zero, suc, ◌<◌, true, false, List, [], ◌∷◌, ◌++◌, length, refl, sym, ◌∙◌, ap, subst, arith, Some, inl, inr}
+use Rattle.std.proofs.Common.{◌≡◌, ℕ, zero, suc, ◌<◌, true, false, List, [], ◌∷◌, ◌++◌, length, refl, sym, ◌∙◌, ap}
+use Rattle.std.proofs.Common.{subst, arith, Some, inl, inr}
 use Rattle.std.specs.Prelude.{◌⊎◌, reverse}
 use Rattle.std.proofs.lemmas.List.{get_or-set_same, get_or-set_other}
 use Rattle.std.proofs.Math.ListN.{set, length-set}
@@ -7,12 +8,12 @@ use Rattle.dm_tree.specs.declared.rows.Row.{Row}
 use Rattle.dm_tree.specs.declared.rows.Change.{Change}
 use Rattle.dm_tree.specs.declared.rows.Change.TheVariants as change
 use Rattle.dm_tree.specs.Rows.{blank, row_at, IsParkedTop}
-use Rattle.dm_tree.proofs.GivenUps.{self_below}
+use Rattle.dm_tree.proofs.GivenUpRows.{self_below}
 use Rattle.dm_tree.specs.Rows.{path_below}
 use Rattle.dm_tree.specs.Undos.{row_of, flipped, turned, Fits}
 use Rattle.dm_tree.specs.Notes.{Stays, TakesEditBack, held_by}
 use Rattle.dm_tree.proofs.Paths.{same_or_not}
-use Rattle.dm_tree.proofs.Nodewise.{of_both}
+use Rattle.dm_tree.proofs.NodeEdits.{of_both}
 use Rattle.dm_undo.specs.declared.entries.Entry.{Entry}
 use Rattle.dm_undo.specs.declared.entries.Entry.TheVariants.{Record, Flipped}
 use Rattle.dm_undo.specs.Giving.{LeavesRow}

@@ -1,11 +1,12 @@
 -- The laws.
-use Rattle.std.proofs.Common.{◌≡◌, ℕ, zero, suc, ◌+◌, ◌-◌, ◌≤◌, List, [], ◌∷◌, ◌++◌, length, get_or, refl, sym, ◌∙◌, ap, subst, arith}
+use Rattle.std.proofs.Common.{◌≡◌, ℕ, zero, suc, ◌+◌, ◌-◌, ◌≤◌, List, [], ◌∷◌, ◌++◌, length, get_or, refl, sym, ◌∙◌, ap}
+use Rattle.std.proofs.Common.{subst, arith}
 use Rattle.std.proofs.lemmas.Grind.{reverse_onto}
 use Rattle.std.proofs.lemmas.List.{length-append}
 use Rattle.dm_tree.specs.declared.rows.Row.{Row}
 use Rattle.dm_tree.specs.declared.rows.Change.{Change}
 use Rattle.dm_tree.specs.Undos.{flipped, turned}
-use Rattle.dm_tree.proofs.Flips.{flipped_twice, turned_twice}
+use Rattle.dm_tree.proofs.UndoFlips.{flipped_twice, turned_twice}
 use Rattle.dm_undo.specs.declared.entries.Entry.{Entry}
 use Rattle.dm_undo.specs.declared.entries.Entry.TheVariants.{Record, Flipped}
 use Rattle.dm_undo.specs.Trees.{Stage, maps_of, onto, flipped_back, flipped_forward, newest_first, trees, tree_at}

@@ -1,20 +1,22 @@
 -- A roll back.
-use Rattle.std.proofs.Common.{◌≡◌, ℕ, zero, suc, ◌<◌, ◌≤◌, List, [], ◌∷◌, ◌++◌, length, take, drop, get_or, refl, sym, ◌∙◌, ap, subst, arith, Some, inl, inr}
+use Rattle.std.proofs.Common.{◌≡◌, ℕ, zero, suc, ◌<◌, ◌≤◌, List, [], ◌∷◌, ◌++◌, length, take, drop, get_or, refl, sym}
+use Rattle.std.proofs.Common.{◌∙◌, ap, subst, arith, Some, inl, inr}
 use Rattle.dm_tree.specs.declared.rows.Row.{Row}
 use Rattle.dm_tree.specs.declared.rows.Change.{Change}
 use Rattle.dm_tree.specs.declared.rows.Change.TheVariants as change
 use Rattle.dm_tree.specs.Rows.{IsTree, IsParkedTop}
 use Rattle.dm_tree.specs.Undos.{flipped, turned, Fits}
-use Rattle.dm_tree.proofs.Flips.{length-flipped, flipped_twice, turned_twice, again}
+use Rattle.dm_tree.proofs.UndoFlips.{length-flipped, flipped_twice, turned_twice, again}
 use Rattle.dm_undo.specs.declared.entries.Entry.{Entry}
 use Rattle.dm_undo.specs.declared.entries.Entry.TheVariants.{Record, Flipped}
 use Rattle.dm_undo.specs.Entries.{OfEach, AreAlike, AreRecords, IsHeldIn, AreHeldOnce, StaysWithin, held_top}
 use Rattle.dm_undo.specs.Trees.{stage, Stage, Maps, maps_of, flipped_back, flipped_forward, forward, newest_first}
 use Rattle.dm_undo.specs.Sound.{FitForward, BeginsRow, IsApart, IsSoundStage, AreSoundStages}
-use Rattle.dm_undo.proofs.Shapes.{rolled_alike, rolled_drop, each_alike, held_append, within_alike, alike_sym, alike_take, apart_not_held}
+use Rattle.dm_undo.proofs.Shapes.{rolled_alike, rolled_drop, each_alike, held_append, within_alike, alike_sym}
+use Rattle.dm_undo.proofs.Shapes.{alike_take, apart_not_held}
 use Rattle.dm_tree.specs.Reuse.{IsUsed, IsClear}
-use Rattle.dm_tree.proofs.Turns.{kin-flipped}
-use Rattle.dm_tree.proofs.Clears.{clear-flipped}
+use Rattle.dm_tree.proofs.FlippedRows.{kin-flipped}
+use Rattle.dm_tree.proofs.ClearRows.{clear-flipped}
 use Rattle.dm_undo.proofs.Alikes.{each_more}
 use Rattle.dm_undo.proofs.Rows.{parked_flipped, parked_out}
 

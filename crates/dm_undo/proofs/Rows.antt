@@ -6,7 +6,7 @@ use Rattle.dm_tree.specs.declared.rows.Change.{Change}
 use Rattle.dm_tree.specs.declared.rows.Change.TheVariants as change
 use Rattle.dm_tree.specs.Rows.{blank, row_at, IsTree, IsParkedTop}
 use Rattle.dm_tree.specs.Undos.{row_of, flipped, Fits}
-use Rattle.dm_tree.proofs.Flips.{length-flipped}
+use Rattle.dm_tree.proofs.UndoFlips.{length-flipped}
 
 other_row : (rows : List Row) (u : Change) (k : ℕ) → (row_of u ≡ k → ⊥) → row_at (flipped rows u) k ≡ row_at rows k
 other_row rows (change.Value j value verno stamp) k d = get_or-set_other rows j k _ blank (λ e. d (sym e))

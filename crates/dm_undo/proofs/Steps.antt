@@ -1,5 +1,6 @@
 -- The loops over entries, one entry at a time.
-use Rattle.std.proofs.Common.{◌≡◌, ℕ, zero, suc, ◌+◌, ◌-◌, ◌<◌, ◌≤◌, List, [], ◌∷◌, ◌++◌, length, get_or, refl, sym, ◌∙◌, ap, subst, arith}
+use Rattle.std.proofs.Common.{◌≡◌, ℕ, zero, suc, ◌+◌, ◌-◌, ◌<◌, ◌≤◌, List, [], ◌∷◌, ◌++◌, length, get_or, refl, sym}
+use Rattle.std.proofs.Common.{◌∙◌, ap, subst, arith}
 use Rattle.std.specs.Prelude.{reverse}
 use Rattle.std.proofs.Math.ListN.{set}
 use Rattle.std.proofs.lemmas.List.{set-append_left, length-reverse}
@@ -7,7 +8,7 @@ use Rattle.std.proofs.lemmas.Grind.{reverse_onto}
 use Rattle.dm_tree.specs.declared.rows.Row.{Row}
 use Rattle.dm_tree.specs.declared.rows.Change.{Change}
 use Rattle.dm_tree.specs.Undos.{flipped, turned, Fits}
-use Rattle.dm_tree.proofs.Grows.{set_last}
+use Rattle.dm_tree.proofs.RowAppends.{set_last}
 use Rattle.dm_undo.specs.declared.entries.Entry.{Entry}
 use Rattle.dm_undo.specs.declared.entries.Entry.TheVariants.{Record, Flipped}
 use Rattle.dm_undo.specs.Entries.{AreRecords}

@@ -1,5 +1,6 @@
 -- Entries taken off, and entries given up.
-use Rattle.std.proofs.Common.{◌≡◌, ℕ, zero, suc, ◌-◌, ◌<◌, ◌≤◌, List, [], ◌∷◌, ◌++◌, length, take, drop, false, None, refl, sym, ◌∙◌, ap, subst, arith, Some, inl, inr, length-append}
+use Rattle.std.proofs.Common.{◌≡◌, ℕ, zero, suc, ◌-◌, ◌<◌, ◌≤◌, List, [], ◌∷◌, ◌++◌, length, take, drop, false, None}
+use Rattle.std.proofs.Common.{refl, sym, ◌∙◌, ap, subst, arith, Some, inl, inr, length-append}
 use Rattle.std.specs.Prelude.{reverse}
 use Rattle.std.proofs.lemmas.List.{length-reverse, reverse-append, take_all, length-take-le}
 use Rattle.dm_tree.specs.declared.rows.Row.{Row}
@@ -8,11 +9,11 @@ use Rattle.dm_tree.specs.declared.rows.Change.TheVariants as change
 use Rattle.dm_tree.specs.Rows.{row_at, path_below, IsTree, IsParkedTop}
 use Rattle.dm_tree.specs.Edits.{attached_as}
 use Rattle.dm_tree.specs.Reuse.{IsClear}
-use Rattle.dm_tree.proofs.Climbs.{attached_row}
-use Rattle.dm_tree.proofs.Nodewise.{of_both}
-use Rattle.dm_tree.proofs.Cuts.{still_attached}
-use Rattle.dm_tree.proofs.Reuses.{no_way}
-use Rattle.dm_tree.proofs.Clears.{clear-less, clear-outside}
+use Rattle.dm_tree.proofs.RowPaths.{attached_row}
+use Rattle.dm_tree.proofs.NodeEdits.{of_both}
+use Rattle.dm_tree.proofs.SubtreeCuts.{still_attached}
+use Rattle.dm_tree.proofs.RowReuse.{no_way}
+use Rattle.dm_tree.proofs.ClearRows.{clear-less, clear-outside}
 use Rattle.dm_tree.specs.Undos.{flipped, turned, Fits}
 use Rattle.dm_tree.specs.Notes.{GoesAlike, Stays}
 use Rattle.dm_undo.specs.declared.entries.Entry.{Entry}

@@ -89,8 +89,8 @@ impl Journal {
         self.room - self.entries.len()
     }
 
-    /// Makes room for so many further entries, where there isn't yet. The only error is want of memory; the entries stay
-    /// either way.
+    /// Makes room for so many further entries, where there isn't yet. The only error is want of memory; the entries
+    /// stay either way.
     pub fn reserve(&mut self, count: usize) -> Result<(), Memory>
         ensures ok { OnOk result (length self.new.entries + count ≤ self.new.room) }
         ensures entries { self.new.entries ≡ self.old.entries }

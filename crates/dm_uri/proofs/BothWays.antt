@@ -1,5 +1,6 @@
 -- Reading is the grammar, and each refusal comes where it stands.
-use Rattle.std.proofs.Common.{ℕ, ◌≡◌, ◌≤◌, ◌+◌, List, [], ◌∷◌, ◌++◌, length, arith, refl, sym, ap, subst, ◌∙◌, inl, inr, Some, None, Option, Ok, Err, length-append}
+use Rattle.std.proofs.Common.{ℕ, ◌≡◌, ◌≤◌, ◌+◌, List, [], ◌∷◌, ◌++◌, length, arith, refl, sym, ap, subst, ◌∙◌, inl, inr}
+use Rattle.std.proofs.Common.{Some, None, Option, Ok, Err, length-append}
 use Rattle.std.specs.Prelude.{Bool, true, false, not, nat_lt, if◌then◌else◌, Result}
 use Rattle.std.specs.List.{list_all}
 use Rattle.std.proofs.lemmas.Bool.{ltb-false, le-ltb}
@@ -23,9 +24,11 @@ uri_of path query = record { path = path; query = query }
 abbrev pub answer : Bool → Bool → Bool → List (List ℕ) → Option Query → Result Uri UriError
 answer long formed within names query =
     if long then Err error.TooLong
-    else with_query (if not formed then Err error.Malformed else if not within then Err error.TooLong else Ok names) query
+    else with_query (if not formed then Err error.Malformed else if not within then Err error.TooLong else Ok names)
+    query
 
-pub parse_tests : (text : List ℕ) → parse_of text ≡ answer (nat_lt 255 (length text)) (list_all has_name_form (names_in (path_part text)))
+pub parse_tests : (text : List ℕ)
+    → parse_of text ≡ answer (nat_lt 255 (length text)) (list_all has_name_form (names_in (path_part text)))
     (is_within_limits (names_in (path_part text))) (names_in (path_part text)) (query_of (query_part text))
 unfolding parse_of
 parse_tests text = refl
@@ -47,7 +50,13 @@ tests_of_read false true false names query uri h = cc
 tests_of_read false true true names None uri h = cc
 tests_of_read false true true names (Some query) uri h =
     let same : uri_of names query ≡ uri = cc in
-    record { is_short = refl; is_formed = refl; is_within = refl; path_is = ap (λ (u : Uri). u.path) same; query_is = ap (λ (u : Uri). Some u.query) same }
+    record {
+      is_short = refl;
+      is_formed = refl;
+      is_within = refl;
+      path_is = ap (λ (u : Uri). u.path) same;
+      query_is = ap (λ (u : Uri). Some u.query) same;
+    }
 
 is_text : (text : List ℕ) (uri : Uri) → parse_of text ≡ Ok uri → IsUriText text uri
 is_text text uri h =
@@ -55,24 +64,31 @@ is_text text uri h =
     record {
       short = ltb-false 255 (length text) tests.is_short;
       part = path_part text;
-      path = subst (λ names. IsPathPart names (path_part text)) tests.path_is (tests.is_formed, spelled (path_part text));
+      path =
+          subst (λ names. IsPathPart names (path_part text)) tests.path_is (tests.is_formed, spelled (path_part text));
       within = rw (← tests.path_is) tests.is_within;
-      whole = sym (whole_text text) ∙ ap (λ q. path_part text ++ q) (query_found (query_part text) uri.query tests.query_is);
+      whole =
+          sym (whole_text text)
+          ∙ ap (λ q. path_part text ++ q) (query_found (query_part text) uri.query tests.query_is);
     }
 
 -- ---- what is in the grammar is read
 
-answer_read : (long formed within : Bool) (names : List (List ℕ)) (query : Option Query) (uri : Uri) → long ≡ false → formed ≡ true → within ≡ true
+answer_read : (long formed within : Bool) (names : List (List ℕ)) (query : Option Query) (uri : Uri) → long ≡ false
+    → formed ≡ true → within ≡ true
     → names ≡ uri.path → query ≡ Some uri.query → answer long formed within names query ≡ Ok uri
-answer_read long formed within names query uri a b c d e = rw (a, b, c) (rw e (ap (λ path. Ok (uri_of path uri.query)) d))
+answer_read long formed within names query uri a b c d e =
+    rw (a, b, c) (rw e (ap (λ path. Ok (uri_of path uri.query)) d))
 
 is_read : (text : List ℕ) (uri : Uri) → IsUriText text uri → parse_of text ≡ Ok uri
 is_read text uri h =
     let clear = no_question uri.path h.part h.path in
     let part : path_part text ≡ h.part = ap path_part h.whole ∙ path_part-whole h.part uri.query clear in
     let names : names_in (path_part text) ≡ uri.path = ap names_in part ∙ only_names uri.path h.part h.path in
-    let rest : query_part text ≡ query_text uri.query = ap query_part h.whole ∙ query_part-whole h.part uri.query clear in
-    parse_tests text ∙ answer_read _ _ _ _ _ uri (le-ltb 255 (length text) h.short) (rw names h.path.0) (rw names h.within) names
+    let rest : query_part text ≡ query_text uri.query =
+    ap query_part h.whole ∙ query_part-whole h.part uri.query clear in
+    parse_tests text
+    ∙ answer_read _ _ _ _ _ uri (le-ltb 255 (length text) h.short) (rw names h.path.0) (rw names h.within) names
     (ap query_of rest ∙ query_again uri.query)
 
 pub reads_grammar : ReadsGrammar
@@ -86,7 +102,8 @@ spells_printed (n ∷ ns) h = (h, inr refl)
 
 pub text_of_written : (uri : Uri) → IsPath uri.path → length (printed uri) ≤ 255 → IsUriText (printed uri) uri
 text_of_written uri path short =
-    let split : length (printed uri) ≡ length (printed_path uri.path) + length (query_text uri.query) = length-append (printed_path uri.path) (query_text uri.query) in
+    let split : length (printed uri) ≡ length (printed_path uri.path) + length (query_text uri.query) =
+    length-append (printed_path uri.path) (query_text uri.query) in
     record {
       short = short;
       part = printed_path uri.path;
@@ -109,15 +126,18 @@ tells_path uri h =
     ap names_in (path_part-whole (printed_path uri.path) uri.query (no_question uri.path (printed_path uri.path) part))
     ∙ only_names uri.path (printed_path uri.path) part
 
-tells_query : (uri : Uri) → list_all has_name_form uri.path ≡ true → query_of (query_part (printed uri)) ≡ Some uri.query
+tells_query : (uri : Uri) → list_all has_name_form uri.path ≡ true
+    → query_of (query_part (printed uri)) ≡ Some uri.query
 tells_query uri h =
-    ap query_of (query_part-whole (printed_path uri.path) uri.query (no_question uri.path (printed_path uri.path) (spells_printed uri.path h)))
+    ap query_of (query_part-whole (printed_path uri.path) uri.query
+    (no_question uri.path (printed_path uri.path) (spells_printed uri.path h)))
     ∙ query_again uri.query
 
 same_some : (p q : Query) → Some p ≡ Some q → p ≡ q
 same_some p q h = cc
 
-same_written : (u v : Uri) → list_all has_name_form u.path ≡ true → list_all has_name_form v.path ≡ true → printed u ≡ printed v → u ≡ v
+same_written : (u v : Uri) → list_all has_name_form u.path ≡ true → list_all has_name_form v.path ≡ true
+    → printed u ≡ printed v → u ≡ v
 same_written u v f g h =
     same_uri u v (sym (tells_path u f) ∙ ap (λ text. names_in (path_part text)) h ∙ tells_path v g)
     (same_some u.query v.query (sym (tells_query u f) ∙ ap (λ text. query_of (query_part text)) h ∙ tells_query v g))

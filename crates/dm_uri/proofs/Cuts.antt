@@ -36,13 +36,15 @@ no_question_name (b ∷ bs) h =
 name_bytes : (name : List ℕ) → has_name_form name ≡ true → list_all is_name_byte name ≡ true
 name_bytes name h = grind (arith, common_steps)
 
-no_question_joined : (names : List (List ℕ)) → list_all has_name_form names ≡ true → list_all is_other (joined names) ≡ true
+no_question_joined : (names : List (List ℕ)) → list_all has_name_form names ≡ true
+    → list_all is_other (joined names) ≡ true
 no_question_joined [] h = refl
 no_question_joined (n ∷ []) h = no_question_name n (name_bytes n (and_parts (has_name_form n) true h).0)
 no_question_joined (n ∷ m ∷ ms) h =
     let both = and_parts (has_name_form n) (list_all has_name_form (m ∷ ms)) h in
     list_all-append is_other n (0x2F ∷ joined (m ∷ ms))
-    ∙ and_from (list_all is_other n) (list_all is_other (joined (m ∷ ms))) (no_question_name n (name_bytes n both.0)) (no_question_joined (m ∷ ms) both.1)
+    ∙ and_from (list_all is_other n) (list_all is_other (joined (m ∷ ms))) (no_question_name n (name_bytes n both.0))
+    (no_question_joined (m ∷ ms) both.1)
 
 pub no_question : (names : List (List ℕ)) (part : List ℕ) → IsPathPart names part → list_all is_other part ≡ true
 no_question [] part (h, inl e) = rw e refl
@@ -72,10 +74,12 @@ begins_query (query.Prop prop.TStamp) = refl
 begins_query query.Struct = refl
 begins_query query.StructData = refl
 
-pub path_part-whole : (part : List ℕ) (q : Query) → list_all is_other part ≡ true → path_part (part ++ query_text q) ≡ part
+pub path_part-whole : (part : List ℕ) (q : Query) → list_all is_other part ≡ true
+    → path_part (part ++ query_text q) ≡ part
 path_part-whole part q h = rw (place part (query_text q) h (begins_query q)) (take-append_seam part (query_text q))
 
-pub query_part-whole : (part : List ℕ) (q : Query) → list_all is_other part ≡ true → query_part (part ++ query_text q) ≡ query_text q
+pub query_part-whole : (part : List ℕ) (q : Query) → list_all is_other part ≡ true
+    → query_part (part ++ query_text q) ≡ query_text q
 query_part-whole part q h = rw (place part (query_text q) h (begins_query q)) (drop-append_seam part (query_text q))
 
 -- ---- queries
@@ -103,4 +107,5 @@ found_passes p [] y h = cc
 found_passes p (x ∷ xs) y h = passes_or_later p x (find p xs) y (p x) refl h (found_passes p xs y)
 
 pub query_found : (text : List ℕ) (q : Query) → query_of text ≡ Some q → text ≡ query_text q
-query_found text q h = sym (same_bytes (query_text q) text (found_passes (λ query. bytes_eq (query_text query) text) queries q h))
+query_found text q h =
+    sym (same_bytes (query_text q) text (found_passes (λ query. bytes_eq (query_text query) text) queries q h))

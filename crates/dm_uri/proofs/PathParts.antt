@@ -1,5 +1,6 @@
 -- Path parts: what stands between the slashes of one is the names that it spells, and no other names are.
-use Rattle.std.proofs.Common.{ℕ, ◌≡◌, ◌≤◌, ◌<◌, List, [], ◌∷◌, ◌++◌, length, drop, get_or, arith, rules, refl, sym, ap, ◌∙◌, inl, inr}
+use Rattle.std.proofs.Common.{ℕ, ◌≡◌, ◌≤◌, ◌<◌, List, [], ◌∷◌, ◌++◌, length, drop, get_or, arith, rules, refl, sym, ap}
+use Rattle.std.proofs.Common.{◌∙◌, inl, inr}
 use Rattle.std.specs.Prelude.{Bool, true, false, not, ◌||◌, nat_eq, if◌then◌else◌, bytes_eq, codes, ◌⊎◌}
 use Rattle.std.specs.List.{list_all, slice_split, starts_with, AllPass}
 use Rattle.std.proofs.lemmas.Bool.{and_parts, and_from}
@@ -35,12 +36,14 @@ front_or_none (x ∷ y ∷ rest) true e = inr (grind (arith, common_steps))
 by_front : (part : List ℕ) → (part ≡ without_front part) ⊎ (part ≡ codes "./" ++ without_front part)
 by_front part = front_or_none part (starts_with nat_eq part (codes "./")) refl
 
-spells_root : (part : List ℕ) (b c : Bool) → bytes_eq part (codes ".") ≡ b → bytes_eq part (codes "./") ≡ c → (b || c) ≡ true → SpellsPath [] part
+spells_root : (part : List ℕ) (b c : Bool) → bytes_eq part (codes ".") ≡ b → bytes_eq part (codes "./") ≡ c
+    → (b || c) ≡ true → SpellsPath [] part
 spells_root part true c e f h = inl (same_bytes part (codes ".") e)
 spells_root part false true e f h = inr (same_bytes part (codes "./") f)
 spells_root part false false e f h = cc
 
-spells_by : (part : List ℕ) (b : Bool) → is_root part ≡ b → SpellsPath (if b then [] else slice_split is_slash (without_front part)) part
+spells_by : (part : List ℕ) (b : Bool) → is_root part ≡ b
+    → SpellsPath (if b then [] else slice_split is_slash (without_front part)) part
 spells_by part true e = spells_root part (bytes_eq part (codes ".")) (bytes_eq part (codes "./")) refl refl e
 spells_by part false e =
     spells_some (slice_split is_slash (without_front part)) part (without_front part) (some_parts (without_front part))
@@ -58,7 +61,8 @@ no_slash_in : (name : List ℕ) → list_all is_name_byte name ≡ true → list
 no_slash_in [] h = refl
 no_slash_in (b ∷ bs) h =
     let both = and_parts (is_name_byte b) (list_all is_name_byte bs) h in
-    and_from (not (is_slash b)) (list_all (λ b. not (is_slash b)) bs) (rw (no_slash_byte b both.0) refl) (no_slash_in bs both.1)
+    and_from (not (is_slash b)) (list_all (λ b. not (is_slash b)) bs) (rw (no_slash_byte b both.0) refl)
+    (no_slash_in bs both.1)
 
 record IsForm (name : List ℕ) : Type 0 where
   some : 0 < length name
@@ -72,10 +76,12 @@ form name h = grind (arith, common_steps)
 apart : (name : List ℕ) → list_all is_name_byte name ≡ true → AllPass (λ b. not (is_slash b)) name
 apart name h = AllPass-from_list_all (λ b. not (is_slash b)) name (no_slash_in name h)
 
-without_slash : (name : List ℕ) → list_all is_name_byte name ≡ true → (k : ℕ) (d : ℕ) → k < length name → is_slash (get_or name k d) ≡ false
+without_slash : (name : List ℕ) → list_all is_name_byte name ≡ true → (k : ℕ) (d : ℕ) → k < length name
+    → is_slash (get_or name k d) ≡ false
 without_slash name h k d inside = grind (arith, common_steps, apart name h k d inside)
 
-split-joined : (n : List ℕ) (ns : List (List ℕ)) → list_all has_name_form (n ∷ ns) ≡ true → slice_split is_slash (joined (n ∷ ns)) ≡ n ∷ ns
+split-joined : (n : List ℕ) (ns : List (List ℕ)) → list_all has_name_form (n ∷ ns) ≡ true
+    → slice_split is_slash (joined (n ∷ ns)) ≡ n ∷ ns
 split-joined n [] h =
     let first = form n (and_parts (has_name_form n) true h).0 in
     slice_split_none is_slash n (without_slash n first.bytes)
@@ -107,7 +113,8 @@ plain_joined (b ∷ []) (m ∷ ms) h = not_dot_first b (0x2F ∷ joined (m ∷ m
 plain_joined (b ∷ c ∷ bs) [] h = not_slash_next b c bs (next_byte b c bs h)
 plain_joined (b ∷ c ∷ bs) (m ∷ ms) h = not_slash_next b c (bs ++ 0x2F ∷ joined (m ∷ ms)) (next_byte b c bs h)
 
-front_joined : (n : List ℕ) (ns : List (List ℕ)) → has_name_form n ≡ true → is_root (codes "./" ++ joined (n ∷ ns)) ≡ false
+front_joined : (n : List ℕ) (ns : List (List ℕ)) → has_name_form n ≡ true
+    → is_root (codes "./" ++ joined (n ∷ ns)) ≡ false
 front_joined [] ns h = cc
 front_joined (b ∷ bs) [] h = refl
 front_joined (b ∷ bs) (m ∷ ms) h = refl
@@ -119,4 +126,5 @@ only_names (n ∷ ns) part (h, inl e) =
     let plain = plain_joined n ns (and_parts (has_name_form n) (list_all has_name_form ns) h).0 in
     ap names_in e ∙ rw (plain.0, plain.1) (split-joined n ns h)
 only_names (n ∷ ns) part (h, inr e) =
-    ap names_in e ∙ rw (front_joined n ns (and_parts (has_name_form n) (list_all has_name_form ns) h).0) (split-joined n ns h)
+    ap names_in e ∙ rw (front_joined n ns (and_parts (has_name_form n) (list_all has_name_form ns) h).0)
+    (split-joined n ns h)

@@ -1,5 +1,6 @@
 -- The first place that passes, and what stands between separators.
-use Rattle.std.proofs.Common.{ℕ, ◌≡◌, ◌≤◌, ◌<◌, ◌+◌, List, [], ◌∷◌, length, length-drop, take, drop, Some, None, arith, refl, inl, inr}
+use Rattle.std.proofs.Common.{ℕ, ◌≡◌, ◌≤◌, ◌<◌, ◌+◌, List, [], ◌∷◌, length, length-drop, take, drop, Some, None, arith}
+use Rattle.std.proofs.Common.{refl, inl, inr}
 use Rattle.std.specs.Prelude.{Bool, not, unwrap_or, nat_lt, if◌then◌else◌}
 use Rattle.std.specs.List.{position_or_len, position, slice_split}
 use Rattle.std.proofs.lemmas.Bool.{cases_lt, lt-ltb, le-ltb}
@@ -8,7 +9,8 @@ use Rattle.std.proofs.lemmas.List.Splits.{slice_split_none, slice_split_first}
 use Rattle.dm_uri.specs.Reading.{is_slash, FirstPart}
 
 pub first_or_length : {X : Type 0} (p : X → Bool) (xs : List X)
-    → unwrap_or (if nat_lt (position_or_len p xs) (length xs) then Some (position_or_len p xs) else None) (length xs) ≡ position_or_len p xs
+    → unwrap_or (if nat_lt (position_or_len p xs) (length xs) then Some (position_or_len p xs) else None) (length xs)
+    ≡ position_or_len p xs
 first_or_length p xs = elim (cases_lt (position_or_len p xs) (length xs)) [
   | inl inside ↦ rw (lt-ltb _ _ inside) refl
   | inr none ↦ rw (le-ltb _ _ none) (omega (arith, none, prefix_len-le-length (λ x. not (p x)) xs))

@@ -34,7 +34,8 @@ no_query : (text : List ℕ) → query_of text ≡ None → (query : Query) → 
 no_query text h query e =
     let found = ap query_of e ∙ query_again query in cc
 
-refused_by : (text : List ℕ) (long formed within : Bool) (query : Option Query) (e : UriError) → Tests text long formed within query
+refused_by : (text : List ℕ) (long formed within : Bool) (query : Option Query) (e : UriError)
+    → Tests text long formed within query
     → answer long formed within (names_in (path_part text)) query ≡ Err e → IsRefused text e
 refused_by text true formed within query e t h =
     let same : error.TooLong ≡ e = cc in
@@ -44,16 +45,25 @@ refused_by text false false within query e t h =
     subst (λ e. IsRefused text e) same (ltb-false 255 (length text) t.length_is, none_spelled text t.form_is)
 refused_by text false true false query e t h =
     let same : error.TooLong ≡ e = cc in
-    subst (λ e. IsRefused text e) same (inr (names_in (path_part text), (t.form_is, spelled (path_part text)), t.within_is))
+    subst (λ e. IsRefused text e) same
+    (inr (names_in (path_part text), (t.form_is, spelled (path_part text)), t.within_is))
 refused_by text false true true None e t h =
     let same : error.UnknownQuery ≡ e = cc in
-    subst (λ e. IsRefused text e) same
-    (ltb-false 255 (length text) t.length_is, (names_in (path_part text), (t.form_is, spelled (path_part text)), t.within_is, no_query (query_part text) t.query_is))
+    subst (λ e. IsRefused text e) same (
+      ltb-false 255 (length text) t.length_is,
+      (
+        names_in (path_part text),
+        (t.form_is, spelled (path_part text)),
+        t.within_is,
+        no_query (query_part text) t.query_is,
+      ),
+    )
 refused_by text false true true (Some query) e t h = cc
 
 is_refused : (text : List ℕ) (e : UriError) → parse_of text ≡ Err e → IsRefused text e
 is_refused text e h =
-    refused_by text _ _ _ _ e (record { length_is = refl; form_is = refl; within_is = refl; query_is = refl }) (sym (parse_tests text) ∙ h)
+    refused_by text _ _ _ _ e (record { length_is = refl; form_is = refl; within_is = refl; query_is = refl })
+    (sym (parse_tests text) ∙ h)
 
 -- ---- the way back
 
@@ -61,16 +71,19 @@ answer_long : (long formed within : Bool) (names : List (List ℕ)) (query : Opt
     → answer long formed within names query ≡ Err error.TooLong
 answer_long long formed within names query a = rw a refl
 
-answer_malformed : (long formed within : Bool) (names : List (List ℕ)) (query : Option Query) → long ≡ false → formed ≡ false
+answer_malformed : (long formed within : Bool) (names : List (List ℕ)) (query : Option Query) → long ≡ false
+    → formed ≡ false
     → answer long formed within names query ≡ Err error.Malformed
 answer_malformed long formed within names query a b = rw (a, b) refl
 
-answer_past : (long formed within : Bool) (names : List (List ℕ)) (query : Option Query) → formed ≡ true → within ≡ false
+answer_past : (long formed within : Bool) (names : List (List ℕ)) (query : Option Query) → formed ≡ true
+    → within ≡ false
     → answer long formed within names query ≡ Err error.TooLong
 answer_past true formed within names query b c = refl
 answer_past false formed within names query b c = rw (b, c) refl
 
-answer_unknown : (long formed within : Bool) (names : List (List ℕ)) (query : Option Query) → long ≡ false → formed ≡ true → within ≡ true → query ≡ None
+answer_unknown : (long formed within : Bool) (names : List (List ℕ)) (query : Option Query) → long ≡ false
+    → formed ≡ true → within ≡ true → query ≡ None
     → answer long formed within names query ≡ Err error.UnknownQuery
 answer_unknown long formed within names query a b c d = rw (a, b, c, d) refl
 
@@ -79,12 +92,14 @@ not_formed : (text : List ℕ) (b : Bool) → list_all has_name_form (names_in (
 not_formed text false e h = refl
 not_formed text true e h = absurd (h (names_in (path_part text)) (e, spelled (path_part text)))
 
-not_known : (text : List ℕ) (found : Option Query) → query_of text ≡ found → ((query : Query) → text ≡ query_text query → ⊥) → found ≡ None
+not_known : (text : List ℕ) (found : Option Query) → query_of text ≡ found
+    → ((query : Query) → text ≡ query_text query → ⊥) → found ≡ None
 not_known text None e h = refl
 not_known text (Some query) e h = absurd (h query (query_found text query e))
 
 -- what is said of names that are spelled, is said of those between the slashes
-said_of_names : (test : List (List ℕ) → Bool) (b : Bool) (text : List ℕ) (names : List (List ℕ)) → IsPathPart names (path_part text) → test names ≡ b
+said_of_names : (test : List (List ℕ) → Bool) (b : Bool) (text : List ℕ) (names : List (List ℕ))
+    → IsPathPart names (path_part text) → test names ≡ b
     → test (names_in (path_part text)) ≡ b
 said_of_names test b text names p h = ap test (only_names names (path_part text) p) ∙ h
 
@@ -92,12 +107,14 @@ is_refusal : (text : List ℕ) (e : UriError) → IsRefused text e → parse_of 
 is_refusal text error.TooLong (inl h) = parse_tests text ∙ answer_long _ _ _ _ _ (lt-ltb 255 (length text) h)
 is_refusal text error.TooLong (inr (names, p, past)) =
     parse_tests text
-    ∙ answer_past _ _ _ _ _ (said_of_names (λ ns. list_all has_name_form ns) true text names p p.0) (said_of_names is_within_limits false text names p past)
+    ∙ answer_past _ _ _ _ _ (said_of_names (λ ns. list_all has_name_form ns) true text names p p.0)
+    (said_of_names is_within_limits false text names p past)
 is_refusal text error.Malformed (short, none) =
     parse_tests text ∙ answer_malformed _ _ _ _ _ (le-ltb 255 (length text) short) (not_formed text _ refl none)
 is_refusal text error.UnknownQuery (short, (names, p, within, unknown)) =
     parse_tests text
-    ∙ answer_unknown _ _ _ _ _ (le-ltb 255 (length text) short) (said_of_names (λ ns. list_all has_name_form ns) true text names p p.0)
+    ∙ answer_unknown _ _ _ _ _ (le-ltb 255 (length text) short)
+    (said_of_names (λ ns. list_all has_name_form ns) true text names p p.0)
     (said_of_names is_within_limits true text names p within) (not_known (query_part text) _ refl unknown)
 is_refusal text error.Memory h = absurd h
 

@@ -1,5 +1,6 @@
 -- Names and paths. A `/` is byte 2F, and a `?` is byte 3F.
-use Rattle.std.specs.Prelude.{◌≡◌, ◌==◌, ◌&&◌, ◌≤◌, ◌⊎◌, ◌++◌, ℕ, Bool, not, nat_le, IsTrue, List, [], ◌∷◌, length, bytes_eq, codes}
+use Rattle.std.specs.Prelude.{◌≡◌, ◌==◌, ◌&&◌, ◌≤◌, ◌⊎◌, ◌++◌, ℕ, Bool, not, nat_le, IsTrue, List, [], ◌∷◌, length}
+use Rattle.std.specs.Prelude.{bytes_eq, codes}
 use Rattle.std.specs.List.{list_all, join_with_byte}
 
 -- 21 to 7E but `/` and `?`
@@ -9,7 +10,8 @@ is_name_byte b = nat_le 0x21 b && nat_le b 0x7E && not (b == 0x2F) && not (b == 
 -- a name, however long: one such byte or more, and neither `.` nor `..`
 abbrev pub has_name_form : List ℕ → Bool
 has_name_form name =
-    not (length name == 0) && list_all is_name_byte name && not (bytes_eq name (codes ".")) && not (bytes_eq name (codes ".."))
+    not (length name == 0) && list_all is_name_byte name && not (bytes_eq name (codes "."))
+    && not (bytes_eq name (codes ".."))
 
 abbrev pub is_short : List ℕ → Bool
 is_short name = nat_le (length name) 64

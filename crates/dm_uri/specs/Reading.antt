@@ -1,5 +1,6 @@
 -- How a text is read: the value, or the first refusal.
-use Rattle.std.specs.Prelude.{◌≡◌, ◌<◌, ◌==◌, ◌||◌, ℕ, Bool, not, nat_lt, nat_eq, if◌then◌else◌, List, [], ◌∷◌, length, drop, bytes_eq, codes, Option, Some, None, Result, Ok, Err, IsOk}
+use Rattle.std.specs.Prelude.{◌≡◌, ◌<◌, ◌==◌, ◌||◌, ℕ, Bool, not, nat_lt, nat_eq, if◌then◌else◌, List, [], ◌∷◌, length}
+use Rattle.std.specs.Prelude.{drop, bytes_eq, codes, Option, Some, None, Result, Ok, Err, IsOk}
 use Rattle.std.specs.List.{list_all, slice_split, starts_with, find}
 use Rattle.dm_uri.specs.Names.{has_name_form, is_short, is_within_limits}
 use Rattle.dm_uri.specs.Grammar.{query_text}
@@ -32,7 +33,8 @@ names_in part = if is_root part then [] else slice_split is_slash (without_front
 
 abbrev pub queries : List Query
 queries =
-    query.Plain ∷ query.Prop prop.Acl ∷ query.Prop prop.Format ∷ query.Prop prop.Name ∷ query.Prop prop.Size ∷ query.Prop prop.Media
+    query.Plain ∷ query.Prop prop.Acl ∷ query.Prop prop.Format ∷ query.Prop prop.Name ∷ query.Prop prop.Size
+    ∷ query.Prop prop.Media
     ∷ query.Prop prop.Title ∷ query.Prop prop.VerNo ∷ query.Prop prop.TStamp ∷ query.Struct ∷ query.StructData ∷ []
 
 abbrev pub query_of : List ℕ → Option Query
@@ -53,7 +55,8 @@ with_query (Ok path) (Some query) = Ok (record { path = path; query = query })
 -- what a text means, or the first reason why it is no URI
 unfoldable pub parse_of : List ℕ → Result Uri UriError
 parse_of text =
-    if nat_lt 255 (length text) then Err error.TooLong else with_query (read_path (names_in (path_part text))) (query_of (query_part text))
+    if nat_lt 255 (length text) then Err error.TooLong
+    else with_query (read_path (names_in (path_part text))) (query_of (query_part text))
 
 -- the name that a text is, or the first reason why it is none
 unfoldable pub parse_name_of : List ℕ → Result (List ℕ) UriError

@@ -1,10 +1,12 @@
 // A text is read.
-ghost use Rattle.std.specs.Prelude.{◌≡◌, ◌≢◌, ◌≤◌, ◌&&◌, ◌∷◌, [], IsTrue, Ok, IfOk, IfErr, MatchOption, is_ok, nat_le, length};
+ghost use Rattle.std.specs.Prelude.{◌≡◌, ◌≢◌, ◌≤◌, ◌&&◌, ◌∷◌, [], IsTrue, Ok, IfOk, IfErr, MatchOption, is_ok, nat_le};
+ghost use Rattle.std.specs.Prelude.{length};
 ghost use Rattle.std.specs.List.{list_all, slice_split, position_or_len};
 ghost use Rattle.dm_uri.specs.Names.{has_name_form, is_short, is_name, is_within_limits};
 ghost use Rattle.dm_uri.specs.Grammar.{IsUriText};
 ghost use Rattle.dm_uri.specs.Refusals.{is_question, IsRefused};
-ghost use Rattle.dm_uri.specs.Reading.{is_slash, is_root, without_front, names_in, query_of, read_path, parse_of, Gives, FirstPart};
+ghost use Rattle.dm_uri.specs.Reading.{is_slash, is_root, without_front, names_in, query_of, read_path, parse_of};
+ghost use Rattle.dm_uri.specs.Reading.{Gives, FirstPart};
 ghost use Rattle.dm_uri.specs.declared.uri.Uri.{Uri};
 ghost use Rattle.dm_uri.specs.declared.uri.UriError.TheVariants as error;
 
@@ -174,8 +176,8 @@ pub fn is_uri(text: &[u8]) -> bool
 ///
 /// - TooLong: the text has more than 255 bytes.
 /// - Malformed: the path part, which ends at the first `?`, isn't of the form, lengths aside.
-/// - TooLong: a name has more than 64 bytes, there are more than 16 names, or the written form of the path has more than
-///   255 bytes.
+/// - TooLong: a name has more than 64 bytes, there are more than 16 names, or the written form of the path has more
+///   than 255 bytes.
 /// - UnknownQuery: a `?` stands there, and what follows isn't a query.
 ///
 /// Memory comes only in place of a value: a text that is refused is refused without memory.

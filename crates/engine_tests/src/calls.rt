@@ -5,8 +5,8 @@ use syncml_types::{
     AlertCmd, Block, Command, Item, Loc, Member, Meta, Plain, SeqBlock, SeqMember, Verb,
 };
 
-// A step: its verb, target and value; and a mark: `m` for MoreData and the Size 6, `q` for NoResp, `n` for the Format of
-// an interior node, and `a` for an Alert 1226 in place of it, which fails.
+// A step: its verb, target and value; and a mark: `m` for MoreData and the Size 6, `q` for NoResp, `n` for the Format
+// of an interior node, and `a` for an Alert 1226 in place of it, which fails.
 type Step = (Verb, &'static [u8], &'static [u8], u8);
 
 // The step that a letter stands for; the rows say which.

@@ -1,10 +1,10 @@
 // Worked rows: calls, what is told of them, and the tree behind them.
 //
-// A call is `A` with the steps of an Atomic, `S` with two steps and those of an Atomic behind them in a Sequence, `C` with one
-// step alone, `W` an Alert 1222, `F` an Alert 1226, which fails, and `-` a message that has no step of a verb. A step is `a` a
-// Replace of ./A by "y", `g` a Get of it, `d` its Delete, `e` an Exec of it, `l` a Replace of ./T/a by "u", `t` a Delete of ./T, `u`
-// an Add of it, `1`, `2` and `3` three pieces of an Add of ./L, `n` a Replace of a node that isn't there, `q` the same with NoResp, `m` its
-// Delete, and `!` an Alert 1226.
+// A call is `A` with the steps of an Atomic, `S` with two steps and those of an Atomic behind them in a Sequence, `C`
+// with one step alone, `W` an Alert 1222, `F` an Alert 1226, which fails, and `-` a message that has no step of a verb.
+// A step is `a` a Replace of ./A by "y", `g` a Get of it, `d` its Delete, `e` an Exec of it, `l` a Replace of ./T/a by
+// "u", `t` a Delete of ./T, `u` an Add of it, `1`, `2` and `3` three pieces of an Add of ./L, `n` a Replace of a node
+// that isn't there, `q` the same with NoResp, `m` its Delete, and `!` an Alert 1226.
 
 /// The calls, each in a message of its own from 1 on; what is told of them, and the values of ./A, ./L and ./T/a then.
 pub(crate) type Row = (&'static [&'static [u8]], &'static [u8], &'static [u8]);

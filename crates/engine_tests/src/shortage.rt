@@ -1,4 +1,5 @@
-// Memory that runs out: the same calls from a mark on tell the same. `rt try --test --fail-alloc N` makes the Nth allocation fail.
+// Memory that runs out: the same calls from a mark on tell the same. `rt try --test --fail-alloc N` makes the Nth
+// allocation fail.
 ghost use Rattle.std.specs.Prelude.{IfSome};
 ghost use Rattle.dm_atomic.specs.Engine.{IsSoundEngine};
 

@@ -1,5 +1,5 @@
-//! Measures whether a tree stays small and fast as nodes come and go. Without words it takes a thousand turns, and tells what
-//! came. The word TURNS, in thousands, asks for so many, and for nanoseconds a turn in each tenth of them.
+//! Measures whether a tree stays small and fast as nodes come and go. Without words it takes a thousand turns, and
+//! tells what came. The word TURNS, in thousands, asks for so many, and for nanoseconds a turn in each tenth of them.
 #![tactic(auto)]
 
 ghost use Rattle.std.specs.Prelude.{IfOk, OnOk};

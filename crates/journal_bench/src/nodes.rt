@@ -39,7 +39,8 @@ pub fn kept_uri(group: u32, leaf: u32) -> [u8; 12] {
     uri
 }
 
-/// The URI of what comes and goes in a group: of a leaf alone, or of the top of a subtree. The number counts modulo 100.
+/// The URI of what comes and goes in a group: of a leaf alone, or of the top of a subtree. The number counts modulo
+/// 100.
 pub fn moving_uri(group: u32, alone: bool) -> [u8; 12] {
     let mut uri = if alone {
         *b"./B/g00/leaf"

@@ -1,5 +1,5 @@
-//! Measures how fast a large object is gathered from its pieces, beside one copy of its bytes. Without words it does each once,
-//! and tells what came. The words CALL SECONDS ask for picoseconds a byte.
+//! Measures how fast a large object is gathered from its pieces, beside one copy of its bytes. Without words it does
+//! each once, and tells what came. The words CALL SECONDS ask for picoseconds a byte.
 #![tactic(auto)]
 
 mod fold;

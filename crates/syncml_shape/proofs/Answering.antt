@@ -12,9 +12,11 @@ use Rattle.syncml_shape.specs.Shape.{HasShape}
 use Rattle.syncml_shape.specs.Faults.{IsRefused}
 use Rattle.syncml_shape.specs.Machine.{Frame, step, is_whole}
 use Rattle.syncml_shape.specs.Outline.{HasTaken, GivesStep, Judges, verdict_of}
-use Rattle.syncml_shape.proofs.Judging.{takes_one, refused_here, refused_only, whole_shaped, shaped_whole, verdict_judges, one_verdict}
+use Rattle.syncml_shape.proofs.Judging.{takes_one, refused_here, refused_only, whole_shaped, shaped_whole}
+use Rattle.syncml_shape.proofs.Judging.{verdict_judges, one_verdict}
 
-pub answer_taken : (r : Result Unit ShapeError) (s after : List Frame) (t : Token) (before : List Token) → GivesStep r after (step s t) → HasTaken s before
+pub answer_taken : (r : Result Unit ShapeError) (s after : List Frame) (t : Token) (before : List Token)
+    → GivesStep r after (step s t) → HasTaken s before
     → OnOk r (HasTaken after (before ++ t ∷ []))
 answer_taken (Ok u) s after t before x h = takes_one before s after t h x
 answer_taken (Err e) s after t before x h = tt
@@ -23,24 +25,31 @@ not_refused : (o : Result (List Frame) Reason) (reason : Reason) → IsOk o → 
 not_refused (Ok s) reason h w = cc
 not_refused (Err other) reason h w = cc
 
-pub answer_refused : (r : Result Unit ShapeError) (s after : List Frame) (t : Token) (before : List Token) (reason : Reason) → GivesStep r after (step s t) → HasTaken s before
+pub answer_refused : (r : Result Unit ShapeError) (s after : List Frame) (t : Token) (before : List Token)
+    (reason : Reason) → GivesStep r after (step s t) → HasTaken s before
     → (r ≡ Err (error.Refused reason)) ↔ IsRefused before t reason
 answer_refused (Ok u) s after t before reason x h =
     (λ w. cc, λ no_more. let stopped = refused_only before s t reason h no_more in cc)
 answer_refused (Err error.Memory) s after t before reason x h =
     (λ w. cc, λ no_more. absurd (not_refused (step s t) reason x (refused_only before s t reason h no_more)))
 answer_refused (Err (error.Refused other)) s after t before reason x h = (
-  λ w. let same_reason : other ≡ reason = cc in subst (IsRefused before t) same_reason (refused_here before s t other h x),
-  λ no_more. let stopped = refused_only before s t reason h no_more in let same_reason : other ≡ reason = cc in ap (λ w. Err (error.Refused w)) same_reason,
+  λ w. let same_reason : other ≡ reason = cc in
+      subst (IsRefused before t) same_reason (refused_here before s t other h x),
+  λ no_more. let stopped = refused_only before s t reason h no_more in let same_reason : other ≡ reason = cc in
+      ap (λ w. Err (error.Refused w)) same_reason,
 )
 
-pub answer_whole : (b : Bool) (s : List Frame) (tokens : List Token) → b ≡ is_whole s → HasTaken s tokens → IsTrue b ↔ ((tree : Forest) × HasShape tokens tree)
-answer_whole b s tokens x h = (λ w. whole_shaped tokens s h (sym x ∙ w), λ shaped. x ∙ shaped_whole tokens s shaped.0 h shaped.1)
+pub answer_whole : (b : Bool) (s : List Frame) (tokens : List Token) → b ≡ is_whole s → HasTaken s tokens
+    → IsTrue b ↔ ((tree : Forest) × HasShape tokens tree)
+answer_whole b s tokens x h =
+    (λ w. whole_shaped tokens s h (sym x ∙ w), λ shaped. x ∙ shaped_whole tokens s shaped.0 h shaped.1)
 
-pub answer_exact : (r : Result Verdict Memory) (tokens : List Token) → IfOk r (λ v. v ≡ verdict_of tokens) → IfOk r (λ v. Judges tokens v)
+pub answer_exact : (r : Result Verdict Memory) (tokens : List Token) → IfOk r (λ v. v ≡ verdict_of tokens)
+    → IfOk r (λ v. Judges tokens v)
 answer_exact (Ok v) tokens x = subst (Judges tokens) (sym x) (verdict_judges tokens)
 answer_exact (Err e) tokens x = x
 
-pub answer_only : (r : Result Verdict Memory) (tokens : List Token) (other : Verdict) → IfOk r (λ v. v ≡ verdict_of tokens) → Judges tokens other → IfOk r (λ v. v ≡ other)
+pub answer_only : (r : Result Verdict Memory) (tokens : List Token) (other : Verdict)
+    → IfOk r (λ v. v ≡ verdict_of tokens) → Judges tokens other → IfOk r (λ v. v ≡ other)
 answer_only (Ok v) tokens other x j = x ∙ one_verdict tokens other j
 answer_only (Err e) tokens other x j = x

@@ -1,5 +1,6 @@
 -- The step over the open elements with their names is the step over what may still come in them.
-use Rattle.std.specs.Prelude.{◌≡◌, Bool, true, false, if◌then◌else◌, List, [], ◌∷◌, Option, Some, None, IsTrue, Ok, Err, refl}
+use Rattle.std.specs.Prelude.{◌≡◌, Bool, true, false, if◌then◌else◌, List, [], ◌∷◌, Option, Some, None, IsTrue, Ok, Err}
+use Rattle.std.specs.Prelude.{refl}
 use Rattle.std.proofs.Common.{sym, ap, subst, ◌∙◌}
 use Rattle.wbxml_tokens.specs.declared.reason.Reason.{Reason}
 use Rattle.wbxml_tokens.specs.declared.reason.Reason.TheVariants.{Misplaced}
@@ -54,16 +55,19 @@ head-of f (g ∷ s) [] a = absurd a
 head-of f (g ∷ s) (e ∷ es) a = a.0
 
 -- another content at the front
-same_element : (f : Frame) (c : Content) (s : List Frame) (es : List Element) → AreOf (f ∷ s) es → AreOf (record f { content = c } ∷ s) es
+same_element : (f : Frame) (c : Content) (s : List Frame) (es : List Element) → AreOf (f ∷ s) es
+    → AreOf (record f { content = c } ∷ s) es
 same_element f c [] [] a = a
 same_element f c [] (e ∷ es) a = absurd a
 same_element f c (g ∷ s) [] a = absurd a
 same_element f c (g ∷ s) (e ∷ es) a = a
 
-new_child : (e : Element) (kind : Kind) (f : Frame) (c : Content) (s : List Frame) (es : List Element) → AreOf (f ∷ s) es → AreOf (began e kind ∷ record f { content = c } ∷ s) (e ∷ es)
+new_child : (e : Element) (kind : Kind) (f : Frame) (c : Content) (s : List Frame) (es : List Element)
+    → AreOf (f ∷ s) es → AreOf (began e kind ∷ record f { content = c } ∷ s) (e ∷ es)
 new_child e kind f c s es a = (refl, same_element f c s es a)
 
-if_taken : (t : Bool) (s : List Frame) (after : List Frame) → (if t then Ok s else Err Misplaced) ≡ Ok after → IsTrue t × (s ≡ after)
+if_taken : (t : Bool) (s : List Frame) (after : List Frame) → (if t then Ok s else Err Misplaced) ≡ Ok after
+    → IsTrue t × (s ≡ after)
 if_taken true s after h = (refl, cc)
 if_taken false s after h = cc
 
@@ -71,7 +75,8 @@ if_some : (t : Bool) (s : Open) → IsTrue t → (if t then Some s else None) �
 if_some true s h = refl
 if_some false s h = cc
 
-child_taken : (f : Frame) (s : List Frame) (es : List Element) (e : Element) (b : Bool) (x : Kind × Content) (after : List Frame) → AllNamed (f ∷ s) → AreOf (f ∷ s) es
+child_taken : (f : Frame) (s : List Frame) (es : List Element) (e : Element) (b : Bool) (x : Kind × Content)
+    (after : List Frame) → AllNamed (f ∷ s) → AreOf (f ∷ s) es
     → next f.content e ≡ Some x → with_child f s e b x ≡ Ok after → Taken (f ∷ s) after es (Tag e b)
 child_taken f s es e true x after n a is h =
     let was = next_named f.content f.element e x n.0 is in
@@ -86,18 +91,23 @@ child_taken f s es e false x after n a is h =
     let took = if_taken (is_complete (start x.0)) (record f { content = x.1 } ∷ s) after h in
     subst (λ r. Taken (f ∷ s) r es (Tag e false)) took.1 (record {
       named = (was.rest, n.1);
-      contents = ap (content_child (contents_of s) false) is ∙ if_some (is_complete (start x.0)) (x.1 ∷ contents_of s) took.0;
+      contents =
+          ap (content_child (contents_of s) false) is ∙ if_some (is_complete (start x.0)) (x.1 ∷ contents_of s) took.0;
       elements = same_element f x.1 s es a;
     })
 
-tag_taken : (f : Frame) (s : List Frame) (es : List Element) (e : Element) (b : Bool) (fault : Option Reason) (o : Option (Kind × Content)) (after : List Frame)
-    → AllNamed (f ∷ s) → AreOf (f ∷ s) es → next f.content e ≡ o → with_tag f s e b fault o ≡ Ok after → Taken (f ∷ s) after es (Tag e b)
+tag_taken : (f : Frame) (s : List Frame) (es : List Element) (e : Element) (b : Bool) (fault : Option Reason)
+    (o : Option (Kind × Content)) (after : List Frame)
+    → AllNamed (f ∷ s) → AreOf (f ∷ s) es → next f.content e ≡ o → with_tag f s e b fault o ≡ Ok after
+    → Taken (f ∷ s) after es (Tag e b)
 tag_taken f s es e b (Some reason) o after n a is h = cc
 tag_taken f s es e b None None after n a is h = cc
 tag_taken f s es e b None (Some x) after n a is h = child_taken f s es e b x after n a is h
 
-text_taken : (f : Frame) (s : List Frame) (es : List Element) (t : Token) (after : List Frame) → AllNamed (f ∷ s) → AreOf (f ∷ s) es
-    → content_step (contents_of (f ∷ s)) t ≡ (if takes_text f.content then Some (contents_of (f ∷ s)) else None) → open_after es t ≡ es
+text_taken : (f : Frame) (s : List Frame) (es : List Element) (t : Token) (after : List Frame) → AllNamed (f ∷ s)
+    → AreOf (f ∷ s) es
+    → content_step (contents_of (f ∷ s)) t ≡ (if takes_text f.content then Some (contents_of (f ∷ s)) else None)
+    → open_after es t ≡ es
     → with_text f s ≡ Ok after → Taken (f ∷ s) after es t
 text_taken f s es t after n a steps opens h =
     let took = if_taken (takes_text f.content) (f ∷ s) after h in
@@ -107,7 +117,8 @@ text_taken f s es t after n a steps opens h =
       elements = subst (AreOf (f ∷ s)) (sym opens) a;
     })
 
-end_taken : (f : Frame) (s : List Frame) (es : List Element) (after : List Frame) → AllNamed (f ∷ s) → AreOf (f ∷ s) es → with_end f s ≡ Ok after → Taken (f ∷ s) after es End
+end_taken : (f : Frame) (s : List Frame) (es : List Element) (after : List Frame) → AllNamed (f ∷ s) → AreOf (f ∷ s) es
+    → with_end f s ≡ Ok after → Taken (f ∷ s) after es End
 end_taken f [] es after n a h = cc
 end_taken f (g ∷ s) [] after n a h = absurd a
 end_taken f (g ∷ s) (e ∷ es) after n a h =
@@ -118,16 +129,19 @@ end_taken f (g ∷ s) (e ∷ es) after n a h =
       elements = a.1;
     })
 
-pub step_taken : (t : Token) (s : List Frame) (es : List Element) (after : List Frame) → AllNamed s → AreOf s es → step s t ≡ Ok after → Taken s after es t
+pub step_taken : (t : Token) (s : List Frame) (es : List Element) (after : List Frame) → AllNamed s → AreOf s es
+    → step s t ≡ Ok after → Taken s after es t
 step_taken t [] es after n a h = absurd a
-step_taken (Tag e b) (f ∷ s) es after n a h = tag_taken f s es e b (tag_fault f.element e) (next f.content e) after n a refl h
+step_taken (Tag e b) (f ∷ s) es after n a h =
+    tag_taken f s es e b (tag_fault f.element e) (next f.content e) after n a refl h
 step_taken End (f ∷ s) es after n a h = end_taken f s es after n a h
 step_taken (Text b) (f ∷ s) es after n a h = text_taken f s es (Text b) after n a refl refl h
 step_taken (Opaque b) (f ∷ s) es after n a h = text_taken f s es (Opaque b) after n a refl refl h
 
 -- ---- a step that is refused
 
-if_refused : (t : Bool) (s : List Frame) (reason : Reason) → (if t then Ok s else Err Misplaced) ≡ Err reason → (t ≡ false) × (reason ≡ Misplaced)
+if_refused : (t : Bool) (s : List Frame) (reason : Reason) → (if t then Ok s else Err Misplaced) ≡ Err reason
+    → (t ≡ false) × (reason ≡ Misplaced)
 if_refused true s reason h = cc
 if_refused false s reason h = (refl, cc)
 
@@ -140,44 +154,60 @@ none_of_no_child s true = tt
 none_of_no_child s false = tt
 
 -- a tag that is refused for its name may not come
-fault_may_not : (f : Frame) (e : Element) (reason : Reason) (o : Option (Kind × Content)) → IsNamed f.element f.content → tag_fault f.element e ≡ Some reason → next f.content e ≡ o → o ≡ None
+fault_may_not : (f : Frame) (e : Element) (reason : Reason) (o : Option (Kind × Content)) → IsNamed f.element f.content
+    → tag_fault f.element e ≡ Some reason → next f.content e ≡ o → o ≡ None
 fault_may_not f e reason None n fault is = refl
 fault_may_not f e reason (Some x) n fault is =
     let none : tag_fault f.element e ≡ None = (next_named f.content f.element e x n is).faultless in cc
 
-tag_none : (f : Frame) (s : List Frame) (e : Element) (b : Bool) → next f.content e ≡ None → LeavesNone (content_step (contents_of (f ∷ s)) (Tag e b))
-tag_none f s e b is = subst (λ o. LeavesNone (content_child (contents_of s) b o)) (sym is) (none_of_no_child (contents_of s) b)
+tag_none : (f : Frame) (s : List Frame) (e : Element) (b : Bool) → next f.content e ≡ None
+    → LeavesNone (content_step (contents_of (f ∷ s)) (Tag e b))
+tag_none f s e b is =
+    subst (λ o. LeavesNone (content_child (contents_of s) b o)) (sym is) (none_of_no_child (contents_of s) b)
 
-child_refused : (f : Frame) (s : List Frame) (e : Element) (b : Bool) (x : Kind × Content) (reason : Reason) → next f.content e ≡ Some x → with_child f s e b x ≡ Err reason
+child_refused : (f : Frame) (s : List Frame) (e : Element) (b : Bool) (x : Kind × Content) (reason : Reason)
+    → next f.content e ≡ Some x → with_child f s e b x ≡ Err reason
     → LeavesNone (content_step (contents_of (f ∷ s)) (Tag e b)) × (reason ≡ Misplaced)
 child_refused f s e true x reason is h = cc
 child_refused f s e false x reason is h =
-    let was = if_refused (is_complete (start x.0)) (record f { content = x.1 } ∷ s) reason h in
-    (subst (λ o. LeavesNone (content_child (contents_of s) false o)) (sym is) (if_none (is_complete (start x.0)) (x.1 ∷ contents_of s) was.0), was.1)
+    let was = if_refused (is_complete (start x.0)) (record f { content = x.1 } ∷ s) reason h in (
+      subst (λ o. LeavesNone (content_child (contents_of s) false o)) (sym is)
+          (if_none (is_complete (start x.0)) (x.1 ∷ contents_of s) was.0),
+      was.1,
+    )
 
-tag_refused : (f : Frame) (s : List Frame) (e : Element) (b : Bool) (fault : Option Reason) (o : Option (Kind × Content)) (reason : Reason) → IsNamed f.element f.content
+tag_refused : (f : Frame) (s : List Frame) (e : Element) (b : Bool) (fault : Option Reason)
+    (o : Option (Kind × Content)) (reason : Reason) → IsNamed f.element f.content
     → tag_fault f.element e ≡ fault → next f.content e ≡ o → with_tag f s e b fault o ≡ Err reason
     → LeavesNone (content_step (contents_of (f ∷ s)) (Tag e b)) × (reason ≡ or_misplaced fault)
 tag_refused f s e b (Some r) o reason n fault is h = (tag_none f s e b (is ∙ fault_may_not f e r o n fault is), cc)
 tag_refused f s e b None None reason n fault is h = (tag_none f s e b is, cc)
 tag_refused f s e b None (Some x) reason n fault is h = child_refused f s e b x reason is h
 
-end_refused : (f : Frame) (s : List Frame) (reason : Reason) → with_end f s ≡ Err reason → LeavesNone (content_step (contents_of (f ∷ s)) End) × (reason ≡ Misplaced)
-end_refused f [] reason h =
-    (elim (is_complete f.content) as (λ (t : Bool). LeavesNone (if t then Some [] else None)) [ true ↦ tt | false ↦ tt ], cc)
+end_refused : (f : Frame) (s : List Frame) (reason : Reason) → with_end f s ≡ Err reason
+    → LeavesNone (content_step (contents_of (f ∷ s)) End) × (reason ≡ Misplaced)
+end_refused f [] reason h = (
+  elim (is_complete f.content) as (λ (t : Bool). LeavesNone (if t then Some [] else None)) [ true ↦ tt | false ↦ tt ],
+  cc,
+)
 end_refused f (g ∷ s) reason h =
-    let was = if_refused (is_complete f.content) (g ∷ s) reason h in (if_none (is_complete f.content) (contents_of (g ∷ s)) was.0, was.1)
+    let was = if_refused (is_complete f.content) (g ∷ s) reason h in
+    (if_none (is_complete f.content) (contents_of (g ∷ s)) was.0, was.1)
 
 text_refused : (f : Frame) (s : List Frame) (reason : Reason) → with_text f s ≡ Err reason
     → LeavesNone (if takes_text f.content then Some (contents_of (f ∷ s)) else None) × (reason ≡ Misplaced)
 text_refused f s reason h =
-    let was = if_refused (takes_text f.content) (f ∷ s) reason h in (if_none (takes_text f.content) (contents_of (f ∷ s)) was.0, was.1)
+    let was = if_refused (takes_text f.content) (f ∷ s) reason h in
+    (if_none (takes_text f.content) (contents_of (f ∷ s)) was.0, was.1)
 
-pub step_refused : (t : Token) (s : List Frame) (es : List Element) (reason : Reason) → AllNamed s → AreOf s es → step s t ≡ Err reason → NotTaken s es t reason
+pub step_refused : (t : Token) (s : List Frame) (es : List Element) (reason : Reason) → AllNamed s → AreOf s es
+    → step s t ≡ Err reason → NotTaken s es t reason
 step_refused t [] es reason n a h = absurd a
 step_refused (Tag e b) (f ∷ s) es reason n a h =
     let was = tag_refused f s e b (tag_fault f.element e) (next f.content e) reason n.0 refl refl h in
     record { none = was.0; named = was.1 ∙ ap (λ p. or_misplaced (tag_fault p e)) (head-of f s es a) }
 step_refused End (f ∷ s) es reason n a h = let was = end_refused f s reason h in record { none = was.0; named = was.1 }
-step_refused (Text b) (f ∷ s) es reason n a h = let was = text_refused f s reason h in record { none = was.0; named = was.1 }
-step_refused (Opaque b) (f ∷ s) es reason n a h = let was = text_refused f s reason h in record { none = was.0; named = was.1 }
+step_refused (Text b) (f ∷ s) es reason n a h = let was = text_refused f s reason h in
+    record { none = was.0; named = was.1 }
+step_refused (Opaque b) (f ∷ s) es reason n a h = let was = text_refused f s reason h in
+    record { none = was.0; named = was.1 }

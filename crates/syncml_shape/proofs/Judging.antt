@@ -1,5 +1,6 @@
 -- What an outline takes, refuses and finds whole is what begins a document, what is refused, and what is a document.
-use Rattle.std.specs.Prelude.{◌≡◌, ℕ, ◌+◌, Bool, true, false, if◌then◌else◌, List, [], ◌∷◌, ◌++◌, length, Option, Some, None, IsTrue, Ok, Err, refl}
+use Rattle.std.specs.Prelude.{◌≡◌, ℕ, ◌+◌, Bool, true, false, if◌then◌else◌, List, [], ◌∷◌, ◌++◌, length, Option, Some}
+use Rattle.std.specs.Prelude.{None, IsTrue, Ok, Err, refl}
 use Rattle.std.proofs.Common.{sym, ap, subst, ◌∙◌, append_assoc, append-nil, arith, length-append}
 use Rattle.std.proofs.lemmas.List.{append_cancel_right}
 use Rattle.wbxml_tokens.specs.declared.reason.Reason.{Reason}
@@ -13,8 +14,10 @@ use Rattle.syncml_shape.specs.Rows.{Content, document, is_complete, next}
 use Rattle.syncml_shape.specs.Shape.{HasShape, IsViable}
 use Rattle.syncml_shape.specs.Faults.{tag_fault, innermost, open_behind, open_elements, open_after, IsRefused}
 use Rattle.syncml_shape.specs.Machine.{Frame, root, step, with_tag, is_whole}
-use Rattle.syncml_shape.specs.Laws.{FaultsHaveNoShape, FitsIsStepped, ClosingIsFit, ViableIsOpen, ViableIsTaken, JudgedIsComputed}
-use Rattle.syncml_shape.specs.Outline.{then_outline, outline_from, HasTaken, Judges, whole_or_not, verdict_then, verdict_from, verdict_of}
+use Rattle.syncml_shape.specs.Laws.{FaultsHaveNoShape, FitsIsStepped, ClosingIsFit, ViableIsOpen, ViableIsTaken}
+use Rattle.syncml_shape.specs.Laws.{JudgedIsComputed}
+use Rattle.syncml_shape.specs.Outline.{then_outline, outline_from, HasTaken, Judges, whole_or_not, verdict_then}
+use Rattle.syncml_shape.specs.Outline.{verdict_from, verdict_of}
 use Rattle.syncml_shape.specs.Steps.{Open, then_steps, steps}
 use Rattle.syncml_shape.specs.Steps.{step as content_step}
 use Rattle.syncml_shape.proofs.Contents.{steps-append}
@@ -29,17 +32,24 @@ pub record Held (frames : List Frame) (from : Open) (es : List Element) (tokens 
   pub contents : steps from tokens ≡ Some (contents_of frames)
   pub elements : AreOf frames (open_behind es tokens)
 
-held_from : (tokens : List Token) (s frames : List Frame) (es : List Element) → AllNamed s → AreOf s es → outline_from s tokens ≡ Ok frames → Held frames (contents_of s) es tokens
+held_from : (tokens : List Token) (s frames : List Frame) (es : List Element) → AllNamed s → AreOf s es
+    → outline_from s tokens ≡ Ok frames → Held frames (contents_of s) es tokens
 held_from [] s frames es n a h =
     let eq : s ≡ frames = cc in
     subst (λ r. Held r (contents_of s) es []) eq (record { named = n; contents = refl; elements = a })
 held_from (t ∷ tokens) s frames es n a h =
-    (elim (step s t) as (λ o. step s t ≡ o → then_outline o (λ m. outline_from m tokens) ≡ Ok frames → Held frames (contents_of s) es (t ∷ tokens)) [
+    (elim (step s t)
+    as (λ o. step s t ≡ o → then_outline o (λ m. outline_from m tokens) ≡ Ok frames
+    → Held frames (contents_of s) es (t ∷ tokens)) [
       | Err reason ↦ λ w h'. cc
       | Ok m ↦ λ w h'.
           let took = step_taken t s es m n a w in
           let rest = held_from tokens m frames (open_after es t) took.named took.elements h' in
-          record { named = rest.named; contents = ap (λ o. then_steps o (λ x. steps x tokens)) took.contents ∙ rest.contents; elements = rest.elements }
+          record {
+            named = rest.named;
+            contents = ap (λ o. then_steps o (λ x. steps x tokens)) took.contents ∙ rest.contents;
+            elements = rest.elements;
+          }
     ]) refl h
 
 root_named : AllNamed (root ∷ [])
@@ -50,17 +60,22 @@ held tokens frames h = held_from tokens (root ∷ []) frames [] root_named refl 
 
 -- ---- one more token
 
-pub outline-append : (a b : List Token) (s : List Frame) → outline_from s (a ++ b) ≡ then_outline (outline_from s a) (λ m. outline_from m b)
+pub outline-append : (a b : List Token) (s : List Frame)
+    → outline_from s (a ++ b) ≡ then_outline (outline_from s a) (λ m. outline_from m b)
 outline-append [] b s = refl
 outline-append (t ∷ a) b s =
-    elim (step s t) as (λ o. then_outline o (λ m. outline_from m (a ++ b)) ≡ then_outline (then_outline o (λ m. outline_from m a)) (λ m. outline_from m b)) [
+    elim (step s t) as (λ o.
+    then_outline o (λ m. outline_from m (a ++ b))
+    ≡ then_outline (then_outline o (λ m. outline_from m a)) (λ m. outline_from m b)) [
       | Err reason ↦ refl
       | Ok m ↦ outline-append a b m
     ]
 
-pub takes_one : (tokens : List Token) (s after : List Frame) (t : Token) → HasTaken s tokens → step s t ≡ Ok after → HasTaken after (tokens ++ t ∷ [])
+pub takes_one : (tokens : List Token) (s after : List Frame) (t : Token) → HasTaken s tokens → step s t ≡ Ok after
+    → HasTaken after (tokens ++ t ∷ [])
 takes_one tokens s after t h w =
-    outline-append tokens (t ∷ []) (root ∷ []) ∙ ap (λ o. then_outline o (λ m. outline_from m (t ∷ []))) h ∙ ap (λ o. then_outline o (λ m. outline_from m [])) w
+    outline-append tokens (t ∷ []) (root ∷ []) ∙ ap (λ o. then_outline o (λ m. outline_from m (t ∷ []))) h
+    ∙ ap (λ o. then_outline o (λ m. outline_from m [])) w
 
 pub viable_front : (a b : List Token) → IsViable (a ++ b) → IsViable a
 viable_front a b v = (b ++ v.0, v.1, subst (λ l. HasShape l v.1) (append_assoc a b v.0) v.2)
@@ -74,15 +89,19 @@ leaves_more None c s l h = cc
 leaves_more (Some []) c s l h = cc
 leaves_more (Some (d ∷ r)) c s l h = l
 
-opened-one : (tokens : List Token) (s : List Frame) (t : Token) → HasTaken s tokens → opened (tokens ++ t ∷ []) ≡ content_step (contents_of s) t
+opened-one : (tokens : List Token) (s : List Frame) (t : Token) → HasTaken s tokens
+    → opened (tokens ++ t ∷ []) ≡ content_step (contents_of s) t
 opened-one tokens s t h =
-    steps-append (document ∷ []) tokens (t ∷ []) ∙ ap (λ o. then_steps o (λ m. steps m (t ∷ []))) (held tokens s h).contents ∙ one_step (content_step (contents_of s) t)
+    steps-append (document ∷ []) tokens (t ∷ [])
+    ∙ ap (λ o. then_steps o (λ m. steps m (t ∷ []))) (held tokens s h).contents
+    ∙ one_step (content_step (contents_of s) t)
   where
     one_step : (o : Option Open) → then_steps o (λ m. Some m) ≡ o
     one_step None = refl
     one_step (Some m) = refl
 
-pub refused_here : (tokens : List Token) (s : List Frame) (t : Token) (reason : Reason) → HasTaken s tokens → step s t ≡ Err reason → IsRefused tokens t reason
+pub refused_here : (tokens : List Token) (s : List Frame) (t : Token) (reason : Reason) → HasTaken s tokens
+    → step s t ≡ Err reason → IsRefused tokens t reason
 refused_here tokens s t reason h w =
     let was = held tokens s h in
     let no = step_refused t s (open_elements tokens) reason was.named was.elements w in
@@ -94,7 +113,8 @@ refused_here tokens s t reason h w =
       named = no.named;
     }
 
-pub refused_only : (tokens : List Token) (s : List Frame) (t : Token) (reason : Reason) → HasTaken s tokens → IsRefused tokens t reason → step s t ≡ Err reason
+pub refused_only : (tokens : List Token) (s : List Frame) (t : Token) (reason : Reason) → HasTaken s tokens
+    → IsRefused tokens t reason → step s t ≡ Err reason
 refused_only tokens s t reason h refused =
     elim (step s t) as (λ o. step s t ≡ o → o ≡ Err reason) [
       | Ok m ↦ λ w. absurd (refused.not_viable (taken_viable (tokens ++ t ∷ []) m (takes_one tokens s m t h w)))
@@ -106,13 +126,18 @@ refused_only tokens s t reason h refused =
 cut-append : (a : List Token) (t : Token) (b : List Token) → (a ++ t ∷ []) ++ b ≡ a ++ t ∷ b
 cut-append a t b = append_assoc a (t ∷ []) b
 
-viable_goes_on : (tokens before : List Token) (s : List Frame) → HasTaken s before → IsViable (before ++ tokens) → (frames : List Frame) × HasTaken frames (before ++ tokens)
+viable_goes_on : (tokens before : List Token) (s : List Frame) → HasTaken s before → IsViable (before ++ tokens)
+    → (frames : List Frame) × HasTaken frames (before ++ tokens)
 viable_goes_on [] before s h v = (s, subst (λ l. HasTaken s l) (sym (append-nil before)) h)
 viable_goes_on (t ∷ tokens) before s h v =
     elim (step s t) as (λ o. step s t ≡ o → (frames : List Frame) × HasTaken frames (before ++ t ∷ tokens)) [
-      | Err reason ↦ λ w. absurd ((refused_here before s t reason h w).not_viable (viable_front (before ++ t ∷ []) tokens (subst IsViable (sym (cut-append before t tokens)) v)))
+      | Err reason ↦ λ w.
+          absurd ((refused_here before s t reason h w).not_viable
+          (viable_front (before ++ t ∷ []) tokens (subst IsViable (sym (cut-append before t tokens)) v)))
       | Ok m ↦ λ w.
-          let rest = viable_goes_on tokens (before ++ t ∷ []) m (takes_one before s m t h w) (subst IsViable (sym (cut-append before t tokens)) v) in
+          let rest =
+          viable_goes_on tokens (before ++ t ∷ []) m (takes_one before s m t h w)
+          (subst IsViable (sym (cut-append before t tokens)) v) in
           (rest.0, subst (λ l. HasTaken rest.0 l) (cut-append before t tokens) rest.1)
     ] refl
 
@@ -139,15 +164,18 @@ closed_whole [] h = cc
 closed_whole (f ∷ []) h = (was_true (is_complete f.content) [] h).0
 closed_whole (f ∷ g ∷ s) h = let is = (was_true (is_complete f.content) (contents_of (g ∷ s)) h).1 in cc
 
-pub whole_shaped : (tokens : List Token) (s : List Frame) → HasTaken s tokens → IsTrue (is_whole s) → (tree : Forest) × HasShape tokens tree
+pub whole_shaped : (tokens : List Token) (s : List Frame) → HasTaken s tokens → IsTrue (is_whole s)
+    → (tree : Forest) × HasShape tokens tree
 whole_shaped tokens s h w =
     let closed : opened (tokens ++ End ∷ []) ≡ Some [] = opened-one tokens s End h ∙ whole_closes s w in
     let tree = one_tree document (tokens ++ End ∷ []) (closes (tokens ++ End ∷ []) (document ∷ []) closed) in
     (tree.0, record { spelled = append_cancel_right tokens (spelling tree.0) (End ∷ []) tree.1; fitting = tree.2 })
 
-pub shaped_whole : (tokens : List Token) (s : List Frame) (tree : Forest) → HasTaken s tokens → HasShape tokens tree → IsTrue (is_whole s)
+pub shaped_whole : (tokens : List Token) (s : List Frame) (tree : Forest) → HasTaken s tokens → HasShape tokens tree
+    → IsTrue (is_whole s)
 shaped_whole tokens s tree h shape =
-    closed_whole s (sym (opened-one tokens s End h) ∙ ap (λ l. opened (l ++ End ∷ [])) shape.spelled ∙ steps-spelling tree document [] [] shape.fitting)
+    closed_whole s (sym (opened-one tokens s End h) ∙ ap (λ l. opened (l ++ End ∷ [])) shape.spelled
+    ∙ steps-spelling tree document [] [] shape.fitting)
 
 pub shaped_viable : (tokens : List Token) (tree : Forest) → HasShape tokens tree → IsViable tokens
 shaped_viable tokens tree shape = ([], tree, subst (λ l. HasShape l tree) (sym (append-nil tokens)) shape)
@@ -158,17 +186,24 @@ judges_end : (tokens : List Token) (s : List Frame) → HasTaken s tokens → Ju
 judges_end tokens s h =
     elim (is_whole s) as (λ (b : Bool). is_whole s ≡ b → Judges tokens (whole_or_not b)) [
       | true ↦ λ w. whole_shaped tokens s h w
-      | false ↦ λ w. (taken_viable tokens s h, λ tree shape. let yes : is_whole s ≡ true = shaped_whole tokens s tree h shape in cc)
+      | false ↦ λ w. (
+        taken_viable tokens s h,
+        λ tree shape. let yes : is_whole s ≡ true = shaped_whole tokens s tree h shape in cc,
+      )
     ] refl
 
-judges_from : (tokens before : List Token) (s : List Frame) (at : ℕ) → HasTaken s before → length before ≡ at → Judges (before ++ tokens) (verdict_from at s tokens)
-judges_from [] before s at h len = subst (λ l. Judges l (whole_or_not (is_whole s))) (sym (append-nil before)) (judges_end before s h)
+judges_from : (tokens before : List Token) (s : List Frame) (at : ℕ) → HasTaken s before → length before ≡ at
+    → Judges (before ++ tokens) (verdict_from at s tokens)
+judges_from [] before s at h len =
+    subst (λ l. Judges l (whole_or_not (is_whole s))) (sym (append-nil before)) (judges_end before s h)
 judges_from (t ∷ tokens) before s at h len =
-    elim (step s t) as (λ o. step s t ≡ o → Judges (before ++ t ∷ tokens) (verdict_then at o (λ m. verdict_from (at + 1) m tokens))) [
+    elim (step s t) as (λ o. step s t ≡ o
+    → Judges (before ++ t ∷ tokens) (verdict_then at o (λ m. verdict_from (at + 1) m tokens))) [
       | Err reason ↦ λ w. (before, t, tokens, refl, len, refused_here before s t reason h w)
       | Ok m ↦ λ w.
           subst (λ l. Judges l (verdict_from (at + 1) m tokens)) (cut-append before t tokens)
-          (judges_from tokens (before ++ t ∷ []) m (at + 1) (takes_one before s m t h w) (length-one before t ∙ ap (λ n. n + 1) len))
+          (judges_from tokens (before ++ t ∷ []) m (at + 1) (takes_one before s m t h w)
+          (length-one before t ∙ ap (λ n. n + 1) len))
     ] refl
   where
     length-one : (a : List Token) (x : Token) → length (a ++ x ∷ []) ≡ length a + 1
@@ -177,15 +212,20 @@ judges_from (t ∷ tokens) before s at h len =
 pub verdict_judges : (tokens : List Token) → Judges tokens (verdict_of tokens)
 verdict_judges tokens = judges_from tokens [] (root ∷ []) 0 refl refl
 
-verdict-append : (a b : List Token) (s frames : List Frame) (at : ℕ) → outline_from s a ≡ Ok frames → verdict_from at s (a ++ b) ≡ verdict_from (at + length a) frames b
-verdict-append [] b s frames at h = let eq : s ≡ frames = cc in ap (λ r. verdict_from at r b) eq ∙ ap (λ n. verdict_from n frames b) (omega arith)
+verdict-append : (a b : List Token) (s frames : List Frame) (at : ℕ) → outline_from s a ≡ Ok frames
+    → verdict_from at s (a ++ b) ≡ verdict_from (at + length a) frames b
+verdict-append [] b s frames at h = let eq : s ≡ frames = cc in
+    ap (λ r. verdict_from at r b) eq ∙ ap (λ n. verdict_from n frames b) (omega arith)
 verdict-append (t ∷ a) b s frames at h =
-    (elim (step s t) as (λ o. step s t ≡ o → then_outline o (λ m. outline_from m a) ≡ Ok frames → verdict_then at o (λ m. verdict_from (at + 1) m (a ++ b)) ≡ verdict_from (at + length (t ∷ a)) frames b) [
+    (elim (step s t)
+    as (λ o. step s t ≡ o → then_outline o (λ m. outline_from m a) ≡ Ok frames
+    → verdict_then at o (λ m. verdict_from (at + 1) m (a ++ b)) ≡ verdict_from (at + length (t ∷ a)) frames b) [
       | Err reason ↦ λ w h'. cc
       | Ok m ↦ λ w h'. verdict-append a b m frames (at + 1) h' ∙ ap (λ n. verdict_from n frames b) (omega arith)
     ]) refl h
 
-verdict-taken : (tokens : List Token) (s : List Frame) → HasTaken s tokens → verdict_of tokens ≡ whole_or_not (is_whole s)
+verdict-taken : (tokens : List Token) (s : List Frame) → HasTaken s tokens
+    → verdict_of tokens ≡ whole_or_not (is_whole s)
 verdict-taken tokens s h = ap verdict_of (sym (append-nil tokens)) ∙ verdict-append tokens [] (root ∷ []) s 0 h
 
 not_whole : (b : Bool) → (IsTrue b → ⊥) → b ≡ false
@@ -198,24 +238,31 @@ one_verdict tokens verdict.Whole j =
     verdict-taken tokens took.0 took.1 ∙ ap whole_or_not (shaped_whole tokens took.0 j.0 took.1 j.1)
 one_verdict tokens verdict.Unfinished j =
     let took = viable_taken tokens j.0 in
-    verdict-taken tokens took.0 took.1 ∙ ap whole_or_not (not_whole (is_whole took.0) (λ w. let tree = whole_shaped tokens took.0 took.1 w in j.1 tree.0 tree.1))
+    verdict-taken tokens took.0 took.1
+    ∙ ap whole_or_not
+    (not_whole (is_whole took.0) (λ w. let tree = whole_shaped tokens took.0 took.1 w in j.1 tree.0 tree.1))
 one_verdict tokens (verdict.Refused at reason) j =
     let took = viable_taken j.0 j.5.viable in
     ap verdict_of j.3 ∙ verdict-append j.0 (j.1 ∷ j.2) (root ∷ []) took.0 0 took.1
-    ∙ ap (λ o. verdict_then (0 + length j.0) o (λ m. verdict_from (0 + length j.0 + 1) m j.2)) (refused_only j.0 took.0 j.1 reason took.1 j.5)
+    ∙ ap (λ o. verdict_then (0 + length j.0) o (λ m. verdict_from (0 + length j.0 + 1) m j.2))
+    (refused_only j.0 took.0 j.1 reason took.1 j.5)
     ∙ ap (λ n. verdict.Refused n reason) (omega (arith, j.4))
 
 -- ---- laws
 
-fault_stops : (f : Frame) (s m : List Frame) (e : Element) (content : Bool) (reason : Reason) → tag_fault f.element e ≡ Some reason → step (f ∷ s) (Tag e content) ≡ Ok m → ⊥
+fault_stops : (f : Frame) (s m : List Frame) (e : Element) (content : Bool) (reason : Reason)
+    → tag_fault f.element e ≡ Some reason → step (f ∷ s) (Tag e content) ≡ Ok m → ⊥
 fault_stops f s m e content reason fault h =
-    let stopped : step (f ∷ s) (Tag e content) ≡ Err reason = ap (λ o. with_tag f s e content o (next f.content e)) fault in cc
+    let stopped : step (f ∷ s) (Tag e content) ≡ Err reason =
+    ap (λ o. with_tag f s e content o (next f.content e)) fault in cc
 
-no_step : (before : List Token) (s m : List Frame) (e : Element) (content : Bool) (reason : Reason) → HasTaken s before → tag_fault (innermost (open_elements before)) e ≡ Some reason
+no_step : (before : List Token) (s m : List Frame) (e : Element) (content : Bool) (reason : Reason) → HasTaken s before
+    → tag_fault (innermost (open_elements before)) e ≡ Some reason
     → step s (Tag e content) ≡ Ok m → ⊥
 no_step before [] m e content reason h fault w = absurd (held before [] h).elements
 no_step before (f ∷ s) m e content reason h fault w =
-    fault_stops f s m e content reason (ap (λ p. tag_fault p e) (head-of f s (open_elements before) (held before (f ∷ s) h).elements) ∙ fault) w
+    fault_stops f s m e content reason
+    (ap (λ p. tag_fault p e) (head-of f s (open_elements before) (held before (f ∷ s) h).elements) ∙ fault) w
 
 pub faults_have_no_shape : FaultsHaveNoShape
 faults_have_no_shape before e content reason fault v =

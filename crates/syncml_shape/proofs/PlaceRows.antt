@@ -1,12 +1,14 @@
 -- The place that is computed is that of the first row that names the child.
-use Rattle.std.specs.Prelude.{◌≡◌, ◌+◌, Bool, true, false, if◌then◌else◌, List, [], ◌∷◌, ◌++◌, length, Option, Some, None, IfSome, IfNone, refl}
+use Rattle.std.specs.Prelude.{◌≡◌, ◌+◌, Bool, true, false, if◌then◌else◌, List, [], ◌∷◌, ◌++◌, length, Option, Some}
+use Rattle.std.specs.Prelude.{None, IfSome, IfNone, refl}
 use Rattle.std.proofs.Common.{sym, subst, append_assoc, length-append, append-nil}
 use Rattle.wbxml_tables.specs.declared.Element.{Element}
 use Rattle.syncml_shape.specs.declared.rows.Row.{Row}
 use Rattle.syncml_shape.specs.declared.place.Place.{Place}
 use Rattle.syncml_shape.specs.Places.{names, place_in, rows_of, place_of, NameNone, IsPlace}
 
-none_more : (before : List Row) (row : Row) (child : Element) → NameNone before child → names row child ≡ false → NameNone (before ++ row ∷ []) child
+none_more : (before : List Row) (row : Row) (child : Element) → NameNone before child → names row child ≡ false
+    → NameNone (before ++ row ∷ []) child
 none_more [] row child n h = (h, tt)
 none_more (b ∷ before) row child n h = (n.0, none_more before row child n.1 h)
 
@@ -15,24 +17,32 @@ abbrev Found : List Row → Element → Option Place → Type 0
 Found rows child None = NameNone rows child
 Found rows child (Some place) = IsPlace rows child place
 
-found_behind : (rows before : List Row) (child : Element) → NameNone before child → Found (before ++ rows) child (place_in (length before + 1) rows child)
+found_behind : (rows before : List Row) (child : Element) → NameNone before child
+    → Found (before ++ rows) child (place_in (length before + 1) rows child)
 found_behind [] before child n = subst (λ l. NameNone l child) (sym (append-nil before)) n
 found_behind (row ∷ rows) before child n =
-    elim (names row child) as (λ (b : Bool). names row child ≡ b → Found (before ++ row ∷ rows) child (if b then Some (record { order = length before + 1; required = row.required; many = row.many }) else place_in (length before + 1 + 1) rows child)) [
+    elim (names row child)
+    as (λ (b : Bool). names row child ≡ b
+    → Found (before ++ row ∷ rows) child
+    (if b then Some (record { order = length before + 1; required = row.required; many = row.many })
+    else place_in (length before + 1 + 1) rows child)) [
       | true ↦ λ h. record { before = before; row = row; after = rows; all = refl; is_first = n; named = h; is = refl }
       | false ↦ λ h.
           subst (λ l. Found l child (place_in (length before + 1 + 1) rows child)) (append_assoc before (row ∷ []) rows)
-          (subst (λ k. Found ((before ++ row ∷ []) ++ rows) child (place_in (k + 1) rows child)) (length-append before (row ∷ []))
+          (subst (λ k. Found ((before ++ row ∷ []) ++ rows) child (place_in (k + 1) rows child))
+          (length-append before (row ∷ []))
           (found_behind rows (before ++ row ∷ []) child (none_more before row child n h)))
     ] refl
 
 pub found : (rows : List Row) (child : Element) → Found rows child (place_in 1 rows child)
 found rows child = found_behind rows [] child tt
 
-pub found_place : (r : Option Place) (parent child : Element) → r ≡ place_of parent child → IfSome r (λ place. IsPlace (rows_of parent) child place)
+pub found_place : (r : Option Place) (parent child : Element) → r ≡ place_of parent child
+    → IfSome r (λ place. IsPlace (rows_of parent) child place)
 found_place None parent child is = tt
 found_place (Some place) parent child is = subst (Found (rows_of parent) child) (sym is) (found (rows_of parent) child)
 
-pub found_none : (r : Option Place) (parent child : Element) → r ≡ place_of parent child → IfNone r (NameNone (rows_of parent) child)
+pub found_none : (r : Option Place) (parent child : Element) → r ≡ place_of parent child
+    → IfNone r (NameNone (rows_of parent) child)
 found_none None parent child is = subst (Found (rows_of parent) child) (sym is) (found (rows_of parent) child)
 found_none (Some place) parent child is = tt

@@ -17,13 +17,15 @@ same_front nothing (opaque b g) l m h = cc
 same_front nothing (bare e g) l m h = cc
 same_front nothing (full e i g) l m h = cc
 same_front (text a f) (text b g) l m h =
-    let rest = same_front f g l m cc in let bytes : a ≡ b = cc in (ap (λ x. text x f) bytes ∙ ap (text b) rest.0, rest.1)
+    let rest = same_front f g l m cc in let bytes : a ≡ b = cc in
+    (ap (λ x. text x f) bytes ∙ ap (text b) rest.0, rest.1)
 same_front (text a f) nothing l m h = cc
 same_front (text a f) (opaque b g) l m h = cc
 same_front (text a f) (bare e g) l m h = cc
 same_front (text a f) (full e i g) l m h = cc
 same_front (opaque a f) (opaque b g) l m h =
-    let rest = same_front f g l m cc in let bytes : a ≡ b = cc in (ap (λ x. opaque x f) bytes ∙ ap (opaque b) rest.0, rest.1)
+    let rest = same_front f g l m cc in let bytes : a ≡ b = cc in
+    (ap (λ x. opaque x f) bytes ∙ ap (opaque b) rest.0, rest.1)
 same_front (opaque a f) nothing l m h = cc
 same_front (opaque a f) (text b g) l m h = cc
 same_front (opaque a f) (bare e g) l m h = cc
@@ -36,7 +38,9 @@ same_front (bare d f) (opaque b g) l m h = cc
 same_front (bare d f) (full e i g) l m h = cc
 same_front (full d i f) (full e j g) l m h =
     let behind : (spelling i ++ End ∷ spelling f) ++ End ∷ l ≡ (spelling j ++ End ∷ spelling g) ++ End ∷ m = cc in
-    let inner = same_front i j (spelling f ++ End ∷ l) (spelling g ++ End ∷ m) (sym (nested (spelling i) (spelling f) l) ∙ behind ∙ nested (spelling j) (spelling g) m) in
+    let inner =
+    same_front i j (spelling f ++ End ∷ l) (spelling g ++ End ∷ m)
+    (sym (nested (spelling i) (spelling f) l) ∙ behind ∙ nested (spelling j) (spelling g) m) in
     let rest = same_front f g l m inner.1 in
     let name : d ≡ e = cc in
     (ap (λ x. full x i f) name ∙ ap (λ x. full e x f) inner.0 ∙ ap (full e j) rest.0, rest.1)

@@ -1,5 +1,6 @@
 -- What fits an element, said of the list of its children.
-use Rattle.std.specs.Prelude.{◌≡◌, ◌<◌, ◌≤◌, Bool, true, false, if◌then◌else◌, List, [], ◌∷◌, ◌++◌, length, Option, Some, None, IsTrue, ⊤}
+use Rattle.std.specs.Prelude.{◌≡◌, ◌<◌, ◌≤◌, Bool, true, false, if◌then◌else◌, List, [], ◌∷◌, ◌++◌, length, Option}
+use Rattle.std.specs.Prelude.{Some, None, IsTrue, ⊤}
 use Rattle.wbxml_tables.specs.declared.Element.{Element}
 use Rattle.wbxml_tables.specs.declared.Element.TheVariants.{EMetInf}
 use Rattle.syncml_shape.specs.declared.rows.Kind.{Kind}
@@ -58,7 +59,8 @@ meta_kind (row ∷ rows) e = if same row.element e then Some row.kind else meta_
 
 -- the child is one of a Meta's, and what stands in it fits what it holds
 abbrev pub IsOfMeta : Child → Type 0
-IsOfMeta child = (kind : Kind) × (meta_kind table.meta child.element ≡ Some kind) × IsTrue (fits (start kind) child.inner)
+IsOfMeta child =
+    (kind : Kind) × (meta_kind table.meta child.element ≡ Some kind) × IsTrue (fits (start kind) child.inner)
 
 abbrev pub AllOfMeta : List Child → Type 0
 AllOfMeta [] = ⊤
@@ -79,4 +81,5 @@ child_of e inner = record { element = e; inner = inner }
 -- the one child is a MetInf, and what stands in it fits it
 abbrev pub IsWrapped : Forest → Type 0
 IsWrapped tree =
-    (inner : Forest) × (has_text tree ≡ false) × (children tree ≡ child_of EMetInf inner ∷ []) × IsTrue (fits (start kinds.MetInf) inner)
+    (inner : Forest) × (has_text tree ≡ false) × (children tree ≡ child_of EMetInf inner ∷ [])
+    × IsTrue (fits (start kinds.MetInf) inner)

@@ -1,9 +1,15 @@
 -- Tags that are refused for their name, and the first token that is refused.
-use Rattle.std.specs.Prelude.{◌≡◌, ℕ, Bool, true, false, not, ◌&&◌, ◌||◌, if◌then◌else◌, List, [], ◌∷◌, ◌++◌, length, Option, Some, None}
+use Rattle.std.specs.Prelude.{◌≡◌, ℕ, Bool, true, false, not, ◌&&◌, ◌||◌, if◌then◌else◌, List, [], ◌∷◌, ◌++◌, length}
+use Rattle.std.specs.Prelude.{Option, Some, None}
 use Rattle.wbxml_tokens.specs.declared.reason.Reason.{Reason}
 use Rattle.wbxml_tokens.specs.declared.reason.Reason.TheVariants.{Leftout, Nested, Misplaced}
 use Rattle.wbxml_tables.specs.declared.Element.{Element}
-use Rattle.wbxml_tables.specs.declared.Element.TheVariants.{EAnchor, EArchive, EAtomic, ECred, EEMI, EField, EFieldLevel, EFilter, EFilterType, EFreeID, EFreeMem, ELang, ELast, EMap, EMapItem, EMem, EMove, ENext, ENoResults, ENumberOfChanges, EPut, ERecord, ESearch, ESequence, ESftDel, ESharedMem, ESourceParent, ESync, ESyncHdr, ETargetParent}
+use Rattle.wbxml_tables.specs.declared.Element.TheVariants.{EAnchor, EArchive, EAtomic, ECred, EEMI, EField}
+use Rattle.wbxml_tables.specs.declared.Element.TheVariants.{EFieldLevel, EFilter, EFilterType, EFreeID, EFreeMem, ELang}
+use Rattle.wbxml_tables.specs.declared.Element.TheVariants.{ELast, EMap, EMapItem, EMem, EMove, ENext, ENoResults}
+use Rattle.wbxml_tables.specs.declared.Element.TheVariants.{ENumberOfChanges, EPut, ERecord, ESearch, ESequence}
+use Rattle.wbxml_tables.specs.declared.Element.TheVariants.{ESftDel, ESharedMem, ESourceParent, ESync, ESyncHdr}
+use Rattle.wbxml_tables.specs.declared.Element.TheVariants.{ETargetParent}
 use Rattle.wbxml_tokens.specs.declared.token.Token.{Token}
 use Rattle.wbxml_tokens.specs.declared.token.Token.TheVariants.{Tag, End, Text, Opaque}
 use Rattle.syncml_shape.specs.Rows.{same}

@@ -31,7 +31,8 @@ FitsInOrder =
 -- so it is of a document, which is one SyncML
 abbrev pub DocumentInOrder : Type 0
 DocumentInOrder =
-    (tree : Forest) → IsTrue (fits document tree) ↔ ((has_text tree ≡ false) × FollowRows table.document (children tree))
+    (tree : Forest) → IsTrue (fits document tree)
+    ↔ ((has_text tree ≡ false) × FollowRows table.document (children tree))
 
 -- what fits a MetInf is children of a Meta, in any order, no two of one element
 abbrev pub FitsInAnyOrder : Type 0
@@ -41,7 +42,8 @@ FitsInAnyOrder =
 
 -- what fits a Meta is what fits a MetInf, or one MetInf that holds it
 abbrev pub FitsMeta : Type 0
-FitsMeta = (tree : Forest) → IsTrue (fits (start kinds.Meta) tree) ↔ (IsTrue (fits (start kinds.MetInf) tree) ⊎ IsWrapped tree)
+FitsMeta =
+    (tree : Forest) → IsTrue (fits (start kinds.Meta) tree) ↔ (IsTrue (fits (start kinds.MetInf) tree) ⊎ IsWrapped tree)
 
 -- no document has a tag that is refused for its name and its parent's
 abbrev pub FaultsHaveNoShape : Type 0
@@ -62,7 +64,8 @@ ClosingIsFit = (tokens : List Token) (s : Open) → steps s tokens ≡ Some [] �
 -- tokens begin a document exactly where the steps over them leave something open
 abbrev pub ViableIsOpen : Type 0
 ViableIsOpen =
-    (tokens : List Token) → IsViable tokens ↔ ((c : Content) × (s : Open) × (steps (document ∷ []) tokens ≡ Some (c ∷ s)))
+    (tokens : List Token)
+    → IsViable tokens ↔ ((c : Content) × (s : Open) × (steps (document ∷ []) tokens ≡ Some (c ∷ s)))
 
 -- tokens begin a document exactly where an outline takes them all
 abbrev pub ViableIsTaken : Type 0

@@ -26,7 +26,8 @@ with_child top below e true x = Ok (began e x.0 ∷ record top { content = x.1 }
 with_child top below e false x =
     if is_complete (start x.0) then Ok (record top { content = x.1 } ∷ below) else Err Misplaced
 
-abbrev pub with_tag : Frame → List Frame → Element → Bool → Option Reason → Option (Kind × Content) → Result (List Frame) Reason
+abbrev pub with_tag : Frame → List Frame → Element → Bool → Option Reason → Option (Kind × Content)
+    → Result (List Frame) Reason
 with_tag top below e content (Some reason) x = Err reason
 with_tag top below e content None None = Err Misplaced
 with_tag top below e content None (Some x) = with_child top below e content x

@@ -24,7 +24,8 @@ abbrev pub without_innermost : List Frame → List Frame
 without_innermost [] = []
 without_innermost (top ∷ below) = below
 
-abbrev pub then_outline : Result (List Frame) Reason → (List Frame → Result (List Frame) Reason) → Result (List Frame) Reason
+abbrev pub then_outline : Result (List Frame) Reason → (List Frame → Result (List Frame) Reason)
+    → Result (List Frame) Reason
 then_outline (Ok frames) f = f frames
 then_outline (Err reason) f = Err reason
 
@@ -66,7 +67,8 @@ verdict_then at (Err reason) f = verdict.Refused at reason
 -- the same, computed
 abbrev pub verdict_from : ℕ → List Frame → List Token → Verdict
 verdict_from at frames [] = whole_or_not (is_whole frames)
-verdict_from at frames (token ∷ tokens) = verdict_then at (step frames token) (λ after. verdict_from (at + 1) after tokens)
+verdict_from at frames (token ∷ tokens) =
+    verdict_then at (step frames token) (λ after. verdict_from (at + 1) after tokens)
 
 abbrev pub verdict_of : List Token → Verdict
 verdict_of tokens = verdict_from 0 (root ∷ []) tokens

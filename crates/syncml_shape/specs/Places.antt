@@ -1,7 +1,10 @@
 -- The places of children in the rows of their parent.
-use Rattle.std.specs.Prelude.{◌≡◌, ℕ, ◌+◌, Bool, false, if◌then◌else◌, List, [], ◌∷◌, ◌++◌, length, Option, Some, None, is_some, IsTrue, ⊤}
+use Rattle.std.specs.Prelude.{◌≡◌, ℕ, ◌+◌, Bool, false, if◌then◌else◌, List, [], ◌∷◌, ◌++◌, length, Option, Some, None}
+use Rattle.std.specs.Prelude.{is_some, IsTrue, ⊤}
 use Rattle.wbxml_tables.specs.declared.Element.{Element}
-use Rattle.wbxml_tables.specs.declared.Element.TheVariants.{EAdd, EAlert, EAtomic, EChal, ECopy, ECred, EDelete, EExec, EGet, EItem, EReplace, EResults, ESequence, ESource, EStatus, ESyncBody, ESyncHdr, ESyncML, ETarget}
+use Rattle.wbxml_tables.specs.declared.Element.TheVariants.{EAdd, EAlert, EAtomic, EChal, ECopy, ECred, EDelete, EExec}
+use Rattle.wbxml_tables.specs.declared.Element.TheVariants.{EGet, EItem, EReplace, EResults, ESequence, ESource}
+use Rattle.wbxml_tables.specs.declared.Element.TheVariants.{EStatus, ESyncBody, ESyncHdr, ESyncML, ETarget}
 use Rattle.syncml_shape.specs.declared.rows.Row.{Row}
 use Rattle.syncml_shape.specs.Table as table
 use Rattle.syncml_shape.specs.declared.place.Place.{Place}

@@ -1,9 +1,11 @@
 -- The children of each element: what the rows of the table mean.
-use Rattle.std.specs.Prelude.{ℕ, ◌+◌, Bool, true, false, not, ◌&&◌, ◌||◌, if◌then◌else◌, List, [], ◌∷◌, Option, Some, None, set}
+use Rattle.std.specs.Prelude.{ℕ, ◌+◌, Bool, true, false, not, ◌&&◌, ◌||◌, if◌then◌else◌, List, [], ◌∷◌, Option, Some}
+use Rattle.std.specs.Prelude.{None, set}
 use denote.Enum.Bare.{sameb}
 use Rattle.wbxml_tables.specs.contracts.Element.{the_type}
 use Rattle.wbxml_tables.specs.declared.Element.{Element}
-use Rattle.wbxml_tables.specs.declared.Element.TheVariants.{EAdd, EAlert, EAtomic, ECopy, EDelete, EExec, EGet, EMetInf, EReplace, EResults, ESequence, EStatus}
+use Rattle.wbxml_tables.specs.declared.Element.TheVariants.{EAdd, EAlert, EAtomic, ECopy, EDelete, EExec, EGet, EMetInf}
+use Rattle.wbxml_tables.specs.declared.Element.TheVariants.{EReplace, EResults, ESequence, EStatus}
 use Rattle.syncml_shape.specs.declared.rows.Kind.{Kind}
 use Rattle.syncml_shape.specs.declared.rows.Kind.TheVariants as kinds
 use Rattle.syncml_shape.specs.declared.rows.Choice.{Choice}
@@ -116,7 +118,8 @@ after_meta came (Some x) = Some (x.0, in_any_order false (set came x.1 true))
 abbrev pub next : Content → Element → Option (Kind × Content)
 next (in_order came rows) e = after_row (next_row came rows e)
 next (in_any_order wrap came) e =
-    if wrap && same e EMetInf then Some (kinds.MetInf, in_order false []) else after_meta came (meta_place 0 table.meta came e)
+    if wrap && same e EMetInf then Some (kinds.MetInf, in_order false [])
+    else after_meta came (meta_place 0 table.meta came e)
 next pieces e = None
 
 abbrev pub all_optional : List Row → Bool

@@ -1,9 +1,14 @@
--- The grammar of elements, written out: the children of each element in the order in which they stand, how many of each,
--- and what each holds there. The names are those of SyncML 1.2; choice, number and order of the children are this
+-- The grammar of elements, written out: the children of each element in the order in which they stand, how many of
+-- each, and what each holds there. The names are those of SyncML 1.2; choice, number and order of the children are this
 -- profile's. It is written beside the rows of the code, which a law holds to it.
 use Rattle.std.specs.Prelude.{◌≡◌, true, false, List, [], ◌∷◌}
 use Rattle.wbxml_tables.specs.declared.Element.{Element}
-use Rattle.wbxml_tables.specs.declared.Element.TheVariants.{EChal, ECmd, ECmdID, ECmdRef, ECorrelator, ECred, EData, EFinal, EFormat, EItem, ELocName, ELocURI, EMark, EMaxMsgSize, EMaxObjSize, EMeta, EMoreData, EMsgID, EMsgRef, ENextNonce, ENoResp, ERespURI, ESessionID, ESize, ESource, ESourceRef, ESyncBody, ESyncHdr, ESyncML, ETarget, ETargetRef, EType, EVerDTD, EVerProto, EVersion}
+use Rattle.wbxml_tables.specs.declared.Element.TheVariants.{EChal, ECmd, ECmdID, ECmdRef, ECorrelator, ECred, EData}
+use Rattle.wbxml_tables.specs.declared.Element.TheVariants.{EFinal, EFormat, EItem, ELocName, ELocURI, EMark}
+use Rattle.wbxml_tables.specs.declared.Element.TheVariants.{EMaxMsgSize, EMaxObjSize, EMeta, EMoreData, EMsgID, EMsgRef}
+use Rattle.wbxml_tables.specs.declared.Element.TheVariants.{ENextNonce, ENoResp, ERespURI, ESessionID, ESize, ESource}
+use Rattle.wbxml_tables.specs.declared.Element.TheVariants.{ESourceRef, ESyncBody, ESyncHdr, ESyncML, ETarget}
+use Rattle.wbxml_tables.specs.declared.Element.TheVariants.{ETargetRef, EType, EVerDTD, EVerProto, EVersion}
 use Rattle.syncml_shape.specs.declared.rows.Kind.{Kind}
 use Rattle.syncml_shape.specs.declared.rows.Kind.TheVariants as a
 use Rattle.syncml_shape.specs.declared.rows.Choice.{Choice}

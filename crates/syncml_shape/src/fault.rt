@@ -1,6 +1,7 @@
 // Tags that are refused for their name.
 ghost use Rattle.std.specs.Prelude.{◌≡◌};
-ghost use Rattle.syncml_shape.specs.Faults.{is_left_out as is_left_out_of_profile, is_in, is_stray as is_stray_tag, is_nested as is_nested_tag, tag_fault as fault_of_tag};
+ghost use Rattle.syncml_shape.specs.Faults.{is_left_out as is_left_out_of_profile, is_in, is_stray as is_stray_tag};
+ghost use Rattle.syncml_shape.specs.Faults.{is_nested as is_nested_tag, tag_fault as fault_of_tag};
 
 use wbxml_tables::Element;
 use wbxml_tokens::Reason;
@@ -65,9 +66,9 @@ fn is_nested(parent: Option<Element>, element: Element) -> bool
             && (is_under(Element::EAtomic, parent) || is_under(Element::ESequence, parent))
 }
 
-/// Why a tag is refused for its own name and its parent's: Leftout for an element that this profile leaves out, and for a
-/// Cred that isn't in SyncHdr; Nested for an Atomic in an Atomic and a Sequence in an Atomic or a Sequence. The parent is the
-/// innermost open element, None outside every element. It takes no memory.
+/// Why a tag is refused for its own name and its parent's: Leftout for an element that this profile leaves out, and for
+/// a Cred that isn't in SyncHdr; Nested for an Atomic in an Atomic and a Sequence in an Atomic or a Sequence. The
+/// parent is the innermost open element, None outside every element. It takes no memory.
 pub fn tag_fault(parent: Option<Element>, element: Element) -> Option<Reason>
     ensures { result ≡ fault_of_tag parent element }
 {

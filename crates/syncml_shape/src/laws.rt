@@ -1,7 +1,9 @@
 // The table of children, and what outlines, steps, documents and their trees have to do with each other, for whatever
 // tokens.
 ghost use Rattle.syncml_shape.specs.Table.{RowsAreTable};
-ghost use Rattle.syncml_shape.specs.Laws.{OneTree, FitsInOrder, DocumentInOrder, FitsInAnyOrder, FitsMeta, FaultsHaveNoShape, FitsIsStepped, ClosingIsFit, ViableIsOpen, ViableIsTaken, JudgedIsComputed};
+ghost use Rattle.syncml_shape.specs.Laws.{OneTree, FitsInOrder, DocumentInOrder, FitsInAnyOrder, FitsMeta};
+ghost use Rattle.syncml_shape.specs.Laws.{FaultsHaveNoShape, FitsIsStepped, ClosingIsFit, ViableIsOpen, ViableIsTaken};
+ghost use Rattle.syncml_shape.specs.Laws.{JudgedIsComputed};
 
 /// A law: the rows that the code goes by are those of the grammar's table, for each element.
 pub fn rows_are_table()

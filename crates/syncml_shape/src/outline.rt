@@ -218,7 +218,8 @@ fn judged(alloc: Global, tokens: &[Token]) -> Result<Verdict, Memory>
     }
 }
 
-/// Says of tokens whether they are a document, begin one, or which is refused first and why. Exactly one of these is so.
+/// Says of tokens whether they are a document, begin one, or which is refused first and why. Exactly one of these is
+/// so.
 pub fn judge(alloc: Global, tokens: &[Token]) -> Result<Verdict, Memory>
     ensures exact { IfOk result (λ verdict. Judges tokens.now verdict) }
     ensures only { (other : Judgement) → Judges tokens.now other → IfOk result (λ verdict. verdict ≡ other) }

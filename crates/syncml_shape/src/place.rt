@@ -1,6 +1,7 @@
 // The place of a child in its parent.
 ghost use Rattle.std.specs.Prelude.{◌≡◌, ◌+◌, ◌<◌, ◌≤◌, ◌^◌, length, IfSome, IfNone};
-ghost use Rattle.syncml_shape.specs.Places.{rows_of as rows_in_table, place_in, place_of as place_by_rows, IsPlace, NameNone};
+ghost use Rattle.syncml_shape.specs.Places.{rows_of as rows_in_table, place_in, place_of as place_by_rows, IsPlace};
+ghost use Rattle.syncml_shape.specs.Places.{NameNone};
 
 use crate::progress::kind_of;
 use crate::rows::{
@@ -57,8 +58,8 @@ fn place_among(rows: &[Row], child: Element) -> Option<Place>
     None
 }
 
-/// The place of a child in its parent; None exactly where the parent's rows don't name it. Elements that hold a text or a
-/// number, and Meta and MetInf, have no rows. It takes no memory.
+/// The place of a child in its parent; None exactly where the parent's rows don't name it. Elements that hold a text or
+/// a number, and Meta and MetInf, have no rows. It takes no memory.
 pub fn place_of(parent: Element, child: Element) -> Option<Place>
     ensures value { result ≡ place_by_rows parent child }
     ensures found { IfSome result (λ place. IsPlace (rows_in_table parent) child place) }

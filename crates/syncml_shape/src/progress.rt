@@ -1,6 +1,8 @@
 // What may still come in an open element.
 ghost use Rattle.std.specs.Prelude.{◌≡◌, ◌&&◌, ◌+◌, ◌<◌, ◌≤◌, Some, None, false, length, drop, MatchOption, IfNone};
-ghost use Rattle.syncml_shape.specs.Rows.{same, atomic_member, sequence_member, command, kind_in, next_row, meta_place, after_meta, start as start_of, in_order as of_rows, next, is_complete as may_end, takes_text as has_text, all_optional};
+ghost use Rattle.syncml_shape.specs.Rows.{same, atomic_member, sequence_member, command, kind_in, next_row, meta_place};
+ghost use Rattle.syncml_shape.specs.Rows.{after_meta, start as start_of, in_order as of_rows, next};
+ghost use Rattle.syncml_shape.specs.Rows.{is_complete as may_end, takes_text as has_text, all_optional};
 ghost use Rattle.syncml_shape.specs.Progress.{content_of, IsNext, IsNextInMeta};
 ghost use Rattle.wbxml_tables.specs.declared.Element.TheVariants.{EMetInf};
 ghost use Rattle.syncml_shape.specs.declared.rows.TheConstants.{META as META_ROWS};
@@ -14,7 +16,8 @@ use wbxml_tables::Element;
 /// What may still come in an open element.
 #[derive(Clone, Copy, Debug)]
 pub enum Progress {
-    /// Children in the order of rows. `rows` begins with the row of the last child, and `came` says that one of it has come.
+    /// Children in the order of rows. `rows` begins with the row of the last child, and `came` says that one of it has
+    /// come.
     InOrder { came: bool, rows: &'static [Row] },
     /// The children of a Meta, or of its MetInf.
     InAnyOrder(MetaProgress),
@@ -22,8 +25,8 @@ pub enum Progress {
     Pieces,
 }
 
-/// What may still come in a Meta. `wrap` says that one MetInf may still stand for the rest, and `came` says of each row of
-/// the table whether its child has come.
+/// What may still come in a Meta. `wrap` says that one MetInf may still stand for the rest, and `came` says of each row
+/// of the table whether its child has come.
 #[derive(Clone, Copy, Debug)]
 pub struct MetaProgress {
     pub wrap: bool,
@@ -120,7 +123,8 @@ fn may_wrap(meta: &MetaProgress, element: Element) -> bool
 
 // Goes on behind a child of a Meta other than MetInf.
 fn next_in_meta(meta: &mut MetaProgress, element: Element) -> Option<Kind>
-    ensures found { IsNextInMeta result meta.new (after_meta meta.old.came (meta_place 0 META_ROWS meta.old.came element)) }
+    ensures found { IsNextInMeta result meta.new
+        (after_meta meta.old.came (meta_place 0 META_ROWS meta.old.came element)) }
     ensures none { IfNone result (meta.new ≡ meta.old) }
 {
     match meta_row_of(&META, &meta.came, element) {

@@ -1,5 +1,6 @@
-//! Measures how fast the management tree is built, searched, edited and gone through. Without words it does each once on small
-//! trees, and tells what came. The words CALL SECONDS SHAPE ORDER, and LEAVES behind them, ask for picoseconds a call.
+//! Measures how fast the management tree is built, searched, edited and gone through. Without words it does each once
+//! on small trees, and tells what came. The words CALL SECONDS SHAPE ORDER, and LEAVES behind them, ask for picoseconds
+//! a call.
 #![tactic(auto)]
 
 mod build;

@@ -1,10 +1,12 @@
 -- One thing at most stands at the front of bytes.
-use Rattle.std.proofs.Common.{ℕ, zero, suc, ◌≡◌, ◌≤◌, ◌+◌, ◌*◌, ◌-◌, List, [], ◌∷◌, length, take, inl, inr, refl, sym, ap, ◌∙◌, arith}
+use Rattle.std.proofs.Common.{ℕ, zero, suc, ◌≡◌, ◌≤◌, ◌+◌, ◌*◌, ◌-◌, List, [], ◌∷◌, length, take, inl, inr, refl, sym}
+use Rattle.std.proofs.Common.{ap, ◌∙◌, arith}
 use Rattle.wbxml_ints.specs.declared.Mb.TheVariants as mb
 use Rattle.wbxml_ints.specs.Multibyte.{IsDigitsFrom, AllGoOn, IsTooBig, Finds, OneIsFound}
 
 -- digits end at the first byte that doesn't go on
-same_digits : (bytes : List ℕ) (u v value left m n : ℕ) → u ≤ length bytes → v ≤ length bytes → IsDigitsFrom m value left (take u bytes)
+same_digits : (bytes : List ℕ) (u v value left m n : ℕ) → u ≤ length bytes → v ≤ length bytes
+    → IsDigitsFrom m value left (take u bytes)
     → IsDigitsFrom n value left (take v bytes) → (u ≡ v) × (m ≡ n)
 same_digits bytes zero v value left m n a b p q = absurd p
 same_digits bytes (suc u) zero value left m n a b p q = absurd q
@@ -16,17 +18,21 @@ same_digits (x ∷ y ∷ bs) (suc zero) (suc (suc v)) value (suc left) m n a b p
 same_digits (x ∷ []) (suc (suc u)) (suc v) value (suc left) m n a b p q = omega (arith, a)
 same_digits (x ∷ y ∷ bs) (suc (suc u)) (suc zero) value (suc left) m n a b p q = omega (arith, p.0, q.0)
 same_digits (x ∷ y ∷ bs) (suc (suc u)) (suc (suc v)) value (suc left) m n a b p q =
-    let rest = same_digits (y ∷ bs) (suc u) (suc v) (value * 128 + (x - 128)) left m n (omega (arith, a)) (omega (arith, b)) p.2 q.2 in
+    let rest =
+    same_digits (y ∷ bs) (suc u) (suc v) (value * 128 + (x - 128)) left m n (omega (arith, a)) (omega (arith, b)) p.2
+    q.2 in
     (ap suc rest.0, rest.1)
 
 -- and so they are none where all bytes go on
-no_digits : (bytes : List ℕ) (u value left n : ℕ) → IsDigitsFrom n value left (take u bytes) → AllGoOn (take left bytes) → ⊥
+no_digits : (bytes : List ℕ) (u value left n : ℕ) → IsDigitsFrom n value left (take u bytes) → AllGoOn (take left bytes)
+    → ⊥
 no_digits bytes zero value left n p h = absurd p
 no_digits [] (suc u) value left n p h = absurd p
 no_digits (x ∷ bs) (suc u) value zero n p h = absurd p
 no_digits (x ∷ bs) (suc zero) value (suc left) n p h = omega (arith, p.0, h.0)
 no_digits (x ∷ []) (suc (suc u)) value (suc left) n p h = omega (arith, p.0, h.0)
-no_digits (x ∷ y ∷ bs) (suc (suc u)) value (suc left) n p h = no_digits (y ∷ bs) (suc u) (value * 128 + (x - 128)) left n p.2 h.1
+no_digits (x ∷ y ∷ bs) (suc (suc u)) value (suc left) n p h =
+    no_digits (y ∷ bs) (suc u) (value * 128 + (x - 128)) left n p.2 h.1
 
 front_goes_on : (n : ℕ) (bytes : List ℕ) → AllGoOn bytes → AllGoOn (take n bytes)
 front_goes_on zero bytes h = tt

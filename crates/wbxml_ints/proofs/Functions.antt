@@ -1,20 +1,25 @@
 -- What stands at the front of bytes is the function of them.
-use Rattle.std.proofs.Common.{ℕ, zero, suc, ◌≡◌, ◌<◌, ◌≤◌, ◌^◌, ◌+◌, ◌*◌, ◌-◌, List, [], ◌∷◌, length, take, inl, inr, ◌⊎◌, refl, sym, ap, ◌∙◌, subst, rules, arith}
+use Rattle.std.proofs.Common.{ℕ, zero, suc, ◌≡◌, ◌<◌, ◌≤◌, ◌^◌, ◌+◌, ◌*◌, ◌-◌, List, [], ◌∷◌, length, take, inl, inr}
+use Rattle.std.proofs.Common.{◌⊎◌, refl, sym, ap, ◌∙◌, subst, rules, arith}
 use Rattle.std.specs.Prelude.{Bool, true, false, nat_lt, if◌then◌else◌}
 use Rattle.wbxml_ints.specs.declared.Mb.{Mb}
 use Rattle.wbxml_ints.specs.declared.Mb.TheVariants as mb
-use Rattle.wbxml_ints.specs.Multibyte.{IsDigitsFrom, IsDigits, AreBytes, AllGoOn, whole_of, integer_from, integer_at, IsTooBig, Finds}
+use Rattle.wbxml_ints.specs.Multibyte.{IsDigitsFrom, IsDigits, AreBytes, AllGoOn, whole_of, integer_from, integer_at}
+use Rattle.wbxml_ints.specs.Multibyte.{IsTooBig, Finds}
 
-ends : (value used left b : ℕ) (bs : List ℕ) → b < 128 → integer_from value used (suc left) (b ∷ bs) ≡ whole_of (value * 128 + b) (suc used)
+ends : (value used left b : ℕ) (bs : List ℕ) → b < 128
+    → integer_from value used (suc left) (b ∷ bs) ≡ whole_of (value * 128 + b) (suc used)
 ends value used left b bs small =
     let low : nat_lt b 128 ≡ true = grind arith in
-    ap (λ (c : Bool). if c then whole_of (value * 128 + b) (suc used) else integer_from (value * 128 + (b - 128)) (suc used) left bs) low
+    ap (λ (c : Bool). if c then whole_of (value * 128 + b) (suc used)
+    else integer_from (value * 128 + (b - 128)) (suc used) left bs) low
 
 goes_on : (value used left b : ℕ) (bs : List ℕ) → 128 ≤ b
     → integer_from value used (suc left) (b ∷ bs) ≡ integer_from (value * 128 + (b - 128)) (suc used) left bs
 goes_on value used left b bs large =
     let high : nat_lt b 128 ≡ false = grind arith in
-    ap (λ (c : Bool). if c then whole_of (value * 128 + b) (suc used) else integer_from (value * 128 + (b - 128)) (suc used) left bs) high
+    ap (λ (c : Bool). if c then whole_of (value * 128 + b) (suc used)
+    else integer_from (value * 128 + (b - 128)) (suc used) left bs) high
 
 -- digits lead to their number
 digits_lead : (bytes : List ℕ) (n value used left k : ℕ) → k ≤ length bytes → IsDigitsFrom n value left (take k bytes)
@@ -29,16 +34,19 @@ digits_lead (b ∷ []) n value used (suc left) (suc (suc k)) few h = absurd (ome
 digits_lead (b ∷ c ∷ bs) n value used (suc left) (suc (suc k)) few h =
     let more : suc used + suc k ≡ used + suc (suc k) = omega arith in
     goes_on value used left b (c ∷ bs) h.0
-    ∙ digits_lead (c ∷ bs) n (value * 128 + (b - 128)) (suc used) left (suc k) (omega (arith, few)) h.2 ∙ ap (whole_of n) more
+    ∙ digits_lead (c ∷ bs) n (value * 128 + (b - 128)) (suc used) left (suc k) (omega (arith, few)) h.2
+    ∙ ap (whole_of n) more
 
-all_go_on : (bytes : List ℕ) (value used left : ℕ) → length bytes < left → AllGoOn bytes → integer_from value used left bytes ≡ mb.More
+all_go_on : (bytes : List ℕ) (value used left : ℕ) → length bytes < left → AllGoOn bytes
+    → integer_from value used left bytes ≡ mb.More
 all_go_on [] value used zero short h = absurd (omega (arith, short))
 all_go_on [] value used (suc left) short h = refl
 all_go_on (b ∷ bs) value used zero short h = absurd (omega (arith, short))
 all_go_on (b ∷ bs) value used (suc left) short h =
     goes_on value used left b bs h.0 ∙ all_go_on bs (value * 128 + (b - 128)) (suc used) left (omega (arith, short)) h.1
 
-no_end : (bytes : List ℕ) (value used left : ℕ) → left ≤ length bytes → AllGoOn (take left bytes) → integer_from value used left bytes ≡ mb.TooBig
+no_end : (bytes : List ℕ) (value used left : ℕ) → left ≤ length bytes → AllGoOn (take left bytes)
+    → integer_from value used left bytes ≡ mb.TooBig
 no_end bytes value used zero enough h = refl
 no_end [] value used (suc left) enough h = absurd (omega (arith, enough))
 no_end (b ∷ bs) value used (suc left) enough h =
@@ -50,7 +58,8 @@ fits n used small =
 
 passes : (n used : ℕ) → 2 ^ 32 ≤ n → whole_of n used ≡ mb.TooBig
 passes n used large =
-    let high : nat_lt n (2 ^ 32) ≡ false = grind arith in ap (λ (c : Bool). if c then mb.Value n used else mb.TooBig) high
+    let high : nat_lt n (2 ^ 32) ≡ false = grind arith in
+    ap (λ (c : Bool). if c then mb.Value n used else mb.TooBig) high
 
 from_none : (n k : ℕ) → whole_of n (0 + k) ≡ whole_of n k
 from_none n k =
@@ -66,20 +75,23 @@ found_is_at bytes mb.TooBig (inr h) = sym (digits_lead bytes h.1 0 0 5 h.0 h.2 h
 
 -- digits that were read, so many of these bytes
 abbrev Digits : ℕ → ℕ → ℕ → ℕ → ℕ → List ℕ → Type 0
-Digits n m value used left bytes = (k : ℕ) × (m ≡ used + k) × (k ≤ length bytes) × IsDigitsFrom n value left (take k bytes) × (n < 2 ^ 32)
+Digits n m value used left bytes =
+    (k : ℕ) × (m ≡ used + k) × (k ≤ length bytes) × IsDigitsFrom n value left (take k bytes) × (n < 2 ^ 32)
 
 value_is : (a b c d : ℕ) → mb.Value a b ≡ mb.Value c d → (a ≡ c) × (b ≡ d)
 value_is a b c d e = (cc, cc)
 
 digits_one : (value used left b n m : ℕ) (bs : List ℕ) (c : Bool) → nat_lt (value * 128 + b) (2 ^ 32) ≡ c → b < 128
-    → (if c then mb.Value (value * 128 + b) (suc used) else mb.TooBig) ≡ mb.Value n m → Digits n m value used (suc left) (b ∷ bs)
+    → (if c then mb.Value (value * 128 + b) (suc used) else mb.TooBig) ≡ mb.Value n m
+    → Digits n m value used (suc left) (b ∷ bs)
 digits_one value used left b n m bs true e small is =
     let same = value_is (value * 128 + b) (suc used) n m is in
     let fits_in : value * 128 + b < 2 ^ 32 = search rules in
     (1, omega (arith, same.1), omega arith, (small, sym same.0), omega (arith, same.0, fits_in))
 digits_one value used left b n m bs false e small is = absurd cc
 
-digits_on : (value used left b n m : ℕ) (bs : List ℕ) → 128 ≤ b → b < 256 → Digits n m (value * 128 + (b - 128)) (suc used) left bs
+digits_on : (value used left b n m : ℕ) (bs : List ℕ) → 128 ≤ b → b < 256
+    → Digits n m (value * 128 + (b - 128)) (suc used) left bs
     → Digits n m value used (suc left) (b ∷ bs)
 digits_on value used left b n m [] low high (k, is, few, digits, small) = absurd (none k few digits)
   where
@@ -90,22 +102,28 @@ digits_on value used left b n m (c ∷ cs) low high (zero, is, few, digits, smal
 digits_on value used left b n m (c ∷ cs) low high (suc k, is, few, digits, small) =
     (suc (suc k), omega (arith, is), omega (arith, few), (low, high, digits), small)
 
-digits_read : (bytes : List ℕ) (value used left n m : ℕ) → AreBytes bytes → integer_from value used left bytes ≡ mb.Value n m → Digits n m value used left bytes
+digits_read : (bytes : List ℕ) (value used left n m : ℕ) → AreBytes bytes
+    → integer_from value used left bytes ≡ mb.Value n m → Digits n m value used left bytes
 digits_read bytes value used zero n m fit is = absurd cc
 digits_read [] value used (suc left) n m fit is = absurd cc
 digits_read (b ∷ bs) value used (suc left) n m fit is =
-    digits_first value used left b n m bs (nat_lt b 128) refl fit.0 is (digits_read bs (value * 128 + (b - 128)) (suc used) left n m fit.1)
+    digits_first value used left b n m bs (nat_lt b 128) refl fit.0 is
+    (digits_read bs (value * 128 + (b - 128)) (suc used) left n m fit.1)
   where
     digits_first : (value used left b n m : ℕ) (bs : List ℕ) (c : Bool) → nat_lt b 128 ≡ c → b < 256
-        → (if c then whole_of (value * 128 + b) (suc used) else integer_from (value * 128 + (b - 128)) (suc used) left bs) ≡ mb.Value n m
-        → (integer_from (value * 128 + (b - 128)) (suc used) left bs ≡ mb.Value n m → Digits n m (value * 128 + (b - 128)) (suc used) left bs)
+        → (if c then whole_of (value * 128 + b) (suc used)
+        else integer_from (value * 128 + (b - 128)) (suc used) left bs) ≡ mb.Value n m
+        → (integer_from (value * 128 + (b - 128)) (suc used) left bs ≡ mb.Value n m
+        → Digits n m (value * 128 + (b - 128)) (suc used) left bs)
         → Digits n m value used (suc left) (b ∷ bs)
     digits_first value used left b n m bs true e high is later =
         digits_one value used left b n m bs (nat_lt (value * 128 + b) (2 ^ 32)) refl (search rules) is
-    digits_first value used left b n m bs false e high is later = digits_on value used left b n m bs (search rules) high (later is)
+    digits_first value used left b n m bs false e high is later =
+        digits_on value used left b n m bs (search rules) high (later is)
 
 -- the integer at the front of bytes is spelled there
-pub at_is_found : (bytes : List ℕ) (n used : ℕ) → AreBytes bytes → integer_at bytes ≡ mb.Value n used → Finds bytes (mb.Value n used)
+pub at_is_found : (bytes : List ℕ) (n used : ℕ) → AreBytes bytes → integer_at bytes ≡ mb.Value n used
+    → Finds bytes (mb.Value n used)
 at_is_found bytes n used fit is =
     let h = digits_read bytes 0 0 5 n used fit is in
     let same : h.0 ≡ used = omega (arith, h.1) in
@@ -123,22 +141,28 @@ passes_one value used left b bs true e small is = absurd cc
 passes_one value used left b bs false e small is =
     let above : 2 ^ 32 ≤ value * 128 + b = search rules in inr (1, value * 128 + b, omega arith, (small, refl), above)
 
-passes_on : (value left b : ℕ) (bs : List ℕ) → 128 ≤ b → b < 256 → Passes (value * 128 + (b - 128)) left bs → Passes value (suc left) (b ∷ bs)
+passes_on : (value left b : ℕ) (bs : List ℕ) → 128 ≤ b → b < 256 → Passes (value * 128 + (b - 128)) left bs
+    → Passes value (suc left) (b ∷ bs)
 passes_on value left b bs low high (inl (few, all)) = inl (omega (arith, few), (low, all))
 passes_on value left b [] low high (inr (zero, n, few, digits, large)) = absurd digits
 passes_on value left b [] low high (inr (suc k, n, few, digits, large)) = absurd (omega (arith, few))
 passes_on value left b (c ∷ cs) low high (inr (zero, n, few, digits, large)) = absurd digits
-passes_on value left b (c ∷ cs) low high (inr (suc k, n, few, digits, large)) = inr (suc (suc k), n, omega (arith, few), (low, high, digits), large)
+passes_on value left b (c ∷ cs) low high (inr (suc k, n, few, digits, large)) =
+    inr (suc (suc k), n, omega (arith, few), (low, high, digits), large)
 
-passes_read : (bytes : List ℕ) (value used left : ℕ) → AreBytes bytes → integer_from value used left bytes ≡ mb.TooBig → Passes value left bytes
+passes_read : (bytes : List ℕ) (value used left : ℕ) → AreBytes bytes → integer_from value used left bytes ≡ mb.TooBig
+    → Passes value left bytes
 passes_read bytes value used zero fit is = inl (omega arith, tt)
 passes_read [] value used (suc left) fit is = absurd cc
 passes_read (b ∷ bs) value used (suc left) fit is =
-    passes_first value used left b bs (nat_lt b 128) refl fit.0 is (passes_read bs (value * 128 + (b - 128)) (suc used) left fit.1)
+    passes_first value used left b bs (nat_lt b 128) refl fit.0 is
+    (passes_read bs (value * 128 + (b - 128)) (suc used) left fit.1)
   where
     passes_first : (value used left b : ℕ) (bs : List ℕ) (c : Bool) → nat_lt b 128 ≡ c → b < 256
-        → (if c then whole_of (value * 128 + b) (suc used) else integer_from (value * 128 + (b - 128)) (suc used) left bs) ≡ mb.TooBig
-        → (integer_from (value * 128 + (b - 128)) (suc used) left bs ≡ mb.TooBig → Passes (value * 128 + (b - 128)) left bs) → Passes value (suc left) (b ∷ bs)
+        → (if c then whole_of (value * 128 + b) (suc used)
+        else integer_from (value * 128 + (b - 128)) (suc used) left bs) ≡ mb.TooBig
+        → (integer_from (value * 128 + (b - 128)) (suc used) left bs ≡ mb.TooBig
+        → Passes (value * 128 + (b - 128)) left bs) → Passes value (suc left) (b ∷ bs)
     passes_first value used left b bs true e high is later =
         passes_one value used left b bs (nat_lt (value * 128 + b) (2 ^ 32)) refl (search rules) is
     passes_first value used left b bs false e high is later = passes_on value left b bs (search rules) high (later is)

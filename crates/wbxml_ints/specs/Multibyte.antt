@@ -1,5 +1,6 @@
 -- Multibyte integers: WBXML 1.3, section 5.1, here of at most five bytes and 32 bits.
-use Rattle.std.specs.Prelude.{◌≡◌, ℕ, zero, suc, ◌+◌, ◌*◌, ◌-◌, ◌/◌, ◌%◌, ◌<◌, ◌≤◌, ◌^◌, if◌then◌else◌, nat_lt, List, [], ◌∷◌, length, take, ⊤, ◌⊎◌}
+use Rattle.std.specs.Prelude.{◌≡◌, ℕ, zero, suc, ◌+◌, ◌*◌, ◌-◌, ◌/◌, ◌%◌, ◌<◌, ◌≤◌, ◌^◌, if◌then◌else◌, nat_lt, List}
+use Rattle.std.specs.Prelude.{[], ◌∷◌, length, take, ⊤, ◌⊎◌}
 use Rattle.wbxml_ints.specs.declared.Mb.{Mb}
 use Rattle.wbxml_ints.specs.declared.Mb.TheVariants as mb
 

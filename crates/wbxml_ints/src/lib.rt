@@ -149,8 +149,8 @@ fn found(bytes: &[u8]) -> Mb
     }
 }
 
-/// The integer at the front of some bytes (WBXML 1.3, section 5.1), of five bytes at most; more bytes may follow it, and
-/// leading zeros are accepted. It takes no memory.
+/// The integer at the front of some bytes (WBXML 1.3, section 5.1), of five bytes at most; more bytes may follow it,
+/// and leading zeros are accepted. It takes no memory.
 #[tactic(auto, using(crate::proofs::Functions::found_is_at))]
 pub fn read_mb(bytes: &[u8]) -> Mb
     ensures found { Finds bytes.now result }

@@ -27,7 +27,8 @@ found_at : (r : Row) (rows : List Row) (page code : ℕ) (e : Element) (c : Bool
 found_at r rows page code e true here h later is = search rules
 found_at r rows page code e false here h later is = later (search rules) is
 
-found_in : (rows : List Row) (page code : ℕ) (e : Element) → are_right rows ≡ true → element_in rows page code ≡ Some e → IsAt page code e
+found_in : (rows : List Row) (page code : ℕ) (e : Element) → are_right rows ≡ true → element_in rows page code ≡ Some e
+    → IsAt page code e
 found_in [] page code e h is = cc
 found_in (r ∷ rows) page code e h is =
     found_at r rows page code e (r.page == page && r.code == code) refl h (found_in rows page code e) is
@@ -45,23 +46,29 @@ no_row page code none = none_by (element_at page code) refl
     none_by None is = refl
     none_by (Some e) is = absurd (none e (row_is_right page code e is))
 
-some_there : (page code p c : ℕ) (e : Element) → p ≡ page → c ≡ code → element_at p c ≡ Some e → Some e ≡ element_at page code
-some_there page code p c e same_page same_code is = sym is ∙ ap (λ x. element_at x c) same_page ∙ ap (element_at page) same_code
+some_there : (page code p c : ℕ) (e : Element) → p ≡ page → c ≡ code → element_at p c ≡ Some e
+    → Some e ≡ element_at page code
+some_there page code p c e same_page same_code is =
+    sym is ∙ ap (λ x. element_at x c) same_page ∙ ap (element_at page) same_code
 
 -- no element is where no row is found
 pub none_at : (page code : ℕ) (e : Element) → element_at page code ≡ None → IsAt page code e → ⊥
-none_at page code e none at = none_and_some (sym none ∙ sym (some_there page code (page_of e) (code_on_page e) e at.0 at.1 (own_row e)))
+none_at page code e none at =
+    none_and_some (sym none ∙ sym (some_there page code (page_of e) (code_on_page e) e at.0 at.1 (own_row e)))
   where
     none_and_some : None ≡ Some e → ⊥
     none_and_some h = cc
 
-none_there : (o : Option Element) (page code : ℕ) → element_at page code ≡ o → ((e : Element) → IsAt page code e → ⊥) → None ≡ o
+none_there : (o : Option Element) (page code : ℕ) → element_at page code ≡ o → ((e : Element) → IsAt page code e → ⊥)
+    → None ≡ o
 unfolding element_at
 none_there None page code is none = refl
-none_there (Some e) page code is none = absurd (none e (found_in (table.PROTOCOL.rows ++ table.META.rows) page code e rows_are_right is))
+none_there (Some e) page code is none =
+    absurd (none e (found_in (table.PROTOCOL.rows ++ table.META.rows) page code e rows_are_right is))
 
 -- what is found among the elements is found among the rows
-pub same_row : (o : Option Element) (page code : ℕ) → IfSome o (λ e. IsAt page code e) → IfNone o ((e : Element) → IsAt page code e → ⊥)
+pub same_row : (o : Option Element) (page code : ℕ) → IfSome o (λ e. IsAt page code e)
+    → IfNone o ((e : Element) → IsAt page code e → ⊥)
     → o ≡ element_at page code
 same_row None page code some none = none_there (element_at page code) page code refl none
 same_row (Some e) page code some none = some_there page code (page_of e) (code_on_page e) e some.0 some.1 (own_row e)

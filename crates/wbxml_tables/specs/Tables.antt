@@ -1,9 +1,22 @@
 -- The code pages: page 0 is the representation protocol, page 1 the meta information.
-use Rattle.std.specs.Prelude.{◌≡◌, ◌==◌, ◌&&◌, ◌++◌, ◌∷◌, [], ℕ, Bool, true, not, if◌then◌else◌, List, Option, Some, None, codes}
+use Rattle.std.specs.Prelude.{◌≡◌, ◌==◌, ◌&&◌, ◌++◌, ◌∷◌, [], ℕ, Bool, true, not, if◌then◌else◌, List, Option, Some}
+use Rattle.std.specs.Prelude.{None, codes}
 use Rattle.wbxml_tables.specs.declared.Row.{Row}
 use Rattle.wbxml_tables.specs.declared.TheConstants as table
 use Rattle.wbxml_tables.specs.declared.Element.{Element}
-use Rattle.wbxml_tables.specs.declared.Element.TheVariants.{EAdd, EAlert, EArchive, EAtomic, EChal, ECmd, ECmdID, ECmdRef, ECopy, ECred, EData, EDelete, EExec, EFinal, EGet, EItem, ELang, ELocName, ELocURI, EMap, EMapItem, EMeta, EMsgID, EMsgRef, ENoResp, ENoResults, EPut, EReplace, ERespURI, EResults, ESearch, ESequence, ESessionID, ESftDel, ESource, ESourceRef, EStatus, ESync, ESyncBody, ESyncHdr, ESyncML, ETarget, ETargetRef, EVerDTD, EVerProto, ENumberOfChanges, EMoreData, EField, EFilter, ERecord, EFilterType, ESourceParent, ETargetParent, EMove, ECorrelator, EAnchor, EEMI, EFormat, EFreeID, EFreeMem, ELast, EMark, EMaxMsgSize, EMem, EMetInf, ENext, ENextNonce, ESharedMem, ESize, EType, EVersion, EMaxObjSize, EFieldLevel}
+use Rattle.wbxml_tables.specs.declared.Element.TheVariants.{EAdd, EAlert, EArchive, EAtomic, EChal, ECmd, ECmdID}
+use Rattle.wbxml_tables.specs.declared.Element.TheVariants.{ECmdRef, ECopy, ECred, EData, EDelete, EExec, EFinal, EGet}
+use Rattle.wbxml_tables.specs.declared.Element.TheVariants.{EItem, ELang, ELocName, ELocURI, EMap, EMapItem, EMeta}
+use Rattle.wbxml_tables.specs.declared.Element.TheVariants.{EMsgID, EMsgRef, ENoResp, ENoResults, EPut, EReplace}
+use Rattle.wbxml_tables.specs.declared.Element.TheVariants.{ERespURI, EResults, ESearch, ESequence, ESessionID, ESftDel}
+use Rattle.wbxml_tables.specs.declared.Element.TheVariants.{ESource, ESourceRef, EStatus, ESync, ESyncBody, ESyncHdr}
+use Rattle.wbxml_tables.specs.declared.Element.TheVariants.{ESyncML, ETarget, ETargetRef, EVerDTD, EVerProto}
+use Rattle.wbxml_tables.specs.declared.Element.TheVariants.{ENumberOfChanges, EMoreData, EField, EFilter, ERecord}
+use Rattle.wbxml_tables.specs.declared.Element.TheVariants.{EFilterType, ESourceParent, ETargetParent, EMove}
+use Rattle.wbxml_tables.specs.declared.Element.TheVariants.{ECorrelator, EAnchor, EEMI, EFormat, EFreeID, EFreeMem}
+use Rattle.wbxml_tables.specs.declared.Element.TheVariants.{ELast, EMark, EMaxMsgSize, EMem, EMetInf, ENext, ENextNonce}
+use Rattle.wbxml_tables.specs.declared.Element.TheVariants.{ESharedMem, ESize, EType, EVersion, EMaxObjSize}
+use Rattle.wbxml_tables.specs.declared.Element.TheVariants.{EFieldLevel}
 
 -- the page of an element
 abbrev pub page_of : Element → ℕ

@@ -4,7 +4,8 @@
 ghost use Rattle.std.specs.Prelude.{◌≡◌, true, IfSome, IfNone};
 ghost use Rattle.wbxml_tables.specs.declared.Element.{Element};
 ghost use Rattle.wbxml_tables.specs.declared.TheConstants as table;
-ghost use Rattle.wbxml_tables.specs.Tables.{page_of, code_on_page, name_in_text, element_at, is_absent, are_distinct, IsAt, CodesAreDistinct};
+ghost use Rattle.wbxml_tables.specs.Tables.{page_of, code_on_page, name_in_text, element_at, is_absent, are_distinct};
+ghost use Rattle.wbxml_tables.specs.Tables.{IsAt, CodesAreDistinct};
 
 /// An element of the representation protocol (page 0) or of the meta information (page 1), named with an E in front.
 /// Its number is 256 times its page, plus its code on that page.
@@ -135,8 +136,8 @@ pub fn code_of(element: Element) -> (u8, u8)
     ((number / 256) as u8, (number % 256) as u8)
 }
 
-// Each element once, with its page, its code and its name: the rows of page 0 and those of page 1. The tables and the arms of
-// both matches below are made of these rows, so that no element has a row in one and none in the other.
+// Each element once, with its page, its code and its name: the rows of page 0 and those of page 1. The tables and the
+// arms of both matches below are made of these rows, so that no element has a row in one and none in the other.
 macro_rules! rows {
     ($arms:ident, $value:expr) => {
         $arms! {
@@ -285,7 +286,8 @@ fn row_of(page: u8, code: u8) -> Option<Element>
     rows!(element_arms, (page, code))
 }
 
-/// The element of a code on a page. None comes exactly where no element has that code there, so on each page but 0 and 1.
+/// The element of a code on a page. None comes exactly where no element has that code there, so on each page but 0 and
+/// 1.
 #[tactic(auto, using(crate::proofs::Rows::same_row))]
 pub fn element_of(page: u8, code: u8) -> Option<Element>
     ensures row { result ≡ element_at page code }

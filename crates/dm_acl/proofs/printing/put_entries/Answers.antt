@@ -8,4 +8,5 @@ pub returns : goal.returns
 returns c =
     let acl = c.args.entries.now in
     let start = c.in_ok-put_entry.ensures ∙ ap (λ out. with_entry_text out right.Add acl.add) c.new-out.ensures in
-    written acl _ _ _ _ _ start c.in_ok-put_entry-2.ensures c.in_ok-put_entry-3.ensures c.in_ok-put_entry-4.ensures c.in_ok-put_entry-5.ensures
+    written acl _ _ _ _ _ start c.in_ok-put_entry-2.ensures c.in_ok-put_entry-3.ensures c.in_ok-put_entry-4.ensures
+    c.in_ok-put_entry-5.ensures

@@ -17,21 +17,38 @@ loop-part-init c =
 
 pub loop-part-preserved : goal.loop-part-preserved
 loop-part-preserved c =
-    let turn = YieldsList-turn (YieldsList-at c.into_iter-part-iterator.ensures.into_iter_gives (YieldsList-from_slice_split _ _ c.args.text.now c.split-part-items.ensures.rest c.split-part-items.ensures.done c.split-part-items.ensures.closure (λ x b q h. search (rules, tests))))
-    c.loop-part.yielded c.loop-part.part-iterator c.loop-part.yielded_by c.next.result c.next.new.self c.in-Some.part c.in-Some.is c.next.ensures.steps in
+    let turn =
+    YieldsList-turn (YieldsList-at c.into_iter-part-iterator.ensures.into_iter_gives
+    (YieldsList-from_slice_split _ _ c.args.text.now c.split-part-items.ensures.rest c.split-part-items.ensures.done
+    c.split-part-items.ensures.closure (λ x b q h. search (rules, tests))))
+    c.loop-part.yielded c.loop-part.part-iterator c.loop-part.yielded_by c.next.result c.next.new.self c.in-Some.part
+    c.in-Some.is c.next.ensures.steps in
     record {
-      room = room_more _ (length c.loop-part.yielded) _ _ c.loop-part.at 4097 (length_push c.loop-part.yielded c.in-Some.part) turn c.loop-part.invariant.room;
-      kept = kept_more _ (length c.loop-part.yielded) _ _ _ _ c.loop-part.at _ _ (length_push c.loop-part.yielded c.in-Some.part) turn c.in-Ok.ensures c.loop-part.invariant.kept;
+      room =
+          room_more _ (length c.loop-part.yielded) _ _ c.loop-part.at 4097
+          (length_push c.loop-part.yielded c.in-Some.part) turn c.loop-part.invariant.room;
+      kept =
+          kept_more _ (length c.loop-part.yielded) _ _ _ _ c.loop-part.at _ _
+          (length_push c.loop-part.yielded c.in-Some.part) turn c.in-Ok.ensures c.loop-part.invariant.kept;
     }
 
 pub returns-in-Err : goal.returns-in-Err
 returns-in-Err c =
-    let turn = YieldsList-turn (YieldsList-at c.into_iter-part-iterator.ensures.into_iter_gives (YieldsList-from_slice_split _ _ c.args.text.now c.split-part-items.ensures.rest c.split-part-items.ensures.done c.split-part-items.ensures.closure (λ x b q h. search (rules, tests))))
-    c.loop-part.yielded c.loop-part.part-iterator c.loop-part.yielded_by c.next.result c.next.new.self c.in-Some.part c.in-Some.is c.next.ensures.steps in
-    stopped_at _ (length c.loop-part.yielded) _ _ _ _ c.loop-part.at _ turn c.in-Err.ensures c.loop-part.invariant.kept c.requires.faultless
+    let turn =
+    YieldsList-turn (YieldsList-at c.into_iter-part-iterator.ensures.into_iter_gives
+    (YieldsList-from_slice_split _ _ c.args.text.now c.split-part-items.ensures.rest c.split-part-items.ensures.done
+    c.split-part-items.ensures.closure (λ x b q h. search (rules, tests))))
+    c.loop-part.yielded c.loop-part.part-iterator c.loop-part.yielded_by c.next.result c.next.new.self c.in-Some.part
+    c.in-Some.is c.next.ensures.steps in
+    stopped_at _ (length c.loop-part.yielded) _ _ _ _ c.loop-part.at _ turn c.in-Err.ensures c.loop-part.invariant.kept
+    c.requires.faultless
 
 pub returns : goal.returns
 returns c =
-    let end = YieldsList-end (YieldsList-at c.into_iter-part-iterator.ensures.into_iter_gives (YieldsList-from_slice_split _ _ c.args.text.now c.split-part-items.ensures.rest c.split-part-items.ensures.done c.split-part-items.ensures.closure (λ x b q h. search (rules, tests))))
-    c.loop-part.yielded c.loop-part.part-iterator c.loop-part.yielded_by c.next.result c.next.new.self c.in-None.is c.next.ensures.steps in
+    let end =
+    YieldsList-end (YieldsList-at c.into_iter-part-iterator.ensures.into_iter_gives
+    (YieldsList-from_slice_split _ _ c.args.text.now c.split-part-items.ensures.rest c.split-part-items.ensures.done
+    c.split-part-items.ensures.closure (λ x b q h. search (rules, tests))))
+    c.loop-part.yielded c.loop-part.part-iterator c.loop-part.yielded_by c.next.result c.next.new.self c.in-None.is
+    c.next.ensures.steps in
     kept_all _ (length c.loop-part.yielded) _ c.loop-part.at _ end.1 c.loop-part.invariant.kept

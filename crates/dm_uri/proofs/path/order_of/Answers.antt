@@ -7,5 +7,7 @@ use Rattle.dm_uri.proofs.path.order_of.Goals as goal
 
 pub returns : goal.returns
 returns c =
-    let all : c.loop-i.i ≡ min (length c.args.left.now) (length c.args.right.now) = omega (arith, c.min-i-end.ensures, c.loop-i.auto, c.loop-i-test.false) in
-    c.cmp.ensures ∙ sym (end_decides (slice_cmp nat_cmp) c.loop-i.i c.args.left.now c.args.right.now all) ∙ c.loop-i.invariant
+    let all : c.loop-i.i ≡ min (length c.args.left.now) (length c.args.right.now) =
+    omega (arith, c.min-i-end.ensures, c.loop-i.auto, c.loop-i-test.false) in
+    c.cmp.ensures ∙ sym (end_decides (slice_cmp nat_cmp) c.loop-i.i c.args.left.now c.args.right.now all)
+    ∙ c.loop-i.invariant

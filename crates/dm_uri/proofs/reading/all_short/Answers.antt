@@ -8,5 +8,6 @@ use Rattle.dm_uri.proofs.reading.all_short.Goals as goal
 pub returns : goal.returns
 returns c =
     all_from_yields_List is_short _ _ _ c.all.ensures.ran
-    (YieldsList-from_slice_split _ is_slash c.args.text.now c.split.ensures.rest c.split.ensures.done c.split.ensures.closure (λ x r q k. search (rules, tests)))
+    (YieldsList-from_slice_split _ is_slash c.args.text.now c.split.ensures.rest c.split.ensures.done
+    c.split.ensures.closure (λ x r q k. search (rules, tests)))
     (λ x b q k. search (rules, tests))

@@ -7,4 +7,5 @@ use Rattle.dm_uri.proofs.reading.count_of.Goals as goal
 pub returns : goal.returns
 returns c =
     count_from_yields_List c.split.result _ c.count.ensures.ran
-    (YieldsList-from_slice_split _ is_slash c.args.text.now c.split.ensures.rest c.split.ensures.done c.split.ensures.closure (λ x r q k. search (rules, tests)))
+    (YieldsList-from_slice_split _ is_slash c.args.text.now c.split.ensures.rest c.split.ensures.done
+    c.split.ensures.closure (λ x r q k. search (rules, tests)))

@@ -10,5 +10,6 @@ pub returns : goal.returns
 returns c =
     c.unwrap_or.ensures
     ∙ ap (λ place. unwrap_or place (length c.args.text.now))
-    (position_from_yields_List is_question _ _ c.position.result c.position.ensures.ran (YieldsList-from_slice c.args.text.now c.iter.ensures.rest) (λ x b q k. search (rules, tests)))
+    (position_from_yields_List is_question _ _ c.position.result c.position.ensures.ran
+    (YieldsList-from_slice c.args.text.now c.iter.ensures.rest) (λ x b q k. search (rules, tests)))
     ∙ first_or_length is_question c.args.text.now
