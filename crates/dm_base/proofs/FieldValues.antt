@@ -1,5 +1,6 @@
 -- Where a text has a value, and that what is written has its value.
-use Rattle.std.proofs.Common.{None, Some, Ok, Err, Bool, true, false, cond, ◌&&◌, ◌||◌, ◌==◌, ◌%◌, ◌≡◌, ◌<◌, ℕ, List, [], ◌∷◌, refl, sym, ap, ◌∙◌, length, arith, Result}
+use Rattle.std.proofs.Common.{None, Some, Ok, Err, Bool, true, false, cond, ◌&&◌, ◌||◌, ◌==◌, ◌%◌, ◌≡◌, ◌<◌, ℕ, List}
+use Rattle.std.proofs.Common.{[], ◌∷◌, refl, sym, ap, ◌∙◌, length, arith, Result}
 use Rattle.std.specs.Prelude.{bytes_eq, codes, nat_lt, is_some, option_map, Option, if◌then◌else◌}
 use Rattle.std.specs.Bool.{Decides}
 use Rattle.std.specs.List.{list_all}
@@ -9,7 +10,8 @@ use Rattle.std.proofs.lemmas.Slice.Eq.{bytes_eq-Decides}
 use Rattle.std.proofs.lemmas.List.Sums.{AllPass-from_list_all, list_all-from_AllPass}
 use Rattle.hex.specs.Hex.{IsBytes, decode_of, decode_sized, encode_lower, lower_digits, is_hex_digit}
 use Rattle.hex.specs.declared.error.FromHexError.{FromHexError}
-use Rattle.hex.proofs.HexLemmas.{decode_of-ok, decode_of-digits, decode_sized-ok, decode_sized-twice, decode_of-encode_lower, length-encode_with}
+use Rattle.hex.proofs.HexLemmas.{decode_of-ok, decode_of-digits, decode_sized-ok, decode_sized-twice}
+use Rattle.hex.proofs.HexLemmas.{decode_of-encode_lower, length-encode_with}
 use Rattle.dm_base.specs.Fields.{is_hex, hex_of, hex_text, is_nonce, nonce_of, is_num, num_of}
 use Rattle.dm_base.specs.Laws.{HexHasBytes, NonceHasBytes, NumHasNumber, HexIsReadAgain}
 
@@ -32,11 +34,14 @@ right : (a b : Bool) → (a && b) ≡ true → b ≡ true
 right true b h = h
 right false b h = cc
 
-even_digits : (text : List ℕ) → (length text % 2 == 0 && list_all is_hex_digit text) ≡ is_some (result_ok (decode_of text))
+even_digits : (text : List ℕ)
+    → (length text % 2 == 0 && list_all is_hex_digit text) ≡ is_some (result_ok (decode_of text))
 even_digits text =
     decides (length text % 2 == 0 && list_all is_hex_digit text) (decode_of text)
-    (λ bytes h. let ok = decode_of-ok text bytes h in both (length text % 2 == 0) _ (rw ok.0 refl) (list_all-from_AllPass is_hex_digit text ok.1))
-    (λ h. decode_of-digits text (grind (arith, left (length text % 2 == 0) _ h)) (AllPass-from_list_all is_hex_digit text (right (length text % 2 == 0) _ h)))
+    (λ bytes h. let ok = decode_of-ok text bytes h in
+    both (length text % 2 == 0) _ (rw ok.0 refl) (list_all-from_AllPass is_hex_digit text ok.1))
+    (λ h. decode_of-digits text (grind (arith, left (length text % 2 == 0) _ h))
+    (AllPass-from_list_all is_hex_digit text (right (length text % 2 == 0) _ h)))
 
 by_cases : (dash some even digits : Bool) (o : Option (List ℕ)) → (even && digits) ≡ is_some o
     → (dash || (some && even && digits)) ≡ is_some (if dash then Some [] else if some then o else None)
@@ -45,7 +50,9 @@ by_cases false true even digits o h = h
 by_cases false false even digits o h = refl
 
 pub hex_has_bytes : HexHasBytes
-hex_has_bytes text = by_cases (bytes_eq text (codes "-")) (nat_lt 0 (length text)) (length text % 2 == 0) _ (result_ok (decode_of text)) (even_digits text)
+hex_has_bytes text =
+    by_cases (bytes_eq text (codes "-")) (nat_lt 0 (length text)) (length text % 2 == 0) _ (result_ok (decode_of text))
+    (even_digits text)
 
 is_some_map : {X Y : Type 0} (f : X → Y) (o : Option X) → is_some (option_map f o) ≡ is_some o
 is_some_map f None = refl
@@ -60,7 +67,9 @@ sixteen text =
     both (length text == 32) _ (rw n refl) (list_all-from_AllPass is_hex_digit text ok.1))
     (λ h.
     let n : length text ≡ 32 = grind (arith, left (length text == 32) _ h) in
-    let r = decode_of-digits text (omega (arith, n)) (AllPass-from_list_all is_hex_digit text (right (length text == 32) _ h)) in
+    let r =
+    decode_of-digits text (omega (arith, n))
+    (AllPass-from_list_all is_hex_digit text (right (length text == 32) _ h)) in
     (r.0, decode_sized-twice text 16 (omega (arith, n)) ∙ r.1))
 
 pub nonce_has_bytes : NonceHasBytes
@@ -85,7 +94,8 @@ pub hex_is_read_again : HexIsReadAgain
 hex_is_read_again [] h = refl
 hex_is_read_again (b ∷ bs) h =
     let long = length-encode_with lower_digits (b ∷ bs) in
-    by_value (bytes_eq (encode_lower (b ∷ bs)) (codes "-")) (nat_lt 0 (length (encode_lower (b ∷ bs)))) (result_ok (decode_of (encode_lower (b ∷ bs)))) (b ∷ bs)
+    by_value (bytes_eq (encode_lower (b ∷ bs)) (codes "-")) (nat_lt 0 (length (encode_lower (b ∷ bs))))
+    (result_ok (decode_of (encode_lower (b ∷ bs)))) (b ∷ bs)
     (not_dash (encode_lower (b ∷ bs)) (omega (arith, long)) _ (bytes_eq-Decides (encode_lower (b ∷ bs)) (codes "-")))
     (lt-ltb 0 (length (encode_lower (b ∷ bs))) (omega (arith, long)))
     (ap result_ok (decode_of-encode_lower (b ∷ bs) h))

@@ -1,7 +1,11 @@
 -- Lines out of the bytes that are pending.
-use Rattle.std.proofs.Common.{None, Some, Ok, Err, Bool, true, false, inl, inr, ◌≡◌, ◌<◌, ◌≤◌, ◌+◌, ℕ, List, [], ◌∷◌, ◌++◌, refl, sym, ap, subst, ◌∙◌, take, drop, length, get_or, arith, length-append, take-append-drop, append_assoc}
-use Rattle.std.proofs.lemmas.List.{drop_more, get_or_append_left, get_or-take, length-take-le}
-use Rattle.std.proofs.lemmas.Bool.{cases_lt}
+use Rattle.std.proofs.Common.{None, Some, Ok, Err, Bool, true, false, inl, inr, ◌≡◌, ◌<◌, ◌≤◌, ◌+◌, ◌-◌, ℕ, List, []}
+use Rattle.std.proofs.Common.{◌∷◌, ◌++◌, refl, sym, ap, subst, ◌∙◌, take, drop, length, get_or, arith, length-append}
+use Rattle.std.proofs.Common.{take-append-drop, append_assoc, MatchOption, is_some}
+use Rattle.std.proofs.lemmas.List.{drop_more, get_or_append_left, get_or-drop, get_or-take, length-drop, length-take-le}
+use Rattle.std.proofs.lemmas.List.{take_all}
+use Rattle.std.proofs.lemmas.Bool.{cases_lt, eq-eqb, eqb-true}
+use Rattle.memchr.specs.Find.{IsFirstByte, Nowhere, Passes, is_byte}
 use Rattle.std.proofs.KnownBytes.{Consumes-trans, Consumes-kept}
 use Rattle.std.specs.declared.option.Option.{Option}
 use Rattle.std.specs.Io.KnownBytes.{Consumes, Keeps, prepend_known}
@@ -10,7 +14,8 @@ use Rattle.dm_base.specs.declared.outside.TakeError.TheVariants.{Read, TooLong, 
 use Rattle.dm_base.specs.declared.lines.LineOut.TheVariants as line_out
 use Rattle.dm_base.specs.declared.lines.LineReason.TheVariants as reason
 use Rattle.dm_base.specs.Outside.{OfKnown}
-use Rattle.dm_base.specs.Lines.{LinesState, FillsPending, ReadsLine, ahead, behind, IsFeedless, IsLongLine, CountsTaken, room}
+use Rattle.dm_base.specs.Lines.{LinesState, FillsPending, ReadsLine, ahead, behind, IsFeedless, IsLongLine, CountsTaken}
+use Rattle.dm_base.specs.Lines.{room}
 
 -- no line feed among the first n bytes
 abbrev pub IsClear : List ℕ → ℕ → Type 0
@@ -27,12 +32,15 @@ clear_more bytes more n within clear k lt is =
     clear k lt (sym (get_or_append_left bytes more 0 k low) ∙ is)
 
 -- a line feed stands behind the line
-pub split_at_feed : (bytes : List ℕ) (at : ℕ) → at < length bytes → get_or bytes at 0 ≡ 10 → bytes ≡ take at bytes ++ 10 ∷ drop (at + 1) bytes
+pub split_at_feed : (bytes : List ℕ) (at : ℕ) → at < length bytes → get_or bytes at 0 ≡ 10
+    → bytes ≡ take at bytes ++ 10 ∷ drop (at + 1) bytes
 split_at_feed bytes at within is =
-    sym (take-append-drop at bytes) ∙ ap (λ l. take at bytes ++ l) (drop_more bytes at 0 within ∙ ap (λ b. b ∷ drop (at + 1) bytes) is)
+    sym (take-append-drop at bytes)
+    ∙ ap (λ l. take at bytes ++ l) (drop_more bytes at 0 within ∙ ap (λ b. b ∷ drop (at + 1) bytes) is)
 
 -- what was to come is the line, its line feed and what is to come
-pub gave_line : (a left : Option (List ℕ)) (bytes new : List ℕ) (at : ℕ) → at < length bytes → get_or bytes at 0 ≡ 10 → new ≡ drop (at + 1) bytes
+pub gave_line : (a left : Option (List ℕ)) (bytes new : List ℕ) (at : ℕ) → at < length bytes → get_or bytes at 0 ≡ 10
+    → new ≡ drop (at + 1) bytes
     → Keeps a (prepend_known bytes left) → Consumes a (prepend_known new left) (take at bytes ++ 10 ∷ [])
 gave_line None left bytes new at within is rest kept = tt
 gave_line (Some x) None bytes new at within is rest kept = absurd kept
@@ -71,74 +79,128 @@ too_long (Some x) (Some y) bytes n r within long low clear kept =
     )
 
 -- the pending bytes are fewer than a run looks at
-pub long_line : (a left : Option (List ℕ)) (s : LinesState) (n r : ℕ) → n ≤ length s.pending → 8400000 < n → IsClear s.pending n
+pub long_line : (a left : Option (List ℕ)) (s : LinesState) (n r : ℕ) → n ≤ length s.pending → 8400000 < n
+    → IsClear s.pending n
     → room s ≡ r → Keeps a (ahead s left) → ReadsLine r a (ahead s left) (Ok (line_out.Bad reason.Long))
 long_line a left s n r within long clear same kept =
     (kept, too_long a (behind s left) s.pending n r within long (omega (arith, same)) clear kept)
 
 -- bytes that were taken became pending
-pub pending_more : (a left rest : Option (List ℕ)) (bytes more : List ℕ) → Keeps a (prepend_known bytes left) → Consumes left rest more → Keeps a (prepend_known (bytes ++ more) rest)
+pub pending_more : (a left rest : Option (List ℕ)) (bytes more : List ℕ) → Keeps a (prepend_known bytes left)
+    → Consumes left rest more → Keeps a (prepend_known (bytes ++ more) rest)
 pending_more None left rest bytes more kept taken = tt
 pending_more (Some x) None rest bytes more kept taken = absurd kept
 pending_more (Some x) (Some y) None bytes more kept taken = absurd taken
-pending_more (Some x) (Some y) (Some z) bytes more kept taken = append_assoc bytes more z ∙ ap (λ l. bytes ++ l) (sym taken) ∙ kept
+pending_more (Some x) (Some y) (Some z) bytes more kept taken =
+    append_assoc bytes more z ∙ ap (λ l. bytes ++ l) (sym taken) ∙ kept
 
 -- with no byte past the limit, what the source gave stood behind
-pub behind_taken : (left rest : Option (List ℕ)) (past new bytes : List ℕ) → past ≡ [] → new ≡ [] → Consumes left rest bytes → Consumes (prepend_known past left) (prepend_known new rest) bytes
+pub behind_taken : (left rest : Option (List ℕ)) (past new bytes : List ℕ) → past ≡ [] → new ≡ []
+    → Consumes left rest bytes → Consumes (prepend_known past left) (prepend_known new rest) bytes
 behind_taken None rest past new bytes e f h = tt
 behind_taken (Some x) None past new bytes e f h = absurd h
 behind_taken (Some x) (Some y) past new bytes e f h = ap (λ l. l ++ x) e ∙ h ∙ ap (λ l. bytes ++ (l ++ y)) (sym f)
 
-pub taken_more : (a b c : Option (List ℕ)) (first now then' : ℕ) → CountsTaken a b first now → CountsTaken b c now then' → CountsTaken a c first then'
+pub taken_more : (a b c : Option (List ℕ)) (first now then' : ℕ) → CountsTaken a b first now → CountsTaken b c now then'
+    → CountsTaken a c first then'
 taken_more a b c first now then' p q = (
   p.0 ++ q.0,
   Consumes-trans a b c _ _ p.1 q.1,
   let e = length-append p.0 q.0 in omega (arith, e, p.2, q.2),
 )
 
-pub taken_kept : (a b c : Option (List ℕ)) (first now then' : ℕ) → CountsTaken a b first now → then' ≡ now → Keeps b c → CountsTaken a c first then'
+pub taken_kept : (a b c : Option (List ℕ)) (first now then' : ℕ) → CountsTaken a b first now → then' ≡ now → Keeps b c
+    → CountsTaken a c first then'
 taken_kept a b c first now then' p e same = (p.0, Consumes-kept a b c _ p.1 same, e ∙ p.2)
 
-pub taken_at_error : (a left rest : Option (List ℕ)) (old new : LinesState) (error : TakeError) (first : ℕ) → FillsPending old new left rest (Err error) → CountsTaken a left first old.taken → CountsTaken a rest first new.taken
-taken_at_error a left rest old new Read first h taken = taken_kept a left rest first _ _ taken (ap (λ s. s.taken) h.0) h.1
+pub taken_at_error : (a left rest : Option (List ℕ)) (old new : LinesState) (error : TakeError) (first : ℕ)
+    → FillsPending old new left rest (Err error) → CountsTaken a left first old.taken
+    → CountsTaken a rest first new.taken
+taken_at_error a left rest old new Read first h taken =
+    taken_kept a left rest first _ _ taken (ap (λ s. s.taken) h.0) h.1
 taken_at_error a left rest old new TooLong first h taken = taken_more a left rest first _ _ taken h.0
 taken_at_error a left rest old new Memory first h taken = taken_more a left rest first _ _ taken h
 
 -- after a piece more, by what `fill` says of it
-pub filled_within : (old new : LinesState) (left rest : Option (List ℕ)) (b : Bool) (n : ℕ) → b ≡ true → FillsPending old new left rest (Ok b) → n ≡ length old.pending → n ≤ length new.pending
+pub filled_within : (old new : LinesState) (left rest : Option (List ℕ)) (b : Bool) (n : ℕ) → b ≡ true
+    → FillsPending old new left rest (Ok b) → n ≡ length old.pending → n ≤ length new.pending
 filled_within old new left rest false n e h is = cc
 filled_within old new left rest true n e h is =
     let a = length-append old.pending h.0 in let m = ap (λ s. length s.pending) h.2 in omega (arith, a, m, is)
 
-pub filled_clear : (old new : LinesState) (left rest : Option (List ℕ)) (b : Bool) (n : ℕ) → b ≡ true → FillsPending old new left rest (Ok b) → n ≡ length old.pending
+pub filled_clear : (old new : LinesState) (left rest : Option (List ℕ)) (b : Bool) (n : ℕ) → b ≡ true
+    → FillsPending old new left rest (Ok b) → n ≡ length old.pending
     → IsClear old.pending n → IsClear new.pending n
 filled_clear old new left rest false n e h is clear = cc
 filled_clear old new left rest true n e h is clear =
     subst (λ s. IsClear s.pending n) (sym h.2) (clear_more old.pending h.0 n (omega (arith, is)) clear)
 
-pub filled_ahead : (a : Option (List ℕ)) (old new : LinesState) (left rest : Option (List ℕ)) (b : Bool) → b ≡ true → FillsPending old new left rest (Ok b) → Keeps a (ahead old left) → Keeps a (ahead new rest)
+pub filled_ahead : (a : Option (List ℕ)) (old new : LinesState) (left rest : Option (List ℕ)) (b : Bool) → b ≡ true
+    → FillsPending old new left rest (Ok b) → Keeps a (ahead old left) → Keeps a (ahead new rest)
 filled_ahead a old new left rest false e h kept = cc
 filled_ahead a old new left rest true e h kept =
     subst (λ s. Keeps a (ahead s rest)) (sym h.2)
-    (pending_more a (behind old left) (prepend_known [] rest) old.pending h.0 kept (behind_taken left rest old.past [] h.0 h.3 refl h.4))
+    (pending_more a (behind old left) (prepend_known [] rest) old.pending h.0 kept
+    (behind_taken left rest old.past [] h.0 h.3 refl h.4))
 
-pub filled_taken : (a : Option (List ℕ)) (old new : LinesState) (left rest : Option (List ℕ)) (b : Bool) (first : ℕ) → b ≡ true → FillsPending old new left rest (Ok b) → CountsTaken a left first old.taken → CountsTaken a rest first new.taken
+pub filled_taken : (a : Option (List ℕ)) (old new : LinesState) (left rest : Option (List ℕ)) (b : Bool) (first : ℕ)
+    → b ≡ true → FillsPending old new left rest (Ok b) → CountsTaken a left first old.taken
+    → CountsTaken a rest first new.taken
 filled_taken a old new left rest false first e h taken = cc
-filled_taken a old new left rest true first e h taken = taken_more a left rest _ _ _ taken (h.0, h.4, ap (λ s. s.taken) h.2)
+filled_taken a old new left rest true first e h taken =
+    taken_more a left rest _ _ _ taken (h.0, h.4, ap (λ s. s.taken) h.2)
 
-pub filled_room : (old new : LinesState) (left rest : Option (List ℕ)) (b : Bool) → b ≡ true → FillsPending old new left rest (Ok b) → room new ≡ room old
+pub filled_room : (old new : LinesState) (left rest : Option (List ℕ)) (b : Bool) → b ≡ true
+    → FillsPending old new left rest (Ok b) → room new ≡ room old
 filled_room old new left rest false e h = cc
 filled_room old new left rest true e h =
-    let n = ap (λ s. length s.pending) h.2 in let m = length-append old.pending h.0 in let t = ap (λ s. s.taken) h.2 in let u = h.5 in omega (arith, n, m, t, u)
+    let n = ap (λ s. length s.pending) h.2 in let m = length-append old.pending h.0 in let t = ap (λ s. s.taken) h.2 in
+    let u = h.5 in omega (arith, n, m, t, u)
+
+-- all that stands behind a place, as a slice has it
+pub slice_behind : (bytes : List ℕ) (from : ℕ) → take (length bytes - from) (drop from bytes) ≡ drop from bytes
+slice_behind bytes from =
+    let size = length-drop from bytes in take_all (length bytes - from) (drop from bytes) (omega (arith, size))
+
+-- no line feed from a place on up to another, as a search behind that place tells
+no_feed_behind : (bytes : List ℕ) (from end : ℕ) → Nowhere (Passes (is_byte 10) (drop from bytes)) 0 end
+    → (k : ℕ) → from ≤ k → k < from + end → get_or bytes k 0 ≡ 10 → ⊥
+no_feed_behind bytes from end none k low below feed =
+    let there : from + (k - from) ≡ k = omega (arith, low) in
+    let is : get_or (drop from bytes) (k - from) 0 ≡ 10 =
+    get_or-drop from bytes (k - from) 0 ∙ ap (λ n. get_or bytes n 0) there ∙ feed in
+    none (k - from) (omega arith) (omega (arith, low, below)) (eq-eqb (get_or (drop from bytes) (k - from) 0) 10 is)
+
+-- the place that a search behind another found
+pub feed_behind : (bytes : List ℕ) (from at : ℕ) → IsFirstByte (is_byte 10) (drop from bytes) (Some at)
+    → (from ≤ from + at) × (from + at < length bytes) × (get_or bytes (from + at) 0 ≡ 10)
+    × ((k : ℕ) → from ≤ k → k < from + at → get_or bytes k 0 ≡ 10 → ⊥)
+feed_behind bytes from at found =
+    let size = length-drop from bytes in
+    let high = found.0.high in (
+      omega arith,
+      omega (arith, size, high),
+      sym (get_or-drop from bytes at 0) ∙ eqb-true _ 10 found.1,
+      no_feed_behind bytes from at found.0.before,
+    )
+
+-- the search behind a place found none
+pub none_behind : (bytes : List ℕ) (from : ℕ) → IsFirstByte (is_byte 10) (drop from bytes) None
+    → (k : ℕ) → from ≤ k → k < length bytes → get_or bytes k 0 ≡ 10 → ⊥
+none_behind bytes from none k low below =
+    let size = length-drop from bytes in
+    no_feed_behind bytes from (length (drop from bytes)) none k low (omega (arith, size, low, below))
 
 -- none before a place, and none from there to another
-pub clear_to : (bytes looked : List ℕ) (n at : ℕ) → looked ≡ bytes → IsClear bytes n → ((k : ℕ) → n ≤ k → k < at → get_or looked k 0 ≡ 10 → ⊥) → IsClear bytes at
+pub clear_to : (bytes looked : List ℕ) (n at : ℕ) → looked ≡ bytes → IsClear bytes n
+    → ((k : ℕ) → n ≤ k → k < at → get_or looked k 0 ≡ 10 → ⊥) → IsClear bytes at
 clear_to bytes looked n at was front later k below feed =
     elim (cases_lt k n) [ inl lt ↦ front k lt feed | inr le ↦ later k le below (ap (λ l. get_or l k 0) was ∙ feed) ]
 
 -- the place that `feed_from` found
 pub found_at : (bytes looked : List ℕ) (n at : ℕ) → looked ≡ bytes → IsClear bytes n
-    → (n ≤ at) × (at < length looked) × (get_or looked at 0 ≡ 10) × ((k : ℕ) → n ≤ k → k < at → get_or looked k 0 ≡ 10 → ⊥)
+    → (n ≤ at) × (at < length looked) × (get_or looked at 0 ≡ 10)
+    × ((k : ℕ) → n ≤ k → k < at → get_or looked k 0 ≡ 10 → ⊥)
     → (at < length bytes) × (get_or bytes at 0 ≡ 10) × IsClear bytes at
 found_at bytes looked n at was clear found = (
   (let m = ap length was in let b = found.1 in omega (arith, m, b)),
@@ -147,6 +209,18 @@ found_at bytes looked n at was clear found = (
 )
 
 -- it found none, so none is pending
-pub none_found : (bytes looked : List ℕ) (n m : ℕ) → looked ≡ bytes → m ≡ length bytes → IsClear bytes n → ((k : ℕ) → n ≤ k → k < length looked → get_or looked k 0 ≡ 10 → ⊥) → IsClear bytes m
+pub none_found : (bytes looked : List ℕ) (n m : ℕ) → looked ≡ bytes → m ≡ length bytes → IsClear bytes n
+    → ((k : ℕ) → n ≤ k → k < length looked → get_or looked k 0 ≡ 10 → ⊥) → IsClear bytes m
 none_found bytes looked n m was all clear none =
-    clear_to bytes looked n m was clear (λ k low below feed. none k low (let e = ap length was in omega (arith, e, all, below)) feed)
+    clear_to bytes looked n m was clear
+    (λ k low below feed. none k low (let e = ap length was in omega (arith, e, all, below)) feed)
+
+-- what a search from the front says where it found a place
+pub line_there : (bytes looked : List ℕ) (r : Option ℕ) → looked ≡ bytes
+    → MatchOption r ((k : ℕ) → 0 ≤ k → k < length looked → get_or looked k 0 ≡ 10 → ⊥)
+    (λ at. (0 ≤ at) × (at < length looked) × (get_or looked at 0 ≡ 10)
+    × ((k : ℕ) → 0 ≤ k → k < at → get_or looked k 0 ≡ 10 → ⊥))
+    → is_some r ≡ true → (at : ℕ) × (at < length bytes) × (get_or bytes at 0 ≡ 10)
+line_there bytes looked None was found some = cc
+line_there bytes looked (Some at) was found some =
+    (at, subst (λ l. at < length l) was found.1, sym (ap (λ l. get_or l at 0) was) ∙ found.2)

@@ -1,5 +1,6 @@
 -- The fields of a line: what stands between single spaces (byte 32), and the forms that a field may have.
-use Rattle.std.specs.Prelude.{◌==◌, ◌&&◌, ◌||◌, ◌^◌, ◌%◌, ℕ, Bool, not, if◌then◌else◌, nat_lt, nat_le, List, [], ◌∷◌, length, slice_get, slice_index, bytes_eq, codes, Option, Some, None, option_map}
+use Rattle.std.specs.Prelude.{◌==◌, ◌&&◌, ◌||◌, ◌^◌, ◌%◌, ℕ, Bool, not, if◌then◌else◌, nat_lt, nat_le, List, [], ◌∷◌}
+use Rattle.std.specs.Prelude.{length, slice_get, slice_index, bytes_eq, codes, Option, Some, None, option_map}
 use Rattle.std.specs.List.{list_all, slice_split}
 use Rattle.std.specs.Result.{result_ok}
 use Rattle.std.specs.Str.{all_ascii_digits}
@@ -39,11 +40,13 @@ is_id text = is_short text && list_all (λ b. not (is_acl_sign b)) text && not (
 
 -- HEX: an even number of hexadecimal digits of either case, or `-` for no byte
 abbrev pub is_hex : List ℕ → Bool
-is_hex text = bytes_eq text (codes "-") || (nat_lt 0 (length text) && length text % 2 == 0 && list_all is_hex_digit text)
+is_hex text =
+    bytes_eq text (codes "-") || (nat_lt 0 (length text) && length text % 2 == 0 && list_all is_hex_digit text)
 
 -- the bytes that a HEX stands for
 abbrev pub hex_of : List ℕ → Option (List ℕ)
-hex_of text = if bytes_eq text (codes "-") then Some [] else if nat_lt 0 (length text) then result_ok (decode_of text) else None
+hex_of text =
+    if bytes_eq text (codes "-") then Some [] else if nat_lt 0 (length text) then result_ok (decode_of text) else None
 
 -- the HEX of bytes, in lower case
 abbrev pub hex_text : List ℕ → List ℕ
@@ -63,7 +66,8 @@ nonce_of text = option_map (λ bytes. record { bytes = bytes }) (result_ok (deco
 
 -- decimal digits without a sign or a leading zero
 abbrev pub is_numeral : List ℕ → Bool
-is_numeral text = nat_lt 0 (length text) && all_ascii_digits text && (length text == 1 || not (slice_index text 0 == 48))
+is_numeral text =
+    nat_lt 0 (length text) && all_ascii_digits text && (length text == 1 || not (slice_index text 0 == 48))
 
 -- NUM: such digits, of a number that fits 64 bits
 abbrev pub is_num : List ℕ → Bool

@@ -4,3 +4,4 @@ pub mod Lines
 pub mod Fields
 pub mod Lends
 pub mod Laws
+pub mod Limits

@@ -1,5 +1,6 @@
 -- Lines of a source, each ended by a line feed (byte 10).
-use Rattle.std.specs.Prelude.{◌≡◌, ◌≢◌, ◌<◌, ◌≤◌, ◌+◌, ◌-◌, ℕ, List, [], ◌∷◌, ◌++◌, length, take, ⊤, Option, Result, Ok, Err, slice_index, Bool, true, false}
+use Rattle.std.specs.Prelude.{◌≡◌, ◌≢◌, ◌<◌, ◌≤◌, ◌+◌, ◌-◌, ℕ, List, [], ◌∷◌, ◌++◌, length, take, ⊤, Option, Result, Ok}
+use Rattle.std.specs.Prelude.{Err, slice_index, Bool, true, false}
 use Rattle.std.specs.Io.KnownBytes.{Consumes, IsAtEnd, Keeps, prepend_known}
 use Rattle.dm_base.specs.Outside.{OfKnown}
 use Rattle.dm_base.specs.declared.outside.TakeError.{TakeError}
@@ -7,6 +8,13 @@ use Rattle.dm_base.specs.declared.outside.TakeError.TheVariants as take_error
 use Rattle.dm_base.specs.declared.lines.LineReason.TheVariants as reason
 use Rattle.dm_base.specs.declared.lines.LineOut.{LineOut}
 use Rattle.dm_base.specs.declared.lines.LineOut.TheVariants as line_out
+
+-- how many bytes a run takes at most, and a line has at most without its line feed
+abbrev pub run_limit : ℕ
+run_limit = 67108864
+
+abbrev pub line_limit : ℕ
+line_limit = 8400000
 
 -- the bytes that were taken and not yet given: those within the limit, and the one past it; and how many were taken
 pub record LinesState : Type 0 where
@@ -24,7 +32,7 @@ ahead state left = prepend_known state.pending (behind state left)
 
 -- how many of these bytes a run looks at: those that are pending, and those that may yet be taken
 abbrev pub room : LinesState → ℕ
-room state = length state.pending + (67108864 - state.taken)
+room state = length state.pending + (run_limit - state.taken)
 
 -- no line feed among the bytes
 abbrev pub IsFeedless : List ℕ → Type 0
@@ -33,24 +41,26 @@ IsFeedless bytes = (k : ℕ) → k < length bytes → slice_index bytes k ≢ 10
 -- all that is to come is the front of a line
 pub record IsCutLine (room : ℕ) (bytes : List ℕ) : Type 0 where
   pub some : 0 < length bytes
-  pub short : length bytes ≤ 8400000
+  pub short : length bytes ≤ line_limit
   pub seen : length bytes ≤ room
   pub feedless : IsFeedless bytes
 
 -- more bytes than a line may have stand in front, without a line feed, and a run looks at them
 abbrev pub IsLongLine : ℕ → List ℕ → Type 0
-IsLongLine room bytes = (line : List ℕ) × (rest : List ℕ) × (bytes ≡ line ++ rest) × IsFeedless line × (8400000 < length line) × (length line ≤ room)
+IsLongLine room bytes =
+    (line : List ℕ) × (rest : List ℕ) × (bytes ≡ line ++ rest) × IsFeedless line × (line_limit < length line)
+    × (length line ≤ room)
 
 -- the bytes that a run looks at hold no whole line, and another byte comes
 pub record IsPastRoom (room : ℕ) (bytes : List ℕ) : Type 0 where
   pub more : room < length bytes
-  pub short : room ≤ 8400000
+  pub short : room ≤ line_limit
   pub feedless : IsFeedless (take room bytes)
 
 -- what an answer says of the bytes that were to come before it and after it
 abbrev pub ReadsLine : ℕ → Option (List ℕ) → Option (List ℕ) → Result LineOut TakeError → Type 0
 ReadsLine room old new (Ok (line_out.Line line)) =
-    IsFeedless line × (length line ≤ 8400000) × (length line < room) × Consumes old new (line ++ 10 ∷ [])
+    IsFeedless line × (length line ≤ line_limit) × (length line < room) × Consumes old new (line ++ 10 ∷ [])
 ReadsLine room old new (Ok (line_out.Bad reason.Cut)) = Keeps old new × OfKnown old (IsCutLine room)
 ReadsLine room old new (Ok (line_out.Bad reason.Long)) = Keeps old new × OfKnown old (IsLongLine room)
 ReadsLine room old new (Ok (line_out.Bad other)) = ⊥
@@ -77,10 +87,13 @@ bytes_given other = 0
 -- one more piece was taken and is pending; or the end was met; or why not
 abbrev pub FillsPending : LinesState → LinesState → Option (List ℕ) → Option (List ℕ) → Result Bool TakeError → Type 0
 FillsPending old new left rest (Ok true) =
-    (bytes : List ℕ) × (0 < length bytes) × (new ≡ record { pending = old.pending ++ bytes; past = []; taken = old.taken + length bytes }) × (old.past ≡ []) × Consumes left rest bytes × (new.taken ≤ 67108864)
+    (bytes : List ℕ) × (0 < length bytes)
+    × (new ≡ record { pending = old.pending ++ bytes; past = []; taken = old.taken + length bytes }) × (old.past ≡ [])
+    × Consumes left rest bytes × (new.taken ≤ run_limit)
 FillsPending old new left rest (Ok false) = (new ≡ old) × Keeps left rest × (old.past ≡ []) × IsAtEnd left
 FillsPending old new left rest (Err take_error.TooLong) =
-    CountsTaken left rest old.taken new.taken × (67108864 ≤ old.taken) × OfKnown (behind old left) (λ bytes. 0 < length bytes)
+    CountsTaken left rest old.taken new.taken × (run_limit ≤ old.taken)
+    × OfKnown (behind old left) (λ bytes. 0 < length bytes)
     × (new.pending ≡ old.pending) × Keeps (behind old left) (behind new rest)
 FillsPending old new left rest (Err take_error.Read) = (new ≡ old) × Keeps left rest
 FillsPending old new left rest (Err take_error.Memory) = CountsTaken left rest old.taken new.taken

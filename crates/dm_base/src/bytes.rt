@@ -102,6 +102,14 @@ impl Bytes {
         Ok(())
     }
 
+    /// Takes room for so many bytes more, so that they are added without more memory.
+    pub fn reserve(&mut self, count: usize) -> Result<(), Memory>
+        ensures { self.new ≡ self.old }
+    {
+        self.items.reserve(count)?;
+        Ok(())
+    }
+
     /// Gives up the first `count` bytes, or all where there are fewer. It takes no memory.
     pub fn drop_front(&mut self, count: usize)
         ensures { self.new ≡ drop count self.old }

@@ -1,9 +1,11 @@
 // The fields of a line, which stand between single spaces.
-ghost use Rattle.std.specs.Prelude.{◌≡◌, ◌++◌, ◌∷◌, [], ◌<◌, ◌≤◌, ◌+◌, List, ℕ, length, take, drop, IfOk, OnOk, OnErr, Option, option_map, not};
+ghost use Rattle.std.specs.Prelude.{◌≡◌, ◌++◌, ◌∷◌, [], ◌<◌, ◌≤◌, ◌+◌, List, ℕ, length, take, drop, IfOk, OnOk, OnErr};
+ghost use Rattle.std.specs.Prelude.{Option, option_map, not};
 ghost use Rattle.std.specs.List.{list_all};
 ghost use Rattle.std.specs.Char.{is_ascii_digit};
 ghost use Rattle.hex.specs.Hex.{is_hex_digit};
-ghost use Rattle.dm_base.specs.Fields.{field_of, parts, is_form, is_visible, is_word, is_short, is_acl_sign, is_id, is_hex, is_numeral, num_of, nonce_of, hex_of, hex_text};
+ghost use Rattle.dm_base.specs.Fields.{field_of, parts, is_form, is_visible, is_word, is_short, is_acl_sign, is_id};
+ghost use Rattle.dm_base.specs.Fields.{is_hex, is_numeral, num_of, nonce_of, hex_of, hex_text};
 
 use crate::bytes::{Bytes, Memory};
 use crate::values::Nonce;

@@ -4,21 +4,20 @@
 
 pub mod bytes;
 pub mod fields;
-pub mod first;
 pub mod laws;
 pub mod lines;
 pub mod list;
 pub mod memory;
 pub mod outside;
+mod pending_bytes;
 pub mod values;
 pub mod wholes;
 
 pub use bytes::{Bytes, Memory};
 pub use fields::{Form, field, hex_bytes, hex_into, is_field, nonce, num};
-pub use first::{FirstInfo, FirstLeaf, FirstText};
 pub use lines::{LineOut, LineReason, Lines};
 pub use list::List;
 pub use memory::{MemSink, MemSource};
 pub use outside::{Failed, Fault, Sink, Source, Stream, TakeError};
-pub use values::{Limits, Nonce};
+pub use values::{LEAST_ROOM, Limits, MESSAGE_LIMIT, Nonce, OBJECT_LIMIT, TEXT_LIMIT};
 pub use wholes::{put_all, take_all};

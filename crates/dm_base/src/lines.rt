@@ -1,14 +1,19 @@
 // A source line by line. What was taken and not yet given as a line is pending.
-ghost use Rattle.std.specs.Prelude.{◌≡◌, ◌≢◌, ◌<◌, ◌≤◌, ◌+◌, ◌∷◌, ◌++◌, List, [], ℕ, length, take, drop, slice_index, MatchOption, IfOk, OnOk, OnErr, IsErrOf, true, false};
+ghost use Rattle.std.specs.Prelude.{◌≡◌, ◌≢◌, ◌<◌, ◌≤◌, ◌+◌, ◌∷◌, ◌++◌, List, [], ℕ, length, take, drop, slice_index};
+ghost use Rattle.std.specs.Prelude.{MatchOption, IfOk, OnOk, OnErr, IsErrOf, true, false};
 ghost use Rattle.dm_base.specs.Outside.{ReadCounts};
-ghost use Rattle.dm_base.specs.Lines.{LinesState, ReadsLine, StaysUnlessLine, CountsTaken, FillsPending, ahead, IsFeedless, room, bytes_given};
+ghost use Rattle.dm_base.specs.Lines.{LinesState, ReadsLine, StaysUnlessLine, CountsTaken, FillsPending, ahead};
+ghost use Rattle.dm_base.specs.Lines.{IsFeedless, room, bytes_given, run_limit};
 
 use crate::bytes::{Bytes, Memory};
 use crate::outside::{Failed, Source, TakeError};
+use crate::pending_bytes::PendingBytes;
+use memchr::memchr;
 use std::alloc::Global;
 use std::marker::Model;
 
-const PIECE: usize = 4096;
+// Large enough that asking the source costs little beside what is done with its bytes.
+const PIECE: usize = 32_768;
 /// How many bytes one run takes at most.
 pub const RUN_LIMIT: usize = 67_108_864;
 /// How many bytes a line has at most, without its line feed.
@@ -47,7 +52,7 @@ pub enum LineOut {
 #[derive(Drop)]
 pub struct Lines {
     alloc: Global,
-    pending: Bytes,
+    pending: PendingBytes,
     // How many bytes within the limit were taken.
     taken: usize,
     // The byte past the limit, once it came.
@@ -56,7 +61,7 @@ pub struct Lines {
 
 impl Model for Lines {
     ghost use Rattle.std.specs.Prelude.{◌≡◌, ◌≤◌, ◌+◌, length, IsSome, option_to_list};
-    ghost use Rattle.dm_base.specs.Lines.{LinesState};
+    ghost use Rattle.dm_base.specs.Lines.{LinesState, run_limit};
 
     ghost Value = { LinesState };
 
@@ -66,7 +71,7 @@ impl Model for Lines {
       taken = s.taken + length (option_to_list s.past);
     } };
 
-    ghost invariant = { λ s. (s.taken ≤ 67108864) × (IsSome s.past → s.taken ≡ 67108864) };
+    ghost invariant = { λ s. (s.taken ≤ run_limit) × (IsSome s.past → s.taken ≡ run_limit) };
 }
 
 // Where the first line feed stands at or after a place.
@@ -77,12 +82,10 @@ fn feed_from(bytes: &[u8], from: usize) -> Option<usize>
         (λ at. (from ≤ at) × (at < length bytes.now) × (slice_index bytes.now at ≡ 10)
         × ((k : ℕ) → from ≤ k → k < at → slice_index bytes.now k ≢ 10)) }
 {
-    for i in from..bytes.len() {
-        if bytes[i] == b'\n' {
-            return Some(i);
-        }
+    match memchr(b'\n', &bytes[from..]) {
+        Some(at) => Some(from + at),
+        None => None,
     }
-    None
 }
 
 impl Lines {
@@ -91,16 +94,25 @@ impl Lines {
     {
         Lines {
             alloc,
-            pending: Bytes::new(alloc),
+            pending: PendingBytes::new(alloc),
             taken: 0,
             past: None,
         }
     }
 
+    /// Whether a line feed is pending, so that `next` gives a line, or refuses it, without asking the source.
+    pub fn has_line(&self) -> bool
+        ensures some { result ≡ true → (at : ℕ) × (at < length self.now.pending)
+            × (slice_index self.now.pending at ≡ 10) }
+        ensures none { result ≡ false → IsFeedless self.now.pending }
+    {
+        feed_from(self.pending.as_slice(), 0).is_some()
+    }
+
     // Takes the next piece. The byte past the limit is asked for alone, and only here.
     fn fill<S: Source>(&mut self, src: &mut S) -> Result<bool, TakeError>
         ensures bytes { FillsPending self.old self.new (S.left src.old) (S.left src.new) result }
-        ensures limit { self.new.taken ≤ 67108865 }
+        ensures limit { self.new.taken ≤ run_limit + 1 }
         ensures count { ReadCounts (S.faults src.old) (S.faults src.new) result }
         ensures sink { S.as_sink src.new ≡ S.as_sink src.old }
     {
@@ -134,6 +146,12 @@ impl Lines {
             (self.new ≡ record self.old { pending = drop (at + 1) self.old.pending }) }
         ensures err { OnErr result (self.new ≡ self.old) }
     {
+        // A long line is mostly alone, and isn't copied then; a short one leaves the room of its piece where it is.
+        if at > PIECE && self.pending.len() - at == 1 {
+            let mut line = self.pending.take_all(self.alloc)?;
+            line.cut_to(at);
+            return Ok(line);
+        }
         let line = Bytes::of_slice(self.alloc, &self.pending.as_slice()[..at])?;
         self.pending.drop_front(at + 1);
         Ok(line)
@@ -148,7 +166,7 @@ impl Lines {
         ensures again { StaysUnlessLine (ahead self.old (S.left src.old)) (ahead self.new (S.left src.new))
             (room self.old) (room self.new) result }
         ensures taken { CountsTaken (S.left src.old) (S.left src.new) self.old.taken self.new.taken }
-        ensures limit { self.new.taken ≤ 67108865 }
+        ensures limit { self.new.taken ≤ run_limit + 1 }
         ensures room { IfOk result (λ out. room self.new + bytes_given out ≡ room self.old) }
         ensures count { ReadCounts (S.faults src.old) (S.faults src.new) result }
         ensures sink { S.as_sink src.new ≡ S.as_sink src.old }

@@ -1,5 +1,6 @@
 // A list of values, which contracts see as a list.
-ghost use Rattle.std.specs.Prelude.{◌≡◌, ◌==◌, ◌<◌, ◌≤◌, ◌+◌, ◌∷◌, ◌++◌, [], length, take, drop, OnOk, OnErr, IfNone, MatchOption};
+ghost use Rattle.std.specs.Prelude.{◌≡◌, ◌==◌, ◌<◌, ◌≤◌, ◌+◌, ◌∷◌, ◌++◌, [], length, take, drop, OnOk, OnErr, IfNone};
+ghost use Rattle.std.specs.Prelude.{MatchOption};
 
 use crate::bytes::Memory;
 use std::alloc::Global;
@@ -20,7 +21,7 @@ impl<T> Model for List<T> {
 }
 
 impl<T> List<T> {
-    ghost use Rattle.std.specs.Prelude.{◌≡◌, ◌==◌, ◌∷◌, ◌++◌, [], length, slice_get, MatchOption};
+    ghost use Rattle.std.specs.Prelude.{◌≡◌, ◌==◌, ◌∷◌, ◌++◌, [], length, slice_get, IfOk, MatchOption};
     ghost use Rattle.std.specs.Option.{option_copied_mut};
     ghost use Rattle.std.specs.Borrow.{sem};
     ghost use Rattle.dm_base.specs.Lends.{lends_first, lends_at};
@@ -31,6 +32,15 @@ impl<T> List<T> {
         List {
             items: Vec::new(alloc),
         }
+    }
+
+    /// An empty list with room for so many values, which are added without more memory.
+    pub fn with_room(alloc: Global, count: usize) -> Result<List<T>, Memory>
+        ensures { IfOk result (λ list. list ≡ []) }
+    {
+        Ok(List {
+            items: Vec::with_capacity(alloc, count)?,
+        })
     }
 
     /// The values of a vector, which aren't copied.
@@ -96,11 +106,25 @@ impl<T: Drop> List<T> {
         ensures ok { OnOk result (self.new ≡ self.old ++ value ∷ []) }
         ensures err { OnErr result (self.new ≡ self.old) }
     {
-        self.items.push(value)?;
+        // Room first: a vector's own push hands the value back inside its error, which moves it twice. A list of one takes
+        // room for one, not for the four that a vector begins with; then room doubles.
+        if self.items.len() == self.items.capacity() {
+            self.items.reserve_exact(self.items.len().max(1))?;
+        }
+        self.items.push_reserved(value);
         Ok(())
     }
 
-    /// Adds a value in front of all others, which takes time linear in their number. After `Memory` the value is given up.
+    /// Takes room for so many values more, so that they are added without more memory.
+    pub fn reserve(&mut self, count: usize) -> Result<(), Memory>
+        ensures { self.new ≡ self.old }
+    {
+        self.items.reserve(count)?;
+        Ok(())
+    }
+
+    /// Adds a value in front of all others, which takes time linear in their number. After `Memory` the value is given
+    /// up.
     pub fn push_front(&mut self, value: T) -> Result<(), Memory>
         ensures ok { OnOk result (self.new ≡ value ∷ self.old) }
         ensures err { OnErr result (self.new ≡ self.old) }

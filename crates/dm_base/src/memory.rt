@@ -1,5 +1,6 @@
 // A source and a sink in memory, which tell all that they hold.
-ghost use Rattle.std.specs.Prelude.{◌≡◌, ◌<◌, ◌≤◌, ◌+◌, ◌↔◌, ◌++◌, List, [], ℕ, Option, Some, length, take, drop, Contains, IsErr, IsErrOf, IsOk, IsTrue, OnOk, OnErr, min};
+ghost use Rattle.std.specs.Prelude.{◌≡◌, ◌<◌, ◌≤◌, ◌+◌, ◌↔◌, ◌++◌, List, [], ℕ, Option, Some, length, take, drop};
+ghost use Rattle.std.specs.Prelude.{Contains, IsErr, IsErrOf, IsOk, IsTrue, OnOk, OnErr, min};
 ghost use Rattle.dm_base.specs.Outside.{TakeCounts, PutCounts, PutsSome, TakesSome};
 ghost use Rattle.dm_base.specs.Memory.{SourceState, SinkState, SinkPuts, after};
 

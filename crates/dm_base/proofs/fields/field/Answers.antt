@@ -7,4 +7,5 @@ use Rattle.dm_base.proofs.fields.field.Goals as goal
 pub returns : goal.returns
 returns c =
     nth_from_yields_List c.nth.result c.nth.new.self c.args.n c.nth.ensures.ran
-    (YieldsList-from_slice_split _ _ c.args.line.now c.split.ensures.rest c.split.ensures.done c.split.ensures.closure (λ x b q h. search (rules, tests)))
+    (YieldsList-from_slice_split _ _ c.args.line.now c.split.ensures.rest c.split.ensures.done c.split.ensures.closure
+    (λ x b q h. search (rules, tests)))

@@ -1,5 +1,6 @@
 use Rattle.std.proofs.Common.{arith, ap, ◌∙◌, length}
-use Rattle.dm_base.proofs.Pending.{filled_within, filled_clear, filled_ahead, filled_taken, filled_room, found_at, none_found, line_given, long_line, taken_at_error}
+use Rattle.dm_base.proofs.Pending.{filled_within, filled_clear, filled_ahead, filled_taken, filled_room, found_at}
+use Rattle.dm_base.proofs.Pending.{none_found, line_given, long_line, taken_at_error}
 use Rattle.dm_base.proofs.lines.Lines.next.Goals as goal
 
 pub pieces-preserved : goal.pieces-preserved
@@ -8,7 +9,8 @@ pieces-preserved g c =
     let more = c.in-Ok-true.field-0-test in
     let looked = c.as_slice.ensures ∙ ap (λ s. s.pending) c.self.view_is in
     let all = c.len-scanned.ensures ∙ ap (λ s. length s.pending) c.self.view_is in
-    let clear = none_found c.pieces.self.pending _ c.pieces.scanned _ looked all c.pieces.invariant.clear c.in-None.ensures in
+    let clear =
+    none_found c.pieces.self.pending _ c.pieces.scanned _ looked all c.pieces.invariant.clear c.in-None.ensures in
     record {
       within = filled_within _ _ _ _ _ _ more filled all;
       clear = filled_clear _ _ _ _ _ _ more filled all clear;
@@ -22,14 +24,18 @@ pieces-preserved g c =
 pub returns-in-Some-clause-line : goal.returns-in-Some-clause-line
 returns-in-Some-clause-line g c =
     let looked = c.as_slice.ensures ∙ ap (λ s. s.pending) c.self.view_is in
-    let found = found_at c.pieces.self.pending _ c.pieces.scanned c.in-Some.at looked c.pieces.invariant.clear c.in-Some.ensures in
-    long_line _ _ c.pieces.self c.in-Some.at _ (omega (arith, found.0)) c.if-at-gt-LINE_LIMIT.true found.2 c.pieces.invariant.room c.pieces.invariant.kept
+    let found =
+    found_at c.pieces.self.pending _ c.pieces.scanned c.in-Some.at looked c.pieces.invariant.clear c.in-Some.ensures in
+    long_line _ _ c.pieces.self c.in-Some.at _ (omega (arith, found.0)) c.if-at-gt-LINE_LIMIT.true found.2
+    c.pieces.invariant.room c.pieces.invariant.kept
 
 pub returns-in-Ok-clause-line : goal.returns-in-Ok-clause-line
 returns-in-Ok-clause-line g c =
     let looked = c.as_slice.ensures ∙ ap (λ s. s.pending) c.self.view_is in
-    let found = found_at c.pieces.self.pending _ c.pieces.scanned c.in-Some.at looked c.pieces.invariant.clear c.in-Some.ensures in
-    line_given _ _ c.pieces.self c.give.new.self c.in-Ok.line c.in-Some.at _ found c.if-at-gt-LINE_LIMIT.false c.pieces.invariant.room c.in-Ok.ensures.given c.in-Ok.ensures.rest c.pieces.invariant.kept
+    let found =
+    found_at c.pieces.self.pending _ c.pieces.scanned c.in-Some.at looked c.pieces.invariant.clear c.in-Some.ensures in
+    line_given _ _ c.pieces.self c.give.new.self c.in-Ok.line c.in-Some.at _ found c.if-at-gt-LINE_LIMIT.false
+    c.pieces.invariant.room c.in-Ok.ensures.given c.in-Ok.ensures.rest c.pieces.invariant.kept
 
 pub returns-in-Err-fill-clause-taken : goal.returns-in-Err-fill-clause-taken
 returns-in-Err-fill-clause-taken g c = taken_at_error _ _ _ _ _ _ _ c.in-Err-fill.ensures.bytes c.pieces.invariant.taken
