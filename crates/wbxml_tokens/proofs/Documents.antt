@@ -1,5 +1,6 @@
 -- Documents that spell tokens are read as them, and what is read is spelled.
-use Rattle.std.proofs.Common.{ℕ, ◌≡◌, ◌≤◌, ◌+◌, List, [], ◌++◌, length, length-append, take, drop, refl, sym, ap, ◌∙◌, subst, arith, inl, inr}
+use Rattle.std.proofs.Common.{ℕ, ◌≡◌, ◌≤◌, ◌+◌, List, [], ◌++◌, length, length-append, take, drop, refl, sym, ap, ◌∙◌}
+use Rattle.std.proofs.Common.{subst, arith, inl, inr}
 use Rattle.std.proofs.lemmas.List.{take-append-drop, length-drop, length-take-le, append-nil, drop_at}
 use Rattle.std.specs.Prelude.{None, ◌⊎◌}
 use Rattle.wbxml_ints.specs.Multibyte.{AreBytes}
@@ -25,17 +26,22 @@ entered_body bytes table used room is =
     ∙ ap (λ n. told [] (reads (begun_by (body_at table 0 n extents.Before)) (drop used bytes))) place
 
 -- a document that spells tokens leads to a reader of the body
-pub spelled_reading : (table prologue body : List ℕ) (tokens : List Placed) (page : ℕ) (extent : Extent) → IsPrologue table prologue
-    → SpellsTokens table 0 (length prologue) extents.Before tokens body page extent → length (prologue ++ body) ≤ most_bytes
-    → reading (prologue ++ body) ≡ told [] (told tokens (begun_by (body_at table page (length prologue + length body) extent)))
+pub spelled_reading : (table prologue body : List ℕ) (tokens : List Placed) (page : ℕ) (extent : Extent)
+    → IsPrologue table prologue
+    → SpellsTokens table 0 (length prologue) extents.Before tokens body page extent
+    → length (prologue ++ body) ≤ most_bytes
+    → reading (prologue ++ body)
+    ≡ told [] (told tokens (begun_by (body_at table page (length prologue + length body) extent)))
 spelled_reading table prologue body tokens page extent is_prologue spells room =
     entered_body (prologue ++ body) table (length prologue) room (prologue_front table prologue body is_prologue)
-    ∙ ap (λ y. told [] (reads (begun_by (body_at table 0 (length prologue) extents.Before)) y)) (drop_at prologue body (length prologue) refl)
+    ∙ ap (λ y. told [] (reads (begun_by (body_at table 0 (length prologue) extents.Before)) y))
+    (drop_at prologue body (length prologue) refl)
     ∙ ap (told []) (spelled_read spells (omega (arith, room, length-append prologue body)))
 
 pub spelled_is_read : SpelledIsRead
 spelled_is_read table prologue body tokens page extent is_prologue spells room =
-    let all : reading (prologue ++ body) ≡ told [] (told tokens (begun_by (body_at table page (length prologue + length body) extent))) =
+    let all : reading (prologue ++ body)
+    ≡ told [] (told tokens (begun_by (body_at table page (length prologue + length body) extent))) =
     spelled_reading table prologue body tokens page extent is_prologue spells room in
     (ap (λ x. x.tokens) all ∙ append-nil tokens, ap (λ x. x.refused) all, ap (λ x. x.reader.extent) all)
 
@@ -45,7 +51,8 @@ Known bytes =
     ((s : IsReadSo bytes (reading bytes).tokens) × ((reading bytes).reader.extent ≡ s.extent))
     ⊎ (((reading bytes).tokens ≡ []) × (prologue_at bytes ≡ more) × ((reading bytes).reader.extent ≡ extents.Before))
 
-known_by : (bytes : List ℕ) (f : Front) → AreBytes bytes → length bytes ≤ most_bytes → (reading bytes).refused ≡ None → prologue_at bytes ≡ f → Known bytes
+known_by : (bytes : List ℕ) (f : Front) → AreBytes bytes → length bytes ≤ most_bytes → (reading bytes).refused ≡ None
+    → prologue_at bytes ≡ f → Known bytes
 known_by bytes more fit room sound is =
     let walked : Walks (begun_by at_start) bytes bytes more =
     subst (Walks (begun_by at_start) bytes bytes) is (walks_first at_start bytes (refl, refl, omega (arith, room))) in
@@ -58,7 +65,9 @@ known_by bytes (head table used) fit room sound is =
     let there = prologue_there bytes table used fit is in
     let entered = entered_body bytes table used room is in
     let long : length (take used bytes) ≡ used = length-take-le used bytes there.0 in
-    let spelt = read_spelt (length (drop used bytes)) table 0 used extents.Before (drop used bytes) (omega arith) (bytes_after used bytes fit)
+    let spelt =
+    read_spelt (length (drop used bytes)) table 0 used extents.Before (drop used bytes) (omega arith)
+    (bytes_after used bytes fit)
     (omega (arith, room, there.0, length-drop used bytes)) (sym (ap (λ y. y.refused) entered) ∙ sound) in
     inl (
       record {
@@ -70,8 +79,11 @@ known_by bytes (head table used) fit room sound is =
         extent = spelt.end;
         whole = sym (take-append-drop used bytes) ∙ ap (λ y. take used bytes ++ y) spelt.whole;
         is_prologue = there.1;
-        spells = subst (λ n. SpellsTokens table 0 n extents.Before (reading bytes).tokens spelt.body spelt.last spelt.end) (sym long)
-            (subst (λ t. SpellsTokens table 0 used extents.Before t spelt.body spelt.last spelt.end) (ap (λ y. y.tokens) (sym entered)) spelt.spells);
+        spells =
+            subst (λ n. SpellsTokens table 0 n extents.Before (reading bytes).tokens spelt.body spelt.last spelt.end)
+            (sym long)
+            (subst (λ t. SpellsTokens table 0 used extents.Before t spelt.body spelt.last spelt.end)
+            (ap (λ y. y.tokens) (sym entered)) spelt.spells);
         begun = spelt.begun;
         ended = spelt.ended;
       },
@@ -83,7 +95,8 @@ known_by bytes (token t used) fit room sound is = absurd (subst OfPrologue is (o
 pub known : (bytes : List ℕ) → AreBytes bytes → length bytes ≤ most_bytes → (reading bytes).refused ≡ None → Known bytes
 known bytes fit room sound = known_by bytes (prologue_at bytes) fit room sound refl
 
-of_known : (bytes : List ℕ) → Known bytes → IsReadSo bytes (reading bytes).tokens ⊎ (((reading bytes).tokens ≡ []) × (prologue_at bytes ≡ more))
+of_known : (bytes : List ℕ) → Known bytes → IsReadSo bytes (reading bytes).tokens
+    ⊎ (((reading bytes).tokens ≡ []) × (prologue_at bytes ≡ more))
 of_known bytes (inl k) = inl k.0
 of_known bytes (inr k) = inr (k.0, k.1)
 

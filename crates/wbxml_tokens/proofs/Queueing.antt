@@ -28,13 +28,15 @@ record Queued (w : Waiting) (tokens : List Placed) : Type 0 where
 queued : (w : Waiting) (tokens : List Placed) → Queued w tokens
 queued w [] = record { last = w; handed = refl; longer = sym (append-nil w.tokens) }
 queued w (p ∷ ps) =
-    let q : Queued (waiting_after (record w { at = p.at }) p.token) ps = queued (waiting_after (record w { at = p.at }) p.token) ps in
+    let q : Queued (waiting_after (record w { at = p.at }) p.token) ps =
+    queued (waiting_after (record w { at = p.at }) p.token) ps in
     record { last = q.last; handed = q.handed; longer = q.longer ∙ append_assoc w.tokens (p ∷ []) ps }
 
 ok_is : (a b : Waiting) → ◌≡◌ {A = Result Waiting Refusal} (Ok a) (Ok b) → a ≡ b
 ok_is a b e = cc
 
-pub waiting_longer : (w v : Waiting) (tokens : List Placed) → taken queueing w tokens ≡ Ok v → v.tokens ≡ w.tokens ++ tokens
+pub waiting_longer : (w v : Waiting) (tokens : List Placed) → taken queueing w tokens ≡ Ok v
+    → v.tokens ≡ w.tokens ++ tokens
 waiting_longer w v tokens h =
     let q : Queued w tokens = queued w tokens in ap (λ z. z.tokens) (ok_is v q.last (sym h ∙ q.handed)) ∙ q.longer
 
@@ -46,11 +48,14 @@ never_refuses w tokens f h =
     no_both v e = cc
 
 -- what wants memory leaves the tokens that waited
-pub waiting_kept : (w v : Waiting) (tokens : List Placed) → StopsAmong queueing is_same w v tokens → take (length w.tokens) v.tokens ≡ w.tokens
+pub waiting_kept : (w v : Waiting) (tokens : List Placed) → StopsAmong queueing is_same w v tokens
+    → take (length w.tokens) v.tokens ≡ w.tokens
 waiting_kept w v tokens (n, z, some, inl same) =
-    ap (take (length w.tokens)) (ap (λ y. y.tokens) same ∙ waiting_longer w z (take n tokens) some) ∙ take-append_seam w.tokens (take n tokens)
+    ap (take (length w.tokens)) (ap (λ y. y.tokens) same ∙ waiting_longer w z (take n tokens) some)
+    ∙ take-append_seam w.tokens (take n tokens)
 waiting_kept w v tokens (n, z, some, inr (at, same)) =
-    ap (take (length w.tokens)) (ap (λ y. y.tokens) same ∙ waiting_longer w z (take n tokens) some) ∙ take-append_seam w.tokens (take n tokens)
+    ap (take (length w.tokens)) (ap (λ y. y.tokens) same ∙ waiting_longer w z (take n tokens) some)
+    ∙ take-append_seam w.tokens (take n tokens)
 
 -- ---- reading on
 
@@ -65,18 +70,25 @@ read_on h bytes piece given r none =
     ∙ reads-told x.tokens (begun_by x.reader) piece
     ∙ ap (λ y. told x.tokens (reads (begun_by y) piece)) (sym (r.reader none))
 
-tokens_on : (h : Held) (bytes piece : List ℕ) (given : List Placed) (w v : Waiting) → HasRead h bytes given → h.refused ≡ None → w.tokens ≡ h.waiting
-    → taken queueing w (reads (begun_by h.reader) piece).tokens ≡ Ok v → (reading (bytes ++ piece)).tokens ≡ given ++ v.tokens
+tokens_on : (h : Held) (bytes piece : List ℕ) (given : List Placed) (w v : Waiting) → HasRead h bytes given
+    → h.refused ≡ None → w.tokens ≡ h.waiting
+    → taken queueing w (reads (begun_by h.reader) piece).tokens ≡ Ok v
+    → (reading (bytes ++ piece)).tokens ≡ given ++ v.tokens
 tokens_on h bytes piece given w v r none same handed =
     let later : List Placed = (reads (begun_by h.reader) piece).tokens in
-    ap (λ y. y.tokens) (read_on h bytes piece given r none) ∙ ap (λ t. t ++ later) r.tokens ∙ append_assoc given h.waiting later
+    ap (λ y. y.tokens) (read_on h bytes piece given r none) ∙ ap (λ t. t ++ later) r.tokens
+    ∙ append_assoc given h.waiting later
     ∙ ap (λ t. given ++ t) (ap (λ t. t ++ later) (sym same) ∙ sym (waiting_longer w v later handed))
 
-pub fed_ok : (h : Held) (bytes piece : List ℕ) (given : List Placed) (s : Reader) (w v : Waiting) → HasRead h bytes given → h.refused ≡ None → w.tokens ≡ h.waiting
-    → (taken queueing w (reads (begun_by h.reader) piece).tokens ≡ Ok v) × ((reads (begun_by h.reader) piece).refused ≡ None) → s ≡ (reads (begun_by h.reader) piece).reader
-    → ((reading (bytes ++ piece)).refused ≡ None) × HasRead (record { waiting = v.tokens; refused = None; reader = s }) (bytes ++ piece) given
+pub fed_ok : (h : Held) (bytes piece : List ℕ) (given : List Placed) (s : Reader) (w v : Waiting)
+    → HasRead h bytes given → h.refused ≡ None → w.tokens ≡ h.waiting
+    → (taken queueing w (reads (begun_by h.reader) piece).tokens ≡ Ok v)
+    × ((reads (begun_by h.reader) piece).refused ≡ None) → s ≡ (reads (begun_by h.reader) piece).reader
+    → ((reading (bytes ++ piece)).refused ≡ None)
+    × HasRead (record { waiting = v.tokens; refused = None; reader = s }) (bytes ++ piece) given
 fed_ok h bytes piece given s w v r none same (handed, sound) is_reader =
-    let on : reading (bytes ++ piece) ≡ told (reading bytes).tokens (reads (begun_by h.reader) piece) = read_on h bytes piece given r none in (
+    let on : reading (bytes ++ piece) ≡ told (reading bytes).tokens (reads (begun_by h.reader) piece) =
+    read_on h bytes piece given r none in (
       ap (λ y. y.refused) on ∙ sound,
       record {
         tokens = tokens_on h bytes piece given w v r none same handed;
@@ -85,12 +97,16 @@ fed_ok h bytes piece given s w v r none same (handed, sound) is_reader =
       },
     )
 
-pub fed_refused : (h : Held) (bytes piece : List ℕ) (given : List Placed) (s : Reader) (w v : Waiting) (f : Refusal) → HasRead h bytes given → h.refused ≡ None
+pub fed_refused : (h : Held) (bytes piece : List ℕ) (given : List Placed) (s : Reader) (w v : Waiting) (f : Refusal)
+    → HasRead h bytes given → h.refused ≡ None
     → w.tokens ≡ h.waiting → Stops queueing is_same (errors.Refused f) w v (reads (begun_by h.reader) piece)
-    → ((reading (bytes ++ piece)).refused ≡ Some f) × HasRead (record { waiting = v.tokens; refused = Some f; reader = s }) (bytes ++ piece) given
-fed_refused h bytes piece given s w v f r none same (inl refused) = absurd (never_refuses w (reads (begun_by h.reader) piece).tokens f refused)
+    → ((reading (bytes ++ piece)).refused ≡ Some f)
+    × HasRead (record { waiting = v.tokens; refused = Some f; reader = s }) (bytes ++ piece) given
+fed_refused h bytes piece given s w v f r none same (inl refused) =
+    absurd (never_refuses w (reads (begun_by h.reader) piece).tokens f refused)
 fed_refused h bytes piece given s w v f r none same (inr (handed, refused)) =
-    let on : reading (bytes ++ piece) ≡ told (reading bytes).tokens (reads (begun_by h.reader) piece) = read_on h bytes piece given r none in (
+    let on : reading (bytes ++ piece) ≡ told (reading bytes).tokens (reads (begun_by h.reader) piece) =
+    read_on h bytes piece given r none in (
       ap (λ y. y.refused) on ∙ refused,
       record {
         tokens = tokens_on h bytes piece given w v r none same handed;
@@ -103,10 +119,12 @@ fed_refused h bytes piece given s w v f r none same (inr (handed, refused)) =
     some_not_none e = cc
 
 -- after a refusal no byte counts
-pub still_refused : (h : Held) (bytes piece : List ℕ) (given : List Placed) (f : Refusal) → HasRead h bytes given → h.refused ≡ Some f
+pub still_refused : (h : Held) (bytes piece : List ℕ) (given : List Placed) (f : Refusal) → HasRead h bytes given
+    → h.refused ≡ Some f
     → ((reading (bytes ++ piece)).refused ≡ Some f) × HasRead h (bytes ++ piece) given
 still_refused h bytes piece given f r is =
-    let same : reading (bytes ++ piece) ≡ reading bytes = reads-append (begun_by at_start) bytes piece ∙ stays (reading bytes) f piece (r.refused ∙ is) in (
+    let same : reading (bytes ++ piece) ≡ reading bytes =
+    reads-append (begun_by at_start) bytes piece ∙ stays (reading bytes) f piece (r.refused ∙ is) in (
       ap (λ y. y.refused) same ∙ r.refused ∙ is,
       record {
         tokens = ap (λ y. y.tokens) same ∙ r.tokens;

@@ -1,5 +1,6 @@
 -- The bytes that a writer has written spell the tokens that it was given.
-use Rattle.std.specs.Prelude.{◌≡◌, ◌==◌, ◌<◌, ◌≤◌, ◌+◌, ◌%◌, ◌^◌, ℕ, Bool, true, false, if◌then◌else◌, nat_lt, List, [], ◌∷◌, ◌++◌, length, map, None, refl}
+use Rattle.std.specs.Prelude.{◌≡◌, ◌==◌, ◌<◌, ◌≤◌, ◌+◌, ◌%◌, ◌^◌, ℕ, Bool, true, false, if◌then◌else◌, nat_lt, List, []}
+use Rattle.std.specs.Prelude.{◌∷◌, ◌++◌, length, map, None, refl}
 use Rattle.std.proofs.Common.{sym, ap, subst, ◌∙◌, arith, append_assoc, inl}
 use Rattle.std.proofs.lemmas.Bool.{eqb-true, ltb-true}
 use Rattle.std.proofs.lemmas.List.{append-nil}
@@ -14,10 +15,12 @@ use Rattle.wbxml_tokens.specs.declared.token.Placed.{Placed}
 use Rattle.wbxml_tokens.specs.declared.extent.Extent.{Extent}
 use Rattle.wbxml_tokens.specs.declared.extent.Extent.TheVariants as extents
 use Rattle.wbxml_tokens.specs.Reading.{most_bytes, extent_after, is_whole, refusal_of}
-use Rattle.wbxml_tokens.specs.Spelling.{Written, written_after, given, prologue, tag_byte, token_bytes, page_after, spelled, page_behind}
+use Rattle.wbxml_tokens.specs.Spelling.{Written, written_after, given, prologue, tag_byte, token_bytes, page_after}
+use Rattle.wbxml_tokens.specs.Spelling.{spelled, page_behind}
 use Rattle.wbxml_tokens.specs.Spelled.{IsPrologue, SpellsTokens, none, switch as a_switch, token as a_token}
 use Rattle.wbxml_tokens.specs.Whole.{IsElement, extent_behind, tokens_read}
-use Rattle.wbxml_tokens.specs.Written.{at_prologue, CanBeSpelled, AreInElement, IsWrittenOf, WrittenIsSpelled, WrittenIsRead}
+use Rattle.wbxml_tokens.specs.Written.{at_prologue, CanBeSpelled, AreInElement, IsWrittenOf, WrittenIsSpelled}
+use Rattle.wbxml_tokens.specs.Written.{WrittenIsRead}
 use Rattle.wbxml_tokens.proofs.Documents.{spelled_is_read}
 use Rattle.wbxml_tokens.proofs.Elements.{document_is_element, element_is_whole}
 
@@ -30,16 +33,28 @@ two_bytes : (n : ℕ) → n < 0x4000 → IsMultibyte n (digit_of n 0x80 ∷ n % 
 two_bytes n low = ((omega arith, omega arith, (omega arith, omega (arith, low))), omega (arith, low))
 
 three_bytes : (n : ℕ) → n < 0x200000 → IsMultibyte n (digit_of n 0x4000 ∷ digit_of n 0x80 ∷ n % 128 ∷ [])
-three_bytes n low = ((omega arith, omega arith, (omega arith, omega arith, (omega arith, omega (arith, low)))), omega (arith, low))
+three_bytes n low =
+    ((omega arith, omega arith, (omega arith, omega arith, (omega arith, omega (arith, low)))), omega (arith, low))
 
-four_bytes : (n : ℕ) → n < 0x10000000 → IsMultibyte n (digit_of n 0x200000 ∷ digit_of n 0x4000 ∷ digit_of n 0x80 ∷ n % 128 ∷ [])
-four_bytes n low =
-    ((omega arith, omega arith, (omega arith, omega arith, (omega arith, omega arith, (omega arith, omega (arith, low))))), omega (arith, low))
+four_bytes : (n : ℕ) → n < 0x10000000
+    → IsMultibyte n (digit_of n 0x200000 ∷ digit_of n 0x4000 ∷ digit_of n 0x80 ∷ n % 128 ∷ [])
+four_bytes n low = (
+  (omega arith, omega arith, (omega arith, omega arith, (omega arith, omega arith, (omega arith, omega (arith, low))))),
+  omega (arith, low),
+)
 
 five_bytes : (n : ℕ) → n < 2 ^ 32
     → IsMultibyte n (digit_of n 0x10000000 ∷ digit_of n 0x200000 ∷ digit_of n 0x4000 ∷ digit_of n 0x80 ∷ n % 128 ∷ [])
 five_bytes n low = (
-  (omega arith, omega arith, (omega arith, omega arith, (omega arith, omega arith, (omega arith, omega arith, (omega arith, omega (arith, low)))))),
+  (
+    omega arith,
+    omega arith,
+    (
+      omega arith,
+      omega arith,
+      (omega arith, omega arith, (omega arith, omega arith, (omega arith, omega (arith, low)))),
+    ),
+  ),
   low,
 )
 
@@ -71,11 +86,13 @@ token_place page at (Opaque bytes) = at
 -- tokens from a page and a place on
 abbrev pub placed : ℕ → ℕ → List Token → List Placed
 placed page at [] = []
-placed page at (t ∷ ts) = record { at = token_place page at t; token = t } ∷ placed (page_after page t) (at + length (token_bytes page t)) ts
+placed page at (t ∷ ts) =
+    record { at = token_place page at t; token = t } ∷ placed (page_after page t) (at + length (token_bytes page t)) ts
 
 pub placed_tokens : (page at : ℕ) (ts : List Token) → map (λ (p : Placed). p.token) (placed page at ts) ≡ ts
 placed_tokens page at [] = refl
-placed_tokens page at (t ∷ ts) = ap (λ l. t ∷ l) (placed_tokens (page_after page t) (at + length (token_bytes page t)) ts)
+placed_tokens page at (t ∷ ts) =
+    ap (λ l. t ∷ l) (placed_tokens (page_after page t) (at + length (token_bytes page t)) ts)
 
 page_low : (e : Element) → page_of e < 2
 page_low elements.EAdd = omega arith
@@ -85,10 +102,13 @@ page_low _ = omega arith
 abbrev tag_bytes : Bool → Element → Bool → List ℕ
 tag_bytes same e content = if same then tag_byte e content ∷ [] else 0x00 ∷ page_of e ∷ tag_byte e content ∷ []
 
-tag_step : {last : ℕ} {extent end : Extent} {ps : List Placed} {bytes : List ℕ} (page at : ℕ) (e : Element) (content : Bool) (b : Bool)
+tag_step : {last : ℕ} {extent end : Extent} {ps : List Placed} {bytes : List ℕ} (page at : ℕ) (e : Element)
+    (content : Bool) (b : Bool)
     → (page_of e == page) ≡ b → is_whole extent ≡ false
-    → SpellsTokens [] (page_of e) (at + length (tag_bytes b e content)) (extent_after extent (Tag e content)) ps bytes last end
-    → SpellsTokens [] page at extent (record { at = if b then at else at + 2; token = Tag e content } ∷ ps) (tag_bytes b e content ++ bytes) last end
+    → SpellsTokens [] (page_of e) (at + length (tag_bytes b e content)) (extent_after extent (Tag e content)) ps bytes
+    last end
+    → SpellsTokens [] page at extent (record { at = if b then at else at + 2; token = Tag e content } ∷ ps)
+    (tag_bytes b e content ++ bytes) last end
 tag_step {last} {extent} {end} {ps} {bytes} page at e content true same open_ rest =
     let on : page_of e ≡ page = eqb-true (page_of e) page same in
     a_token (Tag e content) (tag_byte e content ∷ []) bytes (tag_byte e content ∷ bytes) open_ (on, refl)
@@ -97,23 +117,32 @@ tag_step {last} {extent} {end} {ps} {bytes} page at e content false same open_ r
     let place : at + 3 ≡ at + 2 + 1 = omega arith in
     a_switch open_ (page_low e)
     (a_token (Tag e content) (tag_byte e content ∷ []) bytes (tag_byte e content ∷ bytes) open_ (refl, refl)
-    (subst (λ p. SpellsTokens [] (page_of e) p (extent_after extent (Tag e content)) ps bytes last end) place rest) refl)
+    (subst (λ p. SpellsTokens [] (page_of e) p (extent_after extent (Tag e content)) ps bytes last end) place rest)
+    refl)
 
 -- the tokens from a page, a place and an extent on are spelled up to an extent
 abbrev pub SpelledTo : ℕ → ℕ → Extent → List Token → Extent → Type 0
-SpelledTo page at extent ts end = SpellsTokens [] page at extent (placed page at ts) (spelled page ts) (page_behind page ts) end
+SpelledTo page at extent ts end =
+    SpellsTokens [] page at extent (placed page at ts) (spelled page ts) (page_behind page ts) end
 
-pub token_step : (page at : ℕ) (extent end : Extent) (t : Token) (ts : List Token) → CanBeSpelled t → is_whole extent ≡ false
-    → SpelledTo (page_after page t) (at + length (token_bytes page t)) (extent_after extent t) ts end → SpelledTo page at extent (t ∷ ts) end
-token_step page at extent end (Tag e content) ts h open_ rest = tag_step page at e content (page_of e == page) refl open_ rest
-token_step page at extent end End ts h open_ rest = a_token End (0x01 ∷ []) (spelled page ts) (0x01 ∷ spelled page ts) open_ refl rest refl
+pub token_step : (page at : ℕ) (extent end : Extent) (t : Token) (ts : List Token) → CanBeSpelled t
+    → is_whole extent ≡ false
+    → SpelledTo (page_after page t) (at + length (token_bytes page t)) (extent_after extent t) ts end
+    → SpelledTo page at extent (t ∷ ts) end
+token_step page at extent end (Tag e content) ts h open_ rest =
+    tag_step page at e content (page_of e == page) refl open_ rest
+token_step page at extent end End ts h open_ rest =
+    a_token End (0x01 ∷ []) (spelled page ts) (0x01 ∷ spelled page ts) open_ refl rest refl
 token_step page at extent end (Text bytes) ts h open_ rest =
-    a_token (Text bytes) (0x03 ∷ bytes ++ 0x00 ∷ []) (spelled page ts) ((0x03 ∷ bytes ++ 0x00 ∷ []) ++ spelled page ts) open_ (inl (refl, h)) rest refl
+    a_token (Text bytes) (0x03 ∷ bytes ++ 0x00 ∷ []) (spelled page ts) ((0x03 ∷ bytes ++ 0x00 ∷ []) ++ spelled page ts)
+    open_ (inl (refl, h)) rest refl
 token_step page at extent end (Opaque bytes) ts h open_ rest =
-    a_token (Opaque bytes) (0xc3 ∷ shortest (length bytes) ++ bytes) (spelled page ts) ((0xc3 ∷ shortest (length bytes) ++ bytes) ++ spelled page ts) open_
+    a_token (Opaque bytes) (0xc3 ∷ shortest (length bytes) ++ bytes) (spelled page ts)
+    ((0xc3 ∷ shortest (length bytes) ++ bytes) ++ spelled page ts) open_
     (shortest (length bytes), refl, shortest_spells (length bytes) h) rest refl
 
-tokens_spelled : (page at : ℕ) (extent : Extent) (ts : List Token) → AllByRecursion CanBeSpelled ts → AreInElement extent ts
+tokens_spelled : (page at : ℕ) (extent : Extent) (ts : List Token) → AllByRecursion CanBeSpelled ts
+    → AreInElement extent ts
     → SpelledTo page at extent ts (extent_behind extent ts)
 tokens_spelled page at extent [] all inside = none
 tokens_spelled page at extent (t ∷ ts) all inside =
@@ -157,14 +186,16 @@ written_is_spelled ts all inside =
 cons_is_something : (t : Token) (ts : List Token) → t ∷ ts ≡ [] → ⊥
 cons_is_something t ts e = cc
 
-isnt_whole : (extent : Extent) (t : Token) (ts : List Token) → (extent ≡ extents.Whole → t ∷ ts ≡ []) → is_whole extent ≡ false
+isnt_whole : (extent : Extent) (t : Token) (ts : List Token) → (extent ≡ extents.Whole → t ∷ ts ≡ [])
+    → is_whole extent ≡ false
 isnt_whole extents.Whole t ts ends = absurd (cons_is_something t ts (ends refl))
 isnt_whole extents.Before t ts ends = refl
 isnt_whole (extents.Inside depth) t ts ends = refl
 isnt_whole extents.Never t ts ends = refl
 
 in_element : (extent : Extent) (ts : List Token)
-    → ((first later : List Token) → ts ≡ first ++ later → extent_behind extent first ≡ extents.Whole → later ≡ []) → AreInElement extent ts
+    → ((first later : List Token) → ts ≡ first ++ later → extent_behind extent first ≡ extents.Whole → later ≡ [])
+    → AreInElement extent ts
 in_element extent [] ends = tt
 in_element extent (t ∷ ts) ends = (
   isnt_whole extent t ts (ends [] (t ∷ ts) refl),
@@ -174,8 +205,10 @@ in_element extent (t ∷ ts) ends = (
 pub written_is_read : WrittenIsRead
 written_is_read ts all element room =
     let w : Written = given written_after at_prologue ts in
-    let s : IsWrittenOf ts w = written_is_spelled ts all (in_element extents.Before ts ((element_is_whole ts).0 element).1) in
-    let read = spelled_is_read [] prologue s.body s.placed w.page (extent_behind extents.Before ts) s.is_prologue s.spells
+    let s : IsWrittenOf ts w =
+    written_is_spelled ts all (in_element extents.Before ts ((element_is_whole ts).0 element).1) in
+    let read =
+    spelled_is_read [] prologue s.body s.placed w.page (extent_behind extents.Before ts) s.is_prologue s.spells
     (subst (λ b. length b ≤ most_bytes) s.whole room) in
     let same = ap (map (λ (p : Placed). p.token)) read.0 ∙ s.tokens in
     subst (λ b. (refusal_of b ≡ None) × (tokens_read b ≡ ts)) (sym s.whole)

@@ -1,5 +1,6 @@
 -- The bytes before the first 0.
-use Rattle.std.proofs.Common.{ℕ, zero, suc, ◌≡◌, ◌<◌, List, [], ◌∷◌, length, take, slice_index, refl, sym, ap, ◌∙◌, arith}
+use Rattle.std.proofs.Common.{ℕ, zero, suc, ◌≡◌, ◌<◌, List, [], ◌∷◌, length, take, slice_index, refl, sym, ap, ◌∙◌}
+use Rattle.std.proofs.Common.{arith}
 use Rattle.std.specs.Prelude.{◌==◌, Bool, true, false, if◌then◌else◌, Option, Some, None}
 use Rattle.memchr.specs.Find.{IsFirstByte, is_byte}
 use Rattle.wbxml_tokens.specs.Fronts.{until_zero}
@@ -21,9 +22,11 @@ goes_on b bs e = ap (λ (c : Bool). if c then [] else b ∷ until_zero bs) e
 zero_nowhere : (bytes : List ℕ) → NoneUpTo (length bytes) bytes → bytes ≡ until_zero bytes
 zero_nowhere [] h = refl
 zero_nowhere (b ∷ bs) h =
-    sym (goes_on b bs (none_is (b == 0) (h 0 (omega arith))) ∙ ap (λ x. b ∷ x) (sym (zero_nowhere bs (behind_first (length bs) b bs h))))
+    sym (goes_on b bs (none_is (b == 0) (h 0 (omega arith)))
+    ∙ ap (λ x. b ∷ x) (sym (zero_nowhere bs (behind_first (length bs) b bs h))))
 
-zero_there : (bytes : List ℕ) (n : ℕ) → n < length bytes → NoneUpTo n bytes → (slice_index bytes n == 0) ≡ true → take n bytes ≡ until_zero bytes
+zero_there : (bytes : List ℕ) (n : ℕ) → n < length bytes → NoneUpTo n bytes → (slice_index bytes n == 0) ≡ true
+    → take n bytes ≡ until_zero bytes
 zero_there [] n low h is = absurd (omega (arith, low))
 zero_there (b ∷ bs) zero low h is = sym (ap (λ (c : Bool). if c then [] else b ∷ until_zero bs) is)
 zero_there (b ∷ bs) (suc n) low h is =

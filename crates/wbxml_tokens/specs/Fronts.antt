@@ -1,6 +1,7 @@
--- What stands at the front of bytes, in the prologue and in the body of a document: WBXML 1.3, sections 5.1 to 5.8, with the
--- choices of this profile.
-use Rattle.std.specs.Prelude.{◌==◌, ◌&&◌, ◌||◌, ◌+◌, ◌%◌, ℕ, Bool, true, if◌then◌else◌, nat_lt, nat_le, List, [], ◌∷◌, length, take, drop, Option, Some, None, codes}
+-- What stands at the front of bytes, in the prologue and in the body of a document: WBXML 1.3, sections 5.1 to 5.8,
+-- with the choices of this profile.
+use Rattle.std.specs.Prelude.{◌==◌, ◌&&◌, ◌||◌, ◌+◌, ◌%◌, ℕ, Bool, true, if◌then◌else◌, nat_lt, nat_le, List, [], ◌∷◌}
+use Rattle.std.specs.Prelude.{length, take, drop, Option, Some, None, codes}
 use Rattle.std.specs.Str.{bytes_eq}
 use Rattle.wbxml_ints.specs.declared.Mb.{Mb}
 use Rattle.wbxml_ints.specs.declared.Mb.TheVariants as mb
@@ -29,7 +30,8 @@ until_zero (b ∷ bs) = if b == 0 then [] else b ∷ until_zero bs
 abbrev pub table_string : List ℕ → ℕ → List ℕ
 table_string table index = until_zero (drop index table)
 
--- an integer at the front of bytes that stand at a place, and what follows it; one that is too big is refused at the first place
+-- an integer at the front of bytes that stand at a place, and what follows it; one that is too big is refused at the
+-- first place
 abbrev pub integer_then : ℕ → ℕ → Mb → List ℕ → (ℕ → ℕ → List ℕ → Front) → Front
 integer_then place at (mb.Value number used) bytes next = next number (at + used) (drop used bytes)
 integer_then place at mb.More bytes next = more
@@ -95,11 +97,13 @@ abbrev pub head_of : Option ℕ → List ℕ → ℕ → Front
 head_of index table used = if is_identified index table then head table used else wrong 1 reasons.Publicid
 
 abbrev pub table_in : Option ℕ → ℕ → ℕ → List ℕ → Front
-table_in index count at bytes = if nat_le count (length bytes) then head_of index (take count bytes) (at + count) else more
+table_in index count at bytes =
+    if nat_le count (length bytes) then head_of index (take count bytes) (at + count) else more
 
 abbrev pub charset_in : Option ℕ → ℕ → ℕ → ℕ → List ℕ → Front
 charset_in index place charset at bytes =
-    if charset == utf_8 then integer_then at at (integer_at bytes) bytes (table_in index) else wrong place reasons.Charset
+    if charset == utf_8 then integer_then at at (integer_at bytes) bytes (table_in index)
+    else wrong place reasons.Charset
 
 abbrev pub behind_identifier : Option ℕ → ℕ → List ℕ → Front
 behind_identifier index at bytes = integer_then at at (integer_at bytes) bytes (charset_in index at)
@@ -117,4 +121,5 @@ identifier_in number at bytes =
 unfoldable pub prologue_at : List ℕ → Front
 prologue_at [] = more
 prologue_at (version ∷ bytes) =
-    if nat_le 1 version && nat_le version 3 then integer_then 1 1 (integer_at bytes) bytes identifier_in else wrong 0 reasons.Version
+    if nat_le 1 version && nat_le version 3 then integer_then 1 1 (integer_at bytes) bytes identifier_in
+    else wrong 0 reasons.Version

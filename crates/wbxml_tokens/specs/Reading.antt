@@ -1,5 +1,7 @@
 -- What a reader has of a document, byte by byte.
-use Rattle.std.specs.Prelude.{◌==◌, ◌+◌, ◌-◌, ℕ, Bool, true, false, if◌then◌else◌, List, [], ◌∷◌, ◌++◌, length, drop, Option, Some, None}
+use Rattle.std.specs.Prelude.{◌==◌, ◌+◌, ◌-◌, ℕ, Bool, true, false, if◌then◌else◌, List, [], ◌∷◌, ◌++◌, length, drop}
+use Rattle.std.specs.Prelude.{Option, Some, None}
+use Rattle.dm_base.specs.Limits.{message_limit}
 use Rattle.wbxml_tokens.specs.declared.reason.Reason.{Reason}
 use Rattle.wbxml_tokens.specs.declared.reason.Reason.TheVariants as reasons
 use Rattle.wbxml_tokens.specs.declared.reason.Refusal.{Refusal}
@@ -12,7 +14,7 @@ use Rattle.wbxml_tokens.specs.Fronts.{Front, more, wrong, head, switch, token, f
 
 -- the bytes that a document may have
 abbrev pub most_bytes : ℕ
-most_bytes = 65536
+most_bytes = message_limit
 
 -- ---- how far the one element of the body has come
 
@@ -22,7 +24,8 @@ behind_end depth = if depth == 1 then extents.Whole else extents.Inside (depth -
 abbrev pub extent_after : Extent → Token → Extent
 extent_after extents.Before (Tag element content) = if content then extents.Inside 1 else extents.Whole
 extent_after extents.Before other = extents.Never
-extent_after (extents.Inside depth) (Tag element content) = if content then extents.Inside (depth + 1) else extents.Inside depth
+extent_after (extents.Inside depth) (Tag element content) =
+    if content then extents.Inside (depth + 1) else extents.Inside depth
 extent_after (extents.Inside depth) End = behind_end depth
 extent_after (extents.Inside depth) other = extents.Inside depth
 extent_after extents.Whole other = extents.Whole
@@ -103,7 +106,8 @@ met x bytes part = record x {
 
 -- why it takes no further byte
 abbrev pub limit : Reader → Option Reason
-limit r = if is_whole r.extent then Some reasons.Trailing else if taken_by r == most_bytes then Some reasons.Toolong else None
+limit r =
+    if is_whole r.extent then Some reasons.Trailing else if taken_by r == most_bytes then Some reasons.Toolong else None
 
 abbrev pub step_within : Option Reason → Reading → ℕ → Reading
 step_within (Some reason) x byte = refuse x (taken_by x.reader) reason

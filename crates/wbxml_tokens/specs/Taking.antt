@@ -1,11 +1,12 @@
 -- What takes tokens, each told with its place.
-use Rattle.std.specs.Prelude.{◌≡◌, ◌≤◌, ◌+◌, ℕ, zero, suc, false, true, List, [], ◌∷◌, ◌++◌, length, take, drop, Option, Some, None, Result, Ok, Err, ◌⊎◌, ⊤}
+use Rattle.std.specs.Prelude.{◌≡◌, ◌≤◌, ◌+◌, ℕ, zero, suc, false, true, List, [], ◌∷◌, ◌++◌, length, take, drop, Option}
+use Rattle.std.specs.Prelude.{Some, None, Result, Ok, Err, ◌⊎◌, ⊤}
 use Rattle.wbxml_tokens.specs.declared.reason.Reason.{Reason}
 use Rattle.wbxml_tokens.specs.declared.reason.Refusal.{Refusal}
 use Rattle.wbxml_tokens.specs.declared.reason.FeedError.{FeedError}
 use Rattle.wbxml_tokens.specs.declared.reason.FeedError.TheVariants as errors
-use Rattle.wbxml_tokens.specs.declared.spot.Stop.{Stop}
-use Rattle.wbxml_tokens.specs.declared.spot.Stop.TheVariants as stops
+use Rattle.wbxml_tokens.specs.declared.reason.Stop.{Stop}
+use Rattle.wbxml_tokens.specs.declared.reason.Stop.TheVariants as stops
 use Rattle.wbxml_tokens.specs.declared.token.Token.{Token}
 use Rattle.wbxml_tokens.specs.declared.token.Placed.{Placed}
 use Rattle.wbxml_tokens.specs.Fronts.{Front, more, wrong}
@@ -17,7 +18,8 @@ Tells left old new (Some reason) refusal = refusal ≡ Some reason
 Tells left old new None refusal = left old new
 
 -- a token is taken exactly where it isn't refused
-abbrev pub Takes : {W E : Type 0} → (E → Option Reason) → (W → W → Type 0) → Result Unit E → W → W → Option Reason → Type 0
+abbrev pub Takes : {W E : Type 0} → (E → Option Reason) → (W → W → Type 0) → Result Unit E → W → W → Option Reason
+    → Type 0
 Takes reason left (Ok u) old new refusal = refusal ≡ None
 Takes reason left (Err e) old new refusal = Tells left old new (reason e) refusal
 
@@ -78,10 +80,12 @@ IsTaken (wrong at reason) = ⊥
 IsTaken other = ⊤
 
 -- what reading one part gives: its size, or 0 where it isn't whole
-abbrev pub GivesPart : {W : Type 0} → Taking W → (W → W → Type 0) → Result ℕ FeedError → Reader → Reader → W → W → Front → Type 0
+abbrev pub GivesPart : {W : Type 0} → Taking W → (W → W → Type 0) → Result ℕ FeedError → Reader → Reader → W → W → Front
+    → Type 0
 GivesPart k left (Ok size) old new w v part =
     (size ≡ size_of part) × (new ≡ behind old part) × (taken k w (tokens_of old.place part) ≡ Ok v) × IsTaken part
-GivesPart k left (Err (errors.Refused f)) old new w v part = (Refuses old.place part f × (v ≡ w)) ⊎ (taken k w (tokens_of old.place part) ≡ Err f)
+GivesPart k left (Err (errors.Refused f)) old new w v part =
+    (Refuses old.place part f × (v ≡ w)) ⊎ (taken k w (tokens_of old.place part) ≡ Err f)
 GivesPart k left (Err errors.Memory) old new w v part = StopsAmong k left w v (tokens_of old.place part)
 
 -- why a taker stops that tells this of a token
@@ -100,7 +104,8 @@ told_at place (Err stop) = Err (stop_at place stop)
 
 -- what reading a part without tokens gives
 abbrev pub GivesNoToken : Result ℕ FeedError → Reader → Reader → Front → Type 0
-GivesNoToken (Ok size) old new part = (size ≡ size_of part) × (new ≡ behind old part) × (tokens_of old.place part ≡ []) × IsTaken part
+GivesNoToken (Ok size) old new part =
+    (size ≡ size_of part) × (new ≡ behind old part) × (tokens_of old.place part ≡ []) × IsTaken part
 GivesNoToken (Err (errors.Refused f)) old new part = Refuses old.place part f
 GivesNoToken (Err errors.Memory) old new part = ⊤
 
@@ -115,16 +120,19 @@ abbrev pub GoesOn : ℕ → List Placed → Reader → Reader → List ℕ → T
 GoesOn zero tokens old new bytes =
     (tokens ≡ []) × (new ≡ old) × (found old bytes ≡ more) × (is_whole old.extent ≡ false)
     × (reads (begun_by old) bytes ≡ begun_by (record old { held = bytes }))
-GoesOn (suc n) tokens old new bytes = reads (begun_by old) bytes ≡ told tokens (reads (begun_by new) (drop (suc n) bytes))
+GoesOn (suc n) tokens old new bytes =
+    reads (begun_by old) bytes ≡ told tokens (reads (begun_by new) (drop (suc n) bytes))
 
 -- what reading the first part of bytes gives, where nothing is held
-abbrev pub GivesFirst : {W : Type 0} → Taking W → (W → W → Type 0) → Result ℕ FeedError → Reader → Reader → W → W → List ℕ → Type 0
+abbrev pub GivesFirst : {W : Type 0} → Taking W → (W → W → Type 0) → Result ℕ FeedError → Reader → Reader → W → W
+    → List ℕ → Type 0
 GivesFirst k left (Ok size) old new w v bytes =
     (size ≤ length bytes) × (tokens : List Placed) × (taken k w tokens ≡ Ok v) × GoesOn size tokens old new bytes
 GivesFirst k left (Err e) old new w v bytes = Stops k left e w v (reads (begun_by old) bytes)
 
 -- all whole parts were read, and the bytes behind them are held
-abbrev pub GivesAll : {W : Type 0} → Taking W → (W → W → Type 0) → Result ℕ FeedError → Reader → Reader → W → W → List ℕ → Type 0
+abbrev pub GivesAll : {W : Type 0} → Taking W → (W → W → Type 0) → Result ℕ FeedError → Reader → Reader → W → W → List ℕ
+    → Type 0
 GivesAll k left (Ok used) old new w v bytes =
     (used ≤ length bytes) × (tokens : List Placed) × (taken k w tokens ≡ Ok v)
     × (reads (begun_by old) bytes ≡ told tokens (begun_by (record new { held = drop used bytes })))

@@ -16,13 +16,15 @@ pub data IsContent : List Token → Type 0 where
   with_text : {later : List Token} (text : List ℕ) → IsContent later → IsContent (Text text ∷ later)
   with_opaque : {later : List Token} (bytes : List ℕ) → IsContent later → IsContent (Opaque bytes ∷ later)
   with_tag : {later : List Token} (e : Element) → IsContent later → IsContent (Tag e false ∷ later)
-  with_element : {content later tokens : List Token} (e : Element) → IsContent content → IsContent later → tokens ≡ Tag e true ∷ content ++ End ∷ later
+  with_element : {content later tokens : List Token} (e : Element) → IsContent content → IsContent later
+      → tokens ≡ Tag e true ∷ content ++ End ∷ later
       → IsContent tokens
 
 -- one element: a tag alone, or a tag, its content and END
 abbrev pub IsElement : List Token → Type 0
 IsElement tokens =
-    (e : Element) × ((tokens ≡ Tag e false ∷ []) ⊎ ((content : List Token) × (tokens ≡ Tag e true ∷ content ++ End ∷ []) × IsContent content))
+    (e : Element) × ((tokens ≡ Tag e false ∷ [])
+    ⊎ ((content : List Token) × (tokens ≡ Tag e true ∷ content ++ End ∷ []) × IsContent content))
 
 -- how far the one element has come behind tokens
 abbrev pub extent_behind : Extent → List Token → Extent
@@ -33,7 +35,8 @@ extent_behind extent (t ∷ tokens) = extent_behind (extent_after extent t) toke
 abbrev pub ElementIsWhole : Type 0
 ElementIsWhole =
     (tokens : List Token) → IsElement tokens ↔ ((extent_behind extents.Before tokens ≡ extents.Whole)
-    × ((first later : List Token) → tokens ≡ first ++ later → extent_behind extents.Before first ≡ extents.Whole → later ≡ []))
+    × ((first later : List Token) → tokens ≡ first ++ later → extent_behind extents.Before first ≡ extents.Whole
+    → later ≡ []))
 
 -- the tokens that are read of bytes, without their places
 abbrev pub tokens_read : List ℕ → List Token
@@ -41,7 +44,8 @@ tokens_read bytes = map (λ (p : Placed). p.token) (reading bytes).tokens
 
 -- Bytes are a whole document exactly where none is refused, and all tokens together are one element.
 abbrev pub DocumentIsElement : Type 0
-DocumentIsElement = (bytes : List ℕ) → (refusal_of bytes ≡ None) ↔ (((reading bytes).refused ≡ None) × IsElement (tokens_read bytes))
+DocumentIsElement =
+    (bytes : List ℕ) → (refusal_of bytes ≡ None) ↔ (((reading bytes).refused ≡ None) × IsElement (tokens_read bytes))
 
 -- Bytes are told as truncated exactly where none is refused and the tokens are no element, and then at their length.
 abbrev pub CutIsTruncated : Type 0

@@ -15,7 +15,8 @@ use Rattle.wbxml_tokens.specs.Whole.{IsElement, extent_behind, tokens_read}
 abbrev pub at_prologue : Written
 at_prologue = record { bytes = prologue; page = 0 }
 
--- A token that has a spelling as it stands: the byte 00 would end a text, and an opaque's length is an integer of 32 bits.
+-- A token that has a spelling as it stands: the byte 00 would end a text, and an opaque's length is an integer of 32
+-- bits.
 abbrev pub CanBeSpelled : Token → Type 0
 CanBeSpelled (Tag e content) = ⊤
 CanBeSpelled End = ⊤
@@ -34,7 +35,8 @@ pub record IsWrittenOf (given : List Token) (w : Written) : Type 0 where
   pub whole : w.bytes ≡ prologue ++ body
   pub is_prologue : IsPrologue [] prologue
   pub tokens : map (λ (p : Placed). p.token) placed ≡ given
-  pub spells : SpellsTokens [] 0 (length prologue) extents.Before placed body w.page (extent_behind extents.Before given)
+  pub spells : SpellsTokens [] 0 (length prologue) extents.Before placed body w.page
+      (extent_behind extents.Before given)
 
 -- What was written spells the tokens that were given, in their order and no others, where each can be spelled and none
 -- stands behind the whole element.

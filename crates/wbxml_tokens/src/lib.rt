@@ -15,7 +15,7 @@ pub mod tokens;
 pub mod writer;
 
 pub use reader::Reader;
-pub use reason::{FeedError, Reason, Refusal};
+pub use reason::{FeedError, Reason, Refusal, Stop};
 pub use token::{Placed, Taker, Token, Writer};
 pub use tokens::Tokens;
 pub use writer::TokenWriter;

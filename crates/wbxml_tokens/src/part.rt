@@ -1,5 +1,6 @@
 // The token or the page switch at the front of bytes, read and handed on.
-ghost use Rattle.std.specs.Prelude.{◌≡◌, ◌<◌, ◌≤◌, ◌+◌, ◌∷◌, [], OnOk, OnErr, ◌%◌, ◌^◌, ◌-◌, ◌||◌, ℕ, List, length, nat_le, nat_lt, if◌then◌else◌};
+ghost use Rattle.std.specs.Prelude.{◌≡◌, ◌<◌, ◌≤◌, ◌+◌, ◌∷◌, [], OnOk, OnErr, ◌%◌, ◌^◌, ◌-◌, ◌||◌, ℕ, List, length};
+ghost use Rattle.std.specs.Prelude.{nat_le, nat_lt, if◌then◌else◌};
 ghost use Rattle.wbxml_ints.specs.Multibyte.{integer_at};
 ghost use Rattle.wbxml_tables.specs.Tables.{element_at};
 ghost use Rattle.wbxml_tokens.specs.declared.reason.Reason.TheVariants as reasons;
@@ -10,8 +11,8 @@ ghost use Rattle.wbxml_tokens.specs.Reading.{depth_of};
 ghost use Rattle.wbxml_tokens.specs.Taking.{taking, told_at, GivesPart};
 ghost use Rattle.wbxml_tokens.specs.Parts.{reader_at, HasRoom};
 
-use crate::reason::Reason;
-use crate::spot::{Spot, Stop, stop_of};
+use crate::reason::{Reason, Stop};
+use crate::spot::{Spot, stop_of};
 use crate::token::Taker;
 use memchr::memchr;
 use wbxml_ints::{Mb, read_mb};
@@ -38,8 +39,10 @@ fn hand_tag<T: Taker>(
 ) -> Result<usize, Stop>
     requires room { HasRoom spot.old size }
     requires some { 0 < size }
-    ensures gives { (table : List ℕ) → GivesPart (taking T.placed T.after T.refusal) T.left (told_at spot.old.place result)
-        (reader_at spot.old table) (reader_at spot.new table) taker.old taker.new (Spec.token (pieces.Tag element content) size) }
+    ensures gives { (table : List ℕ)
+        → GivesPart (taking T.placed T.after T.refusal) T.left (told_at spot.old.place result)
+        (reader_at spot.old table) (reader_at spot.new table) taker.old taker.new
+        (Spec.token (pieces.Tag element content) size) }
     ensures room { OnOk result (depth_of spot.new.extent ≤ spot.new.place) }
     ensures place { OnErr result (spot.new.place ≡ spot.old.place) }
 {
@@ -58,7 +61,8 @@ fn hand_tag<T: Taker>(
 fn hand_end<T: Taker>(spot: &mut Spot, size: usize, taker: &mut T) -> Result<usize, Stop>
     requires room { HasRoom spot.old size }
     requires some { 0 < size }
-    ensures gives { (table : List ℕ) → GivesPart (taking T.placed T.after T.refusal) T.left (told_at spot.old.place result)
+    ensures gives { (table : List ℕ)
+        → GivesPart (taking T.placed T.after T.refusal) T.left (told_at spot.old.place result)
         (reader_at spot.old table) (reader_at spot.new table) taker.old taker.new (Spec.token pieces.End size) }
     ensures room { OnOk result (depth_of spot.new.extent ≤ spot.new.place) }
     ensures place { OnErr result (spot.new.place ≡ spot.old.place) }
@@ -83,8 +87,10 @@ fn hand_text<T: Taker>(
 ) -> Result<usize, Stop>
     requires room { HasRoom spot.old size }
     requires some { 0 < size }
-    ensures gives { (table : List ℕ) → GivesPart (taking T.placed T.after T.refusal) T.left (told_at spot.old.place result)
-        (reader_at spot.old table) (reader_at spot.new table) taker.old taker.new (Spec.token (pieces.Text text.now) size) }
+    ensures gives { (table : List ℕ)
+        → GivesPart (taking T.placed T.after T.refusal) T.left (told_at spot.old.place result)
+        (reader_at spot.old table) (reader_at spot.new table) taker.old taker.new
+        (Spec.token (pieces.Text text.now) size) }
     ensures room { OnOk result (depth_of spot.new.extent ≤ spot.new.place) }
     ensures place { OnErr result (spot.new.place ≡ spot.old.place) }
 {
@@ -109,8 +115,10 @@ fn hand_opaque<T: Taker>(
     requires room { HasRoom spot.old size }
     requires some { 0 < size }
     requires short { length bytes.now < 2 ^ 32 }
-    ensures gives { (table : List ℕ) → GivesPart (taking T.placed T.after T.refusal) T.left (told_at spot.old.place result)
-        (reader_at spot.old table) (reader_at spot.new table) taker.old taker.new (Spec.token (pieces.Opaque bytes.now) size) }
+    ensures gives { (table : List ℕ)
+        → GivesPart (taking T.placed T.after T.refusal) T.left (told_at spot.old.place result)
+        (reader_at spot.old table) (reader_at spot.new table) taker.old taker.new
+        (Spec.token (pieces.Opaque bytes.now) size) }
     ensures room { OnOk result (depth_of spot.new.extent ≤ spot.new.place) }
     ensures place { OnErr result (spot.new.place ≡ spot.old.place) }
 {
@@ -127,7 +135,8 @@ fn hand_opaque<T: Taker>(
 // A byte that begins no other token.
 fn tag<T: Taker>(spot: &mut Spot, byte: u8, taker: &mut T) -> Result<usize, Stop>
     requires room { HasRoom spot.old 1 }
-    ensures gives { (table : List ℕ) → GivesPart (taking T.placed T.after T.refusal) T.left (told_at spot.old.place result)
+    ensures gives { (table : List ℕ)
+        → GivesPart (taking T.placed T.after T.refusal) T.left (told_at spot.old.place result)
         (reader_at spot.old table) (reader_at spot.new table) taker.old taker.new (Spec.tag_of spot.old.page byte) }
     ensures room { OnOk result (depth_of spot.new.extent ≤ spot.new.place) }
     ensures place { OnErr result (spot.new.place ≡ spot.old.place) }
@@ -144,8 +153,10 @@ fn tag<T: Taker>(spot: &mut Spot, byte: u8, taker: &mut T) -> Result<usize, Stop
 // A text that ends with the byte 0.
 fn text<T: Taker>(spot: &mut Spot, bytes: &[u8], taker: &mut T) -> Result<usize, Stop>
     requires room { HasRoom spot.old (length bytes.now + 1) }
-    ensures gives { (table : List ℕ) → GivesPart (taking T.placed T.after T.refusal) T.left (told_at spot.old.place result)
-        (reader_at spot.old table) (reader_at spot.new table) taker.old taker.new (Spec.text_in (until_zero bytes.now) bytes.now) }
+    ensures gives { (table : List ℕ)
+        → GivesPart (taking T.placed T.after T.refusal) T.left (told_at spot.old.place result)
+        (reader_at spot.old table) (reader_at spot.new table) taker.old taker.new
+        (Spec.text_in (until_zero bytes.now) bytes.now) }
     ensures room { OnOk result (depth_of spot.new.extent ≤ spot.new.place) }
     ensures place { OnErr result (spot.new.place ≡ spot.old.place) }
 {
@@ -197,8 +208,10 @@ fn table_text<T: Taker>(
 // Bytes behind their length.
 fn opaque<T: Taker>(spot: &mut Spot, bytes: &[u8], taker: &mut T) -> Result<usize, Stop>
     requires room { HasRoom spot.old (length bytes.now + 1) }
-    ensures gives { (table : List ℕ) → GivesPart (taking T.placed T.after T.refusal) T.left (told_at spot.old.place result)
-        (reader_at spot.old table) (reader_at spot.new table) taker.old taker.new (Spec.integer_then 0 1 (integer_at bytes.now) bytes.now Spec.opaque_in) }
+    ensures gives { (table : List ℕ)
+        → GivesPart (taking T.placed T.after T.refusal) T.left (told_at spot.old.place result)
+        (reader_at spot.old table) (reader_at spot.new table) taker.old taker.new
+        (Spec.integer_then 0 1 (integer_at bytes.now) bytes.now Spec.opaque_in) }
     ensures room { OnOk result (depth_of spot.new.extent ≤ spot.new.place) }
     ensures place { OnErr result (spot.new.place ≡ spot.old.place) }
 {
@@ -228,7 +241,8 @@ pub(crate) fn part<T: Taker>(
 ) -> Result<usize, Stop>
     requires room { HasRoom spot.old (length bytes.now) }
     ensures gives { GivesPart (taking T.placed T.after T.refusal) T.left (told_at spot.old.place result)
-        (reader_at spot.old table.now) (reader_at spot.new table.now) taker.old taker.new (front spot.old.page table.now bytes.now) }
+        (reader_at spot.old table.now) (reader_at spot.new table.now) taker.old taker.new
+        (front spot.old.page table.now bytes.now) }
     ensures room { OnOk result (depth_of spot.new.extent ≤ spot.new.place) }
     ensures place { OnErr result (spot.new.place ≡ spot.old.place) }
 {

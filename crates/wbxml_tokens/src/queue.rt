@@ -53,7 +53,8 @@ impl Queue {
 
     // The first token, which leaves.
     pub fn next(&mut self) -> Option<Placed>
-        ensures { MatchOption result ((self.old.tokens ≡ []) × (self.new.tokens ≡ [])) (λ p. self.old.tokens ≡ p ∷ self.new.tokens) }
+        ensures { MatchOption result ((self.old.tokens ≡ []) × (self.new.tokens ≡ []))
+            (λ p. self.old.tokens ≡ p ∷ self.new.tokens) }
     {
         self.tokens.pop_front()
     }

@@ -1,5 +1,6 @@
 // A document read in pieces.
-ghost use Rattle.std.specs.Prelude.{◌≡◌, ◌<◌, ◌≤◌, ◌+◌, ◌-◌, ◌++◌, [], true, None as Nothing, Err as Bad, ℕ, List, length, take, drop, IfOk, IfErr, OnOk, OnErr};
+ghost use Rattle.std.specs.Prelude.{◌≡◌, ◌<◌, ◌≤◌, ◌+◌, ◌-◌, ◌++◌, [], true, None as Nothing, Err as Bad, ℕ, List};
+ghost use Rattle.std.specs.Prelude.{length, take, drop, IfOk, IfErr, OnOk, OnErr};
 ghost use Rattle.wbxml_tokens.specs.declared.reason.FeedError.TheVariants as errors;
 ghost use Rattle.wbxml_tokens.specs.Fronts.{more};
 ghost use Rattle.wbxml_tokens.specs.Reading.{most_bytes, found, taken_by, begun_by, at_start, ended, reads};
@@ -8,15 +9,15 @@ ghost use Rattle.wbxml_tokens.specs.Parts.{reader_of, IsReached, IsBeyond, EndsP
 
 use crate::extent::Extent;
 use crate::part::before_zero;
-use crate::reason::{FeedError, Reason, Refusal};
-use crate::spot::{Spot, Stop};
+use crate::reason::{FeedError, Reason, Refusal, Stop};
+use crate::spot::Spot;
 use crate::state::all_parts;
 use crate::token::Taker;
-use dm_base::{Bytes, Memory};
+use dm_base::{Bytes, MESSAGE_LIMIT, Memory};
 use std::alloc::Global;
 use std::marker::Model;
 
-const MOST_BYTES: u64 = 65_536;
+const MOST_BYTES: u64 = MESSAGE_LIMIT as u64;
 
 // What a reader keeps.
 #[derive(Drop)]
@@ -33,7 +34,8 @@ impl State {
         requires reached { IsReached (reader_of self.old) }
         requires room { taken_by (reader_of self.old) + length piece.now ≤ most_bytes }
         requires none { self.old.held ≡ [] }
-        ensures feeds { Feeds (taking T.placed T.after T.refusal) T.left result taker.old taker.new (reads (begun_by (reader_of self.old)) piece.now) }
+        ensures feeds { Feeds (taking T.placed T.after T.refusal) T.left result taker.old taker.new
+            (reads (begun_by (reader_of self.old)) piece.now) }
         ensures ok { OnOk result (reader_of self.new ≡ (reads (begun_by (reader_of self.old)) piece.now).reader) }
         ensures reached { OnOk result (IsReached (reader_of self.new)) }
         ensures held { OnErr result (take (length self.old.held) self.new.held ≡ self.old.held) }
@@ -86,7 +88,8 @@ impl State {
         requires reached { IsReached (reader_of self.old) }
         requires room { taken_by (reader_of self.old) + length piece.now ≤ most_bytes }
         requires some { 0 < length self.old.held }
-        ensures feeds { Feeds (taking T.placed T.after T.refusal) T.left result taker.old taker.new (reads (begun_by (reader_of self.old)) piece.now) }
+        ensures feeds { Feeds (taking T.placed T.after T.refusal) T.left result taker.old taker.new
+            (reads (begun_by (reader_of self.old)) piece.now) }
         ensures ok { OnOk result (reader_of self.new ≡ (reads (begun_by (reader_of self.old)) piece.now).reader) }
         ensures reached { OnOk result (IsReached (reader_of self.new)) }
         ensures held { OnErr result (take (length self.old.held) self.new.held ≡ self.old.held) }
@@ -116,7 +119,8 @@ impl State {
     fn read_within<T: Taker>(&mut self, piece: &[u8], taker: &mut T) -> Result<(), FeedError>
         requires reached { IsReached (reader_of self.old) }
         requires room { taken_by (reader_of self.old) + length piece.now ≤ most_bytes }
-        ensures feeds { Feeds (taking T.placed T.after T.refusal) T.left result taker.old taker.new (reads (begun_by (reader_of self.old)) piece.now) }
+        ensures feeds { Feeds (taking T.placed T.after T.refusal) T.left result taker.old taker.new
+            (reads (begun_by (reader_of self.old)) piece.now) }
         ensures ok { OnOk result (reader_of self.new ≡ (reads (begun_by (reader_of self.old)) piece.now).reader) }
         ensures reached { OnOk result (IsReached (reader_of self.new)) }
         ensures held { OnErr result (take (length self.old.held) self.new.held ≡ self.old.held) }
@@ -145,8 +149,9 @@ impl State {
     }
 }
 
-/// A reader of a document in pieces. It hands each token, with its place, to a taker as soon as the token is whole; a text
-/// or opaque that lies in one piece is handed on as it lies there. It keeps the string table and the bytes of what a piece cut.
+/// A reader of a document in pieces. It hands each token, with its place, to a taker as soon as the token is whole; a
+/// text or opaque that lies in one piece is handed on as it lies there. It keeps the string table and the bytes of what
+/// a piece cut.
 #[derive(Drop)]
 pub struct Reader {
     state: State,
@@ -194,7 +199,8 @@ impl Reader {
     // Reads a piece that keeps the limit of a document. After an error the reader is as before.
     fn feed_within<T: Taker>(&mut self, piece: &[u8], taker: &mut T) -> Result<(), FeedError>
         requires room { taken_by self.old + length piece.now ≤ most_bytes }
-        ensures feeds { Feeds (taking T.placed T.after T.refusal) T.left result taker.old taker.new (reads (begun_by self.old) piece.now) }
+        ensures feeds { Feeds (taking T.placed T.after T.refusal) T.left result taker.old taker.new
+            (reads (begun_by self.old) piece.now) }
         ensures ok { OnOk result (self.new ≡ (reads (begun_by self.old) piece.now).reader) }
         ensures reached { IsReached self.new }
         ensures err { OnErr result (self.new ≡ self.old) }
@@ -226,11 +232,12 @@ impl Reader {
     }
 
     /// Reads the next piece of the document, and hands on each token that ends in it. The work is linear in the piece.
-    /// `Refused` comes with the first refusal, whether the taker's or the reader's own: the taker has the tokens before it.
-    /// After `Memory` the reader is as before the piece. A refusal isn't kept here: what feeds a reader keeps it, and feeds
-    /// no more, as `Tokens` does.
+    /// `Refused` comes with the first refusal, whether the taker's or the reader's own: the taker has the tokens before
+    /// it. After `Memory` the reader is as before the piece. A refusal isn't kept here: what feeds a reader keeps it,
+    /// and feeds no more, as `Tokens` does.
     pub fn feed<T: Taker>(&mut self, piece: &[u8], taker: &mut T) -> Result<(), FeedError>
-        ensures feeds { Feeds (taking T.placed T.after T.refusal) T.left result taker.old taker.new (reads (begun_by self.old) piece.now) }
+        ensures feeds { Feeds (taking T.placed T.after T.refusal) T.left result taker.old taker.new
+            (reads (begun_by self.old) piece.now) }
         ensures ok { OnOk result (self.new ≡ (reads (begun_by self.old) piece.now).reader) }
         ensures memory { result ≡ Bad errors.Memory → self.new ≡ self.old }
     {

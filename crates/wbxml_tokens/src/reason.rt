@@ -69,6 +69,14 @@ pub struct Refusal {
     pub reason: Reason,
 }
 
+/// Why a part or a token isn't taken: a refusal at its own place, or want of memory. It is small, since each token's
+/// answer may be one.
+#[derive(Clone, Copy, Debug, PartialEq, Eq)]
+pub enum Stop {
+    Refused(Reason),
+    Memory,
+}
+
 /// Why a reader answers no `Ok`.
 #[derive(Clone, Copy, Debug, PartialEq, Eq)]
 pub enum FeedError {

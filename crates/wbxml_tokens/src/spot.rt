@@ -4,7 +4,7 @@ ghost use Rattle.wbxml_tokens.specs.Taking as Spec;
 ghost use Rattle.wbxml_tokens.specs.Taking.{stop_at};
 
 use crate::extent::Extent;
-use crate::reason::{FeedError, Reason, Refusal};
+use crate::reason::{FeedError, Refusal, Stop};
 use crate::token::Taker;
 
 /// The place of the next part, and what the bytes before have settled.
@@ -16,16 +16,9 @@ pub struct Spot {
     pub extent: Extent,
 }
 
-// Why a part isn't taken: a refusal at its first byte, or want of memory. It is small, since each token's answer may be one.
-#[derive(Clone, Copy)]
-pub(crate) enum Stop {
-    Refused(Reason),
-    Memory,
-}
-
 impl Stop {
     // The error of a part that begins at this place.
-    pub fn at(self, place: u64) -> FeedError
+    pub(crate) fn at(self, place: u64) -> FeedError
         ensures { result ≡ stop_at place self }
     {
         match self {

@@ -7,8 +7,8 @@ ghost use Rattle.wbxml_tokens.specs.Parts.{reader_at, HasRoom};
 
 use crate::part::part;
 use crate::prologue::prologue;
-use crate::reason::{FeedError, Reason};
-use crate::spot::{Spot, Stop};
+use crate::reason::{FeedError, Reason, Stop};
+use crate::spot::Spot;
 use crate::token::Taker;
 use dm_base::{Bytes, Memory};
 use std::alloc::Global;
@@ -61,8 +61,8 @@ fn parts<T: Taker>(
     Ok(at)
 }
 
-// The prologue at the front of bytes, whose string table is kept; it answers how many bytes the prologue has, or 0 where it
-// isn't whole.
+// The prologue at the front of bytes, whose string table is kept; it answers how many bytes the prologue has, or 0
+// where it isn't whole.
 fn enter(
     alloc: Global,
     spot: &mut Spot,
@@ -70,7 +70,8 @@ fn enter(
     bytes: &[u8],
 ) -> Result<usize, FeedError>
     requires room { HasRoom spot.old (length bytes.now) }
-    ensures gives { GivesNoToken result (reader_at spot.old table.old) (reader_at spot.new table.new) (prologue_at bytes.now) }
+    ensures gives { GivesNoToken result (reader_at spot.old table.old) (reader_at spot.new table.new)
+        (prologue_at bytes.now) }
     ensures body { IfOk result (λ size. 0 < size → spot.new.is_in_body ≡ true) }
     ensures same { OnOk result (spot.new.is_in_body ≡ false → (spot.new ≡ spot.old) × (table.new ≡ table.old)) }
     ensures room { IfOk result (λ size. HasRoom spot.new (length bytes.now - size)) }

@@ -1,5 +1,6 @@
 // The tokens of a document that comes in pieces.
-ghost use Rattle.std.specs.Prelude.{◌≡◌, ◌++◌, ◌∷◌, [], ℕ, List, None as Nothing, Some as Just, Err as Bad, MatchOption, IfSome};
+ghost use Rattle.std.specs.Prelude.{◌≡◌, ◌++◌, ◌∷◌, [], ℕ, List, None as Nothing, Some as Just, Err as Bad};
+ghost use Rattle.std.specs.Prelude.{MatchOption, IfSome};
 ghost use Rattle.wbxml_tokens.specs.declared.reason.FeedError.TheVariants as errors;
 ghost use Rattle.wbxml_tokens.specs.declared.reason.Refusal.{Refusal as ARefusal};
 ghost use Rattle.wbxml_tokens.specs.declared.token.Placed.{Placed as APlaced};
@@ -44,8 +45,10 @@ impl Tokens {
     // Reads a piece behind bytes of which none was refused.
     fn read(&mut self, piece: &[u8]) -> Result<(), FeedError>
         requires { self.old.refused ≡ Nothing }
-        ensures refused { (bytes : List ℕ) (given : List APlaced) → HasRead self.old bytes given → TellsRefusal result (reading (bytes ++ piece.now)).refused }
-        ensures read { (bytes : List ℕ) (given : List APlaced) → HasRead self.old bytes given → Leaves result self.old self.new (bytes ++ piece.now) given }
+        ensures refused { (bytes : List ℕ) (given : List APlaced) → HasRead self.old bytes given
+            → TellsRefusal result (reading (bytes ++ piece.now)).refused }
+        ensures read { (bytes : List ℕ) (given : List APlaced) → HasRead self.old bytes given
+            → Leaves result self.old self.new (bytes ++ piece.now) given }
         ensures kept { (refusal : ARefusal) → result ≡ Bad (errors.Refused refusal) → self.new.refused ≡ Just refusal }
         ensures memory { result ≡ Bad errors.Memory → self.new ≡ self.old }
     {
@@ -64,12 +67,14 @@ impl Tokens {
     }
 
     /// Reads the next piece of the document. However it is cut, the tokens are the same. `Refused` comes with the first
-    /// refusal, and again at each later call; the tokens before it are still given by `next`. After `Memory` the object is as
-    /// before, so the piece may be fed again.
+    /// refusal, and again at each later call; the tokens before it are still given by `next`. After `Memory` the object
+    /// is as before, so the piece may be fed again.
     #[tactic(auto, using(crate::proofs::Queueing::still_refused))]
     pub fn feed(&mut self, piece: &[u8]) -> Result<(), FeedError>
-        ensures refused { (bytes : List ℕ) (given : List APlaced) → HasRead self.old bytes given → TellsRefusal result (reading (bytes ++ piece.now)).refused }
-        ensures read { (bytes : List ℕ) (given : List APlaced) → HasRead self.old bytes given → Leaves result self.old self.new (bytes ++ piece.now) given }
+        ensures refused { (bytes : List ℕ) (given : List APlaced) → HasRead self.old bytes given
+            → TellsRefusal result (reading (bytes ++ piece.now)).refused }
+        ensures read { (bytes : List ℕ) (given : List APlaced) → HasRead self.old bytes given
+            → Leaves result self.old self.new (bytes ++ piece.now) given }
         ensures kept { (refusal : ARefusal) → result ≡ Bad (errors.Refused refusal) → self.new.refused ≡ Just refusal }
         ensures again { IfSome self.old.refused (λ refusal.
             (result ≡ Bad (errors.Refused refusal)) × (self.new ≡ self.old)) }
@@ -84,16 +89,18 @@ impl Tokens {
     /// The next token. None comes exactly where no whole token waits.
     pub fn next(&mut self) -> Option<Placed>
         ensures next { (bytes : List ℕ) (given : List APlaced) → HasRead self.old bytes given → MatchOption result
-            (((reading bytes).tokens ≡ given) × HasRead self.new bytes given) (λ p. HasRead self.new bytes (given ++ p ∷ [])) }
+            (((reading bytes).tokens ≡ given) × HasRead self.new bytes given)
+            (λ p. HasRead self.new bytes (given ++ p ∷ [])) }
         ensures refused { self.new.refused ≡ self.old.refused }
     {
         self.queue.next()
     }
 
-    /// Refuses exactly where the document was refused, with that refusal, or isn't whole: then the place is the length, and
-    /// the reason `Truncated`. It takes no memory.
+    /// Refuses exactly where the document was refused, with that refusal, or isn't whole: then the place is the length,
+    /// and the reason `Truncated`. It takes no memory.
     pub fn finish(self) -> Result<(), Refusal>
-        ensures exact { (bytes : List ℕ) (given : List APlaced) → HasRead self bytes given → IsRefusal result (refusal_of bytes) }
+        ensures exact { (bytes : List ℕ) (given : List APlaced) → HasRead self bytes given
+            → IsRefusal result (refusal_of bytes) }
         ensures refused { IfSome self.refused (λ refusal. result ≡ Bad refusal) }
     {
         if let Some(refusal) = self.refused {

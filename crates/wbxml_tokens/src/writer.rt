@@ -1,5 +1,5 @@
 // The canonical spelling of tokens.
-ghost use Rattle.std.specs.Prelude.{◌≡◌, ◌<◌, ◌^◌, ◌++◌, length, take, IfOk, OnOk, OnErr};
+ghost use Rattle.std.specs.Prelude.{◌≡◌, ◌<◌, ◌^◌, ◌∷◌, ◌++◌, [], length, take, IfOk, OnOk, OnErr};
 ghost use Rattle.wbxml_tokens.specs.declared.token.Token.TheVariants.{Tag, End, Text, Opaque};
 ghost use Rattle.wbxml_tokens.specs.Spelling.{Written, written_after, prologue};
 
@@ -54,6 +54,25 @@ impl TokenWriter {
     }
 }
 
+// Keeps what was appended to so many bytes where it is whole, and else takes it off.
+fn cut_unless_whole(
+    out: &mut Bytes,
+    length: usize,
+    appended: Result<(), Memory>,
+) -> Result<(), Memory>
+    ensures answer { result ≡ appended }
+    ensures whole { OnOk appended (out.new ≡ out.old) }
+    ensures cut { OnErr appended (out.new ≡ take length out.old) }
+{
+    match appended {
+        Ok(()) => Ok(()),
+        Err(memory) => {
+            out.cut_to(length);
+            Err(memory)
+        }
+    }
+}
+
 // Appends three pieces. After `Memory` the first of them may stand there.
 fn append_each(out: &mut Bytes, first: &[u8], second: &[u8], third: &[u8]) -> Result<(), Memory>
     ensures ok { OnOk result (out.new ≡ out.old ++ first.now ++ second.now ++ third.now) }
@@ -64,19 +83,34 @@ fn append_each(out: &mut Bytes, first: &[u8], second: &[u8], third: &[u8]) -> Re
     out.extend(third)
 }
 
+// Appends a text with its sign and the byte 00 behind it. After `Memory` the front of it may stand there.
+fn append_text_each(out: &mut Bytes, text: &[u8]) -> Result<(), Memory>
+    ensures ok { OnOk result (out.new ≡ out.old ++ 3 ∷ text.now ++ 0 ∷ []) }
+    ensures err { OnErr result (take (length out.old) out.new ≡ out.old) }
+{
+    out.push(0x03)?;
+    out.extend(text)?;
+    out.push(0x00)
+}
+
+// Appends a text with its sign and the byte 00 behind it, or nothing.
+fn append_text(out: &mut Bytes, text: &[u8]) -> Result<(), Memory>
+    ensures ok { OnOk result (out.new ≡ out.old ++ 3 ∷ text.now ++ 0 ∷ []) }
+    ensures err { OnErr result (out.new ≡ out.old) }
+{
+    let length = out.len();
+    let appended = append_text_each(out, text);
+    cut_unless_whole(out, length, appended)
+}
+
 // Appends three pieces, or none of them.
 fn append(out: &mut Bytes, first: &[u8], second: &[u8], third: &[u8]) -> Result<(), Memory>
     ensures ok { OnOk result (out.new ≡ out.old ++ first.now ++ second.now ++ third.now) }
     ensures err { OnErr result (out.new ≡ out.old) }
 {
     let length = out.len();
-    match append_each(out, first, second, third) {
-        Ok(()) => Ok(()),
-        Err(memory) => {
-            out.cut_to(length);
-            Err(memory)
-        }
-    }
+    let appended = append_each(out, first, second, third);
+    cut_unless_whole(out, length, appended)
 }
 
 impl Writer for TokenWriter {
@@ -118,7 +152,7 @@ impl Writer for TokenWriter {
         ensures ok { OnOk result (self.new ≡ written_after self.old (Text text.now)) }
         ensures err { OnErr result (self.new ≡ self.old) }
     {
-        append(&mut self.bytes, &[0x03], text, &[0x00])
+        append_text(&mut self.bytes, text)
     }
 
     fn opaque(&mut self, bytes: &[u8]) -> Result<(), Memory>

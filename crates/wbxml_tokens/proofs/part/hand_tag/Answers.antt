@@ -6,6 +6,8 @@ use Rattle.wbxml_tokens.proofs.part.hand_tag.Goals as goal
 
 pub returns-in-Err-clause-gives : goal.returns-in-Err-clause-gives
 returns-in-Err-clause-gives g c table =
-    refused_by (taking g.T.Taker.placed g.T.Writer.after g.T.Writer.refusal) g.T.Writer.left c.args.taker.now c.place.new.self c.tag.new.self
-    (pieces.Tag c.args.element c.args.content) c.args.size (reader_at c.args.spot.now table) (reader_at c.args.spot.now table)
+    refused_by (taking g.T.Taker.placed g.T.Writer.after g.T.Writer.refusal) g.T.Writer.left c.args.taker.now
+    c.place.new.self c.tag.new.self
+    (pieces.Tag c.args.element c.args.content) c.args.size (reader_at c.args.spot.now table)
+    (reader_at c.args.spot.now table)
     (g.T.Writer.told c.in-Err.error) c.stop_of.result c.place.ensures c.in-Err.ensures.taken c.stop_of.ensures

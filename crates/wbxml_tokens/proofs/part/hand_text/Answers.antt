@@ -6,6 +6,7 @@ use Rattle.wbxml_tokens.proofs.part.hand_text.Goals as goal
 
 pub returns-in-Err-clause-gives : goal.returns-in-Err-clause-gives
 returns-in-Err-clause-gives g c table =
-    refused_by (taking g.T.Taker.placed g.T.Writer.after g.T.Writer.refusal) g.T.Writer.left c.args.taker.now c.place.new.self c.text.new.self
+    refused_by (taking g.T.Taker.placed g.T.Writer.after g.T.Writer.refusal) g.T.Writer.left c.args.taker.now
+    c.place.new.self c.text.new.self
     (pieces.Text c.args.text.now) c.args.size (reader_at c.args.spot.now table) (reader_at c.args.spot.now table)
     (g.T.Writer.told c.in-Err.error) c.stop_of.result c.place.ensures c.in-Err.ensures.taken c.stop_of.ensures

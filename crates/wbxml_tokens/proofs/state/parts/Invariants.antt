@@ -10,7 +10,8 @@ invariant-loop-at g l = record {
   within : l.at ≤ length l.bytes;
   room : HasRoom l.spot (length l.bytes - l.at);
   body : l.spot.is_in_body ≡ true;
-  so_far : SoFar (taking g.T.Taker.placed g.T.Writer.after g.T.Writer.refusal) l.fn.taker l.taker (reader_at l.fn.spot l.table) (reader_at l.spot l.table) l.bytes l.at;
+  so_far : SoFar (taking g.T.Taker.placed g.T.Writer.after g.T.Writer.refusal) l.fn.taker l.taker
+      (reader_at l.fn.spot l.table) (reader_at l.spot l.table) l.bytes l.at;
 }
 
 abbrev pub decreases-loop-at : goal.decreases-loop-at

@@ -7,4 +7,5 @@ use Rattle.wbxml_tokens.proofs.reader.State.read_text.Goals as goal
 pub returns-in-Ok-clause-ok : goal.returns-in-Ok-clause-ok
 returns-in-Ok-clause-ok c =
     ap (λ h. begun_by (record (reader_of c.args.self.now) { held = h })) c.in-Ok.ensures.ok
-    ∙ read_text (reader_of c.args.self.now) c.args.piece.now c.requires.reached c.requires.some c.requires.room c.requires.text
+    ∙ read_text (reader_of c.args.self.now) c.args.piece.now c.requires.reached c.requires.some c.requires.room
+    c.requires.text
