@@ -1,5 +1,6 @@
 -- An element without children is its tag alone.
-use Rattle.std.proofs.Common.{◌≡◌, ℕ, Bool, true, false, not, ◌&&◌, ◌==◌, List, [], ◌∷◌, ◌++◌, Option, Some, None, length, refl, sym, ◌∙◌, arith}
+use Rattle.std.proofs.Common.{◌≡◌, ℕ, Bool, true, false, not, ◌&&◌, ◌==◌, List, [], ◌∷◌, ◌++◌, Option, Some, None}
+use Rattle.std.proofs.Common.{length, refl, sym, ◌∙◌, arith}
 use Rattle.std.proofs.Math.Bool.{and_assoc}
 use Rattle.std.proofs.lemmas.Bool.{ne_eqb}
 use Rattle.std.specs.Option.{is_none}
@@ -12,7 +13,11 @@ use Rattle.syncml_types.specs.declared.values.Meta.{Meta}
 use Rattle.syncml_types.specs.declared.values.Item.{Item}
 use Rattle.syncml_types.specs.declared.command.Command.{Command}
 use Rattle.syncml_types.specs.declared.command.Command.TheVariants as command
-use Rattle.syncml_types.specs.Canonical.{element_tokens, parent_tokens, text_tokens, number_tokens, flag_tokens, data_tokens, optional, loc_tokens, meta_tokens, meta_children, is_empty_meta, item_tokens, item_children, is_empty_item, plain_tokens, alert_tokens, atomic_tokens, sequence_tokens, status_tokens, results_tokens, command_tokens, commands_tokens, body_tokens, body_children, is_empty_body}
+use Rattle.syncml_types.specs.Canonical.{element_tokens, parent_tokens, text_tokens, number_tokens, flag_tokens}
+use Rattle.syncml_types.specs.Canonical.{data_tokens, optional, loc_tokens, meta_tokens, meta_children, is_empty_meta}
+use Rattle.syncml_types.specs.Canonical.{item_tokens, item_children, is_empty_item, plain_tokens, alert_tokens}
+use Rattle.syncml_types.specs.Canonical.{atomic_tokens, sequence_tokens, status_tokens, results_tokens, command_tokens}
+use Rattle.syncml_types.specs.Canonical.{commands_tokens, body_tokens, body_children, is_empty_body}
 
 is_nil : List Token → Bool
 is_nil [] = true
@@ -65,7 +70,8 @@ unfolding is_nil flag_tokens
 nil_flag e true = refl
 nil_flag e false = refl
 
-nil_optional : {A : Type 0} (tokens : A → List Token) → ((x : A) → is_nil (tokens x) ≡ false) → (o : Option A) → is_nil (optional tokens o) ≡ is_none o
+nil_optional : {A : Type 0} (tokens : A → List Token) → ((x : A) → is_nil (tokens x) ≡ false) → (o : Option A)
+    → is_nil (optional tokens o) ≡ is_none o
 unfolding is_nil
 nil_optional tokens h None = refl
 nil_optional tokens h (Some x) = h x
@@ -123,13 +129,15 @@ nil_commands : (cs : List Command) → is_nil (commands_tokens cs) ≡ (length c
 unfolding is_nil commands_tokens
 nil_commands [] = refl
 nil_commands (c ∷ cs) =
-    nil_append (command_tokens c) (commands_tokens cs) ∙ both (nil_command c) refl ∙ sym (ne_eqb _ 0 (λ e. omega (arith, e)))
+    nil_append (command_tokens c) (commands_tokens cs) ∙ both (nil_command c) refl
+    ∙ sym (ne_eqb _ 0 (λ e. omega (arith, e)))
 
 nil_body_children : (body : List Command) (last : Bool) → is_nil (body_children body last) ≡ is_empty_body body last
 nil_body_children body last =
     nil_append (commands_tokens body) (flag_tokens EFinal last) ∙ both (nil_commands body) (nil_flag EFinal last)
 
-pub bare_body : (body : List Command) (last : Bool) → is_empty_body body last ≡ true → body_tokens body last ≡ Tag ESyncBody false ∷ []
+pub bare_body : (body : List Command) (last : Bool) → is_empty_body body last ≡ true
+    → body_tokens body last ≡ Tag ESyncBody false ∷ []
 unfolding body_tokens
 bare_body body last h = element-nil ESyncBody (body_children body last) (nil_body_children body last ∙ h)
 

@@ -1,5 +1,6 @@
 -- Parts that are fit can be spelled, and a spelling that isn't long has no long piece.
-use Rattle.std.proofs.Common.{◌≡◌, ◌≤◌, ◌<◌, ◌+◌, ◌&&◌, ◌||◌, ℕ, Bool, true, false, not, if◌then◌else◌, List, [], ◌∷◌, ◌++◌, length, Option, Some, None, IfSome, nat_lt, nat_le, refl, sym, ap, ◌∙◌, arith}
+use Rattle.std.proofs.Common.{◌≡◌, ◌≤◌, ◌<◌, ◌+◌, ◌&&◌, ◌||◌, ℕ, Bool, true, false, not, if◌then◌else◌, List, [], ◌∷◌}
+use Rattle.std.proofs.Common.{◌++◌, length, Option, Some, None, IfSome, nat_lt, nat_le, refl, sym, ap, ◌∙◌, arith}
 use Rattle.std.specs.List.{list_all, flat_map, AllByRecursion}
 use Rattle.std.proofs.lemmas.Bool.{and_parts, ltb-false, leb-true}
 use Rattle.std.proofs.lemmas.List.Folds.{list_all-append}
@@ -16,10 +17,12 @@ use Rattle.syncml_types.specs.declared.command.Command.{Command}
 use Rattle.syncml_types.specs.declared.command.Command.TheVariants as command
 use Rattle.syncml_types.specs.declared.message.Unfit.{Unfit}
 use Rattle.syncml_types.specs.declared.message.Unfit.TheVariants as unfit
-use Rattle.syncml_types.specs.Message.{Parts, IsShortData, HasShortData, HasShortMember, HasShortSeqMember, HasShortItems, CanBeSpelled}
+use Rattle.syncml_types.specs.Message.{Parts, IsShortData, HasShortData, HasShortMember, HasShortSeqMember}
+use Rattle.syncml_types.specs.Message.{HasShortItems, CanBeSpelled}
 use Rattle.syncml_types.specs.Canonical.{canonical}
 use Rattle.syncml_types.proofs.Pieces.{texts_short, data_short}
-use Rattle.syncml_types.specs.Fitness.{all_of, is_short, item_data, header_data, member_data, seq_member_data, command_data, message_data, message_texts, IsFit, first_unfit}
+use Rattle.syncml_types.specs.Fitness.{all_of, is_short, item_data, header_data, member_data, seq_member_data}
+use Rattle.syncml_types.specs.Fitness.{command_data, message_data, message_texts, IsFit, first_unfit}
 
 -- ---- short Data can be spelled
 
@@ -65,7 +68,8 @@ short_command (command.Sequence b) h = each (seq_member_data is_short) HasShortS
 short_command (command.Status c) h = short_items c.items h
 short_command (command.Results c) h = short_items c.items h
 
-short_cred : (o : Option Cred) → all_of (λ (c : Cred). is_short c.value) o ≡ true → IfSome o (λ (c : Cred). IsShortData c.value)
+short_cred : (o : Option Cred) → all_of (λ (c : Cred). is_short c.value) o ≡ true
+    → IfSome o (λ (c : Cred). IsShortData c.value)
 short_cred None h = tt
 short_cred (Some c) h = short_is c.value h
 
@@ -73,7 +77,10 @@ pub spellable_data : (h : Header) (body : List Command) → message_data is_shor
 unfolding header_data
 spellable_data h body e =
     let parts = and_parts (header_data is_short h) (list_all (command_data is_short) body) e in
-    record { cred = short_cred h.cred parts.0; body = each (command_data is_short) HasShortItems short_command body parts.1 }
+    record {
+      cred = short_cred h.cred parts.0;
+      body = each (command_data is_short) HasShortItems short_command body parts.1;
+    }
 
 pub spellable : (h : Header) (body : List Command) → IsFit h body → CanBeSpelled h body
 spellable h body fit = spellable_data h body fit.short_data
@@ -83,7 +90,8 @@ spellable h body fit = spellable_data h body fit.short_data
 short_or_long : (n : ℕ) (long : Bool) → nat_lt 65536 n ≡ long → long ≡ false → n ≤ 65536
 short_or_long n long e h = ltb-false 65536 n (e ∙ h)
 
-long_where : (m : Parts) (long : Bool) → nat_lt 65536 (length (canonical m)) ≡ long → message_data is_short m.header m.body ≡ false → long ≡ true
+long_where : (m : Parts) (long : Bool) → nat_lt 65536 (length (canonical m)) ≡ long
+    → message_data is_short m.header m.body ≡ false → long ≡ true
 long_where m true e h = refl
 long_where m false e h = let short = data_short m (short_or_long (length (canonical m)) false e refl) in cc
 
@@ -92,11 +100,13 @@ long_data m h = long_where m (nat_lt 65536 (length (canonical m))) refl h
 
 -- ---- parts without a reason against them are fit
 
-not_bad : (good : Bool) (reason : Unfit) (more : Option Unfit) → (if not good then Some reason else more) ≡ None → (good ≡ true) × (more ≡ None)
+not_bad : (good : Bool) (reason : Unfit) (more : Option Unfit) → (if not good then Some reason else more) ≡ None
+    → (good ≡ true) × (more ≡ None)
 not_bad true reason more h = (refl, h)
 not_bad false reason more h = cc
 
-not_long : (n : ℕ) (long : Bool) → nat_lt 65536 n ≡ long → (if long then Some unfit.TooLong else None) ≡ None → n ≤ 65536
+not_long : (n : ℕ) (long : Bool) → nat_lt 65536 n ≡ long → (if long then Some unfit.TooLong else None) ≡ None
+    → n ≤ 65536
 not_long n true e h = cc
 not_long n false e h = ltb-false 65536 n e
 
@@ -108,4 +118,11 @@ fit_of m h =
     let c = not_bad _ _ _ b.1 in
     let d = not_bad _ _ _ c.1 in
     let short = not_long (length (canonical m)) _ refl d.1 in
-    record { texts = a.0; numbers = b.0; filled = c.0; correlators = d.0; short_texts = texts_short m short; short_data = data_short m short }
+    record {
+      texts = a.0;
+      numbers = b.0;
+      filled = c.0;
+      correlators = d.0;
+      short_texts = texts_short m short;
+      short_data = data_short m short;
+    }

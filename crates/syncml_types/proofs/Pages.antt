@@ -1,5 +1,6 @@
 -- Pages depend on the elements that are opened alone.
-use Rattle.std.proofs.Common.{◌≡◌, ℕ, ◌+◌, Bool, true, false, if◌then◌else◌, List, [], ◌∷◌, ◌++◌, Option, Some, None, option_and_then, refl, sym, ap, ◌∙◌}
+use Rattle.std.proofs.Common.{◌≡◌, ℕ, ◌+◌, Bool, true, false, if◌then◌else◌, List, [], ◌∷◌, ◌++◌, Option, Some, None}
+use Rattle.std.proofs.Common.{option_and_then, refl, sym, ap, ◌∙◌}
 use Rattle.std.specs.Fmt.{decimal}
 use Rattle.std.specs.List.{flat_map}
 use Rattle.wbxml_tables.specs.declared.Element.{Element}
@@ -19,10 +20,18 @@ use Rattle.syncml_types.specs.declared.command.SeqMember.{SeqMember}
 use Rattle.syncml_types.specs.declared.command.SeqMember.TheVariants as seq_member
 use Rattle.syncml_types.specs.declared.command.Command.{Command}
 use Rattle.syncml_types.specs.declared.command.Command.TheVariants as command
-use Rattle.syncml_types.specs.Canonical.{parent_tokens, element_tokens, is_text, data_tokens, text_tokens, number_tokens, optional, cred_tokens, header_tokens, item_children, item_tokens, items_tokens, plain_tokens, alert_tokens, member_tokens, members_tokens, atomic_tokens, seq_member_tokens, seq_members_tokens, sequence_tokens, status_tokens, results_tokens, command_tokens}
-use Rattle.syncml_types.specs.Numbering.{with_number, numbered_members, numbered_seq_member, numbered_seq_members, ids_in_seq_member, with_numbers}
-use Rattle.syncml_types.specs.Packing.{only_item, write_item, member_item, seq_member_item, last_of, cut_item, only_changed, write_changed, member_changed, seq_member_changed, last_changed, cut_changed}
-use Rattle.syncml_types.specs.Pages.{opened, PagesFollowElements, PageWithoutNumbers, with_value, PageWithoutData, with_secret, HeaderPage}
+use Rattle.syncml_types.specs.Canonical.{parent_tokens, element_tokens, is_text, data_tokens, text_tokens}
+use Rattle.syncml_types.specs.Canonical.{number_tokens, optional, cred_tokens, header_tokens, item_children}
+use Rattle.syncml_types.specs.Canonical.{item_tokens, items_tokens, plain_tokens, alert_tokens, member_tokens}
+use Rattle.syncml_types.specs.Canonical.{members_tokens, atomic_tokens, seq_member_tokens, seq_members_tokens}
+use Rattle.syncml_types.specs.Canonical.{sequence_tokens, status_tokens, results_tokens, command_tokens}
+use Rattle.syncml_types.specs.Numbering.{with_number, numbered_members, numbered_seq_member, numbered_seq_members}
+use Rattle.syncml_types.specs.Numbering.{ids_in_seq_member, with_numbers}
+use Rattle.syncml_types.specs.Packing.{only_item, write_item, member_item, seq_member_item, last_of, cut_item}
+use Rattle.syncml_types.specs.Packing.{only_changed, write_changed, member_changed, seq_member_changed, last_changed}
+use Rattle.syncml_types.specs.Packing.{cut_changed}
+use Rattle.syncml_types.specs.Pages.{opened, PagesFollowElements, PageWithoutNumbers, with_value, PageWithoutData}
+use Rattle.syncml_types.specs.Pages.{with_secret, HeaderPage}
 use Rattle.syncml_types.proofs.Last.{last_next}
 
 -- the page of the last of some elements, behind a page
@@ -61,7 +70,9 @@ same_page page ts us h = pages_follow_elements page ts us h.opened_same
 
 same_both : (ts us vs ws : List Token) → Same ts us → Same vs ws → Same (ts ++ vs) (us ++ ws)
 same_both ts us vs ws h k = record {
-  opened_same = opened_append ts vs ∙ ap (λ l. l ++ opened vs) h.opened_same ∙ ap (λ l. opened us ++ l) k.opened_same ∙ sym (opened_append us ws);
+  opened_same =
+      opened_append ts vs ∙ ap (λ l. l ++ opened vs) h.opened_same ∙ ap (λ l. opened us ++ l) k.opened_same
+      ∙ sym (opened_append us ws);
 }
 
 same_back : (vs ts us : List Token) → Same ts us → Same (ts ++ vs) (us ++ vs)
@@ -127,40 +138,53 @@ same_seq_member : (n : ℕ) (m : SeqMember) → Same (seq_member_tokens (numbere
 unfolding seq_member_tokens atomic_tokens
 same_seq_member n (seq_member.Single m) = same_member n m
 same_seq_member n (seq_member.Atomic b) =
-    same_parent _ _ _ (same_both _ _ _ _ (same_back _ _ _ (same_back _ _ _ (same_number _ n b.id))) (same_members (n + 1) b.members))
+    same_parent _ _ _
+    (same_both _ _ _ _ (same_back _ _ _ (same_back _ _ _ (same_number _ n b.id))) (same_members (n + 1) b.members))
 
-same_seq_members : (n : ℕ) (ms : List SeqMember) → Same (seq_members_tokens (numbered_seq_members n ms)) (seq_members_tokens ms)
+same_seq_members : (n : ℕ) (ms : List SeqMember)
+    → Same (seq_members_tokens (numbered_seq_members n ms)) (seq_members_tokens ms)
 unfolding seq_members_tokens numbered_seq_members
 same_seq_members n [] = itself []
 same_seq_members n (m ∷ ms) = same_both _ _ _ _ (same_seq_member n m) (same_seq_members (n + ids_in_seq_member m) ms)
 
 same_command : (n : ℕ) (c : Command) → Same (command_tokens (with_numbers n c)) (command_tokens c)
-unfolding command_tokens with_numbers plain_tokens alert_tokens atomic_tokens sequence_tokens status_tokens results_tokens
+unfolding command_tokens with_numbers plain_tokens alert_tokens atomic_tokens sequence_tokens status_tokens
+    results_tokens
 same_command n (command.Plain c) =
     same_parent _ _ _ (same_back _ _ _ (same_back _ _ _ (same_back _ _ _ (same_back _ _ _ (same_number _ n c.id)))))
 same_command n (command.Alert c) =
     same_parent _ _ _ (same_back _ _ _ (same_back _ _ _ (same_back _ _ _ (same_back _ _ _ (same_number _ n c.id)))))
 same_command n (command.Atomic b) =
-    same_parent _ _ _ (same_both _ _ _ _ (same_back _ _ _ (same_back _ _ _ (same_number _ n b.id))) (same_members (n + 1) b.members))
+    same_parent _ _ _
+    (same_both _ _ _ _ (same_back _ _ _ (same_back _ _ _ (same_number _ n b.id))) (same_members (n + 1) b.members))
 same_command n (command.Sequence b) =
-    same_parent _ _ _ (same_both _ _ _ _ (same_back _ _ _ (same_back _ _ _ (same_number _ n b.id))) (same_seq_members (n + 1) b.members))
+    same_parent _ _ _
+    (same_both _ _ _ _ (same_back _ _ _ (same_back _ _ _ (same_number _ n b.id))) (same_seq_members (n + 1) b.members))
 same_command n (command.Status c) =
-    same_parent _ _ _ (same_back _ _ _ (same_back _ _ _ (same_back _ _ _ (same_back _ _ _ (same_back _ _ _ (same_back _ _ _ (same_back _ _ _ (same_back _ _ _ (same_number _ n c.id)))))))))
+    same_parent _ _ _
+    (same_back _ _ _
+    (same_back _ _ _
+    (same_back _ _ _
+    (same_back _ _ _ (same_back _ _ _ (same_back _ _ _ (same_back _ _ _ (same_back _ _ _ (same_number _ n c.id)))))))))
 same_command n (command.Results c) =
-    same_parent _ _ _ (same_back _ _ _ (same_back _ _ _ (same_back _ _ _ (same_back _ _ _ (same_back _ _ _ (same_back _ _ _ (same_number _ n c.id)))))))
+    same_parent _ _ _
+    (same_back _ _ _
+    (same_back _ _ _ (same_back _ _ _ (same_back _ _ _ (same_back _ _ _ (same_back _ _ _ (same_number _ n c.id)))))))
 
 pub page_without_numbers : PageWithoutNumbers
 page_without_numbers page first c = same_page page _ _ (same_command first c)
 
 -- ---- Data
 
-same_value : (new old : List ℕ) (o : Option (List ℕ)) → o ≡ Some old → Same (optional data_tokens (Some new)) (optional data_tokens o)
+same_value : (new old : List ℕ) (o : Option (List ℕ)) → o ≡ Some old
+    → Same (optional data_tokens (Some new)) (optional data_tokens o)
 same_value new old o h = rw h (same_data new old)
 
 same_item : (new old : List ℕ) (i : Item) → i.value ≡ Some old → Same (item_tokens (with_value new i)) (item_tokens i)
 unfolding item_tokens
 same_item new old i h =
-    same_element EItem (item_children (with_value new i)) (item_children i) (same_back _ _ _ (same_front _ _ _ (same_value new old i.value h)))
+    same_element EItem (item_children (with_value new i)) (item_children i)
+    (same_back _ _ _ (same_front _ _ _ (same_value new old i.value h)))
 
 same_only : (new old : List ℕ) (is : List Item) (i : Item) → only_item is ≡ Some i → i.value ≡ Some old
     → Same (items_tokens (only_changed (with_value new) is)) (items_tokens is)
@@ -183,7 +207,8 @@ same_write new old verb.Get is i h e = itself _
 same_cut_member : (new old : List ℕ) (m : Member) (i : Item) → member_item m ≡ Some i → i.value ≡ Some old
     → Same (member_tokens (member_changed (with_value new) m)) (member_tokens m)
 unfolding member_tokens plain_tokens
-same_cut_member new old (member.One c) i h e = same_parent _ _ _ (same_front _ _ _ (same_write new old c.verb c.items i h e))
+same_cut_member new old (member.One c) i h e =
+    same_parent _ _ _ (same_front _ _ _ (same_write new old c.verb c.items i h e))
 same_cut_member new old (member.Alert c) i h e = itself _
 
 same_cut_seq_member : (new old : List ℕ) (m : SeqMember) (i : Item) → seq_member_item m ≡ Some i → i.value ≡ Some old
@@ -199,17 +224,25 @@ same_last : {A : Type 0} (tokens : A → List Token) (item : A → Option Item) 
 same_last tokens item changed old one [] i h e = itself _
 same_last tokens item changed old one (x ∷ []) i h e = same_back [] _ _ (one x i h e)
 same_last tokens item changed old one (x ∷ y ∷ xs) i h e =
-    same_front (tokens x) _ _ (same_last tokens item changed old one (y ∷ xs) i (ap (option_and_then item) (sym (last_next x y xs)) ∙ h) e)
+    same_front (tokens x) _ _
+    (same_last tokens item changed old one (y ∷ xs) i (ap (option_and_then item) (sym (last_next x y xs)) ∙ h) e)
 
 same_cut : (new old : List ℕ) (c : Command) (i : Item) → cut_item c ≡ Some i → i.value ≡ Some old
     → Same (command_tokens (cut_changed (with_value new) c)) (command_tokens c)
 unfolding command_tokens plain_tokens results_tokens atomic_tokens sequence_tokens members_tokens seq_members_tokens
-same_cut new old (command.Plain c) i h e = same_parent _ _ _ (same_front _ _ _ (same_write new old c.verb c.items i h e))
+same_cut new old (command.Plain c) i h e =
+    same_parent _ _ _ (same_front _ _ _ (same_write new old c.verb c.items i h e))
 same_cut new old (command.Alert c) i h e = itself _
 same_cut new old (command.Atomic b) i h e =
-    same_parent _ _ _ (same_front _ _ _ (same_last member_tokens member_item (member_changed (with_value new)) old (same_cut_member new old) b.members i h e))
+    same_parent _ _ _
+    (same_front _ _ _
+    (same_last member_tokens member_item (member_changed (with_value new)) old (same_cut_member new old) b.members i h
+    e))
 same_cut new old (command.Sequence b) i h e =
-    same_parent _ _ _ (same_front _ _ _ (same_last seq_member_tokens seq_member_item (seq_member_changed (with_value new)) old (same_cut_seq_member new old) b.members i h e))
+    same_parent _ _ _
+    (same_front _ _ _
+    (same_last seq_member_tokens seq_member_item (seq_member_changed (with_value new)) old (same_cut_seq_member new old)
+    b.members i h e))
 same_cut new old (command.Status c) i h e = itself _
 same_cut new old (command.Results c) i h e = same_parent _ _ _ (same_front _ _ _ (same_only new old c.items i h e))
 
@@ -218,17 +251,21 @@ page_without_data page c i old new is e = same_page page _ _ (same_cut new old c
 
 -- ---- headers
 
-same_cred : (value : List ℕ) (cred : Option Cred) → Same (optional cred_tokens (with_secret value cred)) (optional cred_tokens cred)
+same_cred : (value : List ℕ) (cred : Option Cred)
+    → Same (optional cred_tokens (with_secret value cred)) (optional cred_tokens cred)
 unfolding cred_tokens
 same_cred value None = itself _
 same_cred value (Some c) = same_parent _ _ _ (same_front _ _ _ (same_data value c.value))
 
 same_header : (msg : ℕ) (session value : List ℕ) (h : Header)
-    → Same (header_tokens (record h { msg = msg; session = session; cred = with_secret value h.cred })) (header_tokens h)
+    → Same (header_tokens (record h { msg = msg; session = session; cred = with_secret value h.cred }))
+    (header_tokens h)
 unfolding header_tokens
 same_header msg session value h =
-    same_parent _ _ _ (same_back _ _ _ (same_both _ _ _ _ (same_back _ _ _ (same_back _ _ _ (same_back _ _ _ (same_back _ _ _
-    (same_both _ _ _ _ (same_front _ _ _ (same_text _ session h.session)) (same_number _ msg h.msg)))))) (same_cred value h.cred)))
+    same_parent _ _ _
+    (same_back _ _ _ (same_both _ _ _ _ (same_back _ _ _ (same_back _ _ _ (same_back _ _ _ (same_back _ _ _
+    (same_both _ _ _ _ (same_front _ _ _ (same_text _ session h.session)) (same_number _ msg h.msg))))))
+    (same_cred value h.cred)))
 
 pub header_page : HeaderPage
 header_page page msg session value h = same_page page _ _ (same_header msg session value h)

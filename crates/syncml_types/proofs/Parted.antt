@@ -1,5 +1,6 @@
 -- Spellings taken apart.
-use Rattle.std.proofs.Common.{◌≡◌, ◌<◌, ◌≤◌, ◌+◌, ◌^◌, ℕ, Bool, true, false, if◌then◌else◌, List, [], ◌∷◌, ◌++◌, length, length-append, nat_lt, refl, sym, ap, ◌∙◌, append_assoc, arith}
+use Rattle.std.proofs.Common.{◌≡◌, ◌<◌, ◌≤◌, ◌+◌, ◌^◌, ℕ, Bool, true, false, if◌then◌else◌, List, [], ◌∷◌, ◌++◌, length}
+use Rattle.std.proofs.Common.{length-append, nat_lt, refl, sym, ap, ◌∙◌, append_assoc, arith}
 use Rattle.std.proofs.lemmas.Grind.{flat_map-append}
 use Rattle.std.proofs.lemmas.Bool.{lt-ltb, ne_eqb}
 use Rattle.wbxml_ints.specs.Multibyte.{shortest}
@@ -9,16 +10,19 @@ use Rattle.wbxml_tokens.specs.declared.token.Token.TheVariants.{Tag, End, Text, 
 use Rattle.wbxml_tokens.specs.Spelling.{token_bytes, page_after, spelled, page_behind, prologue}
 use Rattle.syncml_types.specs.declared.values.Header.{Header}
 use Rattle.syncml_types.specs.declared.command.Command.{Command}
-use Rattle.syncml_types.specs.Canonical.{is_text, flag_tokens, header_tokens, command_tokens, commands_tokens, is_empty_body, parent_tokens, message_tokens, canonical}
+use Rattle.syncml_types.specs.Canonical.{is_text, flag_tokens, header_tokens, command_tokens, commands_tokens}
+use Rattle.syncml_types.specs.Canonical.{is_empty_body, parent_tokens, message_tokens, canonical}
 use Rattle.syncml_types.specs.Lengths.{head_tokens}
 use Rattle.syncml_types.specs.Packing.{body_tag, tail_tokens, SpellsInParts, SpellsCommands, BoundsData}
 use Rattle.syncml_types.proofs.Bare.{full_body}
 
-pub spelled_append : (page : ℕ) (ts us : List Token) → spelled page (ts ++ us) ≡ spelled page ts ++ spelled (page_behind page ts) us
+pub spelled_append : (page : ℕ) (ts us : List Token)
+    → spelled page (ts ++ us) ≡ spelled page ts ++ spelled (page_behind page ts) us
 spelled_append page [] us = refl
 spelled_append page (t ∷ ts) us =
     ap (λ l. token_bytes page t ++ l) (spelled_append (page_after page t) ts us)
-    ∙ sym (append_assoc (token_bytes page t) (spelled (page_after page t) ts) (spelled (page_behind (page_after page t) ts) us))
+    ∙ sym (append_assoc (token_bytes page t) (spelled (page_after page t) ts)
+    (spelled (page_behind (page_after page t) ts) us))
 
 pub page_append : (page : ℕ) (ts us : List Token) → page_behind page (ts ++ us) ≡ page_behind (page_behind page ts) us
 page_append page [] us = refl
@@ -43,10 +47,12 @@ regrouped a h b cs f e =
     ∙ sym (append_assoc (h ++ b ∷ []) cs (f ++ e ∷ e ∷ [])))
 
 spelled_four : (page : ℕ) (a b c d : List Token) → spelled page (a ++ b ++ c ++ d)
-    ≡ spelled page a ++ spelled (page_behind page a) b ++ spelled (page_behind (page_behind page a) b) c ++ spelled (page_behind (page_behind (page_behind page a) b) c) d
+    ≡ spelled page a ++ spelled (page_behind page a) b ++ spelled (page_behind (page_behind page a) b) c
+    ++ spelled (page_behind (page_behind (page_behind page a) b) c) d
 spelled_four page a b c d =
     spelled_append page (a ++ b ++ c) d
-    ∙ ap (λ l. l ++ spelled (page_behind page (a ++ b ++ c)) d) (spelled_append page (a ++ b) c ∙ ap (λ l. l ++ spelled (page_behind page (a ++ b)) c) (spelled_append page a b))
+    ∙ ap (λ l. l ++ spelled (page_behind page (a ++ b ++ c)) d)
+    (spelled_append page (a ++ b) c ∙ ap (λ l. l ++ spelled (page_behind page (a ++ b)) c) (spelled_append page a b))
     ∙ rw (page_append page (a ++ b) c, page_append page a b) refl
 
 front_of : (p a b c d : List ℕ) → p ++ (a ++ b ++ c ++ d) ≡ (p ++ a) ++ b ++ c ++ d
@@ -63,18 +69,21 @@ message_parted : (h : Header) (c : Command) (cs : List Command) (last : Bool)
 unfolding message_tokens
 message_parted h c cs last =
     ap (λ l. parent_tokens ESyncML (header_tokens h ++ l)) (full_body (c ∷ cs) last (some_commands c cs last))
-    ∙ regrouped (Tag ESyncML true) (header_tokens h) (Tag ESyncBody true) (commands_tokens (c ∷ cs)) (flag_tokens EFinal last) End
+    ∙ regrouped (Tag ESyncML true) (header_tokens h) (Tag ESyncBody true) (commands_tokens (c ∷ cs))
+    (flag_tokens EFinal last) End
 
 pub spells_in_parts : SpellsInParts
 unfolding canonical
 spells_in_parts h c cs last =
     ap (λ ts. prologue ++ spelled 0 ts) (message_parted h c cs last)
     ∙ ap (λ l. prologue ++ l) (spelled_four 0 (head_tokens h) body_tag (commands_tokens (c ∷ cs)) (tail_tokens last))
-    ∙ front_of prologue (spelled 0 (head_tokens h)) (spelled (page_behind 0 (head_tokens h)) body_tag) (spelled 0 (commands_tokens (c ∷ cs))) (spelled (page_behind 0 (commands_tokens (c ∷ cs))) (tail_tokens last))
+    ∙ front_of prologue (spelled 0 (head_tokens h)) (spelled (page_behind 0 (head_tokens h)) body_tag)
+    (spelled 0 (commands_tokens (c ∷ cs))) (spelled (page_behind 0 (commands_tokens (c ∷ cs))) (tail_tokens last))
 
 -- ---- Data
 
-digits_five : (n : ℕ) (a b c d : Bool) (v w x y z : List ℕ) → 1 ≤ length v → 1 ≤ length w → 1 ≤ length x → 1 ≤ length y → 1 ≤ length z
+digits_five : (n : ℕ) (a b c d : Bool) (v w x y z : List ℕ) → 1 ≤ length v → 1 ≤ length w → 1 ≤ length x → 1 ≤ length y
+    → 1 ≤ length z
     → 1 ≤ length (if a then v else if b then w else if c then x else if d then y else z)
 digits_five n true b c d v w x y z hv hw hx hy hz = hv
 digits_five n false true c d v w x y z hv hw hx hy hz = hw

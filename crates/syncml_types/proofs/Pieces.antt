@@ -1,5 +1,6 @@
 -- A spelling that isn't long has no long text and no long Data.
-use Rattle.std.proofs.Common.{◌≡◌, ◌≤◌, ◌<◌, ◌+◌, ◌&&◌, ℕ, Bool, true, false, if◌then◌else◌, List, [], ◌∷◌, ◌++◌, length, Option, Some, None, nat_lt, nat_le, refl, sym, ap, ◌∙◌, length-append, arith}
+use Rattle.std.proofs.Common.{◌≡◌, ◌≤◌, ◌<◌, ◌+◌, ◌&&◌, ℕ, Bool, true, false, if◌then◌else◌, List, [], ◌∷◌, ◌++◌}
+use Rattle.std.proofs.Common.{length, Option, Some, None, nat_lt, nat_le, refl, sym, ap, ◌∙◌, length-append, arith}
 use Rattle.std.specs.List.{list_all, flat_map}
 use Rattle.std.specs.Fmt.{decimal}
 use Rattle.std.proofs.lemmas.Bool.{and_parts}
@@ -28,8 +29,18 @@ use Rattle.syncml_types.specs.declared.command.ResultsCmd.{ResultsCmd}
 use Rattle.syncml_types.specs.declared.command.Command.{Command}
 use Rattle.syncml_types.specs.declared.command.Command.TheVariants as command
 use Rattle.syncml_types.specs.Message.{Parts}
-use Rattle.syncml_types.specs.Canonical.{parent_tokens, element_tokens, text_tokens, is_text, data_piece, data_tokens, number_tokens, flag_tokens, optional, loc_tokens, meta_children, meta_tokens, item_children, item_tokens, items_tokens, texts_tokens, cred_tokens, chal_tokens, header_tokens, verb_element, plain_tokens, alert_tokens, member_tokens, members_tokens, atomic_tokens, seq_member_tokens, seq_members_tokens, sequence_tokens, status_tokens, results_tokens, command_tokens, commands_tokens, body_children, body_tokens, message_tokens, canonical}
-use Rattle.syncml_types.specs.Fitness.{all_of, is_short, loc_texts, meta_texts, item_texts, cred_texts, header_texts, plain_texts, alert_texts, member_texts, atomic_texts, seq_member_texts, sequence_texts, status_texts, results_texts, command_texts, message_texts, item_data, header_data, member_data, seq_member_data, command_data, message_data}
+use Rattle.syncml_types.specs.Canonical.{parent_tokens, element_tokens, text_tokens, is_text, data_piece, data_tokens}
+use Rattle.syncml_types.specs.Canonical.{number_tokens, flag_tokens, optional, loc_tokens, meta_children, meta_tokens}
+use Rattle.syncml_types.specs.Canonical.{item_children, item_tokens, items_tokens, texts_tokens, cred_tokens}
+use Rattle.syncml_types.specs.Canonical.{chal_tokens, header_tokens, verb_element, plain_tokens, alert_tokens}
+use Rattle.syncml_types.specs.Canonical.{member_tokens, members_tokens, atomic_tokens, seq_member_tokens}
+use Rattle.syncml_types.specs.Canonical.{seq_members_tokens, sequence_tokens, status_tokens, results_tokens}
+use Rattle.syncml_types.specs.Canonical.{command_tokens, commands_tokens, body_children, body_tokens, message_tokens}
+use Rattle.syncml_types.specs.Canonical.{canonical}
+use Rattle.syncml_types.specs.Fitness.{all_of, is_short, loc_texts, meta_texts, item_texts, cred_texts, header_texts}
+use Rattle.syncml_types.specs.Fitness.{plain_texts, alert_texts, member_texts, atomic_texts, seq_member_texts}
+use Rattle.syncml_types.specs.Fitness.{sequence_texts, status_texts, results_texts, command_texts, message_texts}
+use Rattle.syncml_types.specs.Fitness.{item_data, header_data, member_data, seq_member_data, command_data, message_data}
 
 is_short_piece : Token → Bool
 is_short_piece (Tag e content) = true
@@ -66,11 +77,14 @@ short_spelled page (t ∷ ts) h =
 
 parted : (ts us : List Token) → AreShort (ts ++ us) → AreShort ts × AreShort us
 parted ts us h =
-    let parts = and_parts (list_all is_short_piece ts) (list_all is_short_piece us) (sym (list_all-append is_short_piece ts us) ∙ h.holds) in
+    let parts =
+    and_parts (list_all is_short_piece ts) (list_all is_short_piece us)
+    (sym (list_all-append is_short_piece ts us) ∙ h.holds) in
     (record { holds = parts.0 }, record { holds = parts.1 })
 
 -- both parts of a list, or one of them
-join : {ts us : List Token} {x y : Bool} → (AreShort ts → x ≡ true) → (AreShort us → y ≡ true) → AreShort (ts ++ us) → (x && y) ≡ true
+join : {ts us : List Token} {x y : Bool} → (AreShort ts → x ≡ true) → (AreShort us → y ≡ true) → AreShort (ts ++ us)
+    → (x && y) ≡ true
 join {ts = ts} {us = us} f g h = let parts = parted ts us h in both (f parts.0) (g parts.1)
 
 front : {ts : List Token} (us : List Token) {x : Bool} → (AreShort ts → x ≡ true) → AreShort (ts ++ us) → x ≡ true
@@ -79,11 +93,13 @@ front {ts = ts} us f h = f (parted ts us h).0
 back : (ts : List Token) {us : List Token} {x : Bool} → (AreShort us → x ≡ true) → AreShort (ts ++ us) → x ≡ true
 back ts {us = us} f h = f (parted ts us h).1
 
-inside : (e : Element) {ts : List Token} {x : Bool} → (AreShort ts → x ≡ true) → AreShort (parent_tokens e ts) → x ≡ true
+inside : (e : Element) {ts : List Token} {x : Bool} → (AreShort ts → x ≡ true) → AreShort (parent_tokens e ts)
+    → x ≡ true
 unfolding is_short_piece
 inside e {ts = ts} f h = front {ts = ts} (End ∷ []) f (record { holds = h.holds })
 
-inside_any : (e : Element) (ts : List Token) {x : Bool} → (AreShort ts → x ≡ true) → AreShort (element_tokens e ts) → x ≡ true
+inside_any : (e : Element) (ts : List Token) {x : Bool} → (AreShort ts → x ≡ true) → AreShort (element_tokens e ts)
+    → x ≡ true
 inside_any e [] f h = f (record { holds = refl })
 inside_any e (t ∷ ts) f h = inside e {ts = t ∷ ts} f h
 
@@ -111,14 +127,19 @@ loc : (e : Element) (l : Loc) → AreShort (loc_tokens e l) → loc_texts is_sho
 unfolding loc_tokens loc_texts
 loc e l h = inside _ (join (text _ l.uri) (option_text _ l.name)) h
 
-option_loc : (e : Element) (o : Option Loc) → AreShort (optional (loc_tokens e) o) → all_of (loc_texts is_short) o ≡ true
+option_loc : (e : Element) (o : Option Loc) → AreShort (optional (loc_tokens e) o)
+    → all_of (loc_texts is_short) o ≡ true
 option_loc e o h = where_some (loc_tokens e) (loc_texts is_short) (loc e) o h
 
 meta : (m : Meta) → AreShort (meta_tokens m) → meta_texts is_short m ≡ true
 unfolding meta_tokens meta_texts
 meta m h =
     inside_any _ (meta_children m)
-    (join (join (front _ (front _ (join (front _ (join (option_text _ m.format) (option_text _ m.media))) (option_text _ m.next_nonce)))) (option_text _ m.mark)) (option_text _ m.version))
+    (join
+    (join
+    (front _
+    (front _ (join (front _ (join (option_text _ m.format) (option_text _ m.media))) (option_text _ m.next_nonce))))
+    (option_text _ m.mark)) (option_text _ m.version))
     h
 
 option_meta : (o : Option Meta) → AreShort (optional meta_tokens o) → all_of (meta_texts is_short) o ≡ true
@@ -151,7 +172,11 @@ header : (h : Header) → AreShort (header_tokens h) → header_texts is_short h
 unfolding header_tokens header_texts
 header h s =
     inside _
-    (join (join (front _ (join (join (join (front _ (join (join (text _ h.dtd) (text _ h.proto)) (text _ h.session))) (loc _ h.target)) (loc _ h.source)) (option_text _ h.resp_uri)))
+    (join
+    (join
+    (front _
+    (join (join (join (front _ (join (join (text _ h.dtd) (text _ h.proto)) (text _ h.session))) (loc _ h.target))
+    (loc _ h.source)) (option_text _ h.resp_uri)))
     (where_some cred_tokens (cred_texts is_short) cred h.cred)) (option_meta h.meta))
     s
 
@@ -193,14 +218,17 @@ status : (c : StatusCmd) → AreShort (status_tokens c) → status_texts is_shor
 unfolding status_tokens status_texts
 status c h =
     inside _
-    (join (front _ (join (join (join (back _ (text _ c.cmd)) (texts _ c.target_refs)) (texts _ c.source_refs)) (where_some chal_tokens (meta_texts is_short) chal c.chal))) (items c.items))
+    (join
+    (front _ (join (join (join (back _ (text _ c.cmd)) (texts _ c.target_refs)) (texts _ c.source_refs))
+    (where_some chal_tokens (meta_texts is_short) chal c.chal))) (items c.items))
     h
 
 results : (c : ResultsCmd) → AreShort (results_tokens c) → results_texts is_short c ≡ true
 unfolding results_tokens results_texts
 results c h =
     inside _
-    (join (join (join (back _ (option_meta c.meta)) (option_text _ c.target_ref)) (option_text _ c.source_ref)) (items c.items))
+    (join (join (join (back _ (option_meta c.meta)) (option_text _ c.target_ref)) (option_text _ c.source_ref))
+    (items c.items))
     h
 
 command_pieces : (c : Command) → AreShort (command_tokens c) → command_texts is_short c ≡ true
@@ -214,7 +242,8 @@ command_pieces (command.Results c) h = results c h
 
 -- ---- Data
 
-piece_data : (as_text : Bool) (bytes : List ℕ) → is_short_piece (if as_text then Text bytes else Opaque bytes) ≡ true → is_short bytes ≡ true
+piece_data : (as_text : Bool) (bytes : List ℕ) → is_short_piece (if as_text then Text bytes else Opaque bytes) ≡ true
+    → is_short bytes ≡ true
 unfolding is_short_piece
 piece_data true bytes h = h
 piece_data false bytes h = h
@@ -222,11 +251,13 @@ piece_data false bytes h = h
 data_pieces : (bytes : List ℕ) → AreShort (data_tokens bytes) → is_short bytes ≡ true
 unfolding data_tokens is_short_piece
 data_pieces [] h = refl
-data_pieces (b ∷ bs) h = piece_data (is_text (b ∷ bs)) (b ∷ bs) (and_parts (is_short_piece (data_piece (b ∷ bs))) true h.holds).0
+data_pieces (b ∷ bs) h =
+    piece_data (is_text (b ∷ bs)) (b ∷ bs) (and_parts (is_short_piece (data_piece (b ∷ bs))) true h.holds).0
 
 item_value : (i : Item) → AreShort (item_tokens i) → item_data is_short i ≡ true
 unfolding item_tokens item_data
-item_value i h = inside_any _ (item_children i) (front _ (back _ (where_some data_tokens is_short data_pieces i.value))) h
+item_value i h =
+    inside_any _ (item_children i) (front _ (back _ (where_some data_tokens is_short data_pieces i.value))) h
 
 items_value : (is : List Item) → AreShort (items_tokens is) → list_all (item_data is_short) is ≡ true
 unfolding items_tokens
@@ -238,7 +269,8 @@ cred_value c h = inside _ (back _ (data_pieces c.value)) h
 
 header_value : (h : Header) → AreShort (header_tokens h) → header_data is_short h ≡ true
 unfolding header_tokens header_data
-header_value h s = inside _ (front _ (back _ (where_some cred_tokens (λ (c : Cred). is_short c.value) cred_value h.cred))) s
+header_value h s =
+    inside _ (front _ (back _ (where_some cred_tokens (λ (c : Cred). is_short c.value) cred_value h.cred))) s
 
 plain_value : (c : Plain) → AreShort (plain_tokens c) → list_all (item_data is_short) c.items ≡ true
 unfolding plain_tokens
@@ -292,7 +324,8 @@ command_value (command.Results c) h = results_value c h
 body_pieces : {test : Command → Bool} → ((c : Command) → AreShort (command_tokens c) → test c ≡ true)
     → (body : List Command) (last : Bool) → AreShort (body_tokens body last) → list_all test body ≡ true
 unfolding body_tokens commands_tokens
-body_pieces {test = test} one body last h = inside_any _ (body_children body last) (front _ (each command_tokens test one body)) h
+body_pieces {test = test} one body last h =
+    inside_any _ (body_children body last) (front _ (each command_tokens test one body)) h
 
 short_message : (m : Parts) → length (canonical m) ≤ 65536 → AreShort (message_tokens m)
 unfolding canonical

@@ -11,7 +11,8 @@ use Rattle.syncml_types.specs.declared.command.SeqMember.TheVariants as seq_memb
 use Rattle.syncml_types.specs.declared.command.Command.{Command}
 use Rattle.syncml_types.specs.declared.command.Command.TheVariants as command
 use Rattle.syncml_types.specs.Message.{IsShortData, HasShortData, HasShortMember, HasShortSeqMember, HasShortItems}
-use Rattle.syncml_types.specs.Packing.{only_item, write_item, member_item, seq_member_item, last_of, cut_item, bytes_in, data_in, cut_data}
+use Rattle.syncml_types.specs.Packing.{only_item, write_item, member_item, seq_member_item, last_of, cut_item, bytes_in}
+use Rattle.syncml_types.specs.Packing.{data_in, cut_data}
 use Rattle.syncml_types.proofs.Last.{last_next}
 
 short_bytes : (o : Option (List ℕ)) → IfSome o IsShortData → IsShortData (bytes_in o)

@@ -1,12 +1,20 @@
 -- The canonical spelling of a message: its tokens, by cases on its fields, and their bytes. Children stand in the order
 -- of the profile's table of elements.
-use Rattle.std.specs.Prelude.{◌&&◌, ◌==◌, ℕ, Bool, true, false, not, if◌then◌else◌, List, [], ◌∷◌, ◌++◌, length, Option, Some, None}
+use Rattle.std.specs.Prelude.{◌&&◌, ◌==◌, ℕ, Bool, true, false, not, if◌then◌else◌, List, [], ◌∷◌, ◌++◌, length, Option}
+use Rattle.std.specs.Prelude.{Some, None}
 use Rattle.std.specs.List.{flat_map, list_all}
 use Rattle.std.specs.Option.{is_none}
 use Rattle.std.specs.Fmt.{decimal}
 use Rattle.std.specs.Str.{is_utf8}
 use Rattle.wbxml_tables.specs.declared.Element.{Element}
-use Rattle.wbxml_tables.specs.declared.Element.TheVariants.{EAdd, EAlert, EAtomic, EChal, ECmd, ECmdID, ECmdRef, ECopy, ECred, EData, EDelete, EExec, EFinal, EGet, EItem, ELocName, ELocURI, EMeta, EMsgID, EMsgRef, ENoResp, EReplace, ERespURI, EResults, ESequence, ESessionID, ESource, ESourceRef, EStatus, ESyncBody, ESyncHdr, ESyncML, ETarget, ETargetRef, EVerDTD, EVerProto, EMoreData, ECorrelator, EFormat, EMark, EMaxMsgSize, ENextNonce, ESize, EType, EVersion, EMaxObjSize}
+use Rattle.wbxml_tables.specs.declared.Element.TheVariants.{EAdd, EAlert, EAtomic, EChal, ECmd, ECmdID, ECmdRef, ECopy}
+use Rattle.wbxml_tables.specs.declared.Element.TheVariants.{ECred, EData, EDelete, EExec, EFinal, EGet, EItem, ELocName}
+use Rattle.wbxml_tables.specs.declared.Element.TheVariants.{ELocURI, EMeta, EMsgID, EMsgRef, ENoResp, EReplace}
+use Rattle.wbxml_tables.specs.declared.Element.TheVariants.{ERespURI, EResults, ESequence, ESessionID, ESource}
+use Rattle.wbxml_tables.specs.declared.Element.TheVariants.{ESourceRef, EStatus, ESyncBody, ESyncHdr, ESyncML, ETarget}
+use Rattle.wbxml_tables.specs.declared.Element.TheVariants.{ETargetRef, EVerDTD, EVerProto, EMoreData, ECorrelator}
+use Rattle.wbxml_tables.specs.declared.Element.TheVariants.{EFormat, EMark, EMaxMsgSize, ENextNonce, ESize, EType}
+use Rattle.wbxml_tables.specs.declared.Element.TheVariants.{EVersion, EMaxObjSize}
 use Rattle.wbxml_tokens.specs.declared.token.Token.{Token}
 use Rattle.wbxml_tokens.specs.declared.token.Token.TheVariants.{Tag, End, Text, Opaque}
 use Rattle.wbxml_tokens.specs.Spelling.{spelled, prologue}

@@ -1,7 +1,9 @@
 -- Which messages are fit to be spelled, and the first reason why one isn't.
-use Rattle.std.specs.Prelude.{◌≡◌, ◌==◌, ◌&&◌, ◌||◌, ℕ, Bool, true, false, not, if◌then◌else◌, nat_lt, nat_le, List, length, Option, Some, None, Result, Ok, Err}
+use Rattle.std.specs.Prelude.{◌≡◌, ◌==◌, ◌&&◌, ◌||◌, ℕ, Bool, true, false, not, if◌then◌else◌, nat_lt, nat_le, List}
+use Rattle.std.specs.Prelude.{length, Option, Some, None, Result, Ok, Err}
 use Rattle.std.specs.List.{list_all}
 use Rattle.std.specs.Option.{is_none}
+use Rattle.dm_base.specs.Limits.{message_limit, text_limit}
 use Rattle.syncml_types.specs.declared.values.Loc.{Loc}
 use Rattle.syncml_types.specs.declared.values.Meta.{Meta}
 use Rattle.syncml_types.specs.declared.values.Item.{Item}
@@ -217,9 +219,9 @@ command_correlates (command.Results c) = true
 
 -- ---- the message
 
--- at most 2,147,483,648 bytes
+-- within the limit of texts and Data
 abbrev pub is_short : List ℕ → Bool
-is_short bytes = nat_le (length bytes) 2147483648
+is_short bytes = nat_le (length bytes) text_limit
 
 pub record IsFit (h : Header) (body : List Command) : Type 0 where
   pub texts : message_texts is_text h body ≡ true
@@ -236,7 +238,7 @@ first_unfit m =
     else if not (message_numbers m.header m.body) then Some unfit.BadNumber
     else if not (list_all command_filled m.body) then Some unfit.NoItems
     else if not (list_all command_correlates m.body) then Some unfit.BadCorrelator
-    else if nat_lt 65536 (length (canonical m)) then Some unfit.TooLong
+    else if nat_lt message_limit (length (canonical m)) then Some unfit.TooLong
     else None
 
 abbrev pub told_unfit : {A : Type 0} → Result A Unfit → Option Unfit

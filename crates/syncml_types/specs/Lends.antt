@@ -1,5 +1,5 @@
--- What values end as, once a `&mut` to the item that may be cut has ended: with the last item written through it, and at
--- `None` as they were.
+-- What values end as, once a `&mut` to the item that may be cut has ended: with the last item written through it, and
+-- at `None` as they were.
 use Rattle.std.specs.Prelude.{List, Option}
 use Rattle.std.specs.Borrow.{LendsIf, Fml, RattleType, MutBor}
 use Rattle.dm_base.specs.contracts.list.List as list
@@ -12,7 +12,8 @@ use Rattle.syncml_types.specs.declared.command.Verb.{Verb}
 use Rattle.syncml_types.specs.declared.command.Member.{Member}
 use Rattle.syncml_types.specs.declared.command.SeqMember.{SeqMember}
 use Rattle.syncml_types.specs.declared.command.Command.{Command}
-use Rattle.syncml_types.specs.Packing.{only_changed, write_changed, member_changed, seq_member_changed, last_changed, cut_changed}
+use Rattle.syncml_types.specs.Packing.{only_changed, write_changed, member_changed, seq_member_changed, last_changed}
+use Rattle.syncml_types.specs.Packing.{cut_changed}
 
 -- the last of a list
 abbrev pub lends_last : (T : RattleType) → MutBor (List T.Denot) → Option (MutBor T.Denot) → Fml
@@ -20,7 +21,8 @@ lends_last T values r = LendsIf (list.the_row T) T values r (λ w. last_changed 
 
 -- the one item of a list
 abbrev pub lends_only : MutBor (List Item) → Option (MutBor Item) → Fml
-lends_only items r = LendsIf (list.the_row item.the_row) item.the_row items r (λ w. only_changed (λ _. w) items.now) items.now
+lends_only items r =
+    LendsIf (list.the_row item.the_row) item.the_row items r (λ w. only_changed (λ _. w) items.now) items.now
 
 abbrev pub lends_written : Verb → MutBor (List Item) → Option (MutBor Item) → Fml
 lends_written v items r =
@@ -38,7 +40,8 @@ lends_in_members ms r =
 
 abbrev pub lends_in_seq_members : MutBor (List SeqMember) → Option (MutBor Item) → Fml
 lends_in_seq_members ms r =
-    LendsIf (list.the_row seq_member.the_row) item.the_row ms r (λ w. last_changed (seq_member_changed (λ _. w)) ms.now) ms.now
+    LendsIf (list.the_row seq_member.the_row) item.the_row ms r (λ w. last_changed (seq_member_changed (λ _. w)) ms.now)
+    ms.now
 
 -- the item of a command that may be cut
 abbrev pub lends_cut : MutBor Command → Option (MutBor Item) → Fml

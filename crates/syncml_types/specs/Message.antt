@@ -1,6 +1,7 @@
 -- A message by its parts, and what can be spelled.
 use Rattle.std.specs.Prelude.{ℕ, ◌≤◌, length, Bool, List, IfSome}
 use Rattle.std.specs.List.{AllByRecursion}
+use Rattle.dm_base.specs.Limits.{text_limit}
 use Rattle.syncml_types.specs.declared.values.Item.{Item}
 use Rattle.syncml_types.specs.declared.values.Header.{Header}
 use Rattle.syncml_types.specs.declared.values.Cred.{Cred}
@@ -16,9 +17,9 @@ pub record Parts : Type 0 where
   pub body : List Command
   pub last : Bool
 
--- Data of at most 2,147,483,648 bytes
+-- Data within the limit
 abbrev pub IsShortData : List ℕ → Type 0
-IsShortData value = length value ≤ 2147483648
+IsShortData value = length value ≤ text_limit
 
 abbrev pub HasShortData : Item → Type 0
 HasShortData item = IfSome item.value IsShortData

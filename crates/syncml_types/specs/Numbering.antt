@@ -17,7 +17,8 @@ numbered_members n (m ∷ ms) = with_number n m ∷ numbered_members (n + 1) ms
 
 abbrev pub numbered_seq_member : ℕ → SeqMember → SeqMember
 numbered_seq_member n (seq_member.Single m) = seq_member.Single (with_number n m)
-numbered_seq_member n (seq_member.Atomic b) = seq_member.Atomic (record b { id = n; members = numbered_members (n + 1) b.members })
+numbered_seq_member n (seq_member.Atomic b) =
+    seq_member.Atomic (record b { id = n; members = numbered_members (n + 1) b.members })
 
 -- how many CmdIDs a member of a Sequence holds
 abbrev pub ids_in_seq_member : SeqMember → ℕ
@@ -46,7 +47,8 @@ unfoldable pub with_numbers : ℕ → Command → Command
 with_numbers n (command.Plain c) = command.Plain (record c { id = n })
 with_numbers n (command.Alert c) = command.Alert (record c { id = n })
 with_numbers n (command.Atomic b) = command.Atomic (record b { id = n; members = numbered_members (n + 1) b.members })
-with_numbers n (command.Sequence b) = command.Sequence (record b { id = n; members = numbered_seq_members (n + 1) b.members })
+with_numbers n (command.Sequence b) =
+    command.Sequence (record b { id = n; members = numbered_seq_members (n + 1) b.members })
 with_numbers n (command.Status c) = command.Status (record c { id = n })
 with_numbers n (command.Results c) = command.Results (record c { id = n })
 

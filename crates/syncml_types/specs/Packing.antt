@@ -1,5 +1,6 @@
 -- What packing needs: a spelling taken apart, and the item whose Data may be cut.
-use Rattle.std.specs.Prelude.{◌≡◌, ◌<◌, ◌≤◌, ◌+◌, ◌^◌, ℕ, Bool, true, false, List, [], ◌∷◌, ◌++◌, length, Option, Some, None, option_and_then, slice_get, ◌-◌}
+use Rattle.std.specs.Prelude.{◌≡◌, ◌<◌, ◌≤◌, ◌+◌, ◌^◌, ℕ, Bool, true, false, List, [], ◌∷◌, ◌++◌, length, Option, Some}
+use Rattle.std.specs.Prelude.{None, option_and_then, slice_get, ◌-◌}
 use Rattle.wbxml_tables.specs.declared.Element.TheVariants.{ESyncBody, EFinal}
 use Rattle.wbxml_tokens.specs.declared.token.Token.{Token}
 use Rattle.wbxml_tokens.specs.declared.token.Token.TheVariants.{Tag, End}
@@ -48,7 +49,8 @@ SpellsCommands =
     (page : ℕ) (cs ds : List Command)
     → (spelled page (commands_tokens (cs ++ ds))
     ≡ spelled page (commands_tokens cs) ++ spelled (page_behind page (commands_tokens cs)) (commands_tokens ds))
-    × (page_behind page (commands_tokens (cs ++ ds)) ≡ page_behind (page_behind page (commands_tokens cs)) (commands_tokens ds))
+    × (page_behind page (commands_tokens (cs ++ ds))
+    ≡ page_behind (page_behind page (commands_tokens cs)) (commands_tokens ds))
 
 -- ---- Data
 
@@ -59,7 +61,8 @@ data_length value = length (token_bytes 0 (data_piece value))
 -- at least two bytes more than the Data, and below 2,097,152 bytes at most four
 abbrev pub BoundsData : Type 0
 BoundsData =
-    (value : List ℕ) → (length value + 2 ≤ data_length value) × (length value < 2 ^ 21 → data_length value ≤ length value + 4)
+    (value : List ℕ) → (length value + 2 ≤ data_length value)
+    × (length value < 2 ^ 21 → data_length value ≤ length value + 4)
 
 -- ---- the item whose Data may be cut
 
@@ -129,7 +132,8 @@ abbrev pub cut_changed : (Item → Item) → Command → Command
 cut_changed f (command.Plain c) = command.Plain (record c { items = write_changed f c.verb c.items })
 cut_changed f (command.Alert c) = command.Alert c
 cut_changed f (command.Atomic b) = command.Atomic (record b { members = last_changed (member_changed f) b.members })
-cut_changed f (command.Sequence b) = command.Sequence (record b { members = last_changed (seq_member_changed f) b.members })
+cut_changed f (command.Sequence b) =
+    command.Sequence (record b { members = last_changed (seq_member_changed f) b.members })
 cut_changed f (command.Status c) = command.Status c
 cut_changed f (command.Results c) = command.Results (record c { items = only_changed f c.items })
 

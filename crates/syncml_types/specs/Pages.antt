@@ -1,4 +1,5 @@
--- What the page behind a spelling depends on: the elements that it opens, and none of the numbers, texts and Data in it.
+-- What the page behind a spelling depends on: the elements that it opens, and none of the numbers, texts and Data in
+-- it.
 use Rattle.std.specs.Prelude.{◌≡◌, ℕ, List, [], ◌∷◌, Option, Some, None}
 use Rattle.wbxml_tables.specs.declared.Element.{Element}
 use Rattle.wbxml_tokens.specs.declared.token.Token.{Token}
@@ -21,12 +22,14 @@ opened (Text text ∷ ts) = opened ts
 opened (Opaque bytes ∷ ts) = opened ts
 
 abbrev pub PagesFollowElements : Type 0
-PagesFollowElements = (page : ℕ) (ts us : List Token) → opened ts ≡ opened us → page_behind page ts ≡ page_behind page us
+PagesFollowElements =
+    (page : ℕ) (ts us : List Token) → opened ts ≡ opened us → page_behind page ts ≡ page_behind page us
 
 -- CmdIDs open nothing
 abbrev pub PageWithoutNumbers : Type 0
 PageWithoutNumbers =
-    (page first : ℕ) (c : Command) → page_behind page (command_tokens (with_numbers first c)) ≡ page_behind page (command_tokens c)
+    (page first : ℕ) (c : Command)
+    → page_behind page (command_tokens (with_numbers first c)) ≡ page_behind page (command_tokens c)
 
 abbrev pub with_value : List ℕ → Item → Item
 with_value value i = record i { value = Some value }

@@ -4,11 +4,12 @@ ghost use Rattle.std.specs.Prelude.{◌≡◌, IfOk};
 use crate::command::{
     AlertCmd, Block, Command, Member, Plain, ResultsCmd, SeqBlock, SeqMember, StatusCmd,
 };
-use crate::values::{Item, Loc, Meta};
+use crate::values::{Cred, Header, Item, Loc, Meta};
 use dm_base::{Bytes, List, Memory};
 use std::alloc::Global;
 
-fn copy_bytes(alloc: Global, bytes: &Option<Bytes>) -> Result<Option<Bytes>, Memory>
+/// An equal copy of bytes that may be left out.
+pub fn copy_bytes(alloc: Global, bytes: &Option<Bytes>) -> Result<Option<Bytes>, Memory>
     ensures { IfOk result (λ copied. copied ≡ bytes.now) }
 {
     match bytes {
@@ -62,6 +63,38 @@ fn copy_meta(alloc: Global, meta: &Option<Meta>) -> Result<Option<Meta>, Memory>
     match meta {
         None => Ok(None),
         Some(meta) => Ok(Some(meta.copy(alloc)?)),
+    }
+}
+
+fn copy_cred(alloc: Global, cred: &Option<Cred>) -> Result<Option<Cred>, Memory>
+    ensures { IfOk result (λ copied. copied ≡ cred.now) }
+{
+    match cred {
+        None => Ok(None),
+        Some(cred) => Ok(Some(Cred {
+            meta: copy_meta(alloc, &cred.meta)?,
+            value: cred.value.copy(alloc)?,
+        })),
+    }
+}
+
+impl Header {
+    /// An equal header.
+    pub fn copy(&self, alloc: Global) -> Result<Header, Memory>
+        ensures { IfOk result (λ copied. copied ≡ self.now) }
+    {
+        Ok(Header {
+            dtd: self.dtd.copy(alloc)?,
+            proto: self.proto.copy(alloc)?,
+            session: self.session.copy(alloc)?,
+            msg: self.msg,
+            target: self.target.copy(alloc)?,
+            source: self.source.copy(alloc)?,
+            resp_uri: copy_bytes(alloc, &self.resp_uri)?,
+            no_resp: self.no_resp,
+            cred: copy_cred(alloc, &self.cred)?,
+            meta: copy_meta(alloc, &self.meta)?,
+        })
     }
 }
 

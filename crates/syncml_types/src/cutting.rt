@@ -2,7 +2,8 @@
 ghost use Rattle.std.specs.Prelude.{◌≡◌, option_and_then};
 ghost use Rattle.std.specs.Option.{option_copied_mut};
 ghost use Rattle.std.specs.Borrow.{sem};
-ghost use Rattle.syncml_types.specs.Lends.{lends_last, lends_only, lends_written, lends_in_member, lends_in_seq_member, lends_in_members, lends_in_seq_members};
+ghost use Rattle.syncml_types.specs.Lends.{lends_last, lends_only, lends_written, lends_in_member, lends_in_seq_member};
+ghost use Rattle.syncml_types.specs.Lends.{lends_in_members, lends_in_seq_members};
 ghost use Rattle.syncml_types.specs.Packing as Spec;
 ghost use Rattle.syncml_types.specs.Packing.{last_of, only_item, write_item};
 

@@ -6,9 +6,9 @@ ghost use Rattle.syncml_types.specs.Fitness.{is_short, all_of, message_data};
 
 use crate::command::{Command, Member, SeqMember};
 use crate::values::{Header, Item};
-use dm_base::{Bytes, List};
+use dm_base::{Bytes, List, TEXT_LIMIT};
 
-const MOST: usize = 2_147_483_648;
+const MOST: usize = TEXT_LIMIT as usize;
 
 fn option_data(value: &Option<Bytes>) -> bool
     ensures { result ≡ all_of is_short value.now }

@@ -1,4 +1,5 @@
-// Whether the lists of a message that the profile wants filled are, and an Exec alone has a correlator. Nothing here takes memory.
+// Whether the lists of a message that the profile wants filled are, and an Exec alone has a correlator. Nothing here
+// takes memory.
 ghost use Rattle.std.specs.Prelude.{◌≡◌, ◌&&◌};
 ghost use Rattle.std.specs.List.{list_all};
 ghost use Rattle.syncml_types.specs.Fitness as Spec;

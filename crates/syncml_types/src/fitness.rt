@@ -2,6 +2,7 @@
 ghost use Rattle.std.specs.Prelude.{◌≡◌, nat_lt, length};
 ghost use Rattle.syncml_types.specs.Canonical.{canonical};
 ghost use Rattle.syncml_types.specs.Fitness as Spec;
+ghost use Rattle.dm_base.specs.Limits.{message_limit};
 
 use crate::command::Command;
 use crate::fit_data::has_short_data;
@@ -11,14 +12,15 @@ use crate::fit_texts::has_plain_texts;
 use crate::lengths::parts_length;
 use crate::message::Unfit;
 use crate::values::Header;
-use dm_base::List;
+use dm_base::{List, MESSAGE_LIMIT};
 
-const MOST: u64 = 65536;
+const MOST: u64 = MESSAGE_LIMIT as u64;
 
 // Data that can't be spelled is too long, too.
 #[tactic(auto, using(crate::proofs::Fitting::long_data, crate::proofs::Fitting::spellable_data))]
 fn is_too_long(header: &Header, body: &List<Command>, last: bool) -> bool
-    ensures { result ≡ nat_lt 65536 (length (canonical (record { header = header.now; body = body.now; last = last }))) }
+    ensures { result
+        ≡ nat_lt message_limit (length (canonical (record { header = header.now; body = body.now; last = last }))) }
 {
     !has_short_data(header, body.as_slice()) || parts_length(header, body, last) > MOST
 }

@@ -108,8 +108,8 @@ pub fn length(message: &Message) -> u64
     parts_length(message.header(), message.body(), message.last())
 }
 
-/// How many bytes stand before a message's body in canonical spelling: the prologue, the tag SyncML and the header; and the
-/// page after them.
+/// How many bytes stand before a message's body in canonical spelling: the prologue, the tag SyncML and the header; and
+/// the page after them.
 #[tactic(auto, using(crate::proofs::Counts::given_counted))]
 pub fn head_length(header: &Header) -> (u64, u8)
     requires { IfSome header.now.cred (λ c. IsShortData c.value) }
@@ -140,8 +140,8 @@ pub fn command_length(page: u8, command: &Command) -> (u64, u8)
     }
 }
 
-/// How many bytes a command has in canonical spelling, where it begins on a page and is numbered from a CmdID on; and the
-/// page after it. Nothing is numbered.
+/// How many bytes a command has in canonical spelling, where it begins on a page and is numbered from a CmdID on; and
+/// the page after it. Nothing is numbered.
 #[tactic(auto, using(crate::proofs::Counts::given_counted))]
 pub fn numbered_length(page: u8, first: u32, command: &Command) -> (u64, u8)
     requires short { HasShortItems command.now }

@@ -1,7 +1,9 @@
 // CmdIDs in document order, given to commands in place. Nothing here takes memory.
 ghost use Rattle.std.specs.Prelude.{◌≡◌, ◌<◌, ◌+◌, ◌^◌, length, take, drop};
 ghost use Rattle.syncml_types.specs.Numbering as Spec;
-ghost use Rattle.syncml_types.specs.Numbering.{with_number, numbered_members, numbered_seq_member, numbered_seq_members, ids_in_seq_member, ids_in_seq_members, ids_in, with_numbers, first_numbered, first_seq_numbered};
+ghost use Rattle.syncml_types.specs.Numbering.{with_number, numbered_members, numbered_seq_member};
+ghost use Rattle.syncml_types.specs.Numbering.{numbered_seq_members, ids_in_seq_member, ids_in_seq_members, ids_in};
+ghost use Rattle.syncml_types.specs.Numbering.{with_numbers, first_numbered, first_seq_numbered};
 
 use crate::command::{Block, Command, Member, SeqBlock, SeqMember};
 use dm_base::List;
@@ -40,7 +42,8 @@ fn set_members_ids(members: &mut List<Member>, first: u32)
 // It answers how many CmdIDs the Atomic has.
 fn set_atomic_ids(block: &mut Block, first: u32) -> u32
     requires { first + (1 + length block.old.members) < 2 ^ 32 }
-    ensures block { block.new ≡ record block.old { id = first; members = numbered_members (first + 1) block.old.members } }
+    ensures block { block.new
+        ≡ record block.old { id = first; members = numbered_members (first + 1) block.old.members } }
     ensures count { result ≡ 1 + length block.old.members }
 {
     let count = 1 + block.members.len() as u32;
@@ -92,7 +95,8 @@ fn set_seq_members_ids(members: &mut List<SeqMember>, first: u32) -> u32
 // It answers the number after the Sequence's last.
 fn set_sequence_ids(block: &mut SeqBlock, first: u32) -> u32
     requires { first + (1 + ids_in_seq_members block.old.members) < 2 ^ 32 }
-    ensures block { block.new ≡ record block.old { id = first; members = numbered_seq_members (first + 1) block.old.members } }
+    ensures block { block.new
+        ≡ record block.old { id = first; members = numbered_seq_members (first + 1) block.old.members } }
     ensures next { result ≡ first + (1 + ids_in_seq_members block.old.members) }
 {
     block.id = first;

@@ -4,7 +4,8 @@ ghost use Rattle.wbxml_tokens.specs.Spelling.{spelled, page_behind};
 ghost use Rattle.syncml_types.specs.Message.{IsShortData, HasShortItems};
 ghost use Rattle.syncml_types.specs.Canonical.{command_tokens};
 ghost use Rattle.syncml_types.specs.Packing as Spec;
-ghost use Rattle.syncml_types.specs.Packing.{last_of, only_item, write_item, BoundsData, RestAndData, SpellsCommands, SpellsInParts};
+ghost use Rattle.syncml_types.specs.Packing.{last_of, only_item, write_item, BoundsData, RestAndData, SpellsCommands};
+ghost use Rattle.syncml_types.specs.Packing.{SpellsInParts};
 ghost use Rattle.syncml_types.specs.Pages.{PagesFollowElements, PageWithoutNumbers, PageWithoutData, HeaderPage};
 
 use crate::command::{Command, Member, SeqMember, Verb};
@@ -87,8 +88,8 @@ fn sequence_item(members: &[SeqMember]) -> Option<&Item>
 }
 
 impl Command {
-    /// The item whose Data may be cut: that of Results, of an Add or Replace, and of a container's last member where it is
-    /// an Add or Replace. None comes exactly where there is none of these, or where it hasn't exactly one item.
+    /// The item whose Data may be cut: that of Results, of an Add or Replace, and of a container's last member where it
+    /// is an Add or Replace. None comes exactly where there is none of these, or where it hasn't exactly one item.
     pub fn cut_item(&self) -> Option<&Item>
         ensures { option_map (λ item. item.now) result ≡ Spec.cut_item self.now }
     {
@@ -116,8 +117,8 @@ fn cut_data(command: &Command) -> &[u8]
     }
 }
 
-/// How many bytes a command has in canonical spelling, where it begins on a page, all but the token of the Data that may be
-/// cut (`data_length`); and the page after it.
+/// How many bytes a command has in canonical spelling, where it begins on a page, all but the token of the Data that
+/// may be cut (`data_length`); and the page after it.
 #[tactic(auto, using(crate::proofs::Rest::rest_counted, crate::proofs::Short::short_cut))]
 pub fn rest_length(page: u8, command: &Command) -> (u64, u8)
     requires short { HasShortItems command.now }
@@ -131,7 +132,8 @@ pub fn rest_length(page: u8, command: &Command) -> (u64, u8)
     (whole - token, behind)
 }
 
-/// A spelling is taken apart into those of its head, its commands and its tail, each from the page behind those before it on.
+/// A spelling is taken apart into those of its head, its commands and its tail, each from the page behind those before
+/// it on.
 #[tactic(auto, using(crate::proofs::Parted::spells_in_parts, crate::proofs::Parted::spells_commands))]
 pub fn spellings_are_parted()
     ensures message { SpellsInParts }
@@ -144,15 +146,15 @@ pub fn data_is_bounded()
     ensures { BoundsData }
 {}
 
-/// A command is as long as the token of the Data that may be cut, where that isn't empty, and all the rest, which doesn't
-/// depend on it.
+/// A command is as long as the token of the Data that may be cut, where that isn't empty, and all the rest, which
+/// doesn't depend on it.
 #[tactic(auto, using(crate::proofs::Rest::rest_and_data))]
 pub fn rest_and_data()
     ensures { RestAndData }
 {}
 
-/// The page behind tokens depends on the elements alone that they open, so numbers, texts and Data don't change it: neither
-/// the CmdIDs of a command nor the Data that may be cut, nor a header's session, number and secret.
+/// The page behind tokens depends on the elements alone that they open, so numbers, texts and Data don't change it:
+/// neither the CmdIDs of a command nor the Data that may be cut, nor a header's session, number and secret.
 #[tactic(auto, using(crate::proofs::Pages::pages_follow_elements, crate::proofs::Pages::page_without_numbers, crate::proofs::Pages::header_page))]
 pub fn pages_follow_elements()
     ensures elements { PagesFollowElements }

@@ -3,7 +3,10 @@ ghost use Rattle.std.specs.Prelude.{◌≡◌, OnOk};
 ghost use Rattle.std.specs.List.{AllByRecursion};
 ghost use Rattle.wbxml_tokens.specs.Spelling.{given};
 ghost use Rattle.syncml_types.specs.Message.{HasShortData, HasShortMember, HasShortSeqMember, HasShortItems};
-ghost use Rattle.syncml_types.specs.Canonical.{block_head, verb_element, plain_tokens, alert_tokens, member_tokens, members_tokens, atomic_tokens, seq_member_tokens, seq_members_tokens, sequence_tokens, status_tokens, results_tokens, command_tokens, commands_tokens, number_tokens, optional};
+ghost use Rattle.syncml_types.specs.Canonical.{block_head, verb_element, plain_tokens, alert_tokens, member_tokens};
+ghost use Rattle.syncml_types.specs.Canonical.{members_tokens, atomic_tokens, seq_member_tokens, seq_members_tokens};
+ghost use Rattle.syncml_types.specs.Canonical.{sequence_tokens, status_tokens, results_tokens, command_tokens};
+ghost use Rattle.syncml_types.specs.Canonical.{commands_tokens, number_tokens, optional};
 ghost use Rattle.wbxml_tables.specs.declared.Element.TheVariants.{EAtomic, EMsgRef, ESequence};
 
 use crate::command::{

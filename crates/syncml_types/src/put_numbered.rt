@@ -3,9 +3,11 @@ ghost use Rattle.std.specs.Prelude.{◌≡◌, ◌<◌, ◌+◌, ◌^◌, length
 ghost use Rattle.std.specs.List.{AllByRecursion};
 ghost use Rattle.wbxml_tokens.specs.Spelling.{given};
 ghost use Rattle.syncml_types.specs.Message.{HasShortMember, HasShortSeqMember, HasShortItems};
-ghost use Rattle.syncml_types.specs.Canonical.{member_tokens, members_tokens, atomic_tokens, seq_member_tokens, seq_members_tokens, sequence_tokens, command_tokens};
+ghost use Rattle.syncml_types.specs.Canonical.{member_tokens, members_tokens, atomic_tokens, seq_member_tokens};
+ghost use Rattle.syncml_types.specs.Canonical.{seq_members_tokens, sequence_tokens, command_tokens};
 ghost use Rattle.syncml_types.specs.Numbering as Spec;
-ghost use Rattle.syncml_types.specs.Numbering.{with_number, numbered_members, numbered_seq_member, numbered_seq_members, ids_in_seq_members, ids_in, with_numbers};
+ghost use Rattle.syncml_types.specs.Numbering.{with_number, numbered_members, numbered_seq_member};
+ghost use Rattle.syncml_types.specs.Numbering.{numbered_seq_members, ids_in_seq_members, ids_in, with_numbers};
 
 use crate::command::{Block, Command, Member, SeqBlock, SeqMember};
 use crate::put_command::{
@@ -101,7 +103,8 @@ fn put_sequence_from<W: Writer>(w: &mut W, block: &SeqBlock, first: u32) -> Resu
     requires short { AllByRecursion HasShortSeqMember block.now.members }
     requires room { first + (1 + ids_in_seq_members block.now.members) < 2 ^ 32 }
     ensures { OnOk result (w.new ≡ given W.after w.old
-        (sequence_tokens (record block.now { id = first; members = numbered_seq_members (first + 1) block.now.members }))) }
+        (sequence_tokens
+        (record block.now { id = first; members = numbered_seq_members (first + 1) block.now.members }))) }
 {
     put_sequence_head(w, block, first)?;
     put_seq_members_from(w, &block.members, first + 1)?;

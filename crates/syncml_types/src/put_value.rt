@@ -3,7 +3,10 @@ ghost use Rattle.std.specs.Prelude.{◌≡◌, ◌==◌, not, OnOk, IfSome};
 ghost use Rattle.std.specs.List.{AllByRecursion, list_all};
 ghost use Rattle.wbxml_tokens.specs.Spelling.{given};
 ghost use Rattle.syncml_types.specs.Message.{IsShortData, HasShortData};
-ghost use Rattle.syncml_types.specs.Canonical.{text_tokens, number_tokens, flag_tokens, data_tokens, is_text, optional, loc_tokens, meta_tokens, meta_children, is_empty_meta, item_tokens, item_children, is_empty_item, items_tokens, texts_tokens, cred_tokens, chal_tokens};
+ghost use Rattle.syncml_types.specs.Canonical.{text_tokens, number_tokens, flag_tokens, data_tokens, is_text, optional};
+ghost use Rattle.syncml_types.specs.Canonical.{loc_tokens, meta_tokens, meta_children, is_empty_meta, item_tokens};
+ghost use Rattle.syncml_types.specs.Canonical.{item_children, is_empty_item, items_tokens, texts_tokens, cred_tokens};
+ghost use Rattle.syncml_types.specs.Canonical.{chal_tokens};
 
 use crate::values::{Cred, Item, Loc, Meta};
 use dm_base::{Bytes, List};

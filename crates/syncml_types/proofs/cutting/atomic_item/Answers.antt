@@ -11,6 +11,7 @@ returns c =
     let members = c.args.members.now in
     let last = c.in_ok-last_mut.field-0.now in
     let is : last_of members ≡ Some last = sym c.last_mut.ensures.value ∙ ap option_copied_mut c.in_ok-last_mut.was in (
-      λ i. read_of (ghost_name_of c.member_item.result) (λ (w : Item). last_is (member_changed (λ _. w)) members last is i) (last_same members last is i),
+      λ i. read_of (ghost_name_of c.member_item.result)
+          (λ (w : Item). last_is (member_changed (λ _. w)) members last is i) (last_same members last is i),
       record { writes_back = tt; value = c.member_item.ensures.value ∙ sym (ap (option_and_then member_item) is) },
     )

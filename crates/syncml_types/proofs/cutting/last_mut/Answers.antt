@@ -10,6 +10,7 @@ returns g c =
     let count = c.len-count.ensures in
     let full = c.if-count-eq0.false in
     let some : 0 < length values = omega (arith, count, full) in (
-      λ i. read_of (ghost_name_of c.get_mut.result) (λ (w : g.row.T.Denot). (ap (λ n. slice_set values (n - 1) w) count ∙ last_set values w some) i) values,
+      λ i. read_of (ghost_name_of c.get_mut.result)
+          (λ (w : g.row.T.Denot). (ap (λ n. slice_set values (n - 1) w) count ∙ last_set values w some) i) values,
       record { writes_back = tt; value = c.get_mut.ensures.value ∙ ap (λ n. slice_get values (n - 1)) count },
     )

@@ -11,6 +11,10 @@ returns c =
     let members = c.args.members.now in
     let last = c.in_ok-last_mut.field-0.now in
     let is : last_of members ≡ Some last = sym c.last_mut.ensures.value ∙ ap option_copied_mut c.in_ok-last_mut.was in (
-      λ i. read_of (ghost_name_of c.seq_member_item.result) (λ (w : Item). last_is (seq_member_changed (λ _. w)) members last is i) (last_same members last is i),
-      record { writes_back = tt; value = c.seq_member_item.ensures.value ∙ sym (ap (option_and_then seq_member_item) is) },
+      λ i. read_of (ghost_name_of c.seq_member_item.result)
+          (λ (w : Item). last_is (seq_member_changed (λ _. w)) members last is i) (last_same members last is i),
+      record {
+        writes_back = tt;
+        value = c.seq_member_item.ensures.value ∙ sym (ap (option_and_then seq_member_item) is);
+      },
     )

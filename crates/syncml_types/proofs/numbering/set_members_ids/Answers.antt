@@ -7,7 +7,8 @@ loop-at-preserved c =
     let id = c.loop-at.invariant.0 in (
       omega (arith, id),
       c.set_id_at.ensures.length ∙ c.loop-at.invariant.1,
-      step c.loop-at.at c.loop-at.id c.loop-at.members _ c.set_id_at.ensures.front c.set_id_at.ensures.rest ∙ c.loop-at.invariant.2,
+      step c.loop-at.at c.loop-at.id c.loop-at.members _ c.set_id_at.ensures.front c.set_id_at.ensures.rest
+          ∙ c.loop-at.invariant.2,
     )
 
 pub returns : goal.returns

@@ -6,4 +6,5 @@ abbrev pub invariant-loop-at : goal.invariant-loop-at
 invariant-loop-at l =
     (l.id + ids_in_seq_members (drop l.at l.members) ≡ l.first + ids_in_seq_members l.fn.members)
     × (length l.members ≡ length l.fn.members)
-    × (take l.at l.members ++ numbered_seq_members l.id (drop l.at l.members) ≡ numbered_seq_members l.first l.fn.members)
+    × (take l.at l.members ++ numbered_seq_members l.id (drop l.at l.members)
+    ≡ numbered_seq_members l.first l.fn.members)

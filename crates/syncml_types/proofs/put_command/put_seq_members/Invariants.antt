@@ -4,4 +4,6 @@ use Rattle.syncml_types.specs.Canonical.{seq_members_tokens}
 use Rattle.syncml_types.proofs.put_command.put_seq_members.Given as goal
 
 abbrev pub invariant-loop-member : goal.invariant-loop-member
-invariant-loop-member g l = given g.W.Writer.after l.fn.w (seq_members_tokens l.member-items) ≡ given g.W.Writer.after l.w (seq_members_tokens (drop l.member-index l.member-items))
+invariant-loop-member g l =
+    given g.W.Writer.after l.fn.w (seq_members_tokens l.member-items)
+    ≡ given g.W.Writer.after l.w (seq_members_tokens (drop l.member-index l.member-items))

@@ -7,4 +7,5 @@ use Rattle.syncml_types.proofs.put_numbered.put_members_from.Given as goal
 abbrev pub invariant-loop-member : goal.invariant-loop-member
 invariant-loop-member g l =
     (l.id ≡ l.fn.first + l.member-index)
-    × (given g.W.Writer.after l.fn.w (members_tokens (numbered_members l.fn.first l.member-items)) ≡ given g.W.Writer.after l.w (members_tokens (numbered_members l.id (drop l.member-index l.member-items))))
+    × (given g.W.Writer.after l.fn.w (members_tokens (numbered_members l.fn.first l.member-items))
+    ≡ given g.W.Writer.after l.w (members_tokens (numbered_members l.id (drop l.member-index l.member-items))))

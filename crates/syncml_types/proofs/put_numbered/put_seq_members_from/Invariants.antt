@@ -7,4 +7,5 @@ use Rattle.syncml_types.proofs.put_numbered.put_seq_members_from.Given as goal
 abbrev pub invariant-loop-member : goal.invariant-loop-member
 invariant-loop-member g l =
     (l.id + ids_in_seq_members (drop l.member-index l.member-items) ≡ l.fn.first + ids_in_seq_members l.member-items)
-    × (given g.W.Writer.after l.fn.w (seq_members_tokens (numbered_seq_members l.fn.first l.member-items)) ≡ given g.W.Writer.after l.w (seq_members_tokens (numbered_seq_members l.id (drop l.member-index l.member-items))))
+    × (given g.W.Writer.after l.fn.w (seq_members_tokens (numbered_seq_members l.fn.first l.member-items))
+    ≡ given g.W.Writer.after l.w (seq_members_tokens (numbered_seq_members l.id (drop l.member-index l.member-items))))
