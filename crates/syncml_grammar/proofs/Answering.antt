@@ -1,5 +1,6 @@
 -- What the public calls answer, from the steps that the builder takes.
-use Rattle.std.proofs.Common.{arith, ◌≡◌, ◌↔◌, ◌≤◌, List, Option, Some, None, Result, Ok, Err, OnOk, IfOk, refl, sym, ap, subst, ◌∙◌}
+use Rattle.std.proofs.Common.{arith, ◌≡◌, ◌↔◌, ◌≤◌, List, Option, Some, None, Result, Ok, Err, OnOk, IfOk, refl, sym}
+use Rattle.std.proofs.Common.{ap, subst, ◌∙◌}
 use Rattle.std.specs.Prelude.{ok_or}
 use Rattle.std.specs.Result.{result_ok}
 use Rattle.dm_base.specs.declared.bytes.Memory.{Memory}
@@ -9,12 +10,13 @@ use Rattle.wbxml_tokens.specs.Taking.{Takes}
 use Rattle.syncml_shape.specs.Forest.{spelling}
 use Rattle.syncml_types.specs.Message.{Parts}
 use Rattle.syncml_types.specs.Fitness.{IsFit}
-use Rattle.syncml_grammar.specs.declared.open.Stop.{Stop}
-use Rattle.syncml_grammar.specs.declared.open.Stop.TheVariants as stops
+use Rattle.wbxml_tokens.specs.declared.reason.Stop.{Stop}
+use Rattle.wbxml_tokens.specs.declared.reason.Stop.TheVariants as stops
 use Rattle.syncml_grammar.specs.declared.verdict.Verdict.{Verdict}
 use Rattle.syncml_grammar.specs.Reads.{SpellsParts, parts_in}
 use Rattle.syncml_grammar.specs.Machine.{Frame, step, finished}
-use Rattle.syncml_grammar.specs.Building.{Building, IsBuilding, HasBuilt, built_by, unless_stopped, building_after, frames_or, refused_by, refusal_of, told, IsLacking, text_length, most_text}
+use Rattle.syncml_grammar.specs.Building.{Building, IsBuilding, HasBuilt, built_by, unless_stopped, building_after}
+use Rattle.syncml_grammar.specs.Building.{frames_or, refused_by, refusal_of, told, IsLacking, text_length, most_text}
 use Rattle.syncml_grammar.specs.Refusals.{Judges, verdict_of}
 use Rattle.syncml_grammar.specs.Refusals.{Verdict as Judgement}
 use Rattle.syncml_grammar.specs.Verdicts.{judgement, GivesOne}
@@ -26,14 +28,16 @@ same_parts None h k = cc
 same_parts (Some x) h k = cc
 
 -- the message behind tokens is fit
-pub fit_behind : ReadIsFit → (b : Building) (parts : Parts) → IsBuilding b → b.stopped ≡ None → finished b.frames ≡ Some parts
+pub fit_behind : ReadIsFit → (b : Building) (parts : Parts) → IsBuilding b → b.stopped ≡ None
+    → finished b.frames ≡ Some parts
     → IsFit parts.header parts.body
 fit_behind law b parts is_building going fin =
     let was = is_building going in
     let spells = finished_spelled was.0 b.frames parts was.1 fin in
     let shape = spells.1 in
     let read = spells.2 in
-    let short : text_length (spelling spells.0) ≤ most_text = subst (λ tokens. text_length tokens ≤ most_text) shape.spelled (omega (arith, was.2)) in
+    let short : text_length (spelling spells.0) ≤ most_text =
+    subst (λ tokens. text_length tokens ≤ most_text) shape.spelled (omega (arith, was.2)) in
     let fit = law spells.0 read.0 read.1 shape.fitting read.2 short in
     subst (λ (p : Parts). IsFit p.header p.body) (same_parts (parts_in read.0) fit.1 read.3) fit.2
 
@@ -42,13 +46,17 @@ pub found_again : {E : Type 0} (found : Option Parts) (e : E) → result_ok (ok_
 found_again None e = refl
 found_again (Some x) e = refl
 
-pub finish_spelled : (r : Option Parts) (b : Building) (tokens : List Token) (parts : Parts) → r ≡ built_by b → HasBuilt b tokens
+pub finish_spelled : (r : Option Parts) (b : Building) (tokens : List Token) (parts : Parts) → r ≡ built_by b
+    → HasBuilt b tokens
     → (r ≡ Some parts) ↔ SpellsParts tokens parts
 finish_spelled r b tokens parts is has =
-    let whole : r ≡ finished b.frames = is ∙ ap (λ s. unless_stopped s (finished b.frames)) has.0 in
-    (λ w. finished_spelled tokens b.frames parts has.1 (sym whole ∙ w), λ spells. whole ∙ spelled_finished tokens b.frames parts has.1 spells)
+    let whole : r ≡ finished b.frames = is ∙ ap (λ s. unless_stopped s (finished b.frames)) has.0 in (
+      λ w. finished_spelled tokens b.frames parts has.1 (sym whole ∙ w),
+      λ spells. whole ∙ spelled_finished tokens b.frames parts has.1 spells,
+    )
 
-ok_step : (o : Result (List Frame) Reason) (frames : List Frame) → refused_by None o ≡ None → o ≡ Ok (frames_or frames o)
+ok_step : (o : Result (List Frame) Reason) (frames : List Frame) → refused_by None o ≡ None
+    → o ≡ Ok (frames_or frames o)
 ok_step (Ok after) frames h = refl
 ok_step (Err reason) frames h = cc
 
@@ -57,20 +65,24 @@ err_step (Ok after) reason h = cc
 err_step (Err other) reason h = cc
 
 -- one token, put into a builder that hasn't stopped
-pub one_step : (r : Result Unit Stop) (old new : Building) (t : Token) → old.stopped ≡ None → OnOk r (new ≡ building_after old t)
+pub one_step : (r : Result Unit Stop) (old new : Building) (t : Token) → old.stopped ≡ None
+    → OnOk r (new ≡ building_after old t)
     → Takes told IsLacking r old new (refusal_of old t) → GivesOne r old new t
 one_step (Ok u) old new t going is takes =
-    let taken = ok_step (step old.frames t) old.frames (subst (λ s. refused_by s (step old.frames t) ≡ None) going takes) in
+    let taken =
+    ok_step (step old.frames t) old.frames (subst (λ s. refused_by s (step old.frames t) ≡ None) going takes) in
     (taken ∙ ap (λ (b : Building). Ok b.frames) (sym is), ap (λ (b : Building). b.stopped) is ∙ going)
 one_step (Err stops.Memory) old new t going is takes = tt
 one_step (Err (stops.Refused reason)) old new t going is takes =
     err_step (step old.frames t) reason (subst (λ s. refused_by s (step old.frames t) ≡ Some reason) going takes)
 
-pub answer_exact : (r : Result Verdict Memory) (tokens : List Token) → IfOk r (λ v. judgement v ≡ verdict_of tokens) → IfOk r (λ v. Judges tokens (judgement v))
+pub answer_exact : (r : Result Verdict Memory) (tokens : List Token) → IfOk r (λ v. judgement v ≡ verdict_of tokens)
+    → IfOk r (λ v. Judges tokens (judgement v))
 answer_exact (Ok v) tokens x = subst (Judges tokens) (sym x) (verdict_judges tokens)
 answer_exact (Err e) tokens x = x
 
-pub answer_only : (r : Result Verdict Memory) (tokens : List Token) (other : Judgement) → IfOk r (λ v. judgement v ≡ verdict_of tokens) → Judges tokens other
+pub answer_only : (r : Result Verdict Memory) (tokens : List Token) (other : Judgement)
+    → IfOk r (λ v. judgement v ≡ verdict_of tokens) → Judges tokens other
     → IfOk r (λ v. judgement v ≡ other)
 answer_only (Ok v) tokens other x j = x ∙ one_verdict tokens other j
 answer_only (Err e) tokens other x j = x

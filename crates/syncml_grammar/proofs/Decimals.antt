@@ -1,5 +1,7 @@
 -- What is read digit by digit is decimal text.
-use Rattle.std.specs.Prelude.{◌≡◌, ◌==◌, ◌&&◌, ◌||◌, ℕ, ◌+◌, ◌*◌, ◌-◌, ◌^◌, ◌<◌, ◌≤◌, ◌≢◌, ◌⊎◌, zero, suc, nat_lt, nat_le, slice_index, length, Bool, true, false, not, if◌then◌else◌, List, [], ◌∷◌, Option, Some, None, refl}
+use Rattle.std.specs.Prelude.{◌≡◌, ◌==◌, ◌&&◌, ◌||◌, ℕ, ◌+◌, ◌*◌, ◌-◌, ◌^◌, ◌<◌, ◌≤◌, ◌≢◌, ◌⊎◌, zero, suc, nat_lt}
+use Rattle.std.specs.Prelude.{nat_le, slice_index, length, Bool, true, false, not, if◌then◌else◌, List, [], ◌∷◌, Option}
+use Rattle.std.specs.Prelude.{Some, None, refl}
 use Rattle.std.specs.Char.{digit_value}
 use Rattle.std.specs.Fmt.{decimal}
 use Rattle.std.specs.Str.{all_ascii_digits}
@@ -57,10 +59,14 @@ longer_bad n digit h high = rw (positive n h, le-ltb (n * 10 + digit) (2 ^ 64) h
 
 -- what digits give behind a number
 abbrev GoesOn : List ℕ → Type 0
-GoesOn text = (n : ℕ) → 0 < n → n < 2 ^ 64 → number_in (digits_after (Number n) text) ≡ fitting (all_ascii_digits text) (digits_value_after 10 n text)
+GoesOn text =
+    (n : ℕ) → 0 < n → n < 2 ^ 64
+    → number_in (digits_after (Number n) text) ≡ fitting (all_ascii_digits text) (digits_value_after 10 n text)
 
-one_more : (c n : ℕ) (text : List ℕ) → GoesOn text → 0 < n → digit_value c ≡ c - 48 → (n * 10 + (c - 48) < 2 ^ 64) ⊎ (2 ^ 64 ≤ n * 10 + (c - 48))
-    → number_in (digits_after (longer n (c - 48)) text) ≡ fitting (all_ascii_digits text) (digits_value_after 10 (n * 10 + digit_value c) text)
+one_more : (c n : ℕ) (text : List ℕ) → GoesOn text → 0 < n → digit_value c ≡ c - 48
+    → (n * 10 + (c - 48) < 2 ^ 64) ⊎ (2 ^ 64 ≤ n * 10 + (c - 48))
+    → number_in (digits_after (longer n (c - 48)) text)
+    ≡ fitting (all_ascii_digits text) (digits_value_after 10 (n * 10 + digit_value c) text)
 one_more c n text rest some is (inl low) =
     ap (λ d. number_in (digits_after d text)) (longer_fits n (c - 48) some low)
     ∙ rest (n * 10 + (c - 48)) (omega (arith, some)) low
@@ -68,14 +74,17 @@ one_more c n text rest some is (inl low) =
 one_more c n text rest some is (inr high) =
     ap (λ d. number_in (digits_after d text)) (longer_bad n (c - 48) some high)
     ∙ none_bad text
-    ∙ sym (too_large (all_ascii_digits text) (digits_value_after 10 (n * 10 + digit_value c) text) (omega (arith, is, high, grows (n * 10 + digit_value c) text)))
+    ∙ sym (too_large (all_ascii_digits text) (digits_value_after 10 (n * 10 + digit_value c) text)
+    (omega (arith, is, high, grows (n * 10 + digit_value c) text)))
 
 reads_on : (text : List ℕ) → GoesOn text
 reads_on [] n some small = rw (lt-ltb n (2 ^ 64) small) refl
 reads_on (c ∷ text) n some small =
-    (elim (is_digit c) as (λ (b : Bool). is_digit c ≡ b → number_in (digits_after (if b then longer n (c - 48) else Bad) text)
+    (elim (is_digit c)
+    as (λ (b : Bool). is_digit c ≡ b → number_in (digits_after (if b then longer n (c - 48) else Bad) text)
     ≡ fitting (b && all_ascii_digits text) (digits_value_after 10 (n * 10 + digit_value c) text)) [
-      | true ↦ λ is. one_more c n text (λ m. reads_on text m) some (digit_is c is) (cases_lt (n * 10 + (c - 48)) (2 ^ 64))
+      | true ↦ λ is.
+          one_more c n text (λ m. reads_on text m) some (digit_is c is) (cases_lt (n * 10 + (c - 48)) (2 ^ 64))
       | false ↦ λ is. none_bad text
     ]) refl
 
@@ -86,7 +95,8 @@ from_zero v w h = omega (arith, h)
 
 only_digit : (c : ℕ) → is_digit c ≡ true → Some (c - 48) ≡ fitting true (0 * 10 + digit_value c)
 only_digit c is =
-    sym (ap (fitting true) (from_zero (digit_value c) (c - 48) (digit_is c is)) ∙ (rw (lt-ltb (c - 48) (2 ^ 64) (omega (arith, (digit_range c is).1))) refl))
+    sym (ap (fitting true) (from_zero (digit_value c) (c - 48) (digit_is c is))
+    ∙ (rw (lt-ltb (c - 48) (2 ^ 64) (omega (arith, (digit_range c is).1))) refl))
 
 -- a 0 before more bytes
 leading_zero : (c d : ℕ) (text : List ℕ) → c ≡ 48 → number_in (digits_after (Number (c - 48)) (d ∷ text)) ≡ None
@@ -99,13 +109,15 @@ refused_zero : (c n : ℕ) (all one : Bool) → one ≡ false → c ≡ 48 → f
 refused_zero c n true one more is = rw (more, is) refl
 refused_zero c n false one more is = refl
 
-allowed : (c n : ℕ) (all one : Bool) → one ≡ false → (c == 48) ≡ false → fitting (all && (one || not (c == 48))) n ≡ fitting all n
+allowed : (c n : ℕ) (all one : Bool) → one ≡ false → (c == 48) ≡ false
+    → fitting (all && (one || not (c == 48))) n ≡ fitting all n
 allowed c n true one more is = rw (more, is) refl
 allowed c n false one more is = refl
 
 first_digit : (c : ℕ) (text : List ℕ) → is_digit c ≡ true
     → number_in (digits_after (Number (c - 48)) text)
-    ≡ fitting (all_ascii_digits text && (length (c ∷ text) == 1 || not (c == 48))) (digits_value_after 10 (0 * 10 + digit_value c) text)
+    ≡ fitting (all_ascii_digits text && (length (c ∷ text) == 1 || not (c == 48)))
+    (digits_value_after 10 (0 * 10 + digit_value c) text)
 first_digit c [] is = only_digit c is
 first_digit c (d ∷ text) is = by (cases_eq c 48)
   where
@@ -119,12 +131,14 @@ first_digit c (d ∷ text) is = by (cases_eq c 48)
         → number_in (digits_after (Number (c - 48)) (d ∷ text))
         ≡ fitting (all_ascii_digits (d ∷ text) && (length (c ∷ d ∷ text) == 1 || not (c == 48))) value
     by (inl same) =
-        leading_zero c d text same ∙ sym (refused_zero c value (all_ascii_digits (d ∷ text)) (length (c ∷ d ∷ text) == 1) two same)
+        leading_zero c d text same
+        ∙ sym (refused_zero c value (all_ascii_digits (d ∷ text)) (length (c ∷ d ∷ text) == 1) two same)
     by (inr other) =
         let range = digit_range c is in
         let some : 0 < c - 48 = omega (arith, range.0, other) in
         reads_on (d ∷ text) (c - 48) some (omega (arith, range.1))
-        ∙ ap (λ n. fitting (all_ascii_digits (d ∷ text)) (digits_value_after 10 n (d ∷ text))) (sym (from_zero (digit_value c) (c - 48) (digit_is c is)))
+        ∙ ap (λ n. fitting (all_ascii_digits (d ∷ text)) (digits_value_after 10 n (d ∷ text)))
+        (sym (from_zero (digit_value c) (c - 48) (digit_is c is)))
         ∙ sym (allowed c value (all_ascii_digits (d ∷ text)) (length (c ∷ d ∷ text) == 1) two (ne_eqb c 48 other))
 
 true_front : (b x z : Bool) (n : ℕ) → b ≡ true → fitting (x && z) n ≡ fitting (b && x && z) n
@@ -133,12 +147,15 @@ true_front b x z n is = rw is refl
 pub numbers_are_decimal : NumbersAreDecimal
 numbers_are_decimal [] = refl
 numbers_are_decimal (c ∷ text) =
-    (elim (is_digit c) as (λ (b : Bool). is_digit c ≡ b → number_in (digits_after (if b then Number (c - 48) else Bad) text)
-    ≡ fitting ((b && all_ascii_digits text) && (length (c ∷ text) == 1 || not (c == 48))) (digits_value_after 10 (0 * 10 + digit_value c) text)) [
+    (elim (is_digit c)
+    as (λ (b : Bool). is_digit c ≡ b → number_in (digits_after (if b then Number (c - 48) else Bad) text)
+    ≡ fitting ((b && all_ascii_digits text) && (length (c ∷ text) == 1 || not (c == 48)))
+    (digits_value_after 10 (0 * 10 + digit_value c) text)) [
       | true ↦ λ is. first_digit c text is
       | false ↦ λ is. none_bad text
     ]) refl
-    ∙ true_front (nat_lt 0 (length (c ∷ text))) (is_digit c && all_ascii_digits text) (length (c ∷ text) == 1 || not (c == 48))
+    ∙ true_front (nat_lt 0 (length (c ∷ text))) (is_digit c && all_ascii_digits text)
+    (length (c ∷ text) == 1 || not (c == 48))
     (digits_value_after 10 (0 * 10 + digit_value c) text) (lt-ltb 0 (length (c ∷ text)) (omega arith))
 
 -- ---- pieces
@@ -152,16 +169,20 @@ pieces_are_text digits (c ∷ a) b = pieces_are_text (digit_after digits c) a b
 own : IsNumeralModel (λ ds. all_ascii_digits ds ≡ true) (digits_value 10)
 own = numerals_by_value _ tells_all_ascii_digits
 
-num_from : (text : List ℕ) (n : ℕ) → 0 < length text → all_ascii_digits text ≡ true → (length text == 1 || not (slice_index text 0 == 48)) ≡ true
+num_from : (text : List ℕ) (n : ℕ) → 0 < length text → all_ascii_digits text ≡ true
+    → (length text == 1 || not (slice_index text 0 == 48)) ≡ true
     → digits_value 10 text ≡ n → n < 2 ^ 64 → num_of text ≡ Some n
-num_from text n some digits first is small = rw (lt-ltb 0 (length text) some, digits, first, is, lt-ltb n (2 ^ 64) small) refl
+num_from text n some digits first is small =
+    rw (lt-ltb 0 (length text) some, digits, first, is, lt-ltb n (2 ^ 64) small) refl
 
 first_of : (n : ℕ) → n < 2 ^ 64 → (length (decimal n) == 1 || not (slice_index (decimal n) 0 == 48)) ≡ true
 first_of zero small = ap (λ text. length text == 1 || not (slice_index text 0 == 48)) (decimal_digit 0 (omega arith))
 first_of (suc n) small =
     let above = first_decimal (suc n) (omega arith) small in
-    or_right (length (decimal (suc n)) == 1) (not (slice_index (decimal (suc n)) 0 == 48)) (ap not (ne_eqb (slice_index (decimal (suc n)) 0) 48 (λ is. omega (arith, above, is))))
+    or_right (length (decimal (suc n)) == 1) (not (slice_index (decimal (suc n)) 0 == 48))
+    (ap not (ne_eqb (slice_index (decimal (suc n)) 0) 48 (λ is. omega (arith, above, is))))
 
 pub written_is_read : WrittenIsRead
 written_is_read n small =
-    num_from (decimal n) n (decimal_nonempty n small) (digits_decimal own n small) (first_of n small) (digits_value-decimal own n small) small
+    num_from (decimal n) n (decimal_nonempty n small) (digits_decimal own n small) (first_of n small)
+    (digits_value-decimal own n small) small

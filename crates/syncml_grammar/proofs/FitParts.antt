@@ -1,5 +1,7 @@
--- What is known of the parts of a message so far, given what may still come in them, and that they are fit once nothing must.
-use Rattle.std.specs.Prelude.{◌≡◌, ◌⊎◌, ◌==◌, ◌&&◌, ◌||◌, ℕ, Bool, true, false, if◌then◌else◌, List, [], ◌∷◌, length, Option, Some, None, IfSome, IsTrue, refl}
+-- What is known of the parts of a message so far, given what may still come in them, and that they are fit once nothing
+-- must.
+use Rattle.std.specs.Prelude.{◌≡◌, ◌⊎◌, ◌==◌, ◌&&◌, ◌||◌, ℕ, Bool, true, false, if◌then◌else◌, List, [], ◌∷◌, length}
+use Rattle.std.specs.Prelude.{Option, Some, None, IfSome, IsTrue, refl}
 use Rattle.std.proofs.Common.{ap, subst, inl, inr}
 use Rattle.std.specs.List.{list_all, AllByRecursion}
 use Rattle.std.specs.Option.{is_none}
@@ -26,7 +28,14 @@ use Rattle.syncml_types.specs.declared.command.ResultsCmd.{ResultsCmd}
 use Rattle.syncml_types.specs.declared.command.Command.{Command}
 use Rattle.syncml_types.specs.declared.command.Command.TheVariants as command
 use Rattle.syncml_types.specs.Canonical.{is_text}
-use Rattle.syncml_types.specs.Fitness.{all_of, is_short, is_number, is_filled, is_exec, loc_texts, meta_texts, item_texts, cred_texts, header_texts, plain_texts, alert_texts, member_texts, atomic_texts, seq_member_texts, sequence_texts, status_texts, results_texts, command_texts, item_data, header_data, member_data, seq_member_data, command_data, member_numbers, atomic_numbers, seq_member_numbers, command_numbers, plain_filled, member_filled, atomic_filled, seq_member_filled, command_filled, plain_correlates, member_correlates, seq_member_correlates, command_correlates, IsFit}
+use Rattle.syncml_types.specs.Fitness.{all_of, is_short, is_number, is_filled, is_exec, loc_texts, meta_texts}
+use Rattle.syncml_types.specs.Fitness.{item_texts, cred_texts, header_texts, plain_texts, alert_texts, member_texts}
+use Rattle.syncml_types.specs.Fitness.{atomic_texts, seq_member_texts, sequence_texts, status_texts, results_texts}
+use Rattle.syncml_types.specs.Fitness.{command_texts, item_data, header_data, member_data, seq_member_data}
+use Rattle.syncml_types.specs.Fitness.{command_data, member_numbers, atomic_numbers, seq_member_numbers}
+use Rattle.syncml_types.specs.Fitness.{command_numbers, plain_filled, member_filled, atomic_filled, seq_member_filled}
+use Rattle.syncml_types.specs.Fitness.{command_filled, plain_correlates, member_correlates, seq_member_correlates}
+use Rattle.syncml_types.specs.Fitness.{command_correlates, IsFit}
 use Rattle.syncml_grammar.specs.declared.draft.MessageDraft.{MessageDraft}
 use Rattle.syncml_grammar.proofs.FitRows.{sort, needs, is_item, ends_in_item, has_ended, complete_needs}
 
@@ -88,7 +97,8 @@ pub record FitPlain (content : Content) (c : Plain) : Type 0 where
   pub items : AllByRecursion FitItem c.items
   pub id : needs (number_of ECmdID) content ≡ false → is_number c.id ≡ true
   pub filled : needs is_item content ≡ false → is_filled c.items ≡ true
-  pub single : is_exec c.verb ≡ true → (ends_in_item content ≡ true) × ((c.items ≡ []) ⊎ ((length c.items ≡ 1) × (has_ended content ≡ true)))
+  pub single : is_exec c.verb ≡ true
+      → (ends_in_item content ≡ true) × ((c.items ≡ []) ⊎ ((length c.items ≡ 1) × (has_ended content ≡ true)))
   pub correlates : (is_exec c.verb || is_none c.correlator) ≡ true
 
 pub record FitAlert (content : Content) (c : AlertCmd) : Type 0 where
@@ -156,11 +166,13 @@ pub record FitMessage (content : Content) (m : MessageDraft) : Type 0 where
 both : {a b : Bool} → a ≡ true → b ≡ true → (a && b) ≡ true
 both {a} {b} h k = and_both a b h k
 
-each : {A : Type 0} (test : A → Bool) (P : A → Type 0) → ((x : A) → P x → test x ≡ true) → (xs : List A) → AllByRecursion P xs → list_all test xs ≡ true
+each : {A : Type 0} (test : A → Bool) (P : A → Type 0) → ((x : A) → P x → test x ≡ true) → (xs : List A)
+    → AllByRecursion P xs → list_all test xs ≡ true
 each test P one [] h = refl
 each test P one (x ∷ xs) h = both (one x h.0) (each test P one xs h.1)
 
-some : {A : Type 0} (test : A → Bool) (P : A → Type 0) → ((x : A) → P x → test x ≡ true) → (o : Option A) → IfSome o P → all_of test o ≡ true
+some : {A : Type 0} (test : A → Bool) (P : A → Type 0) → ((x : A) → P x → test x ≡ true) → (o : Option A) → IfSome o P
+    → all_of test o ≡ true
 some test P one None h = refl
 some test P one (Some x) h = one x h
 
@@ -176,19 +188,27 @@ loc_passes test p loc f = both (p loc.uri f.uri) (some test FitText p loc.name f
 meta_passes : (test : List ℕ → Bool) → IsPassed test → (meta : Meta) → FitMeta meta → meta_texts test meta ≡ true
 unfolding meta_texts
 meta_passes test p meta f =
-    both (both (both (both (some test FitText p meta.format f.format) (some test FitText p meta.media f.media)) (some test FitText p meta.next_nonce f.next_nonce)) (some test FitText p meta.mark f.mark)) (some test FitText p meta.version f.version)
+    both
+    (both (both (both (some test FitText p meta.format f.format) (some test FitText p meta.media f.media))
+    (some test FitText p meta.next_nonce f.next_nonce)) (some test FitText p meta.mark f.mark))
+    (some test FitText p meta.version f.version)
 
-metas_pass : (test : List ℕ → Bool) → IsPassed test → (o : Option Meta) → IfSome o FitMeta → all_of (meta_texts test) o ≡ true
+metas_pass : (test : List ℕ → Bool) → IsPassed test → (o : Option Meta) → IfSome o FitMeta
+    → all_of (meta_texts test) o ≡ true
 metas_pass test p o f = some (meta_texts test) FitMeta (meta_passes test p) o f
 
-locs_pass : (test : List ℕ → Bool) → IsPassed test → (o : Option Loc) → IfSome o FitLoc → all_of (loc_texts test) o ≡ true
+locs_pass : (test : List ℕ → Bool) → IsPassed test → (o : Option Loc) → IfSome o FitLoc
+    → all_of (loc_texts test) o ≡ true
 locs_pass test p o f = some (loc_texts test) FitLoc (loc_passes test p) o f
 
 item_passes : (test : List ℕ → Bool) → IsPassed test → (item : Item) → FitItem item → item_texts test item ≡ true
 unfolding item_texts
-item_passes test p item f = both (both (locs_pass test p item.target f.target) (locs_pass test p item.source f.source)) (metas_pass test p item.meta f.meta)
+item_passes test p item f =
+    both (both (locs_pass test p item.target f.target) (locs_pass test p item.source f.source))
+    (metas_pass test p item.meta f.meta)
 
-items_pass : (test : List ℕ → Bool) → IsPassed test → (items : List Item) → AllByRecursion FitItem items → list_all (item_texts test) items ≡ true
+items_pass : (test : List ℕ → Bool) → IsPassed test → (items : List Item) → AllByRecursion FitItem items
+    → list_all (item_texts test) items ≡ true
 items_pass test p items f = each (item_texts test) FitItem (item_passes test p) items f
 
 cred_passes : (test : List ℕ → Bool) → IsPassed test → (cred : Cred) → FitCred cred → cred_texts test cred ≡ true
@@ -198,15 +218,24 @@ cred_passes test p cred f = metas_pass test p cred.meta f.meta
 header_passes : (test : List ℕ → Bool) → IsPassed test → (h : Header) → Ended FitHeader h → header_texts test h ≡ true
 unfolding header_texts
 header_passes test p h (content, done, f) =
-    both (both (both (both (both (both (both (p h.dtd f.dtd) (p h.proto f.proto)) (p h.session f.session)) (loc_passes test p h.target f.target)) (loc_passes test p h.source f.source)) (some test FitText p h.resp_uri f.resp_uri)) (some (cred_texts test) FitCred (cred_passes test p) h.cred f.cred)) (metas_pass test p h.meta f.meta)
+    both
+    (both
+    (both
+    (both (both (both (both (p h.dtd f.dtd) (p h.proto f.proto)) (p h.session f.session))
+    (loc_passes test p h.target f.target)) (loc_passes test p h.source f.source))
+    (some test FitText p h.resp_uri f.resp_uri)) (some (cred_texts test) FitCred (cred_passes test p) h.cred f.cred))
+    (metas_pass test p h.meta f.meta)
 
 plain_passes : (test : List ℕ → Bool) → IsPassed test → (c : Plain) → Ended FitPlain c → plain_texts test c ≡ true
 unfolding plain_texts
-plain_passes test p c (content, done, f) = both (both (metas_pass test p c.meta f.meta) (some test FitText p c.correlator f.correlator)) (items_pass test p c.items f.items)
+plain_passes test p c (content, done, f) =
+    both (both (metas_pass test p c.meta f.meta) (some test FitText p c.correlator f.correlator))
+    (items_pass test p c.items f.items)
 
 alert_passes : (test : List ℕ → Bool) → IsPassed test → (c : AlertCmd) → Ended FitAlert c → alert_texts test c ≡ true
 unfolding alert_texts
-alert_passes test p c (content, done, f) = both (some test FitText p c.correlator f.correlator) (items_pass test p c.items f.items)
+alert_passes test p c (content, done, f) =
+    both (some test FitText p c.correlator f.correlator) (items_pass test p c.items f.items)
 
 member_passes : (test : List ℕ → Bool) → IsPassed test → (m : Member) → FitMember m → member_texts test m ≡ true
 unfolding member_texts
@@ -215,26 +244,38 @@ member_passes test p (member.Alert c) f = alert_passes test p c f
 
 atomic_passes : (test : List ℕ → Bool) → IsPassed test → (b : Block) → Ended FitAtomic b → atomic_texts test b ≡ true
 unfolding atomic_texts
-atomic_passes test p b (content, done, f) = both (metas_pass test p b.meta f.meta) (each (member_texts test) FitMember (member_passes test p) b.members f.members)
+atomic_passes test p b (content, done, f) =
+    both (metas_pass test p b.meta f.meta)
+    (each (member_texts test) FitMember (member_passes test p) b.members f.members)
 
-seq_member_passes : (test : List ℕ → Bool) → IsPassed test → (m : SeqMember) → FitSeqMember m → seq_member_texts test m ≡ true
+seq_member_passes : (test : List ℕ → Bool) → IsPassed test → (m : SeqMember) → FitSeqMember m
+    → seq_member_texts test m ≡ true
 unfolding seq_member_texts
 seq_member_passes test p (seq_member.Single m) f = member_passes test p m f
 seq_member_passes test p (seq_member.Atomic b) f = atomic_passes test p b f
 
-sequence_passes : (test : List ℕ → Bool) → IsPassed test → (b : SeqBlock) → Ended FitSequence b → sequence_texts test b ≡ true
+sequence_passes : (test : List ℕ → Bool) → IsPassed test → (b : SeqBlock) → Ended FitSequence b
+    → sequence_texts test b ≡ true
 unfolding sequence_texts
-sequence_passes test p b (content, done, f) = both (metas_pass test p b.meta f.meta) (each (seq_member_texts test) FitSeqMember (seq_member_passes test p) b.members f.members)
+sequence_passes test p b (content, done, f) =
+    both (metas_pass test p b.meta f.meta)
+    (each (seq_member_texts test) FitSeqMember (seq_member_passes test p) b.members f.members)
 
-status_passes : (test : List ℕ → Bool) → IsPassed test → (c : StatusCmd) → Ended FitStatus c → status_texts test c ≡ true
+status_passes : (test : List ℕ → Bool) → IsPassed test → (c : StatusCmd) → Ended FitStatus c
+    → status_texts test c ≡ true
 unfolding status_texts
 status_passes test p c (content, done, f) =
-    both (both (both (both (p c.cmd f.cmd) (each test FitText p c.target_refs f.target_refs)) (each test FitText p c.source_refs f.source_refs)) (metas_pass test p c.chal f.chal)) (items_pass test p c.items f.items)
+    both
+    (both (both (both (p c.cmd f.cmd) (each test FitText p c.target_refs f.target_refs))
+    (each test FitText p c.source_refs f.source_refs)) (metas_pass test p c.chal f.chal))
+    (items_pass test p c.items f.items)
 
-results_passes : (test : List ℕ → Bool) → IsPassed test → (c : ResultsCmd) → Ended FitResults c → results_texts test c ≡ true
+results_passes : (test : List ℕ → Bool) → IsPassed test → (c : ResultsCmd) → Ended FitResults c
+    → results_texts test c ≡ true
 unfolding results_texts
 results_passes test p c (content, done, f) =
-    both (both (both (metas_pass test p c.meta f.meta) (some test FitText p c.target_ref f.target_ref)) (some test FitText p c.source_ref f.source_ref)) (items_pass test p c.items f.items)
+    both (both (both (metas_pass test p c.meta f.meta) (some test FitText p c.target_ref f.target_ref))
+    (some test FitText p c.source_ref f.source_ref)) (items_pass test p c.items f.items)
 
 command_passes : (test : List ℕ → Bool) → IsPassed test → (c : Command) → FitCommand c → command_texts test c ≡ true
 unfolding command_texts
@@ -266,14 +307,17 @@ short_member (member.Alert c) (content, done, f) = short_items c.items f.items
 short_seq_member : (m : SeqMember) → FitSeqMember m → seq_member_data is_short m ≡ true
 unfolding seq_member_data
 short_seq_member (seq_member.Single m) f = short_member m f
-short_seq_member (seq_member.Atomic b) (content, done, f) = each (member_data is_short) FitMember short_member b.members f.members
+short_seq_member (seq_member.Atomic b) (content, done, f) =
+    each (member_data is_short) FitMember short_member b.members f.members
 
 short_command : (c : Command) → FitCommand c → command_data is_short c ≡ true
 unfolding command_data
 short_command (command.Plain c) (content, done, f) = short_items c.items f.items
 short_command (command.Alert c) (content, done, f) = short_items c.items f.items
-short_command (command.Atomic b) (content, done, f) = each (member_data is_short) FitMember short_member b.members f.members
-short_command (command.Sequence b) (content, done, f) = each (seq_member_data is_short) FitSeqMember short_seq_member b.members f.members
+short_command (command.Atomic b) (content, done, f) =
+    each (member_data is_short) FitMember short_member b.members f.members
+short_command (command.Sequence b) (content, done, f) =
+    each (seq_member_data is_short) FitSeqMember short_seq_member b.members f.members
 short_command (command.Status c) (content, done, f) = short_items c.items f.items
 short_command (command.Results c) (content, done, f) = short_items c.items f.items
 
@@ -286,7 +330,9 @@ numbered_member (member.Alert c) (content, done, f) = f.id (complete_needs (numb
 
 numbered_atomic : (b : Block) → Ended FitAtomic b → atomic_numbers b ≡ true
 unfolding atomic_numbers
-numbered_atomic b (content, done, f) = both (f.id (complete_needs (number_of ECmdID) content done)) (each member_numbers FitMember numbered_member b.members f.members)
+numbered_atomic b (content, done, f) =
+    both (f.id (complete_needs (number_of ECmdID) content done))
+    (each member_numbers FitMember numbered_member b.members f.members)
 
 numbered_seq_member : (m : SeqMember) → FitSeqMember m → seq_member_numbers m ≡ true
 unfolding seq_member_numbers
@@ -299,10 +345,13 @@ numbered_command (command.Plain c) (content, done, f) = f.id (complete_needs (nu
 numbered_command (command.Alert c) (content, done, f) = f.id (complete_needs (number_of ECmdID) content done)
 numbered_command (command.Atomic b) f = numbered_atomic b f
 numbered_command (command.Sequence b) (content, done, f) =
-    both (f.id (complete_needs (number_of ECmdID) content done)) (each seq_member_numbers FitSeqMember numbered_seq_member b.members f.members)
+    both (f.id (complete_needs (number_of ECmdID) content done))
+    (each seq_member_numbers FitSeqMember numbered_seq_member b.members f.members)
 numbered_command (command.Status c) (content, done, f) =
-    both (f.id (complete_needs (number_of ECmdID) content done)) (f.msg_ref (complete_needs (number_of EMsgRef) content done))
-numbered_command (command.Results c) (content, done, f) = both (f.id (complete_needs (number_of ECmdID) content done)) f.msg_ref
+    both (f.id (complete_needs (number_of ECmdID) content done))
+    (f.msg_ref (complete_needs (number_of EMsgRef) content done))
+numbered_command (command.Results c) (content, done, f) =
+    both (f.id (complete_needs (number_of ECmdID) content done)) f.msg_ref
 
 -- ---- lists
 
@@ -328,7 +377,9 @@ filled_member (member.Alert c) f = refl
 
 filled_atomic : (b : Block) → Ended FitAtomic b → atomic_filled b ≡ true
 unfolding atomic_filled
-filled_atomic b (content, done, f) = both (f.filled (complete_needs is_member content done)) (each member_filled FitMember filled_member b.members f.members)
+filled_atomic b (content, done, f) =
+    both (f.filled (complete_needs is_member content done))
+    (each member_filled FitMember filled_member b.members f.members)
 
 filled_seq_member : (m : SeqMember) → FitSeqMember m → seq_member_filled m ≡ true
 unfolding seq_member_filled
@@ -341,7 +392,8 @@ filled_command (command.Plain c) f = filled_plain c f
 filled_command (command.Alert c) f = refl
 filled_command (command.Atomic b) f = filled_atomic b f
 filled_command (command.Sequence b) (content, done, f) =
-    both (f.filled (complete_needs is_seq_member content done)) (each seq_member_filled FitSeqMember filled_seq_member b.members f.members)
+    both (f.filled (complete_needs is_seq_member content done))
+    (each seq_member_filled FitSeqMember filled_seq_member b.members f.members)
 filled_command (command.Status c) f = refl
 filled_command (command.Results c) (content, done, f) = f.filled (complete_needs is_item content done)
 
@@ -359,14 +411,17 @@ correlated_member (member.Alert c) f = refl
 correlated_seq_member : (m : SeqMember) → FitSeqMember m → seq_member_correlates m ≡ true
 unfolding seq_member_correlates
 correlated_seq_member (seq_member.Single m) f = correlated_member m f
-correlated_seq_member (seq_member.Atomic b) (content, done, f) = each member_correlates FitMember correlated_member b.members f.members
+correlated_seq_member (seq_member.Atomic b) (content, done, f) =
+    each member_correlates FitMember correlated_member b.members f.members
 
 correlated_command : (c : Command) → FitCommand c → command_correlates c ≡ true
 unfolding command_correlates
 correlated_command (command.Plain c) f = correlated_plain c f
 correlated_command (command.Alert c) f = refl
-correlated_command (command.Atomic b) (content, done, f) = each member_correlates FitMember correlated_member b.members f.members
-correlated_command (command.Sequence b) (content, done, f) = each seq_member_correlates FitSeqMember correlated_seq_member b.members f.members
+correlated_command (command.Atomic b) (content, done, f) =
+    each member_correlates FitMember correlated_member b.members f.members
+correlated_command (command.Sequence b) (content, done, f) =
+    each seq_member_correlates FitSeqMember correlated_seq_member b.members f.members
 correlated_command (command.Status c) f = refl
 correlated_command (command.Results c) f = refl
 
@@ -374,10 +429,16 @@ correlated_command (command.Results c) f = refl
 
 pub parts_fit : (h : Header) (body : List Command) → Ended FitHeader h → AllByRecursion FitCommand body → IsFit h body
 parts_fit h body f fs = record {
-  texts = both (header_passes is_text (λ text t. t.plain) h f) (each (command_texts is_text) FitCommand (command_passes is_text (λ text t. t.plain)) body fs);
-  numbers = both (f.2.msg (complete_needs (number_of EMsgID) f.0 f.1)) (each command_numbers FitCommand numbered_command body fs);
+  texts =
+      both (header_passes is_text (λ text t. t.plain) h f)
+      (each (command_texts is_text) FitCommand (command_passes is_text (λ text t. t.plain)) body fs);
+  numbers =
+      both (f.2.msg (complete_needs (number_of EMsgID) f.0 f.1))
+      (each command_numbers FitCommand numbered_command body fs);
   filled = each command_filled FitCommand filled_command body fs;
   correlators = each command_correlates FitCommand correlated_command body fs;
-  short_texts = both (header_passes is_short (λ text t. t.short) h f) (each (command_texts is_short) FitCommand (command_passes is_short (λ text t. t.short)) body fs);
+  short_texts =
+      both (header_passes is_short (λ text t. t.short) h f)
+      (each (command_texts is_short) FitCommand (command_passes is_short (λ text t. t.short)) body fs);
   short_data = both (short_header h f) (each (command_data is_short) FitCommand short_command body fs);
 }

@@ -1,5 +1,6 @@
 -- What the texts of a document's tree read as is fit.
-use Rattle.std.specs.Prelude.{◌≡◌, ◌≤◌, ◌==◌, ◌&&◌, ◌||◌, ◌+◌, ℕ, Bool, true, false, not, nat_le, if◌then◌else◌, List, [], ◌∷◌, ◌++◌, length, Option, Some, None, IfSome, Result, Ok, Err, IsTrue, refl}
+use Rattle.std.specs.Prelude.{◌≡◌, ◌≤◌, ◌==◌, ◌&&◌, ◌||◌, ◌+◌, ℕ, Bool, true, false, not, nat_le, if◌then◌else◌, List}
+use Rattle.std.specs.Prelude.{[], ◌∷◌, ◌++◌, length, Option, Some, None, IfSome, Result, Ok, Err, IsTrue, refl}
 use Rattle.std.proofs.Common.{sym, ap, subst, ◌∙◌, inl, arith}
 use Rattle.std.proofs.lemmas.Bool.{eqb-true, leb-true, leb-false, or_right}
 use Rattle.std.proofs.lemmas.List.{length-append}
@@ -19,7 +20,8 @@ use Rattle.syncml_shape.specs.declared.rows.Kind.TheVariants as kinds
 use Rattle.syncml_shape.specs.declared.rows.TheConstants as table
 use Rattle.syncml_shape.specs.Forest.{Forest, nothing, text, opaque, bare, full, spelling}
 use Rattle.syncml_shape.specs.declared.rows.Choice.TheVariants.{One}
-use Rattle.syncml_shape.specs.Rows.{same, Content, in_order, document, start, in_row, after_row, next, is_complete, takes_text}
+use Rattle.syncml_shape.specs.Rows.{same, Content, in_order, document, start, in_row, after_row, next, is_complete}
+use Rattle.syncml_shape.specs.Rows.{takes_text}
 use Rattle.syncml_shape.specs.Shape.{fits}
 use Rattle.syncml_shape.proofs.Accepts.{and_true}
 use Rattle.syncml_shape.proofs.Completes.{and_both}
@@ -40,7 +42,8 @@ use Rattle.syncml_grammar.specs.Drafts.{verb_of}
 use Rattle.syncml_grammar.specs.Simples.{with_short, with_long, with_flag}
 use Rattle.syncml_grammar.specs.Simples.{with_text as with_simple_text}
 use Rattle.syncml_grammar.specs.Nodes.{with_node}
-use Rattle.syncml_grammar.specs.Values.{Value, of_leaf, of_draft, Whole, simple, node, fresh, with_text, simply, closed, draft_with, with_child}
+use Rattle.syncml_grammar.specs.Values.{Value, of_leaf, of_draft, Whole, simple, node, fresh, with_text, simply, closed}
+use Rattle.syncml_grammar.specs.Values.{draft_with, with_child}
 use Rattle.syncml_grammar.specs.Reads.{Unread, ◌then◌, at_place, read, parts_from, parts_in}
 use Rattle.syncml_grammar.specs.Building.{text_length, most_text}
 use Rattle.syncml_grammar.specs.Laws.{ReadIsFit}
@@ -67,7 +70,8 @@ FitLeaf k leaves.Flag = sort k ≡ 23
 
 abbrev FitValue : Kind → Content → Value → Type 0
 FitValue k content (of_leaf leaf) = FitLeaf k leaf
-FitValue k content (of_draft d) = (sort k ≡ draft_sort d) × (all_pass (child_test d) content ≡ true) × FitDraft content d
+FitValue k content (of_draft d) =
+    (sort k ≡ draft_sort d) × (all_pass (child_test d) content ≡ true) × FitDraft content d
 
 abbrev length_in : Value → ℕ
 length_in (of_leaf (leaves.Text bytes)) = length bytes
@@ -133,7 +137,8 @@ fresh_fits kinds.Exec e v = (
 )
 fresh_fits kinds.Alert e v = (refl, refl, record { correlator = tt; items = tt; id = λ h. never h })
 fresh_fits kinds.Atomic e v = (refl, refl, record { meta = tt; members = tt; id = λ h. never h; filled = λ h. never h })
-fresh_fits kinds.Sequence e v = (refl, refl, record { meta = tt; members = tt; id = λ h. never h; filled = λ h. never h })
+fresh_fits kinds.Sequence e v =
+    (refl, refl, record { meta = tt; members = tt; id = λ h. never h; filled = λ h. never h })
 fresh_fits kinds.Status e v = (
   refl,
   refl,
@@ -199,23 +204,34 @@ same_simple a b h = cc
 no_text_kind : {A : Type 0} (k : Kind) → sort k ≡ 20 → (sort k == 20) ≡ false → A
 no_text_kind k is other = not_so (sym other ∙ ap (λ n. n == 20) is)
 
-text_closed : (k : Kind) (bytes : List ℕ) (s : Simple) → sort k ≡ 20 → is_short bytes ≡ true → closed_text k bytes ≡ Ok s → FitSimple k s
-text_closed kinds.Bytes bytes s is short h = subst (FitSimple kinds.Bytes) (same_simple (simples.Text bytes) s h) (refl, short, λ other. never other)
+text_closed : (k : Kind) (bytes : List ℕ) (s : Simple) → sort k ≡ 20 → is_short bytes ≡ true
+    → closed_text k bytes ≡ Ok s → FitSimple k s
+text_closed kinds.Bytes bytes s is short h =
+    subst (FitSimple kinds.Bytes) (same_simple (simples.Text bytes) s h) (refl, short, λ other. never other)
 text_closed kinds.Text bytes s is short h =
-    (elim (is_text bytes) as (λ (b : Bool). is_text bytes ≡ b → if◌then◌else◌ {A = Result Simple Reason} b (Ok (simples.Text bytes)) (Err reasons.Text) ≡ Ok s → FitSimple kinds.Text s) [
-      | true ↦ λ plain h'. subst (FitSimple kinds.Text) (same_simple (simples.Text bytes) s h') (refl, short, λ other. plain)
+    (elim (is_text bytes)
+    as (λ (b : Bool). is_text bytes ≡ b
+    → if◌then◌else◌ {A = Result Simple Reason} b (Ok (simples.Text bytes)) (Err reasons.Text) ≡ Ok s
+    → FitSimple kinds.Text s) [
+      | true ↦ λ plain h'.
+          subst (FitSimple kinds.Text) (same_simple (simples.Text bytes) s h') (refl, short, λ other. plain)
       | false ↦ λ plain h'. cc
     ]) refl h
 text_closed k bytes s is short h = no_text_kind k is refl
 
-number_closed : (least n : ℕ) (s : Simple) → short_number least n ≡ Ok s → (simples.Short n ≡ s) × (nat_le least n ≡ true)
+number_closed : (least n : ℕ) (s : Simple) → short_number least n ≡ Ok s
+    → (simples.Short n ≡ s) × (nat_le least n ≡ true)
 number_closed least n s h =
-    (elim (nat_le least n && nat_le n 4294967295) as (λ (b : Bool). (nat_le least n && nat_le n 4294967295) ≡ b → if◌then◌else◌ {A = Result Simple Reason} b (Ok (simples.Short n)) (Err reasons.Number) ≡ Ok s → (simples.Short n ≡ s) × (nat_le least n ≡ true)) [
+    (elim (nat_le least n && nat_le n 4294967295)
+    as (λ (b : Bool). (nat_le least n && nat_le n 4294967295) ≡ b
+    → if◌then◌else◌ {A = Result Simple Reason} b (Ok (simples.Short n)) (Err reasons.Number) ≡ Ok s
+    → (simples.Short n ≡ s) × (nat_le least n ≡ true)) [
       | true ↦ λ is h'. (same_simple (simples.Short n) s h', (and_true _ _ is).0)
       | false ↦ λ is h'. cc
     ]) refl h
 
-ranged_fits : (k : Kind) (n : ℕ) (s : Simple) → ((sort k == 21) || (sort k == 22)) ≡ true → ranged k n ≡ Ok s → FitSimple k s
+ranged_fits : (k : Kind) (n : ℕ) (s : Simple) → ((sort k == 21) || (sort k == 22)) ≡ true → ranged k n ≡ Ok s
+    → FitSimple k s
 ranged_fits kinds.Size n s is h = subst (FitSimple kinds.Size) (same_simple (simples.Long n) s h) refl
 ranged_fits kinds.Id n s is h =
     let short = number_closed 1 n s h in subst (FitSimple kinds.Id) short.0 (refl, λ other. positive n short.1)
@@ -223,19 +239,25 @@ ranged_fits kinds.Code n s is h =
     let short = number_closed 0 n s h in subst (FitSimple kinds.Code) short.0 (refl, λ other. never other)
 ranged_fits _ n s is h = not_so is
 
-leaf_closed : (k : Kind) (leaf : Leaf) (s : Simple) → FitLeaf k leaf → length_in (of_leaf leaf) ≤ most_text → closed_leaf k leaf ≡ Ok s → FitSimple k s
+leaf_closed : (k : Kind) (leaf : Leaf) (s : Simple) → FitLeaf k leaf → length_in (of_leaf leaf) ≤ most_text
+    → closed_leaf k leaf ≡ Ok s → FitSimple k s
 leaf_closed k (leaves.Text bytes) s f short h = text_closed k bytes s f (short_text bytes short) h
 leaf_closed k (leaves.Number digits) s f short h =
-    (elim (number_in digits) as (λ o. closed_number k o ≡ Ok s → FitSimple k s) [ None ↦ λ h'. cc | Some n ↦ λ h'. ranged_fits k n s f h' ]) h
+    (elim (number_in digits) as (λ o. closed_number k o ≡ Ok s → FitSimple k s) [
+      | None ↦ λ h'. cc
+      | Some n ↦ λ h'. ranged_fits k n s f h'
+    ]) h
 leaf_closed k leaves.Flag s f short h = subst (FitSimple k) (same_simple simples.Flag s h) f
 
-value_closed : (k : Kind) (content : Content) (v : Value) (w : Whole) → FitValue k content v → IsTrue (is_complete content) → length_in v ≤ most_text → closed k v ≡ Ok w → FitWhole k w
+value_closed : (k : Kind) (content : Content) (v : Value) (w : Whole) → FitValue k content v
+    → IsTrue (is_complete content) → length_in v ≤ most_text → closed k v ≡ Ok w → FitWhole k w
 value_closed k content (of_leaf leaf) w f done short h =
     (elim (closed_leaf k leaf) as (λ o. closed_leaf k leaf ≡ o → simply o ≡ Ok w → FitWhole k w) [
       | Ok s ↦ λ is h'. subst (FitWhole k) (same_simple (simple s) w h') (leaf_closed k leaf s f short is)
       | Err reason ↦ λ is h'. cc
     ]) refl h
-value_closed k content (of_draft d) w f done short h = subst (FitWhole k) (same_simple (node d) w h) (f.0, content, done, f.2)
+value_closed k content (of_draft d) w f done short h =
+    subst (FitWhole k) (same_simple (node d) w h) (f.0, content, done, f.2)
 
 -- ---- with one more child
 
@@ -262,7 +284,8 @@ stays_flag : (d : Draft) → Stays (with_flag d) d
 stays_flag (draft.Body b) = record { sort = refl; test = refl }
 stays_flag _ = record { sort = refl; test = refl }
 
-stays_node : (d : Draft) (e : Element) (child : Draft) (content : Content) → FitDraft content d → Stays (with_node d e child) d
+stays_node : (d : Draft) (e : Element) (child : Draft) (content : Content) → FitDraft content d
+    → Stays (with_node d e child) d
 stays_node draft.Document e child content f = absurd f
 stays_node (draft.Plain c) e (draft.Meta meta) content f = record { sort = refl; test = refl }
 stays_node (draft.Plain c) e (draft.Item item) content f = record { sort = refl; test = refl }
@@ -276,18 +299,23 @@ stays d e (simple (simples.Long n)) content f = stays_long d e n
 stays d e (simple simples.Flag) content f = stays_flag d
 stays d e (node child) content f = stays_node d e child content f
 
-child_fits : (k : Kind) (content : Content) (v : Value) (e : Element) (x : Kind × Content) (w : Whole) → Came content e x → FitValue k content v → FitWhole x.0 w → FitValue k x.1 (with_child v e w)
+child_fits : (k : Kind) (content : Content) (v : Value) (e : Element) (x : Kind × Content) (w : Whole)
+    → Came content e x → FitValue k content v → FitWhole x.0 w → FitValue k x.1 (with_child v e w)
 child_fits k content (of_leaf leaf) e x w g f h = f
 child_fits k content (of_draft d) e x w g f h =
     let stay = stays d e w content f.2 in
-    let passed = g.passes (child_test d) f.1 in
-    (f.0 ∙ sym stay.sort, subst (λ q. all_pass q x.1 ≡ true) (sym stay.test) passed.1, draft_step content x.1 e x.0 d w g passed.0 h f.2)
+    let passed = g.passes (child_test d) f.1 in (
+      f.0 ∙ sym stay.sort,
+      subst (λ q. all_pass q x.1 ≡ true) (sym stay.test) passed.1,
+      draft_step content x.1 e x.0 d w g passed.0 h f.2,
+    )
 
 child_length : (v : Value) (e : Element) (w : Whole) → length_in (with_child v e w) ≤ length_in v
 child_length (of_leaf leaf) e w = omega arith
 child_length (of_draft d) e w = omega arith
 
-piece_fits : (k : Kind) (content : Content) (v : Value) (bytes : List ℕ) → FitValue k content v → FitValue k content (with_text v bytes)
+piece_fits : (k : Kind) (content : Content) (v : Value) (bytes : List ℕ) → FitValue k content v
+    → FitValue k content (with_text v bytes)
 piece_fits k content (of_leaf (leaves.Text before)) bytes f = f
 piece_fits k content (of_leaf (leaves.Number digits)) bytes f = f
 piece_fits k content (of_leaf leaves.Flag) bytes f = f
@@ -305,7 +333,8 @@ text_length-append : (a b : List Token) → text_length (a ++ b) ≡ text_length
 text_length-append [] b = omega arith
 text_length-append (token ∷ a) b = omega (arith, text_length-append a b)
 
-inner_length : (e : Element) (inner rest : Forest) → text_length (spelling (full e inner rest)) ≡ text_length (spelling inner) + text_length (spelling rest)
+inner_length : (e : Element) (inner rest : Forest)
+    → text_length (spelling (full e inner rest)) ≡ text_length (spelling inner) + text_length (spelling rest)
 inner_length e inner rest = omega (arith, text_length-append (spelling inner) (End ∷ spelling rest))
 
 -- what has been read behind all children
@@ -318,10 +347,13 @@ record Going (k : Kind) (content : Content) (v : Value) (left : ℕ) : Type 0 wh
   fit : FitValue k content v
   room : length_in v + left ≤ most_text
 
-fresh_going : (k : Kind) (e : Element) (left : ℕ) → verb_fits e k ≡ true → left ≤ most_text → Going k (start k) (fresh k e) left
-fresh_going k e left v h = record { verbs = start_verbs k; fit = fresh_fits k e v; room = omega (arith, h, fresh_length k e) }
+fresh_going : (k : Kind) (e : Element) (left : ℕ) → verb_fits e k ≡ true → left ≤ most_text
+    → Going k (start k) (fresh k e) left
+fresh_going k e left v h =
+    record { verbs = start_verbs k; fit = fresh_fits k e v; room = omega (arith, h, fresh_length k e) }
 
-child_going : (k : Kind) (content : Content) (v : Value) (e : Element) (x : Kind × Content) (w : Whole) (left more : ℕ) → Came content e x → Going k content v more → left ≤ more → FitWhole x.0 w
+child_going : (k : Kind) (content : Content) (v : Value) (e : Element) (x : Kind × Content) (w : Whole) (left more : ℕ)
+    → Came content e x → Going k content v more → left ≤ more → FitWhole x.0 w
     → Going k x.1 (with_child v e w) left
 child_going k content v e x w left more came_so going h fit = record {
   verbs = (came_so.passes verb_fits going.verbs).1;
@@ -329,30 +361,43 @@ child_going k content v e x w left more came_so going h fit = record {
   room = omega (arith, going.room, h, child_length v e w);
 }
 
-piece_going : (k : Kind) (content : Content) (v : Value) (bytes : List ℕ) (left : ℕ) → Going k content v (length bytes + left) → Going k content (with_text v bytes) left
+piece_going : (k : Kind) (content : Content) (v : Value) (bytes : List ℕ) (left : ℕ)
+    → Going k content v (length bytes + left) → Going k content (with_text v bytes) left
 piece_going k content v bytes left going =
-    record { verbs = going.verbs; fit = piece_fits k content v bytes going.fit; room = omega (arith, going.room, piece_length v bytes) }
+    record {
+      verbs = going.verbs;
+      fit = piece_fits k content v bytes going.fit;
+      room = omega (arith, going.room, piece_length v bytes);
+    }
 
 -- an element that closes: its whole, and what was read behind it
-closes_to : (at : ℕ) (o : Result Whole Reason) (f : Whole → Result (Value × ℕ) Unread) (out : Value × ℕ) → (at_place at o then f) ≡ Ok out → (w : Whole) × (o ≡ Ok w) × (f w ≡ Ok out)
+closes_to : (at : ℕ) (o : Result Whole Reason) (f : Whole → Result (Value × ℕ) Unread) (out : Value × ℕ)
+    → (at_place at o then f) ≡ Ok out → (w : Whole) × (o ≡ Ok w) × (f w ≡ Ok out)
 closes_to at (Ok w) f out h = (w, refl, h)
 closes_to at (Err reason) f out h = cc
 
-reads_to : (o : Result (Value × ℕ) Unread) (f : Value × ℕ → Result (Value × ℕ) Unread) (out : Value × ℕ) → (o then f) ≡ Ok out → (p : Value × ℕ) × (o ≡ Ok p) × (f p ≡ Ok out)
+reads_to : (o : Result (Value × ℕ) Unread) (f : Value × ℕ → Result (Value × ℕ) Unread) (out : Value × ℕ)
+    → (o then f) ≡ Ok out → (p : Value × ℕ) × (o ≡ Ok p) × (f p ≡ Ok out)
 reads_to (Ok p) f out h = (p, refl, h)
 reads_to (Err reason) f out h = cc
 
-same_read : (v : Value) (at : ℕ) (out : Value × ℕ) → ◌≡◌ {A = Result (Value × ℕ) Unread} (Ok (v, at)) (Ok out) → v ≡ out.0
+same_read : (v : Value) (at : ℕ) (out : Value × ℕ) → ◌≡◌ {A = Result (Value × ℕ) Unread} (Ok (v, at)) (Ok out)
+    → v ≡ out.0
 same_read v at out h = let is : (v, at) ≡ out = cc in ap (λ p. p.0) is
 
-read_fits : (tree : Forest) (k : Kind) (at : ℕ) (v : Value) (content : Content) (out : Value × ℕ) → Going k content v (text_length (spelling tree))
+read_fits : (tree : Forest) (k : Kind) (at : ℕ) (v : Value) (content : Content) (out : Value × ℕ)
+    → Going k content v (text_length (spelling tree))
     → IsTrue (fits content tree) → read at v content tree ≡ Ok out → Read k out.0
 read_fits nothing k at v content out going h r =
     subst (Read k) (same_read v at out r) (content, h, going.fit, omega (arith, going.room))
 read_fits (text bytes f) k at v content out going h r =
-    read_fits f k (at + 1) (with_text v bytes) content out (piece_going k content v bytes (text_length (spelling f)) going) (and_true (takes_text content) (fits content f) h).1 r
+    read_fits f k (at + 1) (with_text v bytes) content out
+    (piece_going k content v bytes (text_length (spelling f)) going)
+    (and_true (takes_text content) (fits content f) h).1 r
 read_fits (opaque bytes f) k at v content out going h r =
-    read_fits f k (at + 1) (with_text v bytes) content out (piece_going k content v bytes (text_length (spelling f)) going) (and_true (takes_text content) (fits content f) h).1 r
+    read_fits f k (at + 1) (with_text v bytes) content out
+    (piece_going k content v bytes (text_length (spelling f)) going)
+    (and_true (takes_text content) (fits content f) h).1 r
 read_fits (bare e f) k at v content out going h r =
     (elim (next content e) as (λ o. next content e ≡ o
     → IsTrue (elim o as (λ _. Bool) [ None ↦ false | Some x ↦ is_complete (start x.0) && fits x.1 f ])
@@ -364,11 +409,15 @@ read_fits (bare e f) k at v content out going h r =
       | Some x ↦ λ n h' r'.
           let fit = and_true (is_complete (start x.0)) (fits x.1 f) h' in
           let c = came content e x n in
-          let shut = closes_to at (closed x.0 (fresh x.0 e)) (λ child. read (at + 1) (with_child v e child) x.1 f) out r' in
+          let shut =
+          closes_to at (closed x.0 (fresh x.0 e)) (λ child. read (at + 1) (with_child v e child) x.1 f) out r' in
           let fresh_fit = fresh_fits x.0 e (c.passes verb_fits going.verbs).0 in
-          let whole = value_closed x.0 (start x.0) (fresh x.0 e) shut.0 fresh_fit fit.0 (omega (arith, fresh_length x.0 e)) shut.1 in
+          let whole =
+          value_closed x.0 (start x.0) (fresh x.0 e) shut.0 fresh_fit fit.0 (omega (arith, fresh_length x.0 e))
+          shut.1 in
           read_fits f k (at + 1) (with_child v e shut.0) x.1 out
-          (child_going k content v e x shut.0 (text_length (spelling f)) (text_length (spelling (bare e f))) c going (omega arith) whole) fit.1 shut.2
+          (child_going k content v e x shut.0 (text_length (spelling f)) (text_length (spelling (bare e f))) c going
+          (omega arith) whole) fit.1 shut.2
     ]) refl h r
 read_fits (full e inner f) k at v content out going h r =
     (elim (next content e) as (λ o. next content e ≡ o
@@ -382,13 +431,18 @@ read_fits (full e inner f) k at v content out going h r =
       | Some x ↦ λ n h' r'.
           let fit = and_true (fits (start x.0) inner) (fits x.1 f) h' in
           let c = came content e x n in
-          let run = reads_to (read (at + 1) (fresh x.0 e) (start x.0) inner) (λ p. at_place p.1 (closed x.0 p.0) then (λ child. read (p.1 + 1) (with_child v e child) x.1 f)) out r' in
-          let shut = closes_to run.0.1 (closed x.0 run.0.0) (λ child. read (run.0.1 + 1) (with_child v e child) x.1 f) out run.2 in
+          let run =
+          reads_to (read (at + 1) (fresh x.0 e) (start x.0) inner)
+          (λ p. at_place p.1 (closed x.0 p.0) then (λ child. read (p.1 + 1) (with_child v e child) x.1 f)) out r' in
+          let shut =
+          closes_to run.0.1 (closed x.0 run.0.0) (λ child. read (run.0.1 + 1) (with_child v e child) x.1 f) out run.2 in
           let all = read_fits inner x.0 (at + 1) (fresh x.0 e) (start x.0) run.0
-          (fresh_going x.0 e (text_length (spelling inner)) (c.passes verb_fits going.verbs).0 (omega (arith, going.room, inner_length e inner f))) fit.0 run.1 in
+          (fresh_going x.0 e (text_length (spelling inner)) (c.passes verb_fits going.verbs).0
+          (omega (arith, going.room, inner_length e inner f))) fit.0 run.1 in
           let whole = value_closed x.0 all.0 run.0.0 shut.0 all.2 all.1 all.3 shut.1 in
           read_fits f k (run.0.1 + 1) (with_child v e shut.0) x.1 out
-          (child_going k content v e x shut.0 (text_length (spelling f)) (text_length (spelling (full e inner f))) c going (omega (arith, inner_length e inner f)) whole) fit.1 shut.2
+          (child_going k content v e x shut.0 (text_length (spelling f)) (text_length (spelling (full e inner f))) c
+          going (omega (arith, inner_length e inner f)) whole) fit.1 shut.2
     ]) refl h r
 
 -- ---- a document
@@ -402,12 +456,18 @@ no_more nothing h = refl
 no_more (text bytes f) h = not_so h
 no_more (opaque bytes f) h = not_so h
 no_more (bare e f) h =
-    (elim (next behind_message e) as (λ o. next behind_message e ≡ o → IsTrue (elim o as (λ _. Bool) [ None ↦ false | Some x ↦ is_complete (start x.0) && fits x.1 f ]) → bare e f ≡ nothing) [
+    (elim (next behind_message e)
+    as (λ o. next behind_message e ≡ o
+    → IsTrue (elim o as (λ _. Bool) [ None ↦ false | Some x ↦ is_complete (start x.0) && fits x.1 f ])
+    → bare e f ≡ nothing) [
       | None ↦ λ n h'. not_so h'
       | Some x ↦ λ n h'. absurd ((came behind_message e x n).open_still refl)
     ]) refl h
 no_more (full e inner f) h =
-    (elim (next behind_message e) as (λ o. next behind_message e ≡ o → IsTrue (elim o as (λ _. Bool) [ None ↦ false | Some x ↦ fits (start x.0) inner && fits x.1 f ]) → full e inner f ≡ nothing) [
+    (elim (next behind_message e)
+    as (λ o. next behind_message e ≡ o
+    → IsTrue (elim o as (λ _. Bool) [ None ↦ false | Some x ↦ fits (start x.0) inner && fits x.1 f ])
+    → full e inner f ≡ nothing) [
       | None ↦ λ n h'. not_so h'
       | Some x ↦ λ n h'. absurd ((came behind_message e x n).open_still refl)
     ]) refl h
@@ -415,12 +475,17 @@ no_more (full e inner f) h =
 -- the one child is a message
 document_next : (e : Element) (x : Kind × Content) → next document e ≡ Some x → (kinds.Message, behind_message) ≡ x
 document_next e x h =
-    (elim (same ESyncML e) as (λ (b : Bool). after_row (in_row (if b then Some kinds.Message else None) false (record { choice = One ESyncML kinds.Message; required = true; many = false }) [] None) ≡ Some x → (kinds.Message, behind_message) ≡ x) [
+    (elim (same ESyncML e)
+    as (λ (b : Bool).
+    after_row (in_row (if b then Some kinds.Message else None) false
+    (record { choice = One ESyncML kinds.Message; required = true; many = false }) [] None) ≡ Some x
+    → (kinds.Message, behind_message) ≡ x) [
       | true ↦ λ h'. cc
       | false ↦ λ h'. cc
     ]) h
 
-message_read : (v : Value) (w : Whole) → Read kinds.Message v → closed kinds.Message v ≡ Ok w → (m : MessageDraft) × (w ≡ node (draft.Message m)) × Ended FitMessage m
+message_read : (v : Value) (w : Whole) → Read kinds.Message v → closed kinds.Message v ≡ Ok w
+    → (m : MessageDraft) × (w ≡ node (draft.Message m)) × Ended FitMessage m
 message_read (of_leaf (leaves.Text bytes)) w r h = not_so (ap (λ n. n == 20) r.2)
 message_read (of_leaf (leaves.Number digits)) w r h = not_so r.2
 message_read (of_leaf leaves.Flag) w r h = not_so (ap (λ n. n == 23) r.2)
@@ -431,16 +496,21 @@ message_read (of_draft d) w r h = never (ap (λ n. 1 == n) r.2.0)
 abbrev IsGood : Value → Type 0
 IsGood value = (parts : Parts) × (parts_in value ≡ Some parts) × IsFit parts.header parts.body
 
-header_good : (m : MessageDraft) (o : Option Header) → IfSome o (Ended FitHeader) → is_none o ≡ false → AllByRecursion FitCommand m.body
+header_good : (m : MessageDraft) (o : Option Header) → IfSome o (Ended FitHeader) → is_none o ≡ false
+    → AllByRecursion FitCommand m.body
     → (parts : Parts) × (parts_from m o ≡ Some parts) × IsFit parts.header parts.body
 header_good m None f some body = never some
-header_good m (Some h) f some body = (record { header = h; body = m.body; last = m.last }, refl, parts_fit h m.body f body)
+header_good m (Some h) f some body =
+    (record { header = h; body = m.body; last = m.last }, refl, parts_fit h m.body f body)
 
 message_good : (m : MessageDraft) → Ended FitMessage m → IsGood (of_draft (draft.Message m))
-message_good m (content, done, f) = header_good m m.header f.header (f.present (complete_needs is_header content done)) f.body
+message_good m (content, done, f) =
+    header_good m m.header f.header (f.present (complete_needs is_header content done)) f.body
 
-document_good : (e : Element) (w : Whole) (m : MessageDraft) (value : Value) → w ≡ node (draft.Message m) → with_child (of_draft draft.Document) e w ≡ value → Ended FitMessage m → IsGood value
-document_good e w m value is gives f = subst IsGood (ap (with_child (of_draft draft.Document) e) (sym is) ∙ gives) (message_good m f)
+document_good : (e : Element) (w : Whole) (m : MessageDraft) (value : Value) → w ≡ node (draft.Message m)
+    → with_child (of_draft draft.Document) e w ≡ value → Ended FitMessage m → IsGood value
+document_good e w m value is gives f =
+    subst IsGood (ap (with_child (of_draft draft.Document) e) (sym is) ∙ gives) (message_good m f)
 
 message_opens : (k : Kind) → kinds.Message ≡ k → IsTrue (is_complete (start k)) → ⊥
 message_opens k is h = not_so (subst (λ n. IsTrue (is_complete (start n))) (sym is) h)
@@ -450,9 +520,13 @@ read_is_fit nothing value at h r short = not_so h
 read_is_fit (text bytes f) value at h r short = not_so h
 read_is_fit (opaque bytes f) value at h r short = not_so h
 read_is_fit (bare e f) value at h r short =
-    (elim (next document e) as (λ o. next document e ≡ o → IsTrue (elim o as (λ _. Bool) [ None ↦ false | Some x ↦ is_complete (start x.0) && fits x.1 f ]) → IsGood value) [
+    (elim (next document e)
+    as (λ o. next document e ≡ o
+    → IsTrue (elim o as (λ _. Bool) [ None ↦ false | Some x ↦ is_complete (start x.0) && fits x.1 f ]) → IsGood value) [
       | None ↦ λ n h'. not_so h'
-      | Some x ↦ λ n h'. absurd (message_opens x.0 (ap (λ y. y.0) (document_next e x n)) (and_true (is_complete (start x.0)) (fits x.1 f) h').0)
+      | Some x ↦ λ n h'.
+          absurd (message_opens x.0 (ap (λ y. y.0) (document_next e x n))
+          (and_true (is_complete (start x.0)) (fits x.1 f) h').0)
     ]) refl h
 read_is_fit (full e inner f) value at h r short =
     (elim (next document e) as (λ o. next document e ≡ o
@@ -460,18 +534,30 @@ read_is_fit (full e inner f) value at h r short =
     → (elim o as (λ _. Result (Value × ℕ) Unread) [
       | None ↦ Err (record { at = 0; reason = Misplaced })
       | Some x ↦ read (0 + 1) (fresh x.0 e) (start x.0) inner then
-          (λ p. at_place p.1 (closed x.0 p.0) then (λ child. read (p.1 + 1) (with_child (of_draft draft.Document) e child) x.1 f))
+          (λ p. at_place p.1 (closed x.0 p.0)
+          then (λ child. read (p.1 + 1) (with_child (of_draft draft.Document) e child) x.1 f))
     ]) ≡ Ok (value, at) → IsGood value) [
       | None ↦ λ n h' r'. not_so h'
       | Some x ↦ λ n h' r'.
           let is = document_next e x n in
           let fit = and_true (fits (start x.0) inner) (fits x.1 f) h' in
-          let run = reads_to (read (0 + 1) (fresh x.0 e) (start x.0) inner) (λ p. at_place p.1 (closed x.0 p.0) then (λ child. read (p.1 + 1) (with_child (of_draft draft.Document) e child) x.1 f)) (value, at) r' in
-          let shut = closes_to run.0.1 (closed x.0 run.0.0) (λ child. read (run.0.1 + 1) (with_child (of_draft draft.Document) e child) x.1 f) (value, at) run.2 in
+          let run =
+          reads_to (read (0 + 1) (fresh x.0 e) (start x.0) inner)
+          (λ p. at_place p.1 (closed x.0 p.0)
+          then (λ child. read (p.1 + 1) (with_child (of_draft draft.Document) e child) x.1 f)) (value, at) r' in
+          let shut =
+          closes_to run.0.1 (closed x.0 run.0.0)
+          (λ child. read (run.0.1 + 1) (with_child (of_draft draft.Document) e child) x.1 f) (value, at) run.2 in
           let all = read_fits inner x.0 (0 + 1) (fresh x.0 e) (start x.0) run.0
-          (fresh_going x.0 e (text_length (spelling inner)) ((came document e x n).passes verb_fits refl).0 (omega (arith, short, inner_length e inner f))) fit.0 run.1 in
+          (fresh_going x.0 e (text_length (spelling inner)) ((came document e x n).passes verb_fits refl).0
+          (omega (arith, short, inner_length e inner f))) fit.0 run.1 in
           let none = no_more f (subst (λ (y : Kind × Content). IsTrue (fits y.1 f)) (sym is) fit.1) in
-          let message = message_read run.0.0 shut.0 (subst (λ (y : Kind × Content). Read y.0 run.0.0) (sym is) all) (subst (λ (y : Kind × Content). closed y.0 run.0.0 ≡ Ok shut.0) (sym is) shut.1) in
-          let ends = subst (λ g. read (run.0.1 + 1) (with_child (of_draft draft.Document) e shut.0) x.1 g ≡ Ok (value, at)) none shut.2 in
-          document_good e shut.0 message.0 value message.1 (same_read (with_child (of_draft draft.Document) e shut.0) (run.0.1 + 1) (value, at) ends) message.2
+          let message =
+          message_read run.0.0 shut.0 (subst (λ (y : Kind × Content). Read y.0 run.0.0) (sym is) all)
+          (subst (λ (y : Kind × Content). closed y.0 run.0.0 ≡ Ok shut.0) (sym is) shut.1) in
+          let ends =
+          subst (λ g. read (run.0.1 + 1) (with_child (of_draft draft.Document) e shut.0) x.1 g ≡ Ok (value, at)) none
+          shut.2 in
+          document_good e shut.0 message.0 value message.1
+          (same_read (with_child (of_draft draft.Document) e shut.0) (run.0.1 + 1) (value, at) ends) message.2
     ]) refl h r

@@ -1,8 +1,10 @@
 -- What an element's rows say of the child that comes, of what must still come, and of what may not come again.
-use Rattle.std.specs.Prelude.{◌≡◌, ◌⊎◌, ℕ, ◌+◌, ◌==◌, set, Bool, true, false, not, ◌&&◌, ◌||◌, if◌then◌else◌, List, [], ◌∷◌, Option, Some, None, IsTrue, ⊤, refl}
+use Rattle.std.specs.Prelude.{◌≡◌, ◌⊎◌, ℕ, ◌+◌, ◌==◌, set, Bool, true, false, not, ◌&&◌, ◌||◌, if◌then◌else◌, List, []}
+use Rattle.std.specs.Prelude.{◌∷◌, Option, Some, None, IsTrue, ⊤, refl}
 use Rattle.std.proofs.Common.{sym, subst, inl, inr}
 use Rattle.wbxml_tables.specs.declared.Element.{Element}
-use Rattle.wbxml_tables.specs.declared.Element.TheVariants.{EAdd, EAlert, EAtomic, ECopy, EDelete, EExec, EGet, EMetInf, EReplace, EResults, ESequence, EStatus}
+use Rattle.wbxml_tables.specs.declared.Element.TheVariants.{EAdd, EAlert, EAtomic, ECopy, EDelete, EExec, EGet, EMetInf}
+use Rattle.wbxml_tables.specs.declared.Element.TheVariants.{EReplace, EResults, ESequence, EStatus}
 use Rattle.syncml_shape.specs.declared.rows.Kind.{Kind}
 use Rattle.syncml_shape.specs.declared.rows.Kind.TheVariants as kinds
 use Rattle.syncml_shape.specs.declared.rows.Choice.{Choice}
@@ -10,7 +12,9 @@ use Rattle.syncml_shape.specs.declared.rows.Choice.TheVariants.{One, Commands, A
 use Rattle.syncml_shape.specs.declared.rows.Row.{Row}
 use Rattle.syncml_shape.specs.declared.rows.MetaRow.{MetaRow}
 use Rattle.syncml_shape.specs.declared.rows.TheConstants as table
-use Rattle.syncml_shape.specs.Rows.{same, atomic_member, sequence_member, command, kind_in, Content, in_order, in_any_order, pieces, in_row, next_row, after_row, meta_place, after_meta, next, all_optional, is_complete}
+use Rattle.syncml_shape.specs.Rows.{same, atomic_member, sequence_member, command, kind_in, Content, in_order}
+use Rattle.syncml_shape.specs.Rows.{in_any_order, pieces, in_row, next_row, after_row, meta_place, after_meta, next}
+use Rattle.syncml_shape.specs.Rows.{all_optional, is_complete}
 use Rattle.syncml_shape.proofs.Accepts.{and_true}
 use Rattle.syncml_shape.proofs.Names.{same_only, of_same}
 
@@ -80,30 +84,44 @@ all_pass q pieces = true
 some_is : (a b : Kind) → ◌≡◌ {A = Option Kind} (Some a) (Some b) → a ≡ b
 some_is a b h = cc
 
-passed : (q : Element → Kind → Bool) (e : Element) (a b : Kind) → ◌≡◌ {A = Option Kind} (Some a) (Some b) → q e a ≡ true → q e b ≡ true
+passed : (q : Element → Kind → Bool) (e : Element) (a b : Kind) → ◌≡◌ {A = Option Kind} (Some a) (Some b) → q e a ≡ true
+    → q e b ≡ true
 passed q e a b h p = subst (λ k. q e k ≡ true) (some_is a b h) p
 
-atomic_passes : (q : Element → Kind → Bool) (e : Element) (k : Kind) → atomic_all q ≡ true → atomic_member e ≡ Some k → q e k ≡ true
-atomic_passes q EAdd k p h = passed q EAdd kinds.Plain k h (and_true _ _ (and_true _ _ (and_true _ _ (and_true _ _ (and_true _ _ (and_true _ _ p).0).0).0).0).0).0
-atomic_passes q EAlert k p h = passed q EAlert kinds.Alert k h (and_true _ _ (and_true _ _ (and_true _ _ (and_true _ _ (and_true _ _ (and_true _ _ p).0).0).0).0).0).1
-atomic_passes q ECopy k p h = passed q ECopy kinds.Plain k h (and_true _ _ (and_true _ _ (and_true _ _ (and_true _ _ (and_true _ _ p).0).0).0).0).1
-atomic_passes q EDelete k p h = passed q EDelete kinds.Plain k h (and_true _ _ (and_true _ _ (and_true _ _ (and_true _ _ p).0).0).0).1
+atomic_passes : (q : Element → Kind → Bool) (e : Element) (k : Kind) → atomic_all q ≡ true → atomic_member e ≡ Some k
+    → q e k ≡ true
+atomic_passes q EAdd k p h =
+    passed q EAdd kinds.Plain k h
+    (and_true _ _ (and_true _ _ (and_true _ _ (and_true _ _ (and_true _ _ (and_true _ _ p).0).0).0).0).0).0
+atomic_passes q EAlert k p h =
+    passed q EAlert kinds.Alert k h
+    (and_true _ _ (and_true _ _ (and_true _ _ (and_true _ _ (and_true _ _ (and_true _ _ p).0).0).0).0).0).1
+atomic_passes q ECopy k p h =
+    passed q ECopy kinds.Plain k h
+    (and_true _ _ (and_true _ _ (and_true _ _ (and_true _ _ (and_true _ _ p).0).0).0).0).1
+atomic_passes q EDelete k p h =
+    passed q EDelete kinds.Plain k h (and_true _ _ (and_true _ _ (and_true _ _ (and_true _ _ p).0).0).0).1
 atomic_passes q EExec k p h = passed q EExec kinds.Exec k h (and_true _ _ (and_true _ _ (and_true _ _ p).0).0).1
 atomic_passes q EGet k p h = passed q EGet kinds.Plain k h (and_true _ _ (and_true _ _ p).0).1
 atomic_passes q EReplace k p h = passed q EReplace kinds.Plain k h (and_true _ _ p).1
 atomic_passes q _ k p h = cc
 
-sequence_passes : (q : Element → Kind → Bool) (e : Element) (k : Kind) → sequence_all q ≡ true → sequence_member e ≡ Some k → q e k ≡ true
+sequence_passes : (q : Element → Kind → Bool) (e : Element) (k : Kind) → sequence_all q ≡ true
+    → sequence_member e ≡ Some k → q e k ≡ true
 sequence_passes q EAtomic k p h = passed q EAtomic kinds.Atomic k h (and_true _ _ p).0
 sequence_passes q e k p h = atomic_passes q e k (and_true _ _ p).1 h
 
-command_passes : (q : Element → Kind → Bool) (e : Element) (k : Kind) → commands_all q ≡ true → command e ≡ Some k → q e k ≡ true
-command_passes q EResults k p h = passed q EResults kinds.Results k h (and_true _ _ (and_true _ _ (and_true _ _ p).0).0).0
-command_passes q ESequence k p h = passed q ESequence kinds.Sequence k h (and_true _ _ (and_true _ _ (and_true _ _ p).0).0).1
+command_passes : (q : Element → Kind → Bool) (e : Element) (k : Kind) → commands_all q ≡ true → command e ≡ Some k
+    → q e k ≡ true
+command_passes q EResults k p h =
+    passed q EResults kinds.Results k h (and_true _ _ (and_true _ _ (and_true _ _ p).0).0).0
+command_passes q ESequence k p h =
+    passed q ESequence kinds.Sequence k h (and_true _ _ (and_true _ _ (and_true _ _ p).0).0).1
 command_passes q EStatus k p h = passed q EStatus kinds.Status k h (and_true _ _ (and_true _ _ p).0).1
 command_passes q e k p h = sequence_passes q e k (and_true _ _ p).1 h
 
-pub choice_passes : (q : Element → Kind → Bool) (c : Choice) (e : Element) (k : Kind) → choice_all q c ≡ true → kind_in c e ≡ Some k → q e k ≡ true
+pub choice_passes : (q : Element → Kind → Bool) (c : Choice) (e : Element) (k : Kind) → choice_all q c ≡ true
+    → kind_in c e ≡ Some k → q e k ≡ true
 choice_passes q (One one kind) e k p h =
     let is = of_same one e kind k h in subst (λ n. q n k ≡ true) is.0 (subst (λ n. q one n ≡ true) is.1 p)
 choice_passes q Commands e k p h = command_passes q e k p h
@@ -121,7 +139,8 @@ needs p (in_order came rows) = rows_need p came rows
 needs p (in_any_order wrap came) = false
 needs p pieces = false
 
-optional_need : (p : Element → Kind → Bool) (rows : List Row) → IsTrue (all_optional rows) → rows_need p false rows ≡ false
+optional_need : (p : Element → Kind → Bool) (rows : List Row) → IsTrue (all_optional rows)
+    → rows_need p false rows ≡ false
 optional_need p [] h = refl
 optional_need p (row ∷ rows) h =
     let both = and_true (not row.required) (all_optional rows) h in
@@ -132,7 +151,8 @@ optional_need p (row ∷ rows) h =
     optional false c m h e = e
 
 -- nothing must come in what is complete
-pub complete_needs : (p : Element → Kind → Bool) (content : Content) → IsTrue (is_complete content) → needs p content ≡ false
+pub complete_needs : (p : Element → Kind → Bool) (content : Content) → IsTrue (is_complete content)
+    → needs p content ≡ false
 complete_needs p (in_order came []) h = refl
 complete_needs p (in_order came (row ∷ rows)) h =
     let both = and_true (came || not row.required) (all_optional rows) h in
@@ -186,11 +206,13 @@ abbrev RowsPassed : (Element → Kind → Bool) → List Row → Element → Opt
 RowsPassed q rows e None = ⊤
 RowsPassed q rows e (Some x) = (q e x.0 ≡ true) × (rows_all q x.1 ≡ true)
 
-rows_passed : (q : Element → Kind → Bool) (rows : List Row) (came : Bool) (e : Element) → rows_all q rows ≡ true → RowsPassed q rows e (next_row came rows e)
+rows_passed : (q : Element → Kind → Bool) (rows : List Row) (came : Bool) (e : Element) → rows_all q rows ≡ true
+    → RowsPassed q rows e (next_row came rows e)
 rows_passed q [] came e h = tt
 rows_passed q (row ∷ rows) came e h =
     let both = and_true (choice_all q row.choice) (rows_all q rows) h in
-    elim (kind_in row.choice e) as (λ o. kind_in row.choice e ≡ o → RowsPassed q (row ∷ rows) e (in_row o came row rows (next_row false rows e))) [
+    elim (kind_in row.choice e)
+    as (λ o. kind_in row.choice e ≡ o → RowsPassed q (row ∷ rows) e (in_row o came row rows (next_row false rows e))) [
       | Some k ↦ λ is. own (came && not row.many) k (choice_passes q row.choice e k both.0 is)
       | None ↦ λ is. later (not came && row.required) (next_row false rows e) (rows_passed q rows false e both.1)
     ] refl
@@ -199,7 +221,8 @@ rows_passed q (row ∷ rows) came e h =
     own true k is = tt
     own false k is = (is, h)
 
-    later : (b : Bool) (o : Option (Kind × List Row)) → RowsPassed q rows e o → RowsPassed q (row ∷ rows) e (if b then None else o)
+    later : (b : Bool) (o : Option (Kind × List Row)) → RowsPassed q rows e o
+        → RowsPassed q (row ∷ rows) e (if b then None else o)
     later true o r = tt
     later false None r = tt
     later false (Some x) r = r
@@ -208,15 +231,21 @@ abbrev RowsMet : (Element → Kind → Bool) → Bool → Element → Option (Ki
 RowsMet p need e None = ⊤
 RowsMet p need e (Some x) = rows_need p true x.1 ≡ false → (need ≡ false) ⊎ (p e x.0 ≡ true)
 
-rows_met : (p : Element → Kind → Bool) (rows : List Row) (came : Bool) (e : Element) → RowsMet p (rows_need p came rows) e (next_row came rows e)
+rows_met : (p : Element → Kind → Bool) (rows : List Row) (came : Bool) (e : Element)
+    → RowsMet p (rows_need p came rows) e (next_row came rows e)
 rows_met p [] came e = tt
 rows_met p (row ∷ rows) came e =
-    elim (kind_in row.choice e) as (λ o. kind_in row.choice e ≡ o → RowsMet p (rows_need p came (row ∷ rows)) e (in_row o came row rows (next_row false rows e))) [
+    elim (kind_in row.choice e)
+    as (λ o. kind_in row.choice e ≡ o
+    → RowsMet p (rows_need p came (row ∷ rows)) e (in_row o came row rows (next_row false rows e))) [
       | Some k ↦ λ is. own (came && not row.many) k is
-      | None ↦ λ is. later came row.required (choice_all p row.choice) (rows_need p false rows) (next_row false rows e) (rows_met p rows false e)
+      | None ↦ λ is.
+          later came row.required (choice_all p row.choice) (rows_need p false rows) (next_row false rows e)
+          (rows_met p rows false e)
     ] refl
   where
-    now : (k : Kind) (c m : Bool) → choice_all p row.choice ≡ c → kind_in row.choice e ≡ Some k → m ≡ false → ((((not came && row.required) && c) || m) ≡ false) ⊎ (p e k ≡ true)
+    now : (k : Kind) (c m : Bool) → choice_all p row.choice ≡ c → kind_in row.choice e ≡ Some k → m ≡ false
+        → ((((not came && row.required) && c) || m) ≡ false) ⊎ (p e k ≡ true)
     now k true m c is none = inr (choice_passes p row.choice e k c is)
     now k false m c is none = inl (needless (not came && row.required) m none)
       where
@@ -224,11 +253,13 @@ rows_met p (row ∷ rows) came e =
         needless true m e = e
         needless false m e = e
 
-    own : (b : Bool) (k : Kind) → kind_in row.choice e ≡ Some k → RowsMet p (rows_need p came (row ∷ rows)) e (if b then None else Some (k, row ∷ rows))
+    own : (b : Bool) (k : Kind) → kind_in row.choice e ≡ Some k
+        → RowsMet p (rows_need p came (row ∷ rows)) e (if b then None else Some (k, row ∷ rows))
     own true k is = tt
     own false k is = λ none. now k (choice_all p row.choice) (rows_need p false rows) refl is none
 
-    later : (a r c m : Bool) (o : Option (Kind × List Row)) → RowsMet p m e o → RowsMet p (((not a && r) && c) || m) e (if not a && r then None else o)
+    later : (a r c m : Bool) (o : Option (Kind × List Row)) → RowsMet p m e o
+        → RowsMet p (((not a && r) && c) || m) e (if not a && r then None else o)
     later false true c m o met = tt
     later false false c m o met = met
     later true r c m o met = met
@@ -240,14 +271,18 @@ RowsEnd e (Some x) = (rows_end x.1 ≡ true) × (is_item e x.0 ≡ true → has_
 rows_ended : (rows : List Row) (came : Bool) (e : Element) → rows_end rows ≡ true → RowsEnd e (next_row came rows e)
 rows_ended [] came e h = tt
 rows_ended (row ∷ rows) came e h =
-    let both = and_true (choice_all (λ e k. not (is_item e k)) row.choice || (not row.many && is_last rows)) (rows_end rows) h in
-    elim (kind_in row.choice e) as (λ o. kind_in row.choice e ≡ o → RowsEnd e (in_row o came row rows (next_row false rows e))) [
+    let both =
+    and_true (choice_all (λ e k. not (is_item e k)) row.choice || (not row.many && is_last rows)) (rows_end rows) h in
+    elim (kind_in row.choice e)
+    as (λ o. kind_in row.choice e ≡ o → RowsEnd e (in_row o came row rows (next_row false rows e))) [
       | Some k ↦ λ is. own (came && not row.many) k is
       | None ↦ λ is. later (not came && row.required) (next_row false rows e) (rows_ended rows false e both.1)
     ] refl
   where
-    the_last : (c m : Bool) (k : Kind) → choice_all (λ e k. not (is_item e k)) row.choice ≡ c → (c || m) ≡ true → kind_in row.choice e ≡ Some k → is_item e k ≡ true → m ≡ true
-    the_last true m k c h is item = absurd (no_item (is_item e k) (choice_passes (λ e k. not (is_item e k)) row.choice e k c is) item)
+    the_last : (c m : Bool) (k : Kind) → choice_all (λ e k. not (is_item e k)) row.choice ≡ c → (c || m) ≡ true
+        → kind_in row.choice e ≡ Some k → is_item e k ≡ true → m ≡ true
+    the_last true m k c h is item =
+        absurd (no_item (is_item e k) (choice_passes (λ e k. not (is_item e k)) row.choice e k c is) item)
       where
         no_item : (b : Bool) → not b ≡ true → b ≡ true → ⊥
         no_item true h e = cc
@@ -256,7 +291,11 @@ rows_ended (row ∷ rows) came e h =
 
     own : (b : Bool) (k : Kind) → kind_in row.choice e ≡ Some k → RowsEnd e (if b then None else Some (k, row ∷ rows))
     own true k is = tt
-    own false k is = (h, λ item. the_last (choice_all (λ e k. not (is_item e k)) row.choice) (not row.many && is_last rows) k refl (and_true _ _ h).0 is item)
+    own false k is = (
+      h,
+      λ item. the_last (choice_all (λ e k. not (is_item e k)) row.choice) (not row.many && is_last rows) k refl
+          (and_true _ _ h).0 is item,
+    )
 
     later : (b : Bool) (o : Option (Kind × List Row)) → RowsEnd e o → RowsEnd e (if b then None else o)
     later true o r = tt
@@ -265,7 +304,8 @@ rows_ended (row ∷ rows) came e h =
 pub not_so : {A : Type 0} → false ≡ true → A
 not_so h = cc
 
-no_more : (came : Bool) (rows : List Row) (e : Element) (x : Kind × List Row) → has_ended (in_order came rows) ≡ true → next_row came rows e ≡ Some x → ⊥
+no_more : (came : Bool) (rows : List Row) (e : Element) (x : Kind × List Row) → has_ended (in_order came rows) ≡ true
+    → next_row came rows e ≡ Some x → ⊥
 no_more came [] e x h is = cc
 no_more came (row ∷ []) e x h is =
     let both = and_true came (not row.many && true) h in
@@ -287,12 +327,15 @@ abbrev MetaPassed : (Element → Kind → Bool) → Element → Option (Kind × 
 MetaPassed q e None = ⊤
 MetaPassed q e (Some x) = q e x.0 ≡ true
 
-meta_passed : (q : Element → Kind → Bool) (rows : List MetaRow) (came : List Bool) (n : ℕ) (e : Element) → meta_all q rows ≡ true → MetaPassed q e (meta_place n rows came e)
+meta_passed : (q : Element → Kind → Bool) (rows : List MetaRow) (came : List Bool) (n : ℕ) (e : Element)
+    → meta_all q rows ≡ true → MetaPassed q e (meta_place n rows came e)
 meta_passed q [] came n e h = tt
 meta_passed q (row ∷ rows) [] n e h = tt
 meta_passed q (row ∷ rows) (c ∷ came) n e h =
     let both = and_true (q row.element row.kind) (meta_all q rows) h in
-    elim (same row.element e) as (λ (b : Bool). same row.element e ≡ b → MetaPassed q e (if b then (if c then None else Some (row.kind, n)) else meta_place (n + 1) rows came e)) [
+    elim (same row.element e)
+    as (λ (b : Bool). same row.element e ≡ b
+    → MetaPassed q e (if b then (if c then None else Some (row.kind, n)) else meta_place (n + 1) rows came e)) [
       | true ↦ λ is. here c (subst (λ d. q d row.kind ≡ true) (same_only row.element e is) both.0)
       | false ↦ λ is. meta_passed q rows came (n + 1) e both.1
     ] refl
@@ -303,7 +346,8 @@ meta_passed q (row ∷ rows) (c ∷ came) n e h =
 
 -- ---- the child that comes next
 
-came_in_order : (came : Bool) (rows : List Row) (e : Element) (o : Option (Kind × List Row)) (x : Kind × Content) → next_row came rows e ≡ o → after_row o ≡ Some x → Came (in_order came rows) e x
+came_in_order : (came : Bool) (rows : List Row) (e : Element) (o : Option (Kind × List Row)) (x : Kind × Content)
+    → next_row came rows e ≡ o → after_row o ≡ Some x → Came (in_order came rows) e x
 came_in_order came rows e None x is h = cc
 came_in_order came rows e (Some y) x is h =
     let same_next : (y.0, in_order true y.1) ≡ x = cc in
@@ -314,7 +358,8 @@ came_in_order came rows e (Some y) x is h =
       open_still = λ ended. no_more came rows e y ended is;
     })
 
-came_in_meta : (wrap : Bool) (came : List Bool) (e : Element) (o : Option (Kind × ℕ)) (x : Kind × Content) → meta_place 0 table.META came e ≡ o → after_meta came o ≡ Some x → Came (in_any_order wrap came) e x
+came_in_meta : (wrap : Bool) (came : List Bool) (e : Element) (o : Option (Kind × ℕ)) (x : Kind × Content)
+    → meta_place 0 table.META came e ≡ o → after_meta came o ≡ Some x → Came (in_any_order wrap came) e x
 came_in_meta wrap came e None x is h = cc
 came_in_meta wrap came e (Some y) x is h =
     let same_next : (y.0, in_any_order false (set came y.1 true)) ≡ x = cc in
@@ -325,10 +370,12 @@ came_in_meta wrap came e (Some y) x is h =
       open_still = λ ended. cc;
     })
 
-came_wrapped : (came : List Bool) (e : Element) (x : Kind × Content) → same e EMetInf ≡ true → (kinds.MetInf, in_order false []) ≡ x → Came (in_any_order true came) e x
+came_wrapped : (came : List Bool) (e : Element) (x : Kind × Content) → same e EMetInf ≡ true
+    → (kinds.MetInf, in_order false []) ≡ x → Came (in_any_order true came) e x
 came_wrapped came e x is h =
     subst (Came (in_any_order true came) e) h (record {
-      passes = λ q all. (subst (λ d. q d kinds.MetInf ≡ true) (sym (same_only e EMetInf is)) (and_true _ _ all).0, refl);
+      passes = λ q all.
+          (subst (λ d. q d kinds.MetInf ≡ true) (sym (same_only e EMetInf is)) (and_true _ _ all).0, refl);
       met = λ p none. inl refl;
       item = λ ends. not_so ends;
       open_still = λ ended. cc;
@@ -338,7 +385,10 @@ pub came : (content : Content) (e : Element) (x : Kind × Content) → next cont
 came (in_order c rows) e x h = came_in_order c rows e (next_row c rows e) x refl h
 came (in_any_order false c) e x h = came_in_meta false c e (meta_place 0 table.META c e) x refl h
 came (in_any_order true c) e x h =
-    (elim (same e EMetInf) as (λ (b : Bool). same e EMetInf ≡ b → (if b then Some (kinds.MetInf, in_order false []) else after_meta c (meta_place 0 table.META c e)) ≡ Some x → Came (in_any_order true c) e x) [
+    (elim (same e EMetInf)
+    as (λ (b : Bool). same e EMetInf ≡ b
+    → (if b then Some (kinds.MetInf, in_order false []) else after_meta c (meta_place 0 table.META c e)) ≡ Some x
+    → Came (in_any_order true c) e x) [
       | true ↦ λ is h'. came_wrapped c e x is cc
       | false ↦ λ is h'. came_in_meta true c e (meta_place 0 table.META c e) x refl h'
     ]) refl h

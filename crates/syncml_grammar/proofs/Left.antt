@@ -40,7 +40,8 @@ left_document (draft.Cred cred) e is = refl
 left_document (draft.Chal meta) e is = refl
 left_document (draft.Meta meta) e is = refl
 
-pub left_message : (d : Draft) (e : Element) (m : MessageDraft) → is_document d ≡ false → d ≡ with_node d e (draft.Message m)
+pub left_message : (d : Draft) (e : Element) (m : MessageDraft) → is_document d ≡ false
+    → d ≡ with_node d e (draft.Message m)
 left_message draft.Document e m is = cc
 left_message (draft.Message n) e m is = refl
 left_message (draft.Header h) e m is = refl

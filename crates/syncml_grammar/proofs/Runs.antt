@@ -4,7 +4,8 @@ use Rattle.std.proofs.Common.{rules}
 use Rattle.wbxml_tokens.specs.declared.token.Token.{Token}
 use Rattle.syncml_grammar.specs.Reads.{◌then◌}
 use Rattle.syncml_grammar.specs.Machine.{Frame, root, step}
-use Rattle.syncml_grammar.specs.Building.{Building, IsBuilding, frames_behind, HasTaken, text_in, text_length, most_text}
+use Rattle.syncml_grammar.specs.Building.{Building, IsBuilding, frames_behind, HasTaken, text_in, text_length}
+use Rattle.syncml_grammar.specs.Building.{most_text}
 
 -- behind tokens, and then behind more
 pub behind-append : (before later : List Token) (from : List Frame)
@@ -17,18 +18,21 @@ behind-append (token ∷ before) later from =
       | Err reason ↦ refl
     ]
 
-length-append : (before : List Token) (token : Token) → text_length (before ++ token ∷ []) ≡ text_length before + text_in token
+length-append : (before : List Token) (token : Token)
+    → text_length (before ++ token ∷ []) ≡ text_length before + text_in token
 length-append [] token = search rules
 length-append (t ∷ before) token = let e = length-append before token in search rules
 
 -- behind one token more
-pub taken_more : (before : List Token) (token : Token) (frames after : List Frame) → HasTaken frames before → step frames token ≡ Ok after
+pub taken_more : (before : List Token) (token : Token) (frames after : List Frame) → HasTaken frames before
+    → step frames token ≡ Ok after
     → HasTaken after (before ++ token ∷ [])
 taken_more before token frames after h x =
     rw (behind-append before (token ∷ []) (root ∷ []), h, x) refl
 
 -- a building that took one token more
-pub building_more : (b : Building) (token : Token) (after : List Frame) (left : ℕ) → IsBuilding b → b.stopped ≡ None → step b.frames token ≡ Ok after
+pub building_more : (b : Building) (token : Token) (after : List Frame) (left : ℕ) → IsBuilding b → b.stopped ≡ None
+    → step b.frames token ≡ Ok after
     → left + text_in token ≡ b.room → IsBuilding (record b { frames = after; room = left })
 building_more b token after left is_building going x room = λ still.
     let was = is_building going in

@@ -4,8 +4,8 @@ use Rattle.wbxml_tokens.specs.declared.reason.Reason.{Reason}
 use Rattle.wbxml_tokens.specs.declared.token.Token.{Token}
 use Rattle.wbxml_tokens.specs.declared.token.Token.TheVariants.{Tag, End, Text, Opaque}
 use Rattle.syncml_types.specs.Message.{Parts}
-use Rattle.syncml_grammar.specs.declared.open.Stop.{Stop}
-use Rattle.syncml_grammar.specs.declared.open.Stop.TheVariants as stops
+use Rattle.wbxml_tokens.specs.declared.reason.Stop.{Stop}
+use Rattle.wbxml_tokens.specs.declared.reason.Stop.TheVariants as stops
 use Rattle.syncml_grammar.specs.Reads.{◌then◌}
 use Rattle.syncml_grammar.specs.Machine.{Frame, root, step, finished}
 
@@ -43,7 +43,8 @@ no_building = record { frames = root ∷ []; room = most_text; stopped = None }
 
 -- unless it has stopped, it has taken tokens
 abbrev pub IsBuilding : Building → Type 0
-IsBuilding b = b.stopped ≡ None → (tokens : List Token) × HasTaken b.frames tokens × (text_length tokens + b.room ≡ most_text)
+IsBuilding b =
+    b.stopped ≡ None → (tokens : List Token) × HasTaken b.frames tokens × (text_length tokens + b.room ≡ most_text)
 
 abbrev pub frames_or : List Frame → Result (List Frame) Reason → List Frame
 frames_or frames (Ok after) = after

@@ -56,7 +56,8 @@ on_tag top below e content (Some reason) = Err reason
 on_tag top below e content None = on_next top below e content (next top.content e)
 
 abbrev pub on_text : Frame → List ℕ → Result Frame Reason
-on_text top bytes = if takes_text top.content then Ok (record top { value = with_text top.value bytes }) else Err Misplaced
+on_text top bytes =
+    if takes_text top.content then Ok (record top { value = with_text top.value bytes }) else Err Misplaced
 
 abbrev pub on_piece : Frame → List Frame → List ℕ → Result (List Frame) Reason
 on_piece top below bytes = on_text top bytes then (λ after. Ok (after ∷ below))

@@ -1,5 +1,6 @@
 -- Numbers in decimal, digit by digit.
-use Rattle.std.specs.Prelude.{ℕ, not, ◌+◌, ◌*◌, ◌-◌, ◌^◌, ◌==◌, ◌&&◌, Bool, if◌then◌else◌, nat_le, nat_lt, List, [], ◌∷◌, Option, Some, None}
+use Rattle.std.specs.Prelude.{ℕ, not, ◌+◌, ◌*◌, ◌-◌, ◌^◌, ◌==◌, ◌&&◌, Bool, if◌then◌else◌, nat_le, nat_lt, List, []}
+use Rattle.std.specs.Prelude.{◌∷◌, Option, Some, None}
 use Rattle.syncml_grammar.specs.declared.digits.Digits.{Digits}
 use Rattle.syncml_grammar.specs.declared.digits.Digits.TheVariants.{Start, Number, Bad}
 

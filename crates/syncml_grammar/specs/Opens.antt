@@ -9,8 +9,8 @@ use Rattle.syncml_types.specs.Message.{Parts}
 use Rattle.syncml_grammar.specs.declared.draft.WholeParts.{WholeParts}
 use Rattle.syncml_grammar.specs.declared.open.Open.{Open}
 use Rattle.syncml_grammar.specs.declared.open.OpenLeaf.{OpenLeaf}
-use Rattle.syncml_grammar.specs.declared.open.Stop.{Stop}
-use Rattle.syncml_grammar.specs.declared.open.Stop.TheVariants as stops
+use Rattle.wbxml_tokens.specs.declared.reason.Stop.{Stop}
+use Rattle.wbxml_tokens.specs.declared.reason.Stop.TheVariants as stops
 use Rattle.syncml_grammar.specs.Values.{of_leaf, of_draft}
 use Rattle.syncml_grammar.specs.Machine.{Frame}
 

@@ -26,8 +26,8 @@ abbrev pub at_place : {A : Type 0} → ℕ → Result A Reason → Result A Unre
 at_place at (Ok x) = Ok x
 at_place at (Err reason) = Err (record { at = at; reason = reason })
 
--- What an element holds behind this content, and the place behind it, where the content begins at a place. A bare element
--- is closed by its tag, any other by its END.
+-- What an element holds behind this content, and the place behind it, where the content begins at a place. A bare
+-- element is closed by its tag, any other by its END.
 abbrev pub read : ℕ → Value → Content → Forest → Result (Value × ℕ) Unread
 read at value content nothing = Ok (value, at)
 read at value content (text bytes rest) = read (at + 1) (with_text value bytes) content rest
@@ -35,7 +35,8 @@ read at value content (opaque bytes rest) = read (at + 1) (with_text value bytes
 read at value content (bare e rest) =
     elim (next content e) [
       | None ↦ Err (record { at = at; reason = Misplaced })
-      | Some x ↦ at_place at (closed x.0 (fresh x.0 e)) then (λ child. read (at + 1) (with_child value e child) x.1 rest)
+      | Some x ↦ at_place at (closed x.0 (fresh x.0 e))
+          then (λ child. read (at + 1) (with_child value e child) x.1 rest)
     ]
 read at value content (full e inner rest) =
     elim (next content e) [

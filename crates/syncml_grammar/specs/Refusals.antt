@@ -1,5 +1,6 @@
 -- Which token is refused and why, and what is answered of a whole list.
-use Rattle.std.specs.Prelude.{◌≡◌, ◌↔◌, ◌⊎◌, ℕ, ◌+◌, ◌≤◌, List, [], ◌∷◌, ◌++◌, length, Option, Some, None, Result, Ok, Err, IsTrue}
+use Rattle.std.specs.Prelude.{◌≡◌, ◌↔◌, ◌⊎◌, ℕ, ◌+◌, ◌≤◌, List, [], ◌∷◌, ◌++◌, length, Option, Some, None, Result, Ok}
+use Rattle.std.specs.Prelude.{Err, IsTrue}
 use Rattle.wbxml_tokens.specs.declared.reason.Reason.{Reason}
 use Rattle.wbxml_tokens.specs.declared.reason.Reason.TheVariants as reasons
 use Rattle.wbxml_tokens.specs.declared.token.Token.{Token}
@@ -22,7 +23,8 @@ AllRead tokens =
 abbrev pub ClosesUnread : List Token → Token → Reason → Type 0
 ClosesUnread before token reason =
     (more : List Token) (tree : Forest)
-    → HasShape ((before ++ token ∷ []) ++ more) tree → read_document tree ≡ Err (record { at = length before; reason = reason })
+    → HasShape ((before ++ token ∷ []) ++ more) tree
+    → read_document tree ≡ Err (record { at = length before; reason = reason })
 
 -- What is before it is read; and no document goes on with the token, or it closes a text or a number that doesn't read.
 abbrev pub IsRefused : List Token → Token → Reason → Type 0
@@ -36,7 +38,8 @@ IsRefusedAt tokens at reason =
     (before : List Token) × (token : Token) × (rest : List Token)
     × (tokens ≡ before ++ token ∷ rest) × (length before ≡ at) × IsRefused before token reason
 
--- of a whole list: the message that it spells, or that it only begins one, or the place and the reason of the refused token
+-- of a whole list: the message that it spells, or that it only begins one, or the place and the reason of the refused
+-- token
 pub data Verdict : Type 0 where
   message : Parts → Verdict
   unfinished : Verdict
@@ -58,7 +61,8 @@ verdict_then at (Err reason) f = refused at reason
 -- the same, computed
 abbrev pub verdict_from : ℕ → List Frame → List Token → Verdict
 verdict_from at frames [] = message_or_not (finished frames)
-verdict_from at frames (token ∷ tokens) = verdict_then at (step frames token) (λ after. verdict_from (at + 1) after tokens)
+verdict_from at frames (token ∷ tokens) =
+    verdict_then at (step frames token) (λ after. verdict_from (at + 1) after tokens)
 
 abbrev pub verdict_of : List Token → Verdict
 verdict_of tokens = verdict_from 0 (root ∷ []) tokens
@@ -90,4 +94,5 @@ TakenIsRead =
 abbrev pub UnreadIsText : Type 0
 UnreadIsText =
     (tree : Forest) (unread : Unread)
-    → IsTrue (fits document tree) → read_document tree ≡ Err unread → (unread.reason ≡ reasons.Text) ⊎ (unread.reason ≡ reasons.Number)
+    → IsTrue (fits document tree) → read_document tree ≡ Err unread
+    → (unread.reason ≡ reasons.Text) ⊎ (unread.reason ≡ reasons.Number)

@@ -1,7 +1,10 @@
 -- What a child without children puts into its parent. Where its parent has no such child, it puts nothing.
 use Rattle.std.specs.Prelude.{ℕ, true, List, [], ◌∷◌, ◌++◌, Some}
 use Rattle.wbxml_tables.specs.declared.Element.{Element}
-use Rattle.wbxml_tables.specs.declared.Element.TheVariants.{ECmd, ECmdID, ECmdRef, EData, EFormat, ELocName, ELocURI, EMark, EMaxMsgSize, EMsgRef, ENextNonce, ERespURI, ESessionID, ESize, ESourceRef, ETargetRef, EType, EVerDTD, EVerProto, EVersion}
+use Rattle.wbxml_tables.specs.declared.Element.TheVariants.{ECmd, ECmdID, ECmdRef, EData, EFormat, ELocName, ELocURI}
+use Rattle.wbxml_tables.specs.declared.Element.TheVariants.{EMark, EMaxMsgSize, EMsgRef, ENextNonce, ERespURI}
+use Rattle.wbxml_tables.specs.declared.Element.TheVariants.{ESessionID, ESize, ESourceRef, ETargetRef, EType, EVerDTD}
+use Rattle.wbxml_tables.specs.declared.Element.TheVariants.{EVerProto, EVersion}
 use Rattle.syncml_types.specs.declared.values.Loc.{Loc}
 use Rattle.syncml_types.specs.declared.values.Meta.{Meta}
 use Rattle.syncml_types.specs.declared.values.Header.{Header}

@@ -22,7 +22,8 @@ HasRefused placed f =
 
 -- A builder takes all tokens exactly where the grammar does, and else tells the first refusal, at its token's place.
 pub record BuiltIsTaken : Type 0 where
-  pub built : (placed : List Placed) (b : Building) → taken building no_building placed ≡ Ok b → HasBuilt b (tokens placed)
+  pub built : (placed : List Placed) (b : Building) → taken building no_building placed ≡ Ok b
+      → HasBuilt b (tokens placed)
   pub taken_whole : (placed : List Placed) (frames : List Frame) → HasTaken frames (tokens placed)
       → (b : Building) × (taken building no_building placed ≡ Ok b) × (b.frames ≡ frames)
   pub refused : (placed : List Placed) (f : Refusal) → (taken building no_building placed ≡ Err f) ↔ HasRefused placed f

@@ -1,8 +1,8 @@
 -- What is answered of tokens.
 use Rattle.std.specs.Prelude.{◌≡◌, None, Result, Ok, Err, ⊤}
 use Rattle.wbxml_tokens.specs.declared.token.Token.{Token}
-use Rattle.syncml_grammar.specs.declared.open.Stop.{Stop}
-use Rattle.syncml_grammar.specs.declared.open.Stop.TheVariants as stops
+use Rattle.wbxml_tokens.specs.declared.reason.Stop.{Stop}
+use Rattle.wbxml_tokens.specs.declared.reason.Stop.TheVariants as stops
 use Rattle.syncml_grammar.specs.declared.verdict.Verdict.{Verdict}
 use Rattle.syncml_grammar.specs.declared.verdict.Verdict.TheVariants as verdict
 use Rattle.syncml_grammar.specs.Machine.{step}

@@ -5,22 +5,22 @@ ghost use Rattle.wbxml_tokens.specs.declared.token.Token.TheVariants.{Tag, End, 
 ghost use Rattle.wbxml_tokens.specs.Taking.{Takes};
 ghost use Rattle.syncml_types.specs.Message.{Parts};
 ghost use Rattle.syncml_grammar.specs.Reads.{SpellsParts};
-ghost use Rattle.syncml_grammar.specs.declared.open.Stop.{Stop as Cause};
-ghost use Rattle.syncml_grammar.specs.Building.{no_building, built_by, building_after, refusal_of, told as told_by, HasBuilt, HasStopped, IsLacking};
+ghost use Rattle.wbxml_tokens.specs.declared.reason.Stop.{Stop as Cause};
+ghost use Rattle.syncml_grammar.specs.Building.{no_building, built_by, building_after, refusal_of, told as told_by};
+ghost use Rattle.syncml_grammar.specs.Building.{HasBuilt, HasStopped, IsLacking};
 
-use crate::open::Stop;
 use crate::stack::Stack;
 use std::alloc::Global;
 use std::marker::Model;
 use syncml_types::Message;
 use wbxml_tables::Element;
-use wbxml_tokens::{Reason, Taker, Writer};
+use wbxml_tokens::{Reason, Stop, Taker, Writer};
 
 /// The bytes of text that all tokens together may have. The tokens of a message have far fewer.
 pub const MOST_TEXT: usize = 2_147_483_648;
 
-/// What has been built of the tokens that were taken. After an error it answers the same error for good. Want of memory may come
-/// in place of a refusal, since what a token holds is kept before it is known whether the next is taken.
+/// What has been built of the tokens that were taken. After an error it answers the same error for good. Want of memory
+/// may come in place of a refusal, since what a token holds is kept before it is known whether the next is taken.
 #[derive(Drop)]
 pub struct Builder {
     stack: Stack,

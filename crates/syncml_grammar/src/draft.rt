@@ -4,7 +4,9 @@ ghost use Rattle.syncml_grammar.specs.declared.draft.Draft.TheVariants as draft;
 ghost use Rattle.syncml_grammar.specs.Values.{of_draft};
 ghost use Rattle.syncml_grammar.specs.Reads.{parts_from, parts_in};
 ghost use Rattle.syncml_grammar.specs.Opens.{parts_of};
-ghost use Rattle.syncml_grammar.specs.Drafts.{no_meta, no_item, no_loc, no_header, no_message, no_body, no_cred, no_plain, no_alert, no_block, no_sequence, no_status, no_results, verb_of, fresh_draft};
+ghost use Rattle.syncml_grammar.specs.Drafts.{no_meta, no_item, no_loc, no_header, no_message, no_body, no_cred};
+ghost use Rattle.syncml_grammar.specs.Drafts.{no_plain, no_alert, no_block, no_sequence, no_status, no_results};
+ghost use Rattle.syncml_grammar.specs.Drafts.{verb_of, fresh_draft};
 
 use crate::boxed::Boxed;
 use dm_base::{Bytes, List};
@@ -51,8 +53,8 @@ impl MessageDraft {
     }
 }
 
-/// What has been read of an element with children. Each stands in a box, so that only a pointer is moved where its element opens
-/// and ends.
+/// What has been read of an element with children. Each stands in a box, so that only a pointer is moved where its
+/// element opens and ends.
 #[derive(Drop)]
 pub enum Draft {
     /// A document before its SyncML.

@@ -14,8 +14,8 @@ pub(crate) fn with_room<T: Drop>(alloc: Global, count: usize) -> Result<List<T>,
     }
 }
 
-/// Adds a value at the end. The first takes room for itself alone, where `List::push` would take it for four; from the second
-/// on the room grows as there, so that the work stays linear. After `Memory` the value is given up.
+/// Adds a value at the end. The first takes room for itself alone, where `List::push` would take it for four; from the
+/// second on the room grows as there, so that the work stays linear. After `Memory` the value is given up.
 pub(crate) fn push_few<T: Drop>(alloc: Global, items: &mut List<T>, value: T) -> Result<(), Memory>
     ensures { OnOk result (items.new ≡ items.old ++ value ∷ []) }
 {

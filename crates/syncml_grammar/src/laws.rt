@@ -1,6 +1,7 @@
 // What tokens, messages and refusals have to do with each other, for whatever tokens.
 ghost use Rattle.syncml_grammar.specs.Laws.{ReadIsFit};
-ghost use Rattle.syncml_grammar.specs.Refusals.{JudgedIsComputed, StepIsRefused, FinishedIsSpelled, TakenIsRead, UnreadIsText};
+ghost use Rattle.syncml_grammar.specs.Refusals.{JudgedIsComputed, StepIsRefused, FinishedIsSpelled, TakenIsRead};
+ghost use Rattle.syncml_grammar.specs.Refusals.{UnreadIsText};
 ghost use Rattle.syncml_grammar.specs.Decimals.{NumbersAreDecimal, PiecesAreText, WrittenIsRead};
 ghost use Rattle.syncml_grammar.specs.Taken.{BuiltIsTaken};
 

@@ -1,7 +1,8 @@
 // What elements without children hold.
 ghost use Rattle.std.specs.Prelude.{◌≡◌, OnOk};
 ghost use Rattle.syncml_types.specs.Canonical.{is_text as is_text_of_message};
-ghost use Rattle.syncml_grammar.specs.Leaves.{fresh_leaf, with_piece, closed_leaf, closed_text, closed_number, ranged, short_number};
+ghost use Rattle.syncml_grammar.specs.Leaves.{fresh_leaf, with_piece, closed_leaf, closed_text, closed_number, ranged};
+ghost use Rattle.syncml_grammar.specs.Leaves.{short_number};
 ghost use Rattle.syncml_grammar.specs.Numbers.{number_in};
 
 use crate::digits::Digits;
@@ -103,8 +104,8 @@ impl Leaf {
         }
     }
 
-    /// What it reads as at its end: Text for a text that isn't UTF-8 without byte 00, Number for a number that isn't decimal
-    /// without leading zeros or not in its range. It is left with anything.
+    /// What it reads as at its end: Text for a text that isn't UTF-8 without byte 00, Number for a number that isn't
+    /// decimal without leading zeros or not in its range. It is left with anything.
     pub fn close(&mut self, alloc: Global, kind: Kind) -> Result<Simple, Reason>
         ensures { result ≡ closed_leaf kind self.old }
     {

@@ -18,5 +18,4 @@ mod stack;
 pub mod verdict;
 
 pub use builder::Builder;
-pub use open::Stop;
 pub use verdict::{Verdict, judge};

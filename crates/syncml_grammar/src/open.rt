@@ -16,14 +16,7 @@ use std::mem;
 use syncml_shape::rows::DOCUMENT;
 use syncml_shape::{Kind, Progress};
 use wbxml_tables::Element;
-use wbxml_tokens::Reason;
-
-/// Why a token isn't taken.
-#[derive(Clone, Copy, Debug, PartialEq, Eq)]
-pub enum Stop {
-    Memory,
-    Refused(Reason),
-}
+use wbxml_tokens::{Reason, Stop};
 
 /// An open element with children. The document has no name. It is small, since what it holds stands in a box.
 #[derive(Drop)]

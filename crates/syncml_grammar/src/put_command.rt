@@ -1,5 +1,5 @@
-// What a command puts into the body or the block that it ends in. What a call takes from a box it replaces by what a new one has, in
-// a function of its own, since each function pays at its entry for its largest locals.
+// What a command puts into the body or the block that it ends in. What a call takes from a box it replaces by what a
+// new one has, in a function of its own, since each function pays at its entry for its largest locals.
 ghost use Rattle.std.specs.Prelude.{◌≡◌, ◌∷◌, ◌++◌, [], false, OnOk};
 ghost use Rattle.syncml_types.specs.declared.command.Command.TheVariants as command;
 ghost use Rattle.syncml_types.specs.declared.command.Member.TheVariants as member;

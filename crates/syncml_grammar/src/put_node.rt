@@ -1,5 +1,5 @@
-// What a child with children puts into its parent. What a call takes from the child's box it replaces by what a new one has, in a
-// function of its own, since each function pays at its entry for its largest locals.
+// What a child with children puts into its parent. What a call takes from the child's box it replaces by what a new one
+// has, in a function of its own, since each function pays at its entry for its largest locals.
 ghost use Rattle.std.specs.Prelude.{◌≡◌, ◌∷◌, ◌++◌, [], false, Some, OnOk};
 ghost use Rattle.syncml_types.specs.declared.values.Header.{Header};
 ghost use Rattle.syncml_grammar.specs.declared.draft.Draft.TheVariants as drafts;

@@ -1,6 +1,9 @@
 // What a child without children puts into its parent.
 ghost use Rattle.std.specs.Prelude.{◌≡◌, true, OnOk};
-ghost use Rattle.syncml_grammar.specs.Simples.{loc_with_text, meta_with_text, header_with_text, status_with_text, results_with_text, with_text, alert_with_number, status_with_number, results_with_number, with_short, meta_with_size, with_long, with_flag, with_simple};
+ghost use Rattle.syncml_grammar.specs.Simples.{loc_with_text, meta_with_text, header_with_text, status_with_text};
+ghost use Rattle.syncml_grammar.specs.Simples.{results_with_text, with_text, alert_with_number, status_with_number};
+ghost use Rattle.syncml_grammar.specs.Simples.{results_with_number, with_short, meta_with_size, with_long, with_flag};
+ghost use Rattle.syncml_grammar.specs.Simples.{with_simple};
 
 use crate::boxed::Boxed;
 use crate::draft::Draft;

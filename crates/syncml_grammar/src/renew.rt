@@ -1,7 +1,9 @@
-// Boxes for new elements. What was put into a parent mostly left its box with a new value, which then need not be written again.
-// The first box of a kind is filled in a function of its own, since each function pays at its entry for its largest locals.
+// Boxes for new elements. What was put into a parent mostly left its box with a new value, which then need not be
+// written again. The first box of a kind is filled in a function of its own, since each function pays at its entry for
+// its largest locals.
 ghost use Rattle.std.specs.Prelude.{◌≡◌, IfOk, IsTrue};
-ghost use Rattle.syncml_grammar.specs.Drafts.{no_message, no_body, no_loc, no_header, no_alert, no_block, no_sequence, no_cred, no_item, no_meta, no_plain, no_status, no_results};
+ghost use Rattle.syncml_grammar.specs.Drafts.{no_message, no_body, no_loc, no_header, no_alert, no_block, no_sequence};
+ghost use Rattle.syncml_grammar.specs.Drafts.{no_cred, no_item, no_meta, no_plain, no_status, no_results};
 
 use crate::boxed::Boxed;
 use crate::draft::{

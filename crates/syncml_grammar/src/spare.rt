@@ -15,8 +15,8 @@ use syncml_shape::Kind;
 use syncml_types::{AlertCmd, Block, Item, Loc, Meta, Plain, ResultsCmd, SeqBlock, StatusCmd};
 use wbxml_tables::Element;
 
-/// The boxes of elements that have ended, with anything in them. No more elements of a kind are open at once than have places here,
-/// so that no element takes memory but for what the message keeps, the first of each kind aside.
+/// The boxes of elements that have ended, with anything in them. No more elements of a kind are open at once than have
+/// places here, so that no element takes memory but for what the message keeps, the first of each kind aside.
 #[derive(Drop)]
 pub(crate) struct Spares {
     pub(crate) alloc: Global,
@@ -31,9 +31,10 @@ pub(crate) struct Spares {
     pub(crate) chal: Option<Boxed<Meta>>,
     pub(crate) meta: Option<Boxed<Meta>>,
     pub(crate) met_inf: Option<Boxed<Meta>>,
-    // The box of the body, kept until the message is finished. The list that holds it is taken behind nearly all of the message and
-    // given back before it, so that the heap's end stays in use: glibc else gives its pages back to the kernel with each large
-    // message, and the kernel clears them anew for the next, which takes up to a quarter of the time.
+    // The box of the body, kept until the message is finished. The list that holds it is taken behind nearly all of the
+    // message and given back before it, so that the heap's end stays in use: glibc else gives its pages back to the
+    // kernel with each large message, and the kernel clears them anew for the next, which takes up to a quarter of the
+    // time.
     pub(crate) ended: List<Draft>,
 }
 

@@ -1,13 +1,15 @@
 // The open elements, and the tokens that they take.
-ghost use Rattle.std.specs.Prelude.{◌≡◌, ◌+◌, ◌∷◌, [], None, Ok, Err, Bool, true, false, ℕ, length, OnOk, IfOk, option_map, List as ListOf};
+ghost use Rattle.std.specs.Prelude.{◌≡◌, ◌+◌, ◌∷◌, [], None, Ok, Err, Bool, true, false, ℕ, length, OnOk, IfOk};
+ghost use Rattle.std.specs.Prelude.{option_map, List as ListOf};
 ghost use Rattle.wbxml_tokens.specs.declared.token.Token.TheVariants.{Tag, End, Text, Opaque};
 ghost use Rattle.syncml_grammar.specs.Machine.{Frame, root, step, on_kind, finished};
 ghost use Rattle.syncml_grammar.specs.Values.{holds_leaf};
-ghost use Rattle.syncml_grammar.specs.Opens.{frame_of, frames_of, leaf_frame, with_leaf, GivesFrame, GivesFrames, parts_of};
+ghost use Rattle.syncml_grammar.specs.Opens.{frame_of, frames_of, leaf_frame, with_leaf, GivesFrame, GivesFrames};
+ghost use Rattle.syncml_grammar.specs.Opens.{parts_of};
 
 use crate::draft::WholeParts;
 use crate::few::with_room;
-use crate::open::{Open, OpenLeaf, Stop, has_leaf};
+use crate::open::{Open, OpenLeaf, has_leaf};
 use crate::put_node::put_node;
 use crate::spare::Spares;
 use dm_base::{List, Memory};
@@ -16,7 +18,7 @@ use std::marker::Model;
 use std::mem;
 use syncml_shape::{Kind, tag_fault};
 use wbxml_tables::Element;
-use wbxml_tokens::Reason;
+use wbxml_tokens::{Reason, Stop};
 
 /// The open elements with children, and the document below them.
 #[derive(Drop)]
@@ -182,7 +184,8 @@ impl Nest {
 
 // Why a tag in an element without children is refused.
 fn tag_in_leaf(leaf: &OpenLeaf, element: Element) -> Reason
-    ensures { (frames : ListOf Frame) (content : Bool) → step (leaf_frame leaf.now ∷ frames) (Tag element content) ≡ Err result }
+    ensures { (frames : ListOf Frame) (content : Bool)
+        → step (leaf_frame leaf.now ∷ frames) (Tag element content) ≡ Err result }
 {
     match tag_fault(Some(leaf.element), element) {
         Some(reason) => reason,

@@ -4,11 +4,10 @@ ghost use Rattle.syncml_grammar.specs.Refusals.{Verdict as Judgement, Judges, ve
 ghost use Rattle.syncml_grammar.specs.Verdicts.{judgement, GivesOne};
 
 use crate::builder::Builder;
-use crate::open::Stop;
 use dm_base::Memory;
 use std::alloc::Global;
 use syncml_types::Message;
-use wbxml_tokens::{Reason, Token, Writer};
+use wbxml_tokens::{Reason, Stop, Token, Writer};
 
 /// What tokens are.
 #[derive(Drop)]
@@ -56,10 +55,10 @@ fn judged(alloc: Global, tokens: &[Token]) -> Result<Verdict, Memory>
     }
 }
 
-/// Says of tokens which message they spell, or that they begin one, or which is refused first and why: Leftout, Nested or
-/// Misplaced where no document goes on with it, and Text or Number where it closes what doesn't read. Exactly one of these is
-/// so. `Memory` may come in place of any of these, since the message is built as its tokens are judged. The work is linear in the
-/// tokens and their texts.
+/// Says of tokens which message they spell, or that they begin one, or which is refused first and why: Leftout, Nested
+/// or Misplaced where no document goes on with it, and Text or Number where it closes what doesn't read. Exactly one of
+/// these is so. `Memory` may come in place of any of these, since the message is built as its tokens are judged. The
+/// work is linear in the tokens and their texts.
 pub fn judge(alloc: Global, tokens: &[Token]) -> Result<Verdict, Memory>
     ensures exact { IfOk result (λ verdict. Judges tokens.now (judgement verdict)) }
     ensures only { (other : Judgement) → Judges tokens.now other → IfOk result (λ verdict. judgement verdict ≡ other) }

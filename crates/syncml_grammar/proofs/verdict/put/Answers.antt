@@ -8,7 +8,8 @@ use Rattle.syncml_grammar.proofs.verdict.put.Goals as goal
 pub returns-in-Tag : goal.returns-in-Tag
 returns-in-Tag c =
     subst (λ (t : Token). GivesOne c.tag.result c.args.builder.now c.tag.new.self t) (sym c.in-Tag.is)
-    (one_step c.tag.result c.args.builder.now c.tag.new.self (Tag c.in-Tag.element c.in-Tag.content) c.requires c.tag.ensures.ok c.tag.ensures.taken)
+    (one_step c.tag.result c.args.builder.now c.tag.new.self (Tag c.in-Tag.element c.in-Tag.content) c.requires
+    c.tag.ensures.ok c.tag.ensures.taken)
 
 pub returns-in-End : goal.returns-in-End
 returns-in-End c =

@@ -9,6 +9,8 @@ use Rattle.syncml_grammar.proofs.builder.Builder.finish_or.Goals as goal
 pub of_parts-requires : goal.of_parts-requires
 of_parts-requires g c =
     let fits =
-    fit_behind read_is_fit (record { frames = c.self.inside.stack; room = c.self.inside.room; stopped = c.self.inside.stopped }) (parts_of c.in-Some-into_parts.parts)
+    fit_behind read_is_fit
+    (record { frames = c.self.inside.stack; room = c.self.inside.room; stopped = c.self.inside.stopped })
+    (parts_of c.in-Some-into_parts.parts)
     c.self.invariant c.in_default.is (sym c.into_parts.ensures ∙ ap (option_map parts_of) c.in-Some-into_parts.is)
     in subst (λ (header : Header). IsFit header c.in-Some-into_parts.parts.body) (sym c.into_inner.ensures) fits

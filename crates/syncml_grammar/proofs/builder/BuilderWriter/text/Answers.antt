@@ -5,5 +5,7 @@ use Rattle.syncml_grammar.proofs.builder.BuilderWriter.text.Goals as goal
 
 pub invariant_of-self : goal.invariant_of-self
 invariant_of-self c =
-    building_more (record { frames = c.self.inside.stack; room = c.self.inside.room; stopped = c.self.inside.stopped }) (Text c.args.text.now) c.piece.new.self c.piece.new.room
-    c.self.invariant (ap (λ b. b.stopped) c.self.view_is ∙ c.in_ok-go_on.ensures.going) c.in-Ok.ensures.text c.in-Ok.ensures.room
+    building_more (record { frames = c.self.inside.stack; room = c.self.inside.room; stopped = c.self.inside.stopped })
+    (Text c.args.text.now) c.piece.new.self c.piece.new.room
+    c.self.invariant (ap (λ b. b.stopped) c.self.view_is ∙ c.in_ok-go_on.ensures.going) c.in-Ok.ensures.text
+    c.in-Ok.ensures.room
