@@ -4,7 +4,7 @@ use crate::judging::{HEAD, push_all};
 use dm_base::{Bytes, Memory};
 use std::alloc::Global;
 use std::test::Fail;
-use syncml_grammar::{Builder, Stop, Verdict, judge};
+use syncml_grammar::{Builder, Verdict, judge};
 use syncml_types::{Message, put_message};
 use wbxml_tables::Element::{
     EAdd, EAlert, EAtomic, EChal, ECmd, ECmdID, ECmdRef, ECopy, ECorrelator, ECred, EData, EDelete,
@@ -13,7 +13,7 @@ use wbxml_tables::Element::{
     ESequence, ESessionID, ESize, ESource, ESourceRef, EStatus, ESyncBody, ESyncHdr, ESyncML,
     ETarget, ETargetRef, EType, EVerDTD, EVerProto, EVersion,
 };
-use wbxml_tokens::{Reason, TokenWriter, Writer};
+use wbxml_tokens::{Reason, Stop, TokenWriter, Writer};
 
 struct Reading {
     pieces: &'static [Piece],

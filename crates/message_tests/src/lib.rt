@@ -8,8 +8,6 @@ mod containers;
 #[cfg(test)]
 mod decoding;
 #[cfg(test)]
-mod first_path;
-#[cfg(test)]
 mod judging;
 #[cfg(test)]
 mod judging_values;

@@ -35,12 +35,14 @@ canonical_can_be_spelled parts fit numbers = (
 cons_not_empty : (t : Token) (ts : List Token) → t ∷ ts ≡ [] → ⊥
 cons_not_empty t ts e = cc
 
-still_open : (extent : Extent) (t : Token) (ts : List Token) → (extent ≡ extents.Whole → t ∷ ts ≡ []) → is_whole extent ≡ false
+still_open : (extent : Extent) (t : Token) (ts : List Token) → (extent ≡ extents.Whole → t ∷ ts ≡ [])
+    → is_whole extent ≡ false
 still_open extents.Whole t ts ends = absurd (cons_not_empty t ts (ends refl))
 still_open _ t ts ends = refl
 
 in_element : (extent : Extent) (ts : List Token)
-    → ((first later : List Token) → ts ≡ first ++ later → extent_behind extent first ≡ extents.Whole → later ≡ []) → AreInElement extent ts
+    → ((first later : List Token) → ts ≡ first ++ later → extent_behind extent first ≡ extents.Whole → later ≡ [])
+    → AreInElement extent ts
 in_element extent [] ends = tt
 in_element extent (t ∷ ts) ends = (
   still_open extent t ts (ends [] (t ∷ ts) refl),
@@ -50,7 +52,8 @@ in_element extent (t ∷ ts) ends = (
 -- ---- messages
 
 -- the canonical bytes of a fit message spell it, where they aren't too many
-pub canonical_spells : (parts : Parts) → IsFit parts.header parts.body → AreNumbers parts → length (canonical parts) ≤ most_bytes → Spells (canonical parts) parts
+pub canonical_spells : (parts : Parts) → IsFit parts.header parts.body → AreNumbers parts
+    → length (canonical parts) ≤ most_bytes → Spells (canonical parts) parts
 unfolding canonical
 canonical_spells parts fit numbers short =
     let ts : List Token = message_tokens parts in

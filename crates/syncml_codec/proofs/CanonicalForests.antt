@@ -1,5 +1,6 @@
 -- Trees that tokens spell, each put before a rest: where they fit, and what they are read as.
-use Rattle.std.specs.Prelude.{◌≡◌, ◌<◌, ◌+◌, ◌^◌, ◌&&◌, ◌||◌, ℕ, Bool, true, false, not, if◌then◌else◌, List, [], ◌∷◌, ◌++◌, length, Option, Some, None, IfSome, Result, Ok, Err, IsTrue, refl}
+use Rattle.std.specs.Prelude.{◌≡◌, ◌<◌, ◌+◌, ◌^◌, ◌&&◌, ◌||◌, ℕ, Bool, true, false, not, if◌then◌else◌, List, [], ◌∷◌}
+use Rattle.std.specs.Prelude.{◌++◌, length, Option, Some, None, IfSome, Result, Ok, Err, IsTrue, refl}
 use Rattle.std.proofs.Common.{sym, ap, subst, ◌∙◌, append_assoc}
 use Rattle.std.proofs.lemmas.List.{append-nil}
 use Rattle.std.specs.List.{AllByRecursion, flat_map, list_all}
@@ -17,7 +18,8 @@ use Rattle.syncml_shape.specs.declared.rows.Kind.TheVariants as kinds
 use Rattle.syncml_shape.specs.declared.rows.Choice.TheVariants.{One}
 use Rattle.syncml_shape.specs.declared.rows.Row.{Row}
 use Rattle.syncml_shape.specs.Forest.{Forest, nothing, text, opaque, bare, full, spelling}
-use Rattle.syncml_shape.specs.Rows.{same, Content, in_order, in_any_order, none_came, start, in_row, next_row, after_row, next, all_optional, is_complete, takes_text}
+use Rattle.syncml_shape.specs.Rows.{same, Content, in_order, in_any_order, none_came, start, in_row, next_row}
+use Rattle.syncml_shape.specs.Rows.{after_row, next, all_optional, is_complete, takes_text}
 use Rattle.syncml_shape.specs.Shape.{fits}
 use Rattle.syncml_shape.proofs.Accepts.{and_true}
 use Rattle.syncml_shape.proofs.Completes.{and_both}
@@ -30,7 +32,8 @@ use Rattle.syncml_grammar.specs.Reads.{Unread, ◌then◌, at_place, read}
 
 -- ---- trees before a rest
 
--- Before a rest stand trees that the tokens spell. They fit where the rest fits, and lead from one content and value to another.
+-- Before a rest stand trees that the tokens spell. They fit where the rest fits, and lead from one content and value to
+-- another.
 pub record Puts (c : Content) (v : Value) (tokens : List Token) (d : Content) (w : Value) : Type 0 where
   pub front : Forest → Forest
   pub place : ℕ → ℕ
@@ -49,24 +52,28 @@ puts_none = record {
   reads = λ at rest h. refl;
 }
 
-pub all_append : {A : Type 0} (P : A → Type 0) (xs ys : List A) → AllByRecursion P xs → AllByRecursion P ys → AllByRecursion P (xs ++ ys)
+pub all_append : {A : Type 0} (P : A → Type 0) (xs ys : List A) → AllByRecursion P xs → AllByRecursion P ys
+    → AllByRecursion P (xs ++ ys)
 all_append P [] ys a b = b
 all_append P (x ∷ xs) ys a b = (a.0, all_append P xs ys a.1 b)
 
 infixl 10 ◌behind◌
-pub ◌behind◌ : {c d f : Content} {v w x : Value} {ts us : List Token} → Puts c v ts d w → Puts d w us f x → Puts c v (ts ++ us) f x
+pub ◌behind◌ : {c d f : Content} {v w x : Value} {ts us : List Token} → Puts c v ts d w → Puts d w us f x
+    → Puts c v (ts ++ us) f x
 ◌behind◌ {ts = ts} {us = us} a b = record {
   front = λ rest. a.front (b.front rest);
   place = λ at. b.place (a.place at);
   written = all_append CanBeSpelled ts us a.written b.written;
-  spells = λ rest. a.spells (b.front rest) ∙ ap (λ l. ts ++ l) (b.spells rest) ∙ sym (append_assoc ts us (spelling rest));
+  spells = λ rest.
+      a.spells (b.front rest) ∙ ap (λ l. ts ++ l) (b.spells rest) ∙ sym (append_assoc ts us (spelling rest));
   fit = λ rest h. a.fit (b.front rest) (b.fit rest h);
   reads = λ at rest h. a.reads at (b.front rest) (b.fit rest h) ∙ b.reads (a.place at) rest h;
 }
 
 -- ---- elements
 
-pub puts_bare : {c d : Content} {v : Value} (e : Element) (k : Kind) (whole : Whole) → next c e ≡ Some (k, d) → IsTrue (is_complete (start k))
+pub puts_bare : {c d : Content} {v : Value} (e : Element) (k : Kind) (whole : Whole) → next c e ≡ Some (k, d)
+    → IsTrue (is_complete (start k))
     → closed k (fresh k e) ≡ Ok whole → Puts c v (Tag e false ∷ []) d (with_child v e whole)
 puts_bare {c} {d} {v} e k whole n done is = record {
   front = λ rest. bare e rest;
@@ -74,7 +81,8 @@ puts_bare {c} {d} {v} e k whole n done is = record {
   written = (tt, tt);
   spells = λ rest. refl;
   fit = λ rest h.
-      ap (λ (o : Option (Kind × Content)). elim o as (λ _. Bool) [ None ↦ false | Some x ↦ is_complete (start x.0) && fits x.1 rest ]) n
+      ap (λ (o : Option (Kind × Content)).
+      elim o as (λ _. Bool) [ None ↦ false | Some x ↦ is_complete (start x.0) && fits x.1 rest ]) n
       ∙ and_both (is_complete (start k)) (fits d rest) done h;
   reads = λ at rest h.
       ap (λ (o : Option (Kind × Content)). elim o as (λ _. Result (Value × ℕ) Unread) [
@@ -84,8 +92,10 @@ puts_bare {c} {d} {v} e k whole n done is = record {
       ∙ ap (λ r. at_place at r then (λ child. read (at + 1) (with_child v e child) d rest)) is;
 }
 
-pub puts_full : {c d f : Content} {v w : Value} {ts : List Token} (e : Element) (k : Kind) (whole : Whole) → next c e ≡ Some (k, d)
-    → Puts (start k) (fresh k e) ts f w → IsTrue (is_complete f) → closed k w ≡ Ok whole → Puts c v (parent_tokens e ts) d (with_child v e whole)
+pub puts_full : {c d f : Content} {v w : Value} {ts : List Token} (e : Element) (k : Kind) (whole : Whole)
+    → next c e ≡ Some (k, d)
+    → Puts (start k) (fresh k e) ts f w → IsTrue (is_complete f) → closed k w ≡ Ok whole
+    → Puts c v (parent_tokens e ts) d (with_child v e whole)
 puts_full {c} {d} {f} {v} {w} {ts} e k whole n inner done is = record {
   front = λ rest. full e (inner.front nothing) rest;
   place = λ at. inner.place (at + 1) + 1;
@@ -94,7 +104,8 @@ puts_full {c} {d} {f} {v} {w} {ts} e k whole n inner done is = record {
       ap (λ l. Tag e true ∷ (l ++ End ∷ spelling rest)) (inner.spells nothing ∙ append-nil ts)
       ∙ ap (λ l. Tag e true ∷ l) (sym (append_assoc ts (End ∷ []) (spelling rest)));
   fit = λ rest h.
-      ap (λ (o : Option (Kind × Content)). elim o as (λ _. Bool) [ None ↦ false | Some x ↦ fits (start x.0) (inner.front nothing) && fits x.1 rest ]) n
+      ap (λ (o : Option (Kind × Content)).
+      elim o as (λ _. Bool) [ None ↦ false | Some x ↦ fits (start x.0) (inner.front nothing) && fits x.1 rest ]) n
       ∙ and_both (fits (start k) (inner.front nothing)) (fits d rest) (inner.fit nothing done) h;
   reads = λ at rest h.
       ap (λ (o : Option (Kind × Content)). elim o as (λ _. Result (Value × ℕ) Unread) [
@@ -102,8 +113,10 @@ puts_full {c} {d} {f} {v} {w} {ts} e k whole n inner done is = record {
         | Some x ↦ read (at + 1) (fresh x.0 e) (start x.0) (inner.front nothing) then
             (λ p. at_place p.1 (closed x.0 p.0) then (λ child. read (p.1 + 1) (with_child v e child) x.1 rest))
       ]) n
-      ∙ ap (λ r. r then (λ p. at_place p.1 (closed k p.0) then (λ child. read (p.1 + 1) (with_child v e child) d rest))) (inner.reads (at + 1) nothing done)
-      ∙ ap (λ r. at_place (inner.place (at + 1)) r then (λ child. read (inner.place (at + 1) + 1) (with_child v e child) d rest)) is;
+      ∙ ap (λ r. r then (λ p. at_place p.1 (closed k p.0) then (λ child. read (p.1 + 1) (with_child v e child) d rest)))
+      (inner.reads (at + 1) nothing done)
+      ∙ ap (λ r. at_place (inner.place (at + 1)) r
+      then (λ child. read (inner.place (at + 1) + 1) (with_child v e child) d rest)) is;
 }
 
 no_tree : (f : Forest) → spelling f ≡ [] → f ≡ nothing
@@ -118,16 +131,20 @@ same_read a b m n h =
     let pair : ◌≡◌ {A = Value × ℕ} (a, m) (b, n) = cc in ap (λ (p : Value × ℕ). p.0) pair
 
 -- an element that is its tag alone where it has no children
-pub puts_element : {c d f : Content} {v w : Value} {ts : List Token} (e : Element) (k : Kind) (whole : Whole) → next c e ≡ Some (k, d)
-    → Puts (start k) (fresh k e) ts f w → IsTrue (is_complete f) → closed k w ≡ Ok whole → Puts c v (element_tokens e ts) d (with_child v e whole)
+pub puts_element : {c d f : Content} {v w : Value} {ts : List Token} (e : Element) (k : Kind) (whole : Whole)
+    → next c e ≡ Some (k, d)
+    → Puts (start k) (fresh k e) ts f w → IsTrue (is_complete f) → closed k w ≡ Ok whole
+    → Puts c v (element_tokens e ts) d (with_child v e whole)
 puts_element {f = f} {w = w} {ts = []} e k whole n inner done is =
     let none : inner.front nothing ≡ nothing = no_tree (inner.front nothing) (inner.spells nothing) in
     let same : fresh k e ≡ w = same_read (fresh k e) w 0 (inner.place 0)
     (ap (λ tree. read 0 (fresh k e) (start k) tree) (sym none) ∙ inner.reads 0 nothing done) in
-    puts_bare e k whole n (subst (λ tree. IsTrue (fits (start k) tree)) none (inner.fit nothing done)) (ap (closed k) same ∙ is)
+    puts_bare e k whole n (subst (λ tree. IsTrue (fits (start k) tree)) none (inner.fit nothing done))
+    (ap (closed k) same ∙ is)
 puts_element {ts = t ∷ ts} e k whole n inner done is = puts_full e k whole n inner done is
 
-pub puts_text : {c : Content} {v : Value} (bytes : List ℕ) → HasNoZero bytes → IsTrue (takes_text c) → Puts c v (Text bytes ∷ []) c (with_text v bytes)
+pub puts_text : {c : Content} {v : Value} (bytes : List ℕ) → HasNoZero bytes → IsTrue (takes_text c)
+    → Puts c v (Text bytes ∷ []) c (with_text v bytes)
 puts_text {c} {v} bytes none takes = record {
   front = λ rest. text bytes rest;
   place = λ at. at + 1;
@@ -137,7 +154,8 @@ puts_text {c} {v} bytes none takes = record {
   reads = λ at rest h. refl;
 }
 
-pub puts_opaque : {c : Content} {v : Value} (bytes : List ℕ) → length bytes < 2 ^ 32 → IsTrue (takes_text c) → Puts c v (Opaque bytes ∷ []) c (with_text v bytes)
+pub puts_opaque : {c : Content} {v : Value} (bytes : List ℕ) → length bytes < 2 ^ 32 → IsTrue (takes_text c)
+    → Puts c v (Opaque bytes ∷ []) c (with_text v bytes)
 puts_opaque {c} {v} bytes short takes = record {
   front = λ rest. opaque bytes rest;
   place = λ at. at + 1;
@@ -161,17 +179,23 @@ none_some x h = cc
 never : {P : Type 0} → false ≡ true → P
 never h = cc
 
-came_bare : (d : Content) (e : Element) (rest : Forest) → IsTrue (fits d (bare e rest)) → (x : Kind × Content) × (next d e ≡ Some x) × IsTrue (is_complete (start x.0) && fits x.1 rest)
+came_bare : (d : Content) (e : Element) (rest : Forest) → IsTrue (fits d (bare e rest))
+    → (x : Kind × Content) × (next d e ≡ Some x) × IsTrue (is_complete (start x.0) && fits x.1 rest)
 came_bare d e rest h =
-    (elim (next d e) as (λ (o : Option (Kind × Content)). next d e ≡ o → IsTrue (elim o as (λ _. Bool) [ None ↦ false | Some x ↦ is_complete (start x.0) && fits x.1 rest ])
+    (elim (next d e)
+    as (λ (o : Option (Kind × Content)). next d e ≡ o
+    → IsTrue (elim o as (λ _. Bool) [ None ↦ false | Some x ↦ is_complete (start x.0) && fits x.1 rest ])
     → (x : Kind × Content) × (next d e ≡ Some x) × IsTrue (is_complete (start x.0) && fits x.1 rest)) [
       | None ↦ λ is g. never g
       | Some x ↦ λ is g. (x, is, g)
     ]) refl h
 
-came_full : (d : Content) (e : Element) (i rest : Forest) → IsTrue (fits d (full e i rest)) → (x : Kind × Content) × (next d e ≡ Some x) × IsTrue (fits (start x.0) i && fits x.1 rest)
+came_full : (d : Content) (e : Element) (i rest : Forest) → IsTrue (fits d (full e i rest))
+    → (x : Kind × Content) × (next d e ≡ Some x) × IsTrue (fits (start x.0) i && fits x.1 rest)
 came_full d e i rest h =
-    (elim (next d e) as (λ (o : Option (Kind × Content)). next d e ≡ o → IsTrue (elim o as (λ _. Bool) [ None ↦ false | Some x ↦ fits (start x.0) i && fits x.1 rest ])
+    (elim (next d e)
+    as (λ (o : Option (Kind × Content)). next d e ≡ o
+    → IsTrue (elim o as (λ _. Bool) [ None ↦ false | Some x ↦ fits (start x.0) i && fits x.1 rest ])
     → (x : Kind × Content) × (next d e ≡ Some x) × IsTrue (fits (start x.0) i && fits x.1 rest)) [
       | None ↦ λ is g. never g
       | Some x ↦ λ is g. (x, is, g)
@@ -186,12 +210,17 @@ covered_fit {c} {d} g (text bytes rest) h = no_piece d rest g.no_text h
 covered_fit {c} {d} g (opaque bytes rest) h = no_piece d rest g.no_text h
 covered_fit {c} {d} g (bare e rest) h =
     let came = came_bare d e rest h in
-    ap (λ (o : Option (Kind × Content)). elim o as (λ _. Bool) [ None ↦ false | Some x ↦ is_complete (start x.0) && fits x.1 rest ]) (g.next e came.0 came.1) ∙ came.2
+    ap (λ (o : Option (Kind × Content)).
+    elim o as (λ _. Bool) [ None ↦ false | Some x ↦ is_complete (start x.0) && fits x.1 rest ]) (g.next e came.0 came.1)
+    ∙ came.2
 covered_fit {c} {d} g (full e i rest) h =
     let came = came_full d e i rest h in
-    ap (λ (o : Option (Kind × Content)). elim o as (λ _. Bool) [ None ↦ false | Some x ↦ fits (start x.0) i && fits x.1 rest ]) (g.next e came.0 came.1) ∙ came.2
+    ap (λ (o : Option (Kind × Content)).
+    elim o as (λ _. Bool) [ None ↦ false | Some x ↦ fits (start x.0) i && fits x.1 rest ]) (g.next e came.0 came.1)
+    ∙ came.2
 
-covered_read : {c d : Content} → Covers c d → (at : ℕ) (v : Value) (f : Forest) → IsTrue (fits d f) → read at v c f ≡ read at v d f
+covered_read : {c d : Content} → Covers c d → (at : ℕ) (v : Value) (f : Forest) → IsTrue (fits d f)
+    → read at v c f ≡ read at v d f
 covered_read {c} {d} g at v nothing h = refl
 covered_read {c} {d} g at v (text bytes rest) h = no_piece d rest g.no_text h
 covered_read {c} {d} g at v (opaque bytes rest) h = no_piece d rest g.no_text h
@@ -226,7 +255,8 @@ row e k required many = record { choice = One e k; required = required; many = m
 pub next_here : (e : Element) (k : Kind) (r m came : Bool) (rows : List Row) → (came && not m) ≡ false
     → next (in_order came (row e k r m ∷ rows)) e ≡ Some (k, in_order true (row e k r m ∷ rows))
 next_here e k r m came rows again =
-    ap (λ (b : Bool). after_row (in_row (if b then Some k else None) came (row e k r m) rows (next_row false rows e))) (true_same the_type e e refl)
+    ap (λ (b : Bool). after_row (in_row (if b then Some k else None) came (row e k r m) rows (next_row false rows e)))
+    (true_same the_type e e refl)
     ∙ ap (λ (b : Bool). after_row (if b then None else Some (k, row e k r m ∷ rows))) again
 
 complete_all : (rows : List Row) → IsTrue (is_complete (in_order false rows)) → IsTrue (all_optional rows)
@@ -239,20 +269,26 @@ passed false true h = cc
 passed false false h = refl
 
 -- a row of an element that no later row has
-pub skips : (e : Element) (k : Kind) (r m came : Bool) (rows : List Row) → next_row false rows e ≡ None → (came || not r) ≡ true
+pub skips : (e : Element) (k : Kind) (r m came : Bool) (rows : List Row) → next_row false rows e ≡ None
+    → (came || not r) ≡ true
     → Covers (in_order came (row e k r m ∷ rows)) (in_order false rows)
 skips e k r m came rows none over = record {
   next = λ other x h.
-      (elim (same e other) as (λ (b : Bool). same e other ≡ b → after_row (in_row (if b then Some k else None) came (row e k r m) rows (next_row false rows other)) ≡ Some x) [
-        | true ↦ λ is. none_some x (sym (ap after_row (subst (λ n. next_row false rows n ≡ None) (same_only e other is) none)) ∙ h)
-        | false ↦ λ is. ap (λ (b : Bool). after_row (if b then None else next_row false rows other)) (passed came r over) ∙ h
+      (elim (same e other)
+      as (λ (b : Bool). same e other ≡ b
+      → after_row (in_row (if b then Some k else None) came (row e k r m) rows (next_row false rows other)) ≡ Some x) [
+        | true ↦ λ is.
+            none_some x (sym (ap after_row (subst (λ n. next_row false rows n ≡ None) (same_only e other is) none)) ∙ h)
+        | false ↦ λ is.
+            ap (λ (b : Bool). after_row (if b then None else next_row false rows other)) (passed came r over) ∙ h
       ]) refl;
   complete = λ h. and_both (came || not r) (all_optional rows) over (complete_all rows h);
   no_text = refl;
 }
 
 -- the last row
-pub ends : (last : Row) (came : Bool) → (came || not last.required) ≡ true → Covers (in_order came (last ∷ [])) (in_order false [])
+pub ends : (last : Row) (came : Bool) → (came || not last.required) ≡ true
+    → Covers (in_order came (last ∷ [])) (in_order false [])
 ends last came over = record {
   next = λ other x h. none_some x h;
   complete = λ h. and_both (came || not last.required) true over refl;
@@ -263,7 +299,10 @@ ends last came over = record {
 pub unwrapped : Covers (in_any_order true none_came) (in_any_order false none_came)
 unwrapped = record {
   next = λ other x h.
-      (elim (same other EMetInf) as (λ (b : Bool). same other EMetInf ≡ b → (if true && b then Some (kinds.MetInf, in_order false []) else next (in_any_order false none_came) other) ≡ Some x) [
+      (elim (same other EMetInf)
+      as (λ (b : Bool). same other EMetInf ≡ b
+      → (if true && b then Some (kinds.MetInf, in_order false []) else next (in_any_order false none_came) other)
+      ≡ Some x) [
         | true ↦ λ is. none_some x (sym (ap (next (in_any_order false none_came)) (same_only other EMetInf is)) ∙ h)
         | false ↦ λ is. h
       ]) refl;
@@ -274,13 +313,16 @@ unwrapped = record {
 -- ---- what may be absent, and lists
 
 -- an optional row
-pub puts_optional : {A : Type 0} {c d : Content} (P : A → Type 0) (tokens : A → List Token) (value : Option A → Value) (o : Option A)
-    → IfSome o P → Covers c d → ((x : A) → P x → Puts c (value None) (tokens x) d (value (Some x))) → Puts c (value None) (optional tokens o) d (value o)
+pub puts_optional : {A : Type 0} {c d : Content} (P : A → Type 0) (tokens : A → List Token) (value : Option A → Value)
+    (o : Option A)
+    → IfSome o P → Covers c d → ((x : A) → P x → Puts c (value None) (tokens x) d (value (Some x)))
+    → Puts c (value None) (optional tokens o) d (value o)
 puts_optional P tokens value None h g one = puts_then puts_none g
 puts_optional P tokens value (Some x) h g one = one x h
 
 -- a child in any order
-pub puts_perhaps : {A : Type 0} (P : A → Type 0) (tokens : A → List Token) (content : Option A → Content) (value : Option A → Value) (o : Option A)
+pub puts_perhaps : {A : Type 0} (P : A → Type 0) (tokens : A → List Token) (content : Option A → Content)
+    (value : Option A → Value) (o : Option A)
     → IfSome o P → ((x : A) → P x → Puts (content None) (value None) (tokens x) (content (Some x)) (value (Some x)))
     → Puts (content None) (value None) (optional tokens o) (content o) (value o)
 puts_perhaps P tokens content value None h one = puts_none
@@ -289,33 +331,44 @@ puts_perhaps P tokens content value (Some x) h one = one x h
 -- a flag
 pub puts_flag : (e : Element) (rows : List Row) (value : Bool → Value) (b : Bool) → next_row false rows e ≡ None
     → with_child (value false) e (simple simples.Flag) ≡ value true
-    → Puts (in_order false (row e kinds.Flag false false ∷ rows)) (value false) (flag_tokens e b) (in_order false rows) (value b)
+    → Puts (in_order false (row e kinds.Flag false false ∷ rows)) (value false) (flag_tokens e b) (in_order false rows)
+    (value b)
 unfolding flag_tokens
 puts_flag e rows value false none same = puts_then puts_none (skips e kinds.Flag false false false rows none refl)
 puts_flag e rows value true none same =
-    subst (λ w. Puts (in_order false (row e kinds.Flag false false ∷ rows)) (value false) (Tag e false ∷ []) (in_order false rows) w) same
-    (puts_then (puts_bare e kinds.Flag (simple simples.Flag) (next_here e kinds.Flag false false false rows refl) refl refl) (skips e kinds.Flag false false true rows none refl))
+    subst (λ w. Puts (in_order false (row e kinds.Flag false false ∷ rows)) (value false) (Tag e false ∷ [])
+    (in_order false rows) w) same
+    (puts_then (puts_bare e kinds.Flag (simple simples.Flag) (next_here e kinds.Flag false false false rows refl) refl
+    refl) (skips e kinds.Flag false false true rows none refl))
 
 -- what one more of a list does, behind those that came
 abbrev pub PutsOne : {A : Type 0} → List Row → (List A → Value) → (A → List Token) → A → Type 0
-PutsOne {A} rows value tokens x = (came : Bool) (before : List A) → Puts (in_order came rows) (value before) (tokens x) (in_order true rows) (value (before ++ x ∷ []))
+PutsOne {A} rows value tokens x =
+    (came : Bool) (before : List A)
+    → Puts (in_order came rows) (value before) (tokens x) (in_order true rows) (value (before ++ x ∷ []))
 
-pub puts_more : {A : Type 0} {d : Content} (rows : List Row) (value : List A → Value) (tokens : A → List Token) (xs before : List A)
+pub puts_more : {A : Type 0} {d : Content} (rows : List Row) (value : List A → Value) (tokens : A → List Token)
+    (xs before : List A)
     → AllByRecursion (PutsOne rows value tokens) xs → Covers (in_order true rows) d
     → Puts (in_order true rows) (value before) (flat_map tokens xs) d (value (before ++ xs))
 puts_more rows value tokens [] before h g =
-    subst (λ l. Puts (in_order true rows) (value before) [] _ (value l)) (sym (append-nil before)) (puts_then puts_none g)
+    subst (λ l. Puts (in_order true rows) (value before) [] _ (value l)) (sym (append-nil before))
+    (puts_then puts_none g)
 puts_more {d = d} rows value tokens (x ∷ xs) before h g =
-    subst (λ l. Puts (in_order true rows) (value before) (tokens x ++ flat_map tokens xs) d (value l)) (append_assoc before (x ∷ []) xs)
+    subst (λ l. Puts (in_order true rows) (value before) (tokens x ++ flat_map tokens xs) d (value l))
+    (append_assoc before (x ∷ []) xs)
     (h.0 true before behind puts_more rows value tokens xs (before ++ x ∷ []) h.1 g)
 
 -- a list that isn't empty
-pub puts_filled : {A : Type 0} {d : Content} (rows : List Row) (value : List A → Value) (tokens : A → List Token) (xs : List A) → is_filled xs ≡ true
-    → AllByRecursion (PutsOne rows value tokens) xs → Covers (in_order true rows) d → Puts (in_order false rows) (value []) (flat_map tokens xs) d (value xs)
+pub puts_filled : {A : Type 0} {d : Content} (rows : List Row) (value : List A → Value) (tokens : A → List Token)
+    (xs : List A) → is_filled xs ≡ true
+    → AllByRecursion (PutsOne rows value tokens) xs → Covers (in_order true rows) d
+    → Puts (in_order false rows) (value []) (flat_map tokens xs) d (value xs)
 puts_filled rows value tokens [] some h g = never some
 puts_filled rows value tokens (x ∷ xs) some h g = h.0 false [] behind puts_more rows value tokens xs (x ∷ []) h.1 g
 
-pub puts_list : {A : Type 0} {d : Content} (rows : List Row) (value : List A → Value) (tokens : A → List Token) (xs : List A)
+pub puts_list : {A : Type 0} {d : Content} (rows : List Row) (value : List A → Value) (tokens : A → List Token)
+    (xs : List A)
     → AllByRecursion (PutsOne rows value tokens) xs → Covers (in_order false rows) d → Covers (in_order true rows) d
     → Puts (in_order false rows) (value []) (flat_map tokens xs) d (value xs)
 puts_list rows value tokens [] h g more = puts_then puts_none g
@@ -327,10 +380,12 @@ pub some_of : {A : Type 0} (test : A → Bool) (o : Option A) → all_of test o 
 some_of test None h = tt
 some_of test (Some x) h = h
 
-pub each_of : {A : Type 0} (test : A → Bool) (xs : List A) → list_all test xs ≡ true → AllByRecursion (λ x. test x ≡ true) xs
+pub each_of : {A : Type 0} (test : A → Bool) (xs : List A) → list_all test xs ≡ true
+    → AllByRecursion (λ x. test x ≡ true) xs
 each_of test [] h = tt
 each_of test (x ∷ xs) h = let both = and_true (test x) (list_all test xs) h in (both.0, each_of test xs both.1)
 
-pub each_so : {A : Type 0} (P Q : A → Type 0) (xs : List A) → ((x : A) → P x → Q x) → AllByRecursion P xs → AllByRecursion Q xs
+pub each_so : {A : Type 0} (P Q : A → Type 0) (xs : List A) → ((x : A) → P x → Q x) → AllByRecursion P xs
+    → AllByRecursion Q xs
 each_so P Q [] so p = tt
 each_so P Q (x ∷ xs) so p = (so x p.0, each_so P Q xs so p.1)

@@ -5,7 +5,8 @@ use Rattle.wbxml_tables.specs.declared.Element.{Element}
 use Rattle.wbxml_tables.specs.declared.Element.TheVariants.{ESyncML}
 use Rattle.wbxml_tokens.specs.declared.token.Token.{Token}
 use Rattle.wbxml_tokens.specs.declared.token.Token.TheVariants.{Tag, End}
-use Rattle.wbxml_tokens.specs.Whole.{IsContent, nothing as no_token, with_text, with_opaque, with_tag, with_element, IsElement}
+use Rattle.wbxml_tokens.specs.Whole.{IsContent, nothing as no_token, with_text, with_opaque, with_tag, with_element}
+use Rattle.wbxml_tokens.specs.Whole.{IsElement}
 use Rattle.syncml_shape.specs.declared.rows.Kind.{Kind}
 use Rattle.syncml_shape.specs.declared.rows.Kind.TheVariants as kinds
 use Rattle.syncml_shape.specs.declared.rows.Choice.TheVariants.{One}
@@ -36,7 +37,10 @@ behind_message = in_order true table.DOCUMENT
 
 next_none : (e : Element) → next behind_message e ≡ None
 next_none e =
-    (elim (same ESyncML e) as (λ (b : Bool). after_row (in_row (if b then Some kinds.Message else None) true (record { choice = One ESyncML kinds.Message; required = true; many = false }) [] None) ≡ None) [
+    (elim (same ESyncML e)
+    as (λ (b : Bool).
+    after_row (in_row (if b then Some kinds.Message else None) true
+    (record { choice = One ESyncML kinds.Message; required = true; many = false }) [] None) ≡ None) [
       | true ↦ refl
       | false ↦ refl
     ])
@@ -45,12 +49,22 @@ no_more : (f : Forest) → IsTrue (fits behind_message f) → f ≡ nothing
 no_more nothing h = refl
 no_more (text bytes f) h = not_so h
 no_more (opaque bytes f) h = not_so h
-no_more (bare e f) h = not_so (sym (ap (λ o. elim o as (λ _. Bool) [ None ↦ false | Some x ↦ is_complete (start x.0) && fits x.1 f ]) (next_none e)) ∙ h)
-no_more (full e inner f) h = not_so (sym (ap (λ o. elim o as (λ _. Bool) [ None ↦ false | Some x ↦ fits (start x.0) inner && fits x.1 f ]) (next_none e)) ∙ h)
+no_more (bare e f) h =
+    not_so
+    (sym (ap (λ o. elim o as (λ _. Bool) [ None ↦ false | Some x ↦ is_complete (start x.0) && fits x.1 f ])
+    (next_none e)) ∙ h)
+no_more (full e inner f) h =
+    not_so
+    (sym (ap (λ o. elim o as (λ _. Bool) [ None ↦ false | Some x ↦ fits (start x.0) inner && fits x.1 f ])
+    (next_none e)) ∙ h)
 
 next_behind : (e : Element) (x : Kind × Content) → next document e ≡ Some x → behind_message ≡ x.1
 next_behind e x h =
-    (elim (same ESyncML e) as (λ (b : Bool). after_row (in_row (if b then Some kinds.Message else None) false (record { choice = One ESyncML kinds.Message; required = true; many = false }) [] None) ≡ Some x → behind_message ≡ x.1) [
+    (elim (same ESyncML e)
+    as (λ (b : Bool).
+    after_row (in_row (if b then Some kinds.Message else None) false
+    (record { choice = One ESyncML kinds.Message; required = true; many = false }) [] None) ≡ Some x
+    → behind_message ≡ x.1) [
       | true ↦ λ h'. cc
       | false ↦ λ h'. cc
     ]) h
@@ -60,17 +74,27 @@ element_of nothing h = not_so h
 element_of (text bytes f) h = not_so h
 element_of (opaque bytes f) h = not_so h
 element_of (bare e f) h =
-    (elim (next document e) as (λ o. next document e ≡ o → IsTrue (elim o as (λ _. Bool) [ None ↦ false | Some x ↦ is_complete (start x.0) && fits x.1 f ]) → IsElement (spelling (bare e f))) [
+    (elim (next document e)
+    as (λ o. next document e ≡ o
+    → IsTrue (elim o as (λ _. Bool) [ None ↦ false | Some x ↦ is_complete (start x.0) && fits x.1 f ])
+    → IsElement (spelling (bare e f))) [
       | None ↦ λ n h'. not_so h'
       | Some x ↦ λ n h'.
-          let none = no_more f (subst (λ c. IsTrue (fits c f)) (sym (next_behind e x n)) (and_true (is_complete (start x.0)) (fits x.1 f) h').1) in
+          let none =
+          no_more f (subst (λ c. IsTrue (fits c f)) (sym (next_behind e x n))
+          (and_true (is_complete (start x.0)) (fits x.1 f) h').1) in
           (e, inl (ap (λ g. Tag e false ∷ spelling g) none))
     ]) refl h
 element_of (full e inner f) h =
-    (elim (next document e) as (λ o. next document e ≡ o → IsTrue (elim o as (λ _. Bool) [ None ↦ false | Some x ↦ fits (start x.0) inner && fits x.1 f ]) → IsElement (spelling (full e inner f))) [
+    (elim (next document e)
+    as (λ o. next document e ≡ o
+    → IsTrue (elim o as (λ _. Bool) [ None ↦ false | Some x ↦ fits (start x.0) inner && fits x.1 f ])
+    → IsElement (spelling (full e inner f))) [
       | None ↦ λ n h'. not_so h'
       | Some x ↦ λ n h'.
-          let none = no_more f (subst (λ c. IsTrue (fits c f)) (sym (next_behind e x n)) (and_true (fits (start x.0) inner) (fits x.1 f) h').1) in
+          let none =
+          no_more f (subst (λ c. IsTrue (fits c f)) (sym (next_behind e x n))
+          (and_true (fits (start x.0) inner) (fits x.1 f) h').1) in
           (e, inr (spelling inner, ap (λ g. Tag e true ∷ (spelling inner ++ End ∷ spelling g)) none, content_of inner))
     ]) refl h
 

@@ -1,10 +1,14 @@
 -- What is read of tokens has each number in the range of its type.
-use Rattle.std.specs.Prelude.{◌≡◌, ◌<◌, ◌+◌, ◌*◌, ◌-◌, ◌^◌, ◌==◌, ◌&&◌, ℕ, ⊤, Bool, true, false, not, nat_le, nat_lt, if◌then◌else◌, List, [], ◌∷◌, ◌++◌, Option, Some, None, IfSome, Result, Ok, Err, refl}
+use Rattle.std.specs.Prelude.{◌≡◌, ◌<◌, ◌+◌, ◌*◌, ◌-◌, ◌^◌, ◌==◌, ◌&&◌, ℕ, ⊤, Bool, true, false, not, nat_le, nat_lt}
+use Rattle.std.specs.Prelude.{if◌then◌else◌, List, [], ◌∷◌, ◌++◌, Option, Some, None, IfSome, Result, Ok, Err, refl}
 use Rattle.std.proofs.Common.{ap, subst, arith}
 use Rattle.std.proofs.lemmas.Bool.{and_parts, leb-true, ltb-true}
 use Rattle.std.specs.List.{AllByRecursion}
 use Rattle.wbxml_tables.specs.declared.Element.{Element}
-use Rattle.wbxml_tables.specs.declared.Element.TheVariants.{ECmd, ECmdID, ECmdRef, EData, EFormat, EMark, EMaxMsgSize, EMsgRef, ENextNonce, ERespURI, ESessionID, ESize, ESourceRef, ETarget, ETargetRef, EType, EVerDTD, EVerProto, EVersion}
+use Rattle.wbxml_tables.specs.declared.Element.TheVariants.{ECmd, ECmdID, ECmdRef, EData, EFormat, EMark, EMaxMsgSize}
+use Rattle.wbxml_tables.specs.declared.Element.TheVariants.{EMsgRef, ENextNonce, ERespURI, ESessionID, ESize}
+use Rattle.wbxml_tables.specs.declared.Element.TheVariants.{ESourceRef, ETarget, ETargetRef, EType, EVerDTD, EVerProto}
+use Rattle.wbxml_tables.specs.declared.Element.TheVariants.{EVersion}
 use Rattle.wbxml_tokens.specs.declared.reason.Reason.{Reason}
 use Rattle.wbxml_tokens.specs.declared.token.Token.{Token}
 use Rattle.wbxml_tokens.specs.declared.reason.Reason.TheVariants.{Misplaced}
@@ -40,14 +44,20 @@ use Rattle.syncml_grammar.specs.declared.draft.MessageDraft.{MessageDraft}
 use Rattle.syncml_grammar.specs.declared.draft.Draft.{Draft}
 use Rattle.syncml_grammar.specs.declared.draft.Draft.TheVariants as draft
 use Rattle.syncml_grammar.specs.Numbers.{is_digit, longer, with_digit, digit_after, digits_after, number_in}
-use Rattle.syncml_grammar.specs.Leaves.{fresh_leaf, with_piece, short_number, ranged, closed_text, closed_number, closed_leaf}
+use Rattle.syncml_grammar.specs.Leaves.{fresh_leaf, with_piece, short_number, ranged, closed_text, closed_number}
+use Rattle.syncml_grammar.specs.Leaves.{closed_leaf}
 use Rattle.syncml_grammar.specs.Drafts.{fresh_draft}
-use Rattle.syncml_grammar.specs.Simples.{meta_with_text, header_with_text, status_with_text, results_with_text, alert_with_number, status_with_number, results_with_number, meta_with_size, with_short, with_long, with_flag, with_simple}
+use Rattle.syncml_grammar.specs.Simples.{meta_with_text, header_with_text, status_with_text, results_with_text}
+use Rattle.syncml_grammar.specs.Simples.{alert_with_number, status_with_number, results_with_number, meta_with_size}
+use Rattle.syncml_grammar.specs.Simples.{with_short, with_long, with_flag, with_simple}
 use Rattle.syncml_grammar.specs.Simples.{with_text as with_simple_text}
 use Rattle.syncml_grammar.specs.Nodes.{header_with_loc, item_with_loc, with_node}
-use Rattle.syncml_grammar.specs.Values.{Value, of_leaf, of_draft, Whole, simple, node, holds_leaf, fresh, with_text, simply, closed, with_child}
+use Rattle.syncml_grammar.specs.Values.{Value, of_leaf, of_draft, Whole, simple, node, holds_leaf, fresh, with_text}
+use Rattle.syncml_grammar.specs.Values.{simply, closed, with_child}
 use Rattle.syncml_grammar.specs.Reads.{Unread, ◌then◌, at_place, read, parts_from, parts_in, SpellsParts}
-use Rattle.syncml_codec.specs.Ranges.{IsShort, IsLong, MetaRange, ItemRange, CredRange, HeaderRange, PlainRange, AlertRange, MemberRange, AtomicRange, SeqMemberRange, SequenceRange, StatusRange, ResultsRange, CommandRange, AreNumbers}
+use Rattle.syncml_codec.specs.Ranges.{IsShort, IsLong, MetaRange, ItemRange, CredRange, HeaderRange, PlainRange}
+use Rattle.syncml_codec.specs.Ranges.{AlertRange, MemberRange, AtomicRange, SeqMemberRange, SequenceRange, StatusRange}
+use Rattle.syncml_codec.specs.Ranges.{ResultsRange, CommandRange, AreNumbers}
 use Rattle.syncml_codec.specs.Laws.{SpelledIsInRange}
 
 -- ---- what elements hold
@@ -97,9 +107,11 @@ ValueRange (of_draft d) = DraftRange d
 
 longer_range : (n digit : ℕ) → DigitsRange (longer n digit)
 longer_range n digit =
-    elim (not (n == 0) && nat_lt (n * 10 + digit) (2 ^ 64)) as (λ (b : Bool). (not (n == 0) && nat_lt (n * 10 + digit) (2 ^ 64)) ≡ b
+    elim (not (n == 0) && nat_lt (n * 10 + digit) (2 ^ 64))
+    as (λ (b : Bool). (not (n == 0) && nat_lt (n * 10 + digit) (2 ^ 64)) ≡ b
     → DigitsRange (if b then Number (n * 10 + digit) else Bad)) [
-      | true ↦ λ is. ltb-true (n * 10 + digit) (2 ^ 64) (and_parts (not (n == 0)) (nat_lt (n * 10 + digit) (2 ^ 64)) is).1
+      | true ↦ λ is.
+          ltb-true (n * 10 + digit) (2 ^ 64) (and_parts (not (n == 0)) (nat_lt (n * 10 + digit) (2 ^ 64)) is).1
       | false ↦ λ is. tt
     ] refl
 
@@ -110,7 +122,8 @@ digit_range Bad digit low = tt
 
 byte_range : (d : Digits) (byte : ℕ) → DigitsRange (digit_after d byte)
 byte_range d byte =
-    elim (is_digit byte) as (λ (b : Bool). is_digit byte ≡ b → DigitsRange (if b then with_digit d (byte - 48) else Bad)) [
+    elim (is_digit byte)
+    as (λ (b : Bool). is_digit byte ≡ b → DigitsRange (if b then with_digit d (byte - 48) else Bad)) [
       | true ↦ λ is.
           let most = leb-true byte 57 (and_parts (nat_le 48 byte) (nat_le byte 57) is).1 in
           digit_range d (byte - 48) (omega (arith, most))
@@ -144,12 +157,14 @@ ranged_range kinds.Size n s long h = subst SimpleRange (same_simple (simples.Lon
 ranged_range kinds.Id n s long h = short_range 1 n s h
 ranged_range _ n s long h = short_range 0 n s h
 
-number_range : (k : Kind) (d : Digits) (s : Simple) → DigitsRange d → closed_number k (number_in d) ≡ Ok s → SimpleRange s
+number_range : (k : Kind) (d : Digits) (s : Simple) → DigitsRange d → closed_number k (number_in d) ≡ Ok s
+    → SimpleRange s
 number_range k Start s range h = cc
 number_range k (Number n) s range h = ranged_range k n s range h
 number_range k Bad s range h = cc
 
-tested_range : (b : Bool) (bytes : List ℕ) (s : Simple) → (if b then Ok (simples.Text bytes) else Err reasons.Text) ≡ Ok s → SimpleRange s
+tested_range : (b : Bool) (bytes : List ℕ) (s : Simple)
+    → (if b then Ok (simples.Text bytes) else Err reasons.Text) ≡ Ok s → SimpleRange s
 tested_range true bytes s h = subst SimpleRange (same_simple (simples.Text bytes) s h) tt
 tested_range false bytes s h = cc
 
@@ -180,14 +195,20 @@ header_text h ERespURI bytes r = record { msg = r.msg; cred = r.cred; meta = r.m
 header_text h _ bytes r = r
 
 status_text : (c : StatusCmd) (e : Element) (bytes : List ℕ) → StatusRange c → StatusRange (status_with_text c e bytes)
-status_text c ECmd bytes r = record { id = r.id; msg_ref = r.msg_ref; cmd_ref = r.cmd_ref; code = r.code; chal = r.chal; items = r.items }
-status_text c ETargetRef bytes r = record { id = r.id; msg_ref = r.msg_ref; cmd_ref = r.cmd_ref; code = r.code; chal = r.chal; items = r.items }
-status_text c ESourceRef bytes r = record { id = r.id; msg_ref = r.msg_ref; cmd_ref = r.cmd_ref; code = r.code; chal = r.chal; items = r.items }
+status_text c ECmd bytes r =
+    record { id = r.id; msg_ref = r.msg_ref; cmd_ref = r.cmd_ref; code = r.code; chal = r.chal; items = r.items }
+status_text c ETargetRef bytes r =
+    record { id = r.id; msg_ref = r.msg_ref; cmd_ref = r.cmd_ref; code = r.code; chal = r.chal; items = r.items }
+status_text c ESourceRef bytes r =
+    record { id = r.id; msg_ref = r.msg_ref; cmd_ref = r.cmd_ref; code = r.code; chal = r.chal; items = r.items }
 status_text c _ bytes r = r
 
-results_text : (c : ResultsCmd) (e : Element) (bytes : List ℕ) → ResultsRange c → ResultsRange (results_with_text c e bytes)
-results_text c ETargetRef bytes r = record { id = r.id; msg_ref = r.msg_ref; cmd_ref = r.cmd_ref; meta = r.meta; items = r.items }
-results_text c ESourceRef bytes r = record { id = r.id; msg_ref = r.msg_ref; cmd_ref = r.cmd_ref; meta = r.meta; items = r.items }
+results_text : (c : ResultsCmd) (e : Element) (bytes : List ℕ) → ResultsRange c
+    → ResultsRange (results_with_text c e bytes)
+results_text c ETargetRef bytes r =
+    record { id = r.id; msg_ref = r.msg_ref; cmd_ref = r.cmd_ref; meta = r.meta; items = r.items }
+results_text c ESourceRef bytes r =
+    record { id = r.id; msg_ref = r.msg_ref; cmd_ref = r.cmd_ref; meta = r.meta; items = r.items }
 results_text c _ bytes r = r
 
 draft_text : (d : Draft) (e : Element) (bytes : List ℕ) → DraftRange d → DraftRange (with_simple_text d e bytes)
@@ -211,16 +232,25 @@ alert_number : (c : AlertCmd) (e : Element) (n : ℕ) → IsShort n → AlertRan
 alert_number c EData n short r = record { id = r.id; code = short; items = r.items }
 alert_number c _ n short r = record { id = short; code = r.code; items = r.items }
 
-status_number : (c : StatusCmd) (e : Element) (n : ℕ) → IsShort n → StatusRange c → StatusRange (status_with_number c e n)
-status_number c ECmdID n short r = record { id = short; msg_ref = r.msg_ref; cmd_ref = r.cmd_ref; code = r.code; chal = r.chal; items = r.items }
-status_number c EMsgRef n short r = record { id = r.id; msg_ref = short; cmd_ref = r.cmd_ref; code = r.code; chal = r.chal; items = r.items }
-status_number c ECmdRef n short r = record { id = r.id; msg_ref = r.msg_ref; cmd_ref = short; code = r.code; chal = r.chal; items = r.items }
-status_number c _ n short r = record { id = r.id; msg_ref = r.msg_ref; cmd_ref = r.cmd_ref; code = short; chal = r.chal; items = r.items }
+status_number : (c : StatusCmd) (e : Element) (n : ℕ) → IsShort n → StatusRange c
+    → StatusRange (status_with_number c e n)
+status_number c ECmdID n short r =
+    record { id = short; msg_ref = r.msg_ref; cmd_ref = r.cmd_ref; code = r.code; chal = r.chal; items = r.items }
+status_number c EMsgRef n short r =
+    record { id = r.id; msg_ref = short; cmd_ref = r.cmd_ref; code = r.code; chal = r.chal; items = r.items }
+status_number c ECmdRef n short r =
+    record { id = r.id; msg_ref = r.msg_ref; cmd_ref = short; code = r.code; chal = r.chal; items = r.items }
+status_number c _ n short r =
+    record { id = r.id; msg_ref = r.msg_ref; cmd_ref = r.cmd_ref; code = short; chal = r.chal; items = r.items }
 
-results_number : (c : ResultsCmd) (e : Element) (n : ℕ) → IsShort n → ResultsRange c → ResultsRange (results_with_number c e n)
-results_number c ECmdID n short r = record { id = short; msg_ref = r.msg_ref; cmd_ref = r.cmd_ref; meta = r.meta; items = r.items }
-results_number c EMsgRef n short r = record { id = r.id; msg_ref = short; cmd_ref = r.cmd_ref; meta = r.meta; items = r.items }
-results_number c _ n short r = record { id = r.id; msg_ref = r.msg_ref; cmd_ref = short; meta = r.meta; items = r.items }
+results_number : (c : ResultsCmd) (e : Element) (n : ℕ) → IsShort n → ResultsRange c
+    → ResultsRange (results_with_number c e n)
+results_number c ECmdID n short r =
+    record { id = short; msg_ref = r.msg_ref; cmd_ref = r.cmd_ref; meta = r.meta; items = r.items }
+results_number c EMsgRef n short r =
+    record { id = r.id; msg_ref = short; cmd_ref = r.cmd_ref; meta = r.meta; items = r.items }
+results_number c _ n short r =
+    record { id = r.id; msg_ref = r.msg_ref; cmd_ref = short; meta = r.meta; items = r.items }
 
 draft_short : (d : Draft) (e : Element) (n : ℕ) → IsShort n → DraftRange d → DraftRange (with_short d e n)
 draft_short (draft.Header h) e n short r = record { msg = short; cred = r.cred; meta = r.meta }
@@ -286,7 +316,8 @@ draft_simple d e simples.Flag s r = draft_flag d r
 
 -- ---- a child with children
 
-one_more : {A : Type 0} (P : A → Type 0) (xs : List A) (x : A) → AllByRecursion P xs → P x → AllByRecursion P (xs ++ x ∷ [])
+one_more : {A : Type 0} (P : A → Type 0) (xs : List A) (x : A) → AllByRecursion P xs → P x
+    → AllByRecursion P (xs ++ x ∷ [])
 one_more P [] x all h = (h, tt)
 one_more P (y ∷ xs) x all h = (all.0, one_more P xs x all.1 h)
 
@@ -299,18 +330,21 @@ item_loc item ETarget loc r = r
 item_loc item _ loc r = r
 
 -- a value that a child changes by its kind alone, and by no other child
-message_node : (m : MessageDraft) (e : Element) (d : Draft) → DraftRange d → DraftRange (draft.Message m) → DraftRange (with_node (draft.Message m) e d)
+message_node : (m : MessageDraft) (e : Element) (d : Draft) → DraftRange d → DraftRange (draft.Message m)
+    → DraftRange (with_node (draft.Message m) e d)
 message_node m e (draft.Header h) c r = (c, r.1)
 message_node m e (draft.Body b) c r = (r.0, c)
 message_node m e _ c r = r
 
-header_node : (h : Header) (e : Element) (d : Draft) → DraftRange d → HeaderRange h → DraftRange (with_node (draft.Header h) e d)
+header_node : (h : Header) (e : Element) (d : Draft) → DraftRange d → HeaderRange h
+    → DraftRange (with_node (draft.Header h) e d)
 header_node h e (draft.Loc loc) c r = header_loc h e loc r
 header_node h e (draft.Cred cred) c r = record { msg = r.msg; cred = c; meta = r.meta }
 header_node h e (draft.Meta meta) c r = record { msg = r.msg; cred = r.cred; meta = c }
 header_node h e _ c r = r
 
-body_node : (b : BodyDraft) (e : Element) (d : Draft) → DraftRange d → AllByRecursion CommandRange b.commands → DraftRange (with_node (draft.Body b) e d)
+body_node : (b : BodyDraft) (e : Element) (d : Draft) → DraftRange d → AllByRecursion CommandRange b.commands
+    → DraftRange (with_node (draft.Body b) e d)
 body_node b e (draft.Plain x) c r = one_more CommandRange b.commands (command.Plain x) r c
 body_node b e (draft.Alert x) c r = one_more CommandRange b.commands (command.Alert x) r c
 body_node b e (draft.Atomic x) c r = one_more CommandRange b.commands (command.Atomic x) r c
@@ -319,61 +353,99 @@ body_node b e (draft.Status x) c r = one_more CommandRange b.commands (command.S
 body_node b e (draft.Results x) c r = one_more CommandRange b.commands (command.Results x) r c
 body_node b e _ c r = r
 
-plain_node : (p : Plain) (e : Element) (d : Draft) → DraftRange d → PlainRange p → DraftRange (with_node (draft.Plain p) e d)
+plain_node : (p : Plain) (e : Element) (d : Draft) → DraftRange d → PlainRange p
+    → DraftRange (with_node (draft.Plain p) e d)
 plain_node p e (draft.Meta meta) c r = record { id = r.id; meta = c; items = r.items }
-plain_node p e (draft.Item item) c r = record { id = r.id; meta = r.meta; items = one_more ItemRange p.items item r.items c }
+plain_node p e (draft.Item item) c r =
+    record { id = r.id; meta = r.meta; items = one_more ItemRange p.items item r.items c }
 plain_node p e _ c r = r
 
-alert_node : (a : AlertCmd) (e : Element) (d : Draft) → DraftRange d → AlertRange a → DraftRange (with_node (draft.Alert a) e d)
-alert_node a e (draft.Item item) c r = record { id = r.id; code = r.code; items = one_more ItemRange a.items item r.items c }
+alert_node : (a : AlertCmd) (e : Element) (d : Draft) → DraftRange d → AlertRange a
+    → DraftRange (with_node (draft.Alert a) e d)
+alert_node a e (draft.Item item) c r =
+    record { id = r.id; code = r.code; items = one_more ItemRange a.items item r.items c }
 alert_node a e _ c r = r
 
-atomic_node : (b : Block) (e : Element) (d : Draft) → DraftRange d → AtomicRange b → DraftRange (with_node (draft.Atomic b) e d)
+atomic_node : (b : Block) (e : Element) (d : Draft) → DraftRange d → AtomicRange b
+    → DraftRange (with_node (draft.Atomic b) e d)
 atomic_node b e (draft.Meta meta) c r = record { id = r.id; meta = c; members = r.members }
-atomic_node b e (draft.Plain x) c r = record { id = r.id; meta = r.meta; members = one_more MemberRange b.members (member.One x) r.members c }
-atomic_node b e (draft.Alert x) c r = record { id = r.id; meta = r.meta; members = one_more MemberRange b.members (member.Alert x) r.members c }
+atomic_node b e (draft.Plain x) c r =
+    record { id = r.id; meta = r.meta; members = one_more MemberRange b.members (member.One x) r.members c }
+atomic_node b e (draft.Alert x) c r =
+    record { id = r.id; meta = r.meta; members = one_more MemberRange b.members (member.Alert x) r.members c }
 atomic_node b e _ c r = record { id = r.id; meta = r.meta; members = r.members }
 
-sequence_node : (b : SeqBlock) (e : Element) (d : Draft) → DraftRange d → SequenceRange b → DraftRange (with_node (draft.Sequence b) e d)
+sequence_node : (b : SeqBlock) (e : Element) (d : Draft) → DraftRange d → SequenceRange b
+    → DraftRange (with_node (draft.Sequence b) e d)
 sequence_node b e (draft.Meta meta) c r = record { id = r.id; meta = c; members = r.members }
 sequence_node b e (draft.Plain x) c r =
-    record { id = r.id; meta = r.meta; members = one_more SeqMemberRange b.members (seq_member.Single (member.One x)) r.members c }
+    record {
+      id = r.id;
+      meta = r.meta;
+      members = one_more SeqMemberRange b.members (seq_member.Single (member.One x)) r.members c;
+    }
 sequence_node b e (draft.Alert x) c r =
-    record { id = r.id; meta = r.meta; members = one_more SeqMemberRange b.members (seq_member.Single (member.Alert x)) r.members c }
+    record {
+      id = r.id;
+      meta = r.meta;
+      members = one_more SeqMemberRange b.members (seq_member.Single (member.Alert x)) r.members c;
+    }
 sequence_node b e (draft.Atomic x) c r =
     record { id = r.id; meta = r.meta; members = one_more SeqMemberRange b.members (seq_member.Atomic x) r.members c }
 sequence_node b e _ c r = record { id = r.id; meta = r.meta; members = r.members }
 
-status_node : (s : StatusCmd) (e : Element) (d : Draft) → DraftRange d → StatusRange s → DraftRange (with_node (draft.Status s) e d)
-status_node s e (draft.Chal meta) c r = record { id = r.id; msg_ref = r.msg_ref; cmd_ref = r.cmd_ref; code = r.code; chal = c; items = r.items }
+status_node : (s : StatusCmd) (e : Element) (d : Draft) → DraftRange d → StatusRange s
+    → DraftRange (with_node (draft.Status s) e d)
+status_node s e (draft.Chal meta) c r =
+    record { id = r.id; msg_ref = r.msg_ref; cmd_ref = r.cmd_ref; code = r.code; chal = c; items = r.items }
 status_node s e (draft.Item item) c r =
-    record { id = r.id; msg_ref = r.msg_ref; cmd_ref = r.cmd_ref; code = r.code; chal = r.chal; items = one_more ItemRange s.items item r.items c }
+    record {
+      id = r.id;
+      msg_ref = r.msg_ref;
+      cmd_ref = r.cmd_ref;
+      code = r.code;
+      chal = r.chal;
+      items = one_more ItemRange s.items item r.items c;
+    }
 status_node s e _ c r = r
 
-results_node : (s : ResultsCmd) (e : Element) (d : Draft) → DraftRange d → ResultsRange s → DraftRange (with_node (draft.Results s) e d)
-results_node s e (draft.Meta meta) c r = record { id = r.id; msg_ref = r.msg_ref; cmd_ref = r.cmd_ref; meta = c; items = r.items }
+results_node : (s : ResultsCmd) (e : Element) (d : Draft) → DraftRange d → ResultsRange s
+    → DraftRange (with_node (draft.Results s) e d)
+results_node s e (draft.Meta meta) c r =
+    record { id = r.id; msg_ref = r.msg_ref; cmd_ref = r.cmd_ref; meta = c; items = r.items }
 results_node s e (draft.Item item) c r =
-    record { id = r.id; msg_ref = r.msg_ref; cmd_ref = r.cmd_ref; meta = r.meta; items = one_more ItemRange s.items item r.items c }
+    record {
+      id = r.id;
+      msg_ref = r.msg_ref;
+      cmd_ref = r.cmd_ref;
+      meta = r.meta;
+      items = one_more ItemRange s.items item r.items c;
+    }
 results_node s e _ c r = r
 
-item_node : (item : Item) (e : Element) (d : Draft) → DraftRange d → ItemRange item → DraftRange (with_node (draft.Item item) e d)
+item_node : (item : Item) (e : Element) (d : Draft) → DraftRange d → ItemRange item
+    → DraftRange (with_node (draft.Item item) e d)
 item_node item e (draft.Loc loc) c r = item_loc item e loc r
 item_node item e (draft.Meta meta) c r = c
 item_node item e _ c r = r
 
-cred_node : (cred : Cred) (e : Element) (d : Draft) → DraftRange d → CredRange cred → DraftRange (with_node (draft.Cred cred) e d)
+cred_node : (cred : Cred) (e : Element) (d : Draft) → DraftRange d → CredRange cred
+    → DraftRange (with_node (draft.Cred cred) e d)
 cred_node cred e (draft.Meta meta) c r = c
 cred_node cred e _ c r = r
 
-chal_node : (meta : Meta) (e : Element) (d : Draft) → DraftRange d → MetaRange meta → DraftRange (with_node (draft.Chal meta) e d)
+chal_node : (meta : Meta) (e : Element) (d : Draft) → DraftRange d → MetaRange meta
+    → DraftRange (with_node (draft.Chal meta) e d)
 chal_node meta e (draft.Meta other) c r = c
 chal_node meta e _ c r = r
 
-meta_node : (meta : Meta) (e : Element) (d : Draft) → DraftRange d → MetaRange meta → DraftRange (with_node (draft.Meta meta) e d)
+meta_node : (meta : Meta) (e : Element) (d : Draft) → DraftRange d → MetaRange meta
+    → DraftRange (with_node (draft.Meta meta) e d)
 meta_node meta e (draft.Meta other) c r = c
 meta_node meta e _ c r = r
 
-draft_node : (d : Draft) (e : Element) (child : Draft) → DraftRange child → DraftRange d → DraftRange (with_node d e child)
+draft_node : (d : Draft) (e : Element) (child : Draft) → DraftRange child → DraftRange d
+    → DraftRange (with_node d e child)
 draft_node draft.Document e child c r = c
 draft_node (draft.Message m) e child c r = message_node m e child c r
 draft_node (draft.Header h) e child c r = header_node h e child c r
@@ -426,7 +498,8 @@ new_draft kinds.Cred e = tt
 new_draft kinds.Chal e = record { size = tt; max_msg = tt; max_obj = tt }
 new_draft _ e = record { size = tt; max_msg = tt; max_obj = tt }
 
-new_by : (b : Bool) (k : Kind) (e : Element) → ValueRange (if b then of_leaf (fresh_leaf k) else of_draft (fresh_draft k e))
+new_by : (b : Bool) (k : Kind) (e : Element)
+    → ValueRange (if b then of_leaf (fresh_leaf k) else of_draft (fresh_draft k e))
 new_by true k e = new_leaf k
 new_by false k e = new_draft k e
 
@@ -436,7 +509,8 @@ new_value k e = new_by (holds_leaf k) k e
 same_whole : (a b : Whole) → ◌≡◌ {A = Result Whole Reason} (Ok a) (Ok b) → a ≡ b
 same_whole a b e = cc
 
-simply_range : (k : Kind) (leaf : Leaf) (o : Result Simple Reason) (w : Whole) → LeafRange leaf → closed_leaf k leaf ≡ o → simply o ≡ Ok w → WholeRange w
+simply_range : (k : Kind) (leaf : Leaf) (o : Result Simple Reason) (w : Whole) → LeafRange leaf → closed_leaf k leaf ≡ o
+    → simply o ≡ Ok w → WholeRange w
 simply_range k leaf (Ok s) w r is h = subst WholeRange (same_whole (simple s) w h) (leaf_range k leaf s r is)
 simply_range k leaf (Err reason) w r is h = cc
 
@@ -446,23 +520,29 @@ closed_range k (of_draft d) w r h = subst WholeRange (same_whole (node d) w h) r
 
 -- ---- trees
 
-closes_to : (at : ℕ) (o : Result Whole Reason) (f : Whole → Result (Value × ℕ) Unread) (out : Value × ℕ) → (at_place at o then f) ≡ Ok out
+closes_to : (at : ℕ) (o : Result Whole Reason) (f : Whole → Result (Value × ℕ) Unread) (out : Value × ℕ)
+    → (at_place at o then f) ≡ Ok out
     → (w : Whole) × (o ≡ Ok w) × (f w ≡ Ok out)
 closes_to at (Ok w) f out h = (w, refl, h)
 closes_to at (Err reason) f out h = cc
 
-reads_to : (o : Result (Value × ℕ) Unread) (f : Value × ℕ → Result (Value × ℕ) Unread) (out : Value × ℕ) → (o then f) ≡ Ok out
+reads_to : (o : Result (Value × ℕ) Unread) (f : Value × ℕ → Result (Value × ℕ) Unread) (out : Value × ℕ)
+    → (o then f) ≡ Ok out
     → (p : Value × ℕ) × (o ≡ Ok p) × (f p ≡ Ok out)
 reads_to (Ok p) f out h = (p, refl, h)
 reads_to (Err reason) f out h = cc
 
-same_read : (v : Value) (at : ℕ) (out : Value × ℕ) → ◌≡◌ {A = Result (Value × ℕ) Unread} (Ok (v, at)) (Ok out) → v ≡ out.0
+same_read : (v : Value) (at : ℕ) (out : Value × ℕ) → ◌≡◌ {A = Result (Value × ℕ) Unread} (Ok (v, at)) (Ok out)
+    → v ≡ out.0
 same_read v at out h = let is : (v, at) ≡ out = cc in ap (λ p. p.0) is
 
-read_range : (tree : Forest) (at : ℕ) (v : Value) (content : Content) (out : Value × ℕ) → ValueRange v → read at v content tree ≡ Ok out → ValueRange out.0
+read_range : (tree : Forest) (at : ℕ) (v : Value) (content : Content) (out : Value × ℕ) → ValueRange v
+    → read at v content tree ≡ Ok out → ValueRange out.0
 read_range nothing at v content out r h = subst ValueRange (same_read v at out h) r
-read_range (text bytes f) at v content out r h = read_range f (at + 1) (with_text v bytes) content out (more_text v bytes r) h
-read_range (opaque bytes f) at v content out r h = read_range f (at + 1) (with_text v bytes) content out (more_text v bytes r) h
+read_range (text bytes f) at v content out r h =
+    read_range f (at + 1) (with_text v bytes) content out (more_text v bytes r) h
+read_range (opaque bytes f) at v content out r h =
+    read_range f (at + 1) (with_text v bytes) content out (more_text v bytes r) h
 read_range (bare e f) at v content out r h =
     (elim (next content e) as (λ o. (elim o as (λ _. Result (Value × ℕ) Unread) [
       | None ↦ Err (record { at = at; reason = Misplaced })
@@ -470,7 +550,8 @@ read_range (bare e f) at v content out r h =
     ]) ≡ Ok out → ValueRange out.0) [
       | None ↦ λ h'. cc
       | Some x ↦ λ h'.
-          let shut = closes_to at (closed x.0 (fresh x.0 e)) (λ child. read (at + 1) (with_child v e child) x.1 f) out h' in
+          let shut =
+          closes_to at (closed x.0 (fresh x.0 e)) (λ child. read (at + 1) (with_child v e child) x.1 f) out h' in
           let whole = closed_range x.0 (fresh x.0 e) shut.0 (new_value x.0 e) shut.1 in
           read_range f (at + 1) (with_child v e shut.0) x.1 out (child_range v e shut.0 whole r) shut.2
     ]) h
@@ -484,7 +565,8 @@ read_range (full e inner f) at v content out r h =
       | Some x ↦ λ h'.
           let run = reads_to (read (at + 1) (fresh x.0 e) (start x.0) inner)
           (λ p. at_place p.1 (closed x.0 p.0) then (λ child. read (p.1 + 1) (with_child v e child) x.1 f)) out h' in
-          let shut = closes_to run.0.1 (closed x.0 run.0.0) (λ child. read (run.0.1 + 1) (with_child v e child) x.1 f) out run.2 in
+          let shut =
+          closes_to run.0.1 (closed x.0 run.0.0) (λ child. read (run.0.1 + 1) (with_child v e child) x.1 f) out run.2 in
           let inside = read_range inner (at + 1) (fresh x.0 e) (start x.0) run.0 (new_value x.0 e) run.1 in
           let whole = closed_range x.0 run.0.0 shut.0 inside shut.1 in
           read_range f (run.0.1 + 1) (with_child v e shut.0) x.1 out (child_range v e shut.0 whole r) shut.2
@@ -495,11 +577,13 @@ read_range (full e inner f) at v content out r h =
 same_parts : (a b : Parts) → Some a ≡ Some b → a ≡ b
 same_parts a b e = cc
 
-parts_range : (m : MessageDraft) (o : Option Header) (parts : Parts) → IfSome o HeaderRange → AllByRecursion CommandRange m.body → parts_from m o ≡ Some parts
+parts_range : (m : MessageDraft) (o : Option Header) (parts : Parts) → IfSome o HeaderRange
+    → AllByRecursion CommandRange m.body → parts_from m o ≡ Some parts
     → AreNumbers parts
 parts_range m None parts h body is = cc
 parts_range m (Some header) parts h body is =
-    subst AreNumbers (same_parts (record { header = header; body = m.body; last = m.last }) parts is) (record { header = h; body = body })
+    subst AreNumbers (same_parts (record { header = header; body = m.body; last = m.last }) parts is)
+    (record { header = h; body = body })
 
 value_range : (v : Value) (parts : Parts) → ValueRange v → parts_in v ≡ Some parts → AreNumbers parts
 value_range (of_draft (draft.Message m)) parts r is = parts_range m m.header parts r.0 r.1 is

@@ -1,12 +1,6 @@
 pub mod Written
-pub mod Fronts
 pub mod Numbers
-pub mod Elements
-pub mod Spelling
-pub mod Reading
 pub mod Listings
-pub mod Texts
-pub mod FirstFit
 pub mod Unrefused
 pub mod Documents
 pub mod Decoded

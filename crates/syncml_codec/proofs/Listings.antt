@@ -1,5 +1,6 @@
 -- What a lister was given is listed.
-use Rattle.std.proofs.Common.{ℕ, zero, suc, ◌≡◌, ◌-◌, true, false, List, [], ◌∷◌, ◌++◌, refl, sym, ap, ◌∙◌, length, take, append-nil, append_assoc, arith}
+use Rattle.std.proofs.Common.{ℕ, zero, suc, ◌≡◌, ◌-◌, true, false, List, [], ◌∷◌, ◌++◌, refl, sym, ap, ◌∙◌, length}
+use Rattle.std.proofs.Common.{take, append-nil, append_assoc, arith}
 use Rattle.std.proofs.Math.Seq.{take-append_seam}
 use Rattle.wbxml_tables.specs.Tables.{name_in_text}
 use Rattle.wbxml_tokens.specs.declared.token.Token.{Token}
@@ -7,7 +8,8 @@ use Rattle.wbxml_tokens.specs.declared.token.Token.TheVariants.{Tag, End, Text, 
 use Rattle.wbxml_tokens.specs.Spelling.{given}
 use Rattle.syncml_types.specs.Message.{Parts}
 use Rattle.syncml_types.specs.Canonical.{message_tokens}
-use Rattle.syncml_codec.specs.Listing.{value_text, spaces, above, feed_where, listed, listing_of, Listed, nothing_listed, listed_after}
+use Rattle.syncml_codec.specs.Listing.{value_text, spaces, above, feed_where, listed, listing_of, Listed}
+use Rattle.syncml_codec.specs.Listing.{nothing_listed, listed_after}
 
 spaces_more : (n : ℕ) → spaces n ++ 32 ∷ 32 ∷ [] ≡ spaces (suc n)
 spaces_more zero = refl
@@ -28,7 +30,8 @@ joined : (a b c d e f : List ℕ) → a ++ b ++ c ++ d ++ e ++ f ≡ a ++ (b ++ 
 joined [] b c d e f = refl
 joined (x ∷ a) b c d e f = ap (λ l. x ∷ l) (joined a b c d e f)
 
-given_listed : (l : Listed) (depth : ℕ) (ts : List Token) → l.indent ≡ spaces depth → (given listed_after l ts).text ≡ l.text ++ listed depth l.is_open ts
+given_listed : (l : Listed) (depth : ℕ) (ts : List Token) → l.indent ≡ spaces depth
+    → (given listed_after l ts).text ≡ l.text ++ listed depth l.is_open ts
 given_listed l depth [] h = sym (append-nil l.text)
 given_listed l depth (Tag e true ∷ ts) h =
     given_listed (listed_after l (Tag e true)) (suc depth) ts (ap (λ s. s ++ 32 ∷ 32 ∷ []) h ∙ spaces_more depth)
@@ -42,9 +45,11 @@ given_listed l depth (End ∷ ts) h =
     given_listed (listed_after l End) (above depth) ts (ap (λ s. take (length s - 2) s) h ∙ spaces_less depth)
     ∙ append_assoc l.text (feed_where l.is_open) (listed (above depth) false ts)
 given_listed l depth (Text text ∷ ts) h =
-    given_listed (listed_after l (Text text)) depth ts h ∙ append_assoc l.text (32 ∷ value_text text) (listed depth l.is_open ts)
+    given_listed (listed_after l (Text text)) depth ts h
+    ∙ append_assoc l.text (32 ∷ value_text text) (listed depth l.is_open ts)
 given_listed l depth (Opaque bytes ∷ ts) h =
-    given_listed (listed_after l (Opaque bytes)) depth ts h ∙ append_assoc l.text (32 ∷ value_text bytes) (listed depth l.is_open ts)
+    given_listed (listed_after l (Opaque bytes)) depth ts h
+    ∙ append_assoc l.text (32 ∷ value_text bytes) (listed depth l.is_open ts)
 
 pub listed_text : (m : Parts) → (given listed_after nothing_listed (message_tokens m)).text ≡ listing_of m
 listed_text m = given_listed nothing_listed 0 (message_tokens m) refl

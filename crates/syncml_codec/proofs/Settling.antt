@@ -1,5 +1,6 @@
 -- Which refusals bytes settle: all but truncated, which none do.
-use Rattle.std.proofs.Common.{ℕ, ◌≡◌, ◌≤◌, List, [], ◌∷◌, ◌++◌, length, length-append, take, refl, sym, ap, ◌∙◌, subst, arith, inl, inr}
+use Rattle.std.proofs.Common.{ℕ, ◌≡◌, ◌≤◌, List, [], ◌∷◌, ◌++◌, length, length-append, take, refl, sym, ap, ◌∙◌, subst}
+use Rattle.std.proofs.Common.{arith, inl, inr}
 use Rattle.std.proofs.lemmas.List.{append-nil, length-take, take_all}
 use Rattle.std.specs.Prelude.{◌⊎◌, ◌||◌, Bool, true, false, if◌then◌else◌, Option, Some, None, Result, Ok, Err}
 use Rattle.wbxml_ints.specs.Multibyte.{AreBytes}
@@ -10,9 +11,11 @@ use Rattle.wbxml_tokens.specs.declared.reason.Refusal.{Refusal}
 use Rattle.wbxml_tokens.specs.declared.token.Token.{Token}
 use Rattle.wbxml_tokens.specs.declared.token.Token.TheVariants.{Tag, End, Text, Opaque}
 use Rattle.wbxml_tokens.specs.Reading.{most_bytes, reading}
-use Rattle.wbxml_tokens.specs.Spelled.{IsWrong, IsWrongPrologue, RefusedAt, in_prologue, in_body, trailing, unfinished_prologue, unfinished_body}
+use Rattle.wbxml_tokens.specs.Spelled.{IsWrong, IsWrongPrologue, RefusedAt, in_prologue, in_body, trailing}
+use Rattle.wbxml_tokens.specs.Spelled.{unfinished_prologue, unfinished_body}
 use Rattle.wbxml_tokens.proofs.Refusals.{refused_is_told}
-use Rattle.syncml_shape.specs.Faults.{is_left_out, is_stray, is_nested, or_misplaced, innermost, open_elements, reason_in}
+use Rattle.syncml_shape.specs.Faults.{is_left_out, is_stray, is_nested, or_misplaced, innermost, open_elements}
+use Rattle.syncml_shape.specs.Faults.{reason_in}
 use Rattle.syncml_types.specs.Message.{Parts}
 use Rattle.syncml_grammar.specs.Building.{Building}
 use Rattle.syncml_grammar.specs.Refusals.{IsRefused}
@@ -25,13 +28,15 @@ use Rattle.syncml_codec.proofs.Decoded.{token_unbuilt, bytes_of_front, settled_m
 
 -- ---- no token and no byte is refused as truncated
 
-fault_not : (a b : Bool) → or_misplaced (if a then Some reasons.Leftout else if b then Some reasons.Nested else None) ≡ reasons.Truncated → ⊥
+fault_not : (a b : Bool)
+    → or_misplaced (if a then Some reasons.Leftout else if b then Some reasons.Nested else None) ≡ reasons.Truncated → ⊥
 fault_not true b e = cc
 fault_not false true e = cc
 fault_not false false e = cc
 
 reason_not : (opened : List Element) (t : Token) → reason_in opened t ≡ reasons.Truncated → ⊥
-reason_not opened (Tag e content) h = fault_not (is_left_out e || is_stray (innermost opened) e) (is_nested (innermost opened) e) h
+reason_not opened (Tag e content) h =
+    fault_not (is_left_out e || is_stray (innermost opened) e) (is_nested (innermost opened) e) h
 reason_not opened End h = cc
 reason_not opened (Text bytes) h = cc
 reason_not opened (Opaque bytes) h = cc
@@ -40,10 +45,12 @@ text_not : (reason : Reason) → IsOfText reason → reason ≡ reasons.Truncate
 text_not reason (inl is) e = let never : reasons.Text ≡ reasons.Truncated = sym is ∙ e in cc
 text_not reason (inr is) e = let never : reasons.Number ≡ reasons.Truncated = sym is ∙ e in cc
 
-token_not : (before : List Token) (t : Token) (reason : Reason) → IsRefused before t reason → reason ≡ reasons.Truncated → ⊥
+token_not : (before : List Token) (t : Token) (reason : Reason) → IsRefused before t reason → reason ≡ reasons.Truncated
+    → ⊥
 token_not before t reason (all_read, inl m) e = reason_not (open_elements before) t (sym m.named ∙ e)
 token_not before t reason (all_read, inr (viable, closes)) e =
-    text_not reason (unread_is_text viable.1 (record { at = length before; reason = reason }) viable.2.fitting (closes viable.0 viable.1 viable.2)) e
+    text_not reason (unread_is_text viable.1 (record { at = length before; reason = reason }) viable.2.fitting
+    (closes viable.0 viable.1 viable.2)) e
 
 byte_not : {bytes : List ℕ} {at : ℕ} {reason : Reason} → RefusedAt bytes at reason → reason ≡ reasons.Truncated → ⊥
 byte_not {bytes} {at} (in_prologue w) e = subst (IsWrongPrologue (take most_bytes bytes) at) e w
@@ -55,7 +62,8 @@ byte_not (unfinished_body u open_ w long) e = cc
 same_some : (f g : Refusal) → Some f ≡ Some g → f ≡ g
 same_some f g e = cc
 
-settled_by : (bytes : List ℕ) (f : Refusal) (r : Result Building Refusal) (o : Option Refusal) → AreBytes bytes → built bytes ≡ r → (reading bytes).refused ≡ o
+settled_by : (bytes : List ℕ) (f : Refusal) (r : Result Building Refusal) (o : Option Refusal) → AreBytes bytes
+    → built bytes ≡ r → (reading bytes).refused ≡ o
     → first_of r o ≡ Some f → f.reason ≡ reasons.Truncated → ⊥
 settled_by bytes f (Err g) o fit is refused h e =
     let found : HasRefused (reading bytes).tokens f =
@@ -63,7 +71,8 @@ settled_by bytes f (Err g) o fit is refused h e =
     token_not (tokens found.0) found.1.token f.reason found.4 e
 settled_by bytes f (Ok b) o fit is refused h e = byte_not ((refused_is_told bytes f.at f.reason fit).0 (refused ∙ h)) e
 
-settled_not : (bytes : List ℕ) (f : Refusal) → AreBytes bytes → settled bytes ≡ Some f → f.reason ≡ reasons.Truncated → ⊥
+settled_not : (bytes : List ℕ) (f : Refusal) → AreBytes bytes → settled bytes ≡ Some f → f.reason ≡ reasons.Truncated
+    → ⊥
 unfolding settled
 settled_not bytes f fit h e = settled_by bytes f (built bytes) (reading bytes).refused fit refl refl h e
 
@@ -81,7 +90,8 @@ read_so : (bytes : List ℕ) (f : Refusal) → read_of bytes ≡ Err f → IsSet
 unfolding read_of
 read_so bytes f h = read_as (settled bytes) (parts_of (built bytes)) (length bytes) f h
 
-unless_truncated : (o : Option Refusal) (n : ℕ) (f : Refusal) → IsSettled o n f → (f.reason ≡ reasons.Truncated → ⊥) → o ≡ Some f
+unless_truncated : (o : Option Refusal) (n : ℕ) (f : Refusal) → IsSettled o n f → (f.reason ≡ reasons.Truncated → ⊥)
+    → o ≡ Some f
 unless_truncated o n f (inl is) other = is
 unless_truncated o n f (inr is) other = absurd (other (ap (λ (g : Refusal). g.reason) is))
 
@@ -89,7 +99,8 @@ pub refused_is_settled : RefusedIsSettled
 refused_is_settled bytes f h other = unless_truncated (settled bytes) (length bytes) f (read_so bytes f h) other
 
 -- the place of truncated is the length of the bytes
-cut_at : (bytes : List ℕ) (f : Refusal) → AreBytes bytes → f.reason ≡ reasons.Truncated → IsSettled (settled bytes) (length bytes) f → f.at ≡ length bytes
+cut_at : (bytes : List ℕ) (f : Refusal) → AreBytes bytes → f.reason ≡ reasons.Truncated
+    → IsSettled (settled bytes) (length bytes) f → f.at ≡ length bytes
 cut_at bytes f fit e (inl is) = absurd (settled_not bytes f fit is e)
 cut_at bytes f fit e (inr is) = ap (λ (g : Refusal). g.at) is
 
@@ -111,7 +122,8 @@ always : (bytes : List ℕ) (f : Refusal) → AreBytes bytes → ((more : List �
 always bytes f fit all (inl is) = is
 always bytes f fit all (inr is) =
     let cut : Refusal = record { at = length bytes; reason = reasons.Truncated } in
-    let here : read_of bytes ≡ Err cut = ap read_of (sym (append-nil bytes)) ∙ all [] ∙ ap (λ (g : Refusal). Err g) is in
+    let here : read_of bytes ≡ Err cut =
+    ap read_of (sym (append-nil bytes)) ∙ all [] ∙ ap (λ (g : Refusal). Err g) is in
     let there : read_of (bytes ++ 0 ∷ []) ≡ Err cut = all (0 ∷ []) ∙ ap (λ (g : Refusal). Err g) is in
     absurd (truncated_is_open bytes (0 ∷ []) (length bytes) (one_more bytes fit) here (omega arith) there)
 

@@ -4,6 +4,9 @@ use Rattle.std.proofs.lemmas.List.{append-nil}
 use Rattle.wbxml_tokens.specs.declared.token.Token.{Token}
 use Rattle.wbxml_tokens.specs.Spelling.{Written, written_after, given, spelled, token_bytes, page_after}
 
-pub bytes_written : (w : Written) (tokens : List Token) → (given written_after w tokens).bytes ≡ w.bytes ++ spelled w.page tokens
+pub bytes_written : (w : Written) (tokens : List Token)
+    → (given written_after w tokens).bytes ≡ w.bytes ++ spelled w.page tokens
 bytes_written w [] = sym (append-nil w.bytes)
-bytes_written w (t ∷ ts) = bytes_written (written_after w t) ts ∙ append_assoc w.bytes (token_bytes w.page t) (spelled (page_after w.page t) ts)
+bytes_written w (t ∷ ts) =
+    bytes_written (written_after w t) ts
+    ∙ append_assoc w.bytes (token_bytes w.page t) (spelled (page_after w.page t) ts)

@@ -1,5 +1,5 @@
--- What is read of bytes: the message that they spell, or their first refusal. It is computed by the reader and the builder;
--- what it means stands in `Messages`, and the laws join the two.
+-- What is read of bytes: the message that they spell, or their first refusal. It is computed by the reader and the
+-- builder; what it means stands in `Messages`, and the laws join the two.
 use Rattle.std.specs.Prelude.{◌≡◌, ℕ, List, length, Option, Some, None, Result, Ok, Err, ⊤}
 use Rattle.wbxml_tokens.specs.declared.reason.Refusal.{Refusal}
 use Rattle.wbxml_tokens.specs.declared.reason.Reason.TheVariants as reasons
@@ -69,7 +69,8 @@ pub record Decoding : Type 0 where
 -- where a decoder stands behind bytes, by why it stopped
 abbrev pub StandsBehind : Option DecodeError → Decoding → List ℕ → Type 0
 StandsBehind None d bytes =
-    (settled bytes ≡ None) × (d.reader ≡ (reading bytes).reader) × (built bytes ≡ Ok d.building) × (d.length ≡ length bytes)
+    (settled bytes ≡ None) × (d.reader ≡ (reading bytes).reader) × (built bytes ≡ Ok d.building)
+    × (d.length ≡ length bytes)
 StandsBehind (Some (errors.Refused refusal)) d bytes = settled bytes ≡ Some refusal
 StandsBehind (Some errors.Memory) d bytes = ⊤
 

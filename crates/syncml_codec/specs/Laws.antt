@@ -23,7 +23,8 @@ SpelledIsRead = (bytes : List ℕ) (parts : Parts) → AreBytes bytes → (read_
 -- What is refused of bytes is what is refused first.
 abbrev pub RefusedIsRead : Type 0
 RefusedIsRead =
-    (bytes : List ℕ) (refusal : Refusal) → AreBytes bytes → (read_of bytes ≡ Err refusal) ↔ MessageRefusedAt bytes refusal.at refusal.reason
+    (bytes : List ℕ) (refusal : Refusal) → AreBytes bytes
+    → (read_of bytes ≡ Err refusal) ↔ MessageRefusedAt bytes refusal.at refusal.reason
 
 -- Bytes spell at most one message.
 abbrev pub OneIsSpelled : Type 0
@@ -31,7 +32,9 @@ OneIsSpelled = (bytes : List ℕ) (a b : Parts) → AreBytes bytes → Spells by
 
 -- No spelling is a proper prefix of another.
 abbrev pub NoneGoesOn : Type 0
-NoneGoesOn = (bytes more : List ℕ) (a b : Parts) → AreBytes (bytes ++ more) → Spells bytes a → Spells (bytes ++ more) b → more ≡ []
+NoneGoesOn =
+    (bytes more : List ℕ) (a b : Parts) → AreBytes (bytes ++ more) → Spells bytes a → Spells (bytes ++ more) b
+    → more ≡ []
 
 -- Bytes settle a refusal exactly where it is theirs, whatever follows them.
 abbrev pub SettledIsForGood : Type 0
@@ -42,7 +45,8 @@ SettledIsForGood =
 -- A refusal other than truncated is settled by the bytes that have it.
 abbrev pub RefusedIsSettled : Type 0
 RefusedIsSettled =
-    (bytes : List ℕ) (refusal : Refusal) → read_of bytes ≡ Err refusal → (refusal.reason ≡ reasons.Truncated → ⊥) → settled bytes ≡ Some refusal
+    (bytes : List ℕ) (refusal : Refusal) → read_of bytes ≡ Err refusal → (refusal.reason ≡ reasons.Truncated → ⊥)
+    → settled bytes ≡ Some refusal
 
 -- Where the grammar refuses a token, the bytes up to its end settle that.
 abbrev pub RefusedTokenIsSettled : Type 0
@@ -50,27 +54,32 @@ RefusedTokenIsSettled =
     (bytes : List ℕ) (at : ℕ) (reason : Reason) (token : TokenRefusedAt bytes at reason)
     → settled (token.prologue ++ token.body) ≡ Some (record { at = at; reason = reason })
 
--- Where the reader refuses a byte, and the grammar no token, that byte and the five behind it settle it, with those before
--- them: no part is refused for more, an identifier aside, which is judged by its text once the string table is whole.
+-- Where the reader refuses a byte, and the grammar no token, that byte and the five behind it settle it, with those
+-- before them: no part is refused for more, an identifier aside, which is judged by its text once the string table is
+-- whole.
 abbrev pub RefusedPartIsSettled : Type 0
 RefusedPartIsSettled =
-    (bytes : List ℕ) (at : ℕ) (reason : Reason) → AreBytes bytes → RefusedAt bytes at reason → NoTokenRefused bytes → (reason ≡ reasons.Publicid → ⊥)
+    (bytes : List ℕ) (at : ℕ) (reason : Reason) → AreBytes bytes → RefusedAt bytes at reason → NoTokenRefused bytes
+    → (reason ≡ reasons.Publicid → ⊥)
     → settled (take (at + 6) bytes) ≡ Some (record { at = at; reason = reason })
 
 -- Truncated is never settled: no bytes with one more are refused as truncated at that place.
 abbrev pub TruncatedIsOpen : Type 0
 TruncatedIsOpen =
-    (bytes more : List ℕ) (at : ℕ) → AreBytes (bytes ++ more) → read_of bytes ≡ Err (record { at = at; reason = reasons.Truncated }) → 0 < length more
+    (bytes more : List ℕ) (at : ℕ) → AreBytes (bytes ++ more)
+    → read_of bytes ≡ Err (record { at = at; reason = reasons.Truncated }) → 0 < length more
     → read_of (bytes ++ more) ≡ Err (record { at = at; reason = reasons.Truncated }) → ⊥
 
 -- The canonical tokens of a fit message, each number of which is in the range of its type, spell it.
 abbrev pub CanonicalIsSpelled : Type 0
-CanonicalIsSpelled = (parts : Parts) → IsFit parts.header parts.body → AreNumbers parts → SpellsParts (message_tokens parts) parts
+CanonicalIsSpelled =
+    (parts : Parts) → IsFit parts.header parts.body → AreNumbers parts → SpellsParts (message_tokens parts) parts
 
 -- Each of these tokens can be spelled: no text has the byte 00, and no opaque more bytes than 32 bits can tell.
 abbrev pub CanonicalCanBeSpelled : Type 0
 CanonicalCanBeSpelled =
-    (parts : Parts) → IsFit parts.header parts.body → AreNumbers parts → AllByRecursion CanBeSpelled (message_tokens parts)
+    (parts : Parts) → IsFit parts.header parts.body → AreNumbers parts
+    → AllByRecursion CanBeSpelled (message_tokens parts)
 
 -- The canonical spelling of such a message, where it has at most 65,536 bytes, spells it, so it is read again.
 abbrev pub CanonicalIsRead : Type 0

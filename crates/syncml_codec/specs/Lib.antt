@@ -1,5 +1,3 @@
-pub mod FirstMessages
-pub mod FirstGet
 pub mod Listing
 pub mod Messages
 pub mod Ranges

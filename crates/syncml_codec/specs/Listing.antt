@@ -1,5 +1,6 @@
 -- The listing of a message.
-use Rattle.std.specs.Prelude.{◌&&◌, ◌==◌, ◌-◌, ℕ, zero, suc, Bool, false, not, if◌then◌else◌, nat_le, List, [], ◌∷◌, ◌++◌, length, take}
+use Rattle.std.specs.Prelude.{◌&&◌, ◌==◌, ◌-◌, ℕ, zero, suc, Bool, false, not, if◌then◌else◌, nat_le, List, [], ◌∷◌}
+use Rattle.std.specs.Prelude.{◌++◌, length, take}
 use Rattle.std.specs.List.{list_all}
 use Rattle.dm_base.specs.Fields.{hex_text}
 use Rattle.wbxml_tables.specs.Tables.{name_in_text}
@@ -39,7 +40,8 @@ feed_where c = if c then 10 ∷ [] else []
 abbrev pub listed : ℕ → Bool → List Token → List ℕ
 listed depth is_open [] = []
 listed depth is_open (Tag e content ∷ ts) =
-    feed_where is_open ++ spaces depth ++ name_in_text e ++ feed_where (not content) ++ listed (if content then suc depth else depth) content ts
+    feed_where is_open ++ spaces depth ++ name_in_text e ++ feed_where (not content)
+    ++ listed (if content then suc depth else depth) content ts
 listed depth is_open (End ∷ ts) = feed_where is_open ++ listed (above depth) false ts
 listed depth is_open (Text text ∷ ts) = 32 ∷ value_text text ++ listed depth is_open ts
 listed depth is_open (Opaque bytes ∷ ts) = 32 ∷ value_text bytes ++ listed depth is_open ts
@@ -65,6 +67,7 @@ listed_after l (Tag e content) = record {
   indent = if content then l.indent ++ 32 ∷ 32 ∷ [] else l.indent;
   is_open = content;
 }
-listed_after l End = record { text = l.text ++ feed_where l.is_open; indent = take (length l.indent - 2) l.indent; is_open = false }
+listed_after l End =
+    record { text = l.text ++ feed_where l.is_open; indent = take (length l.indent - 2) l.indent; is_open = false }
 listed_after l (Text text) = record l { text = l.text ++ 32 ∷ value_text text }
 listed_after l (Opaque bytes) = record l { text = l.text ++ 32 ∷ value_text bytes }

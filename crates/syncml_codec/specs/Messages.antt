@@ -39,7 +39,8 @@ pub record TokenRefusedAt (bytes : List ℕ) (at : ℕ) (reason : Reason) : Type
   pub extent : Extent
   pub whole : take most_bytes bytes ≡ prologue ++ (body ++ rest)
   pub is_prologue : IsPrologue table prologue
-  pub spells : SpellsTokens table 0 (length prologue) extents.Before (before ++ record { at = at; token = token } ∷ []) body page extent
+  pub spells : SpellsTokens table 0 (length prologue) extents.Before (before ++ record { at = at; token = token } ∷ [])
+      body page extent
   pub refused : IsRefused (tokens before) token reason
 
 -- the grammar refuses no token
@@ -54,9 +55,11 @@ NoByteRefused bytes = (at : ℕ) (reason : Reason) → RefusedAt bytes at reason
 abbrev pub SpellsNone : List ℕ → Type 0
 SpellsNone bytes = (parts : Parts) → Spells bytes parts → ⊥
 
--- Where bytes are refused, and why: a token is refused by the grammar; or none is, and a byte is; or neither is, and the bytes
--- end before a message does.
+-- Where bytes are refused, and why: a token is refused by the grammar; or none is, and a byte is; or neither is, and
+-- the bytes end before a message does.
 pub data MessageRefusedAt (bytes : List ℕ) : ℕ → Reason → Type 0 where
   by_grammar : {at : ℕ} {reason : Reason} → TokenRefusedAt bytes at reason → MessageRefusedAt bytes at reason
-  by_reader : {at : ℕ} {reason : Reason} → RefusedAt bytes at reason → NoTokenRefused bytes → MessageRefusedAt bytes at reason
-  cut : NoByteRefused bytes → NoTokenRefused bytes → SpellsNone bytes → MessageRefusedAt bytes (length bytes) reasons.Truncated
+  by_reader : {at : ℕ} {reason : Reason} → RefusedAt bytes at reason → NoTokenRefused bytes
+      → MessageRefusedAt bytes at reason
+  cut : NoByteRefused bytes → NoTokenRefused bytes → SpellsNone bytes
+      → MessageRefusedAt bytes (length bytes) reasons.Truncated

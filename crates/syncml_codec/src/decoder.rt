@@ -5,7 +5,8 @@ ghost use Rattle.syncml_types.specs.Message.{Parts};
 ghost use Rattle.syncml_codec.specs.declared.decoder.DecodeError.{DecodeError as Why};
 ghost use Rattle.syncml_codec.specs.declared.decoder.DecodeError.TheVariants as errors;
 ghost use Rattle.syncml_codec.specs.Messages.{Spells, MessageRefusedAt};
-ghost use Rattle.syncml_codec.specs.Decoding.{read_of, settled, IsRead, Decodes, TellsSettled, HasDecoded, IsGoing, HasStopped};
+ghost use Rattle.syncml_codec.specs.Decoding.{read_of, settled, IsRead, Decodes, TellsSettled, HasDecoded, IsGoing};
+ghost use Rattle.syncml_codec.specs.Decoding.{HasStopped};
 
 use std::alloc::Global;
 use std::marker::Model;
@@ -21,8 +22,8 @@ pub enum DecodeError {
     Memory,
 }
 
-/// A reader of one message in pieces. The message is built while its bytes come; beside it are kept the string table and what
-/// a piece cut. A text is copied once, into the message.
+/// A reader of one message in pieces. The message is built while its bytes come; beside it are kept the string table
+/// and what a piece cut. A text is copied once, into the message.
 #[derive(Drop)]
 pub struct Decoder {
     reader: Reader,
@@ -57,7 +58,8 @@ impl Decoder {
     // Reads a piece where nothing has stopped the decoder.
     fn read(&mut self, piece: &[u8]) -> Result<(), DecodeError>
         requires { IsGoing self.old }
-        ensures told { (bytes : ListOf ℕ) → HasDecoded self.old bytes → TellsSettled result (settled (bytes ++ piece.now)) }
+        ensures told { (bytes : ListOf ℕ) → HasDecoded self.old bytes
+            → TellsSettled result (settled (bytes ++ piece.now)) }
         ensures decoded { (bytes : ListOf ℕ) → HasDecoded self.old bytes → HasDecoded self.new (bytes ++ piece.now) }
         ensures going { OnOk result (IsGoing self.new) }
         ensures stops { IfErr result (λ error. HasStopped self.new error) }
@@ -78,11 +80,12 @@ impl Decoder {
         }
     }
 
-    /// Reads the next piece of the message, in work linear in it and in the texts that it stands for. A refusal is answered
-    /// exactly where the bytes so far settle it, whatever follows. `Memory` may come in its place, since the message is built
-    /// while its bytes are read. After either, each later call answers the same.
+    /// Reads the next piece of the message, in work linear in it and in the texts that it stands for. A refusal is
+    /// answered exactly where the bytes so far settle it, whatever follows. `Memory` may come in its place, since the
+    /// message is built while its bytes are read. After either, each later call answers the same.
     pub fn feed(&mut self, piece: &[u8]) -> Result<(), DecodeError>
-        ensures told { (bytes : ListOf ℕ) → HasDecoded self.old bytes → TellsSettled result (settled (bytes ++ piece.now)) }
+        ensures told { (bytes : ListOf ℕ) → HasDecoded self.old bytes
+            → TellsSettled result (settled (bytes ++ piece.now)) }
         ensures decoded { (bytes : ListOf ℕ) → HasDecoded self.old bytes → HasDecoded self.new (bytes ++ piece.now) }
         ensures going { OnOk result (IsGoing self.new) }
         ensures stops { IfErr result (λ error. HasStopped self.new error) }
@@ -94,8 +97,8 @@ impl Decoder {
         }
     }
 
-    /// The message of the bytes that were fed, or their first refusal; `Truncated` comes from here alone. It takes no memory:
-    /// `Memory` comes where a feed has answered it.
+    /// The message of the bytes that were fed, or their first refusal; `Truncated` comes from here alone. It takes no
+    /// memory: `Memory` comes where a feed has answered it.
     pub fn finish(self) -> Result<Message, DecodeError>
         ensures read { (bytes : ListOf ℕ) → HasDecoded self bytes → IsRead result (read_of bytes) }
         ensures again { (error : Why) → HasStopped self error → result ≡ Bad error }
@@ -122,14 +125,15 @@ fn decoded(alloc: Global, bytes: &[u8]) -> Result<Message, DecodeError>
     decoder.finish()
 }
 
-/// Reads a message: Ok exactly where the bytes spell it, and Refused exactly at the place and for the reason of the first
-/// refusal. `Memory` may come in place of either, since the message is built while its bytes are read. The work is linear in the
-/// bytes and in the texts that they stand for, where a string of the table counts at each use.
+/// Reads a message: Ok exactly where the bytes spell it, and Refused exactly at the place and for the reason of the
+/// first refusal. `Memory` may come in place of either, since the message is built while its bytes are read. The work
+/// is linear in the bytes and in the texts that they stand for, where a string of the table counts at each use.
 pub fn decode(alloc: Global, bytes: &[u8]) -> Result<Message, DecodeError>
     ensures read { IsRead result (read_of bytes.now) }
     ensures exact { Decodes result bytes.now }
     ensures message { (parts : Parts) → Spells bytes.now parts → IsRead result (Good parts) }
-    ensures refusal { (refusal : ARefusal) → MessageRefusedAt bytes.now refusal.at refusal.reason → IsRead result (Bad refusal) }
+    ensures refusal { (refusal : ARefusal) → MessageRefusedAt bytes.now refusal.at refusal.reason
+        → IsRead result (Bad refusal) }
 {
     decoded(alloc, bytes)
 }

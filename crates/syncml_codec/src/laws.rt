@@ -4,17 +4,10 @@ ghost use Rattle.wbxml_tokens.specs.Reading.{most_bytes};
 ghost use Rattle.syncml_types.specs.Canonical.{canonical};
 ghost use Rattle.syncml_codec.specs.Messages.{Spells};
 ghost use Rattle.syncml_codec.specs.Decoding.{read_of};
-ghost use Rattle.syncml_codec.specs.FirstGet.{WhatIsReadIsSpelled, WhatIsSpelledIsRead};
 ghost use Rattle.syncml_codec.specs.Laws as Law;
 
 use crate::ranges::numbers_are_in_range;
 use syncml_types::Message;
-
-/// The law above the reader of the first path: a message is read exactly where the bytes are its canonical spelling.
-pub fn first_messages_are_spelled()
-    ensures found { WhatIsReadIsSpelled }
-    ensures only { WhatIsSpelledIsRead }
-{}
 
 /// A law: what is read of bytes is the message that they spell, and no other.
 pub fn spelled_is_read()
@@ -37,8 +30,9 @@ pub fn none_goes_on()
 {}
 
 /// A law: bytes settle a refusal exactly where it is theirs, whatever follows them; they settle each that they have but
-/// Truncated. A token that the grammar refuses is settled by the bytes up to its end, and a part that the reader refuses by no
-/// more than six from its place on, an identifier aside, whose text is looked up once the string table is whole.
+/// Truncated. A token that the grammar refuses is settled by the bytes up to its end, and a part that the reader
+/// refuses by no more than six from its place on, an identifier aside, whose text is looked up once the string table is
+/// whole.
 pub fn settled_is_for_good()
     ensures exact { Law.SettledIsForGood }
     ensures refused { Law.RefusedIsSettled }
@@ -57,8 +51,8 @@ pub fn canonical_is_spelled()
     ensures tokens { Law.CanonicalCanBeSpelled }
 {}
 
-/// A law: the canonical spelling of a fit message, where it has at most 65,536 bytes, spells it, so it is read again as that
-/// message.
+/// A law: the canonical spelling of a fit message, where it has at most 65,536 bytes, spells it, so it is read again as
+/// that message.
 pub fn canonical_is_read()
     ensures { Law.CanonicalIsRead }
 {}
@@ -68,8 +62,8 @@ pub fn spelled_is_in_range()
     ensures { Law.SpelledIsInRange }
 {}
 
-/// A law over messages: what `encode` gives of one, where it has at most 65,536 bytes, spells it, so it is read again as that
-/// message.
+/// A law over messages: what `encode` gives of one, where it has at most 65,536 bytes, spells it, so it is read again
+/// as that message.
 pub fn encoded_is_read(message: &Message)
     ensures spelled { length (canonical message.now) ≤ most_bytes → Spells (canonical message.now) message.now }
     ensures read { length (canonical message.now) ≤ most_bytes → read_of (canonical message.now) ≡ Good message.now }

@@ -142,8 +142,8 @@ fn list(alloc: Global, message: &Message) -> Result<Lister, Memory>
 }
 
 /// The listing of a message: one line for each element of its canonical spelling, two spaces a depth, its name, and its
-/// text, number or Data where it isn't empty: as it is where it has bytes of 20 to 7E alone and doesn't begin with `#`, else
-/// `#` and its hexadecimal digits.
+/// text, number or Data where it isn't empty: as it is where it has bytes of 20 to 7E alone and doesn't begin with `#`,
+/// else `#` and its hexadecimal digits.
 #[tactic(auto, using(crate::proofs::Listings::listed_text))]
 pub fn listing(alloc: Global, message: &Message) -> Result<Bytes, Memory>
     ensures { IfOk result (λ text. text ≡ listing_of message.now) }

@@ -1,7 +1,9 @@
 // The ranges of a message's numbers follow from the types that hold them. Nothing here takes memory.
 ghost use Rattle.std.specs.Prelude.{IfSome};
 ghost use Rattle.std.specs.List.{AllByRecursion};
-ghost use Rattle.syncml_codec.specs.Ranges.{IsShort, IsLong, MetaRange, ItemRange, CredRange, HeaderRange, PlainRange, AlertRange, MemberRange, AtomicRange, SeqMemberRange, SequenceRange, StatusRange, ResultsRange, CommandRange, AreNumbers};
+ghost use Rattle.syncml_codec.specs.Ranges.{IsShort, IsLong, MetaRange, ItemRange, CredRange, HeaderRange, PlainRange};
+ghost use Rattle.syncml_codec.specs.Ranges.{AlertRange, MemberRange, AtomicRange, SeqMemberRange, SequenceRange};
+ghost use Rattle.syncml_codec.specs.Ranges.{StatusRange, ResultsRange, CommandRange, AreNumbers};
 
 use syncml_types::{
     AlertCmd, Block, Command, Cred, Header, Item, Member, Message, Meta, Plain, ResultsCmd,
