@@ -1,5 +1,6 @@
 -- A tree with the root and what a device tells of itself is a device's.
-use Rattle.std.proofs.Common.{◌≡◌, ℕ, ◌<◌, Bool, true, false, List, [], ◌∷◌, Option, None, Some, refl, sym, ◌∙◌, subst, inl, inr, lit≤}
+use Rattle.std.proofs.Common.{◌≡◌, ℕ, ◌<◌, Bool, true, false, List, [], ◌∷◌, Option, None, Some, refl, sym, ◌∙◌, subst}
+use Rattle.std.proofs.Common.{inl, inr, lit≤}
 use Rattle.std.specs.Prelude.{codes, IsTrue, ◌⊎◌}
 use Rattle.std.specs.Str.{IsAscii}
 use Rattle.std.proofs.lemmas.Str.{IsUtf8-from_ascii}
@@ -11,9 +12,10 @@ use Rattle.dm_acl.specs.declared.values.Entries.{Entries}
 use Rattle.dm_tree.specs.declared.nodes.Node.{Node}
 use Rattle.dm_tree.specs.declared.nodes.Role.TheVariants as role
 use Rattle.dm_tree.specs.Nodes.{Path, Nodes, tree_order, root_node}
-use Rattle.dm_tree.specs.Devices.{is_of_update, device_path, device_node, device_leaf, bare_device, Stands, IsDeviceLeaf, IsDeviceTree, IsText}
+use Rattle.dm_tree.specs.Devices.{is_of_update, device_path, device_node, device_leaf, bare_device, Stands}
+use Rattle.dm_tree.specs.Devices.{IsDeviceLeaf, IsDeviceTree, IsText}
 use Rattle.dm_tree.specs.Laws.{BareDeviceIsDevice}
-use Rattle.dm_tree.proofs.Keepings.{at_insert, here_insert}
+use Rattle.dm_tree.proofs.NodesKept.{at_insert, here_insert}
 use Rattle.dm_tree.proofs.Paths.{tree_total}
 
 -- a node without a part in the update, whose Type is a text
@@ -73,7 +75,8 @@ module _ (acl : Entries) (dev_id man model dm_v lang : List ℕ) where
       (one_more _ (codes "DevInfo" ∷ []) device_node (record { update = refl; text = no_type })
       (one_more empty [] (root_node acl) (record { update = refl; text = no_type }) nothing_there))))))
 
-  leaf : (name value : List ℕ) → get (bare_device acl dev_id man model dm_v lang) (device_path name) ≡ Some (device_leaf value)
+  leaf : (name value : List ℕ)
+      → get (bare_device acl dev_id man model dm_v lang) (device_path name) ≡ Some (device_leaf value)
       → IsTrue (is_short value) → IsDeviceLeaf (bare_device acl dev_id man model dm_v lang) name
   leaf name value there short = record {
     node = device_leaf value;

@@ -9,10 +9,12 @@ use Rattle.dm_tree.specs.declared.nodes.Value.{Value}
 use Rattle.dm_tree.specs.declared.nodes.Role.TheVariants as role
 use Rattle.dm_tree.specs.Nodes.{Path, Nodes, above}
 use Rattle.dm_tree.specs.Edits.{pruned, rekeyed, renamed}
-use Rattle.dm_tree.specs.Devices.{device_path, value_at, IsDeviceLeaf, IsDeviceTree, IsText, StaysAlike, StaysForUpdate, KeepsDevice}
+use Rattle.dm_tree.specs.Devices.{device_path, value_at, IsDeviceLeaf, IsDeviceTree, IsText, StaysAlike, StaysForUpdate}
+use Rattle.dm_tree.specs.Devices.{KeepsDevice}
 use Rattle.dm_tree.specs.Laws.{ChangedKeepsDevice, AddedKeepsDevice, PrunedKeepsDevice, RenamedKeepsDevice}
-use Rattle.dm_tree.proofs.Keys.{moved_from}
-use Rattle.dm_tree.proofs.Keepings.{Keeps, some_node, at_insert, was_there, keeps_changed, keeps_added, keeps_pruned, keeps_renamed}
+use Rattle.dm_tree.proofs.MapKeys.{moved_from}
+use Rattle.dm_tree.proofs.NodesKept.{Keeps, some_node, at_insert, was_there, keeps_changed, keeps_added, keeps_pruned}
+use Rattle.dm_tree.proofs.NodesKept.{keeps_renamed}
 use Rattle.dm_tree.proofs.UpdateParts.{stands, in_order, has_update, has_no_update}
 
 itself : (x : Node) → StaysAlike x x
@@ -37,7 +39,8 @@ abbrev AreTexts : Nodes → Type 0
 AreTexts n = (q : Path) (y : Node) → get n q ≡ Some y → IsText y.value.media
 
 module _ (m n : Nodes) (device : IsDeviceTree m) (keeps : Keeps StaysAlike m n) (texts : AreTexts n) where
-  leaf : (name : List ℕ) → IsDeviceLeaf m name → IsDeviceLeaf n name × (value_at n (device_path name) ≡ value_at m (device_path name))
+  leaf : (name : List ℕ) → IsDeviceLeaf m name
+      → IsDeviceLeaf n name × (value_at n (device_path name) ≡ value_at m (device_path name))
   leaf name l =
       let s = stands StaysAlike stays m n keeps _ _ _ l.node l.stands in
       let same : s.0.value ≡ l.node.value = same_value l.node s.0 s.2 l.stands.role_is in (
@@ -77,7 +80,8 @@ module _ (m n : Nodes) (device : IsDeviceTree m) (keeps : Keeps StaysAlike m n) 
 
 -- ---- each edit
 
-alike_text : (m : Nodes) → AreTexts m → (p : Path) (old new : Node) → get m p ≡ Some old → StaysAlike old new → IsText new.value.media
+alike_text : (m : Nodes) → AreTexts m → (p : Path) (old new : Node) → get m p ≡ Some old → StaysAlike old new
+    → IsText new.value.media
 alike_text m texts p old new there alike = elim alike.value [
   | inl same ↦ subst (λ (v : Value). IsText v.media) (sym same) (texts p old there)
   | inr may ↦ may.media

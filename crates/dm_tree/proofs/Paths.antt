@@ -1,5 +1,6 @@
 -- Paths: their order, their ends, and which begins which.
-use Rattle.std.proofs.Common.{◌≡◌, ◌≢◌, ℕ, ◌<◌, ◌≤◌, true, false, nat_eq, List, [], ◌∷◌, ◌++◌, length, refl, sym, ◌∙◌, ap, arith, ◌⊎◌, inl, inr, length-append, take}
+use Rattle.std.proofs.Common.{◌≡◌, ◌≢◌, ℕ, ◌<◌, ◌≤◌, true, false, nat_eq, List, [], ◌∷◌, ◌++◌, length, refl, sym, ◌∙◌}
+use Rattle.std.proofs.Common.{ap, arith, ◌⊎◌, inl, inr, length-append, take}
 use Rattle.dm_tree.specs.Nodes.{Path, tree_order, is_below}
 use Rattle.std.specs.Prelude.{nat_lt}
 use Rattle.std.proofs.lemmas.Bool.Decides.{nat_tests}
@@ -13,10 +14,18 @@ use Rattle.std.proofs.lemmas.List.{take_all, length-take, take-append-le}
 use Rattle.std.proofs.Math.Seq.{take-length}
 
 pub below_or_not : (a b : ℕ) → (a < b) ⊎ (b ≤ a)
-below_or_not a b = elim (nat_lt a b) as (λ v. nat_lt a b ≡ v → (a < b) ⊎ (b ≤ a)) [ true ↦ λ h. inl (grind (arith, nat_tests)) | false ↦ λ h. inr (grind (arith, nat_tests)) ] refl
+below_or_not a b =
+    elim (nat_lt a b) as (λ v. nat_lt a b ≡ v → (a < b) ⊎ (b ≤ a)) [
+      | true ↦ λ h. inl (grind (arith, nat_tests))
+      | false ↦ λ h. inr (grind (arith, nat_tests))
+    ] refl
 
 pub same_or_not : (a b : ℕ) → (a ≡ b) ⊎ (a ≢ b)
-same_or_not a b = elim (nat_eq a b) as (λ v. nat_eq a b ≡ v → (a ≡ b) ⊎ (a ≢ b)) [ true ↦ λ h. inl (grind (arith, nat_tests)) | false ↦ λ h. inr (grind (arith, nat_tests)) ] refl
+same_or_not a b =
+    elim (nat_eq a b) as (λ v. nat_eq a b ≡ v → (a ≡ b) ⊎ (a ≢ b)) [
+      | true ↦ λ h. inl (grind (arith, nat_tests))
+      | false ↦ λ h. inr (grind (arith, nat_tests))
+    ] refl
 
 pub tree_total : IsTotalOrder tree_order
 tree_total = lists_total (lists_total nat_cmp_total)
@@ -49,7 +58,8 @@ pub same_path : (p q : Path) → eq_by_cmp tree_order p q ≡ true → p ≡ q
 same_path p q e = tree_exact p q (is_equal (tree_order p q) e)
 
 pub other_path : (q p : Path) → eq_by_cmp tree_order q p ≡ false → q ≡ p → ⊥
-other_path q p is e = let yes : eq_by_cmp tree_order q p ≡ true = ap (λ r. eq_by_cmp tree_order q r) (sym e) ∙ ap is_eq (tied_itself tree_total q) in cc
+other_path q p is e = let yes : eq_by_cmp tree_order q p ≡ true =
+    ap (λ r. eq_by_cmp tree_order q r) (sym e) ∙ ap is_eq (tied_itself tree_total q) in cc
 
 -- a list that isn't empty has a last member
 pub data Ends : Path → Type 0 where
@@ -88,7 +98,8 @@ below_last p r n e f =
     let same = equal_below p (r ++ n ∷ []) e in
     elim (below_or_not (length r) (length p)) [
       | inl h ↦ sym same ∙ take_all (length p) (r ++ n ∷ []) (omega (arith, length-append r (n ∷ [])))
-      | inr h ↦ let yes : is_below p r ≡ true = below_equal p r (sym (take-append-le (length p) r (n ∷ []) h) ∙ same) in absurd (cc)
+      | inr h ↦ let yes : is_below p r ≡ true = below_equal p r (sym (take-append-le (length p) r (n ∷ []) h) ∙ same) in
+          absurd (cc)
     ]
 
 pub below_none : (p : Path) → (p ≡ [] → ⊥) → is_below p [] ≡ false

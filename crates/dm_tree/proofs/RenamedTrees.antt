@@ -1,5 +1,6 @@
 -- A tree in which a node bears another name.
-use Rattle.std.proofs.Common.{◌≡◌, ◌≢◌, ℕ, zero, suc, ◌+◌, ◌%◌, ◌^◌, ◌<◌, ◌≤◌, true, false, List, [], ◌∷◌, ◌++◌, length, Option, None, Some, refl, sym, ◌∙◌, ap, subst, arith, inl, inr}
+use Rattle.std.proofs.Common.{◌≡◌, ◌≢◌, ℕ, zero, suc, ◌+◌, ◌%◌, ◌^◌, ◌<◌, ◌≤◌, true, false, List, [], ◌∷◌, ◌++◌, length}
+use Rattle.std.proofs.Common.{Option, None, Some, refl, sym, ◌∙◌, ap, subst, arith, inl, inr}
 use Rattle.std.specs.Prelude.{◌&&◌, nat_le, IfSome}
 use Rattle.std.specs.List.{list_all}
 use Rattle.std.specs.Option.{option_map}
@@ -12,18 +13,20 @@ use Rattle.dm_tree.specs.declared.nodes.Stamp.{Stamp}
 use Rattle.dm_tree.specs.declared.rows.Row.{Row}
 use Rattle.dm_tree.specs.declared.rows.Change.TheVariants as change
 use Rattle.dm_tree.specs.Nodes.{Path, above, changed, IsRoot, IsStamp}
-use Rattle.dm_tree.specs.Rows.{row_at, node_of, path_below, placed, ids_below, ids, nodes, IsShaped, IsRow, IsTree, IsLive, path_of}
+use Rattle.dm_tree.specs.Rows.{row_at, node_of, path_below, placed, ids_below, ids, nodes, IsShaped, IsRow, IsTree}
+use Rattle.dm_tree.specs.Rows.{IsLive, path_of}
 use Rattle.dm_tree.specs.Edits.{with_name, rekeyed, fits}
 use Rattle.dm_tree.specs.Undos.{TakesBack}
 use Rattle.dm_tree.proofs.Paths.{below_or_not, same_or_not}
-use Rattle.dm_tree.proofs.Keys.{keys_all}
-use Rattle.dm_tree.proofs.Climbs.{child_below, depth_is, not_zero}
-use Rattle.dm_tree.proofs.Maps.{id_of}
-use Rattle.dm_tree.proofs.Nodewise.{of_both, live_row}
-use Rattle.dm_tree.proofs.Seen.{HasParent, has_parent, above-append, live_at, len-nodes, all_named, node_there}
-use Rattle.dm_tree.proofs.Contents.{held_changed}
-use Rattle.dm_tree.proofs.Flips.{again}
-use Rattle.dm_tree.proofs.Rekeyed.{parent_then, depth_then, attached_then, here_then, other_then, path_then, lies_then}
+use Rattle.dm_tree.proofs.MapKeys.{keys_all}
+use Rattle.dm_tree.proofs.RowPaths.{child_below, depth_is, not_zero}
+use Rattle.dm_tree.proofs.RowMaps.{id_of}
+use Rattle.dm_tree.proofs.NodeEdits.{of_both, live_row}
+use Rattle.dm_tree.proofs.LiveRows.{HasParent, has_parent, above-append, live_at, len-nodes, all_named, node_there}
+use Rattle.dm_tree.proofs.NodeContents.{held_changed}
+use Rattle.dm_tree.proofs.UndoFlips.{again}
+use Rattle.dm_tree.proofs.RenamedRows.{parent_then, depth_then, attached_then, here_then, other_then, path_then}
+use Rattle.dm_tree.proofs.RenamedRows.{lies_then}
 
 -- what a rename asks for
 pub record MayRename (rows : List Row) (k : ℕ) (name : List ℕ) (clock : Stamp) : Type 0 where
@@ -44,7 +47,8 @@ all_short (n ∷ ns) h =
 few_names : (n : ℕ) → n ≤ 16 → nat_le n 16 ≡ true
 few_names n h = grind (arith, nat_tests)
 
-module _ (rows : List Row) (tree : IsTree rows) (k : ℕ) (name : List ℕ) (clock : Stamp) (may : MayRename rows k name clock) where
+module _ (rows : List Row) (tree : IsTree rows) (k : ℕ) (name : List ℕ) (clock : Stamp)
+    (may : MayRename rows k name clock) where
   abbrev now : List Row
   now = with_name rows k name (changed clock (node_of rows k))
 
@@ -58,18 +62,25 @@ module _ (rows : List Row) (tree : IsTree rows) (k : ℕ) (name : List ℕ) (clo
         | inl h ↦ h
         | inr h ↦
             let z : k ≡ 0 = omega (arith, h) in
-            absurd (let top : (node_of rows 0).permanent ≡ true = tree.root.permanent in let here : (node_of rows 0).permanent ≡ false = ap (λ j. (node_of rows j).permanent) (sym z) ∙ may.removable in cc)
+            absurd (let top : (node_of rows 0).permanent ≡ true = tree.root.permanent in
+            let here : (node_of rows 0).permanent ≡ false = ap (λ j. (node_of rows j).permanent) (sym z)
+            ∙ may.removable in cc)
       ]
 
   up : HasParent rows k
   up = has_parent rows tree.shape k may.live (not_zero k (omega (arith, no_root)))
 
   -- no other row has the parent and the new name
-  alone : (j : ℕ) → (row_at rows j).attached ≡ true → (row_at rows j).parent ≡ (row_at rows k).parent → (row_at rows j).name ≡ name → j ≡ k
+  alone : (j : ℕ) → (row_at rows j).attached ≡ true → (row_at rows j).parent ≡ (row_at rows k).parent
+      → (row_at rows j).name ≡ name → j ≡ k
   alone j at parent named =
-      let lies = child_below rows tree.shape (row_at rows k).parent j (path_of rows (row_at rows k).parent) name up.live (record { attached = at; parent = parent; named = named }) in
-      let above_is : above (path_of rows k) ≡ path_of rows (row_at rows k).parent = ap above up.path ∙ above-append _ _ in
-      let found : get (ids rows) (above (path_of rows k) ++ name ∷ []) ≡ Some j = ap (λ p. get (ids rows) (p ++ name ∷ [])) above_is ∙ id_of rows tree.shape j _ lies in
+      let lies =
+      child_below rows tree.shape (row_at rows k).parent j (path_of rows (row_at rows k).parent) name up.live
+      (record { attached = at; parent = parent; named = named }) in
+      let above_is : above (path_of rows k) ≡ path_of rows (row_at rows k).parent =
+      ap above up.path ∙ above-append _ _ in
+      let found : get (ids rows) (above (path_of rows k) ++ name ∷ []) ≡ Some j =
+      ap (λ p. get (ids rows) (p ++ name ∷ [])) above_is ∙ id_of rows tree.shape j _ lies in
       subst (λ o. IfSome o (λ other. other ≡ k)) found may.free
 
   long : length now ≡ length rows
@@ -93,17 +104,25 @@ module _ (rows : List Row) (tree : IsTree rows) (k : ℕ) (name : List ℕ) (clo
   named_here : (j : ℕ) → j ≡ k → (row_at now j).name ≡ name
   named_here j h = ap (λ i. (row_at now i).name) h ∙ ap (λ (r : Row). r.name) here
 
-  twins : (i j : ℕ) → (row_at rows i).attached ≡ true → (row_at rows j).attached ≡ true → (row_at rows i).parent ≡ (row_at rows j).parent
+  twins : (i j : ℕ) → (row_at rows i).attached ≡ true → (row_at rows j).attached ≡ true
+      → (row_at rows i).parent ≡ (row_at rows j).parent
       → (row_at now i).name ≡ (row_at now j).name → i ≡ j
   twins i j a b p n =
       elim (same_or_not i k) [
         | inl h ↦ elim (same_or_not j k) [
           | inl g ↦ h ∙ sym g
-          | inr g ↦ h ∙ sym (alone j b (sym p ∙ ap (λ m. (row_at rows m).parent) h) (ap (λ (r : Row). r.name) (sym (other j g)) ∙ sym n ∙ named_here i h))
+          | inr g ↦
+              h
+              ∙ sym (alone j b (sym p ∙ ap (λ m. (row_at rows m).parent) h)
+              (ap (λ (r : Row). r.name) (sym (other j g)) ∙ sym n ∙ named_here i h))
         ]
         | inr h ↦ elim (same_or_not j k) [
-          | inl g ↦ alone i a (p ∙ ap (λ m. (row_at rows m).parent) g) (ap (λ (r : Row). r.name) (sym (other i h)) ∙ n ∙ named_here j g) ∙ sym g
-          | inr g ↦ tree.shape.no_twins i j a b p (ap (λ (r : Row). r.name) (sym (other i h)) ∙ n ∙ ap (λ (r : Row). r.name) (other j g))
+          | inl g ↦
+              alone i a (p ∙ ap (λ m. (row_at rows m).parent) g)
+              (ap (λ (r : Row). r.name) (sym (other i h)) ∙ n ∙ named_here j g) ∙ sym g
+          | inr g ↦
+              tree.shape.no_twins i j a b p
+              (ap (λ (r : Row). r.name) (sym (other i h)) ∙ n ∙ ap (λ (r : Row). r.name) (other j g))
         ]
       ]
 
@@ -114,7 +133,9 @@ module _ (rows : List Row) (tree : IsTree rows) (k : ℕ) (name : List ℕ) (clo
     at_root = depth 0 ∙ tree.shape.at_root;
     fixed = attached 0 ∙ tree.shape.fixed;
     inside = λ j h. omega (arith, long, parent j, tree.shape.inside j (omega (arith, long)));
-    falls = λ j a. depth j ∙ tree.shape.falls j (sym (attached j) ∙ a) ∙ ap suc (ap (λ i. (row_at rows i).depth) (sym (parent j)) ∙ sym (depth _));
+    falls =
+        λ j a. depth j ∙ tree.shape.falls j (sym (attached j) ∙ a)
+        ∙ ap suc (ap (λ i. (row_at rows i).depth) (sym (parent j)) ∙ sym (depth _));
     shallow = λ j. omega (arith, depth j, tree.shape.shallow j);
     no_twins = λ i j a b p n. twins i j (sym (attached i) ∙ a) (sym (attached j) ∙ b) (sym (parent i) ∙ p ∙ parent j) n;
   }
@@ -123,7 +144,8 @@ module _ (rows : List Row) (tree : IsTree rows) (k : ℕ) (name : List ℕ) (clo
   row_is j jl = elim (same_or_not j k) [
     | inl h ↦ subst (λ i. IsRow (row_at now i)) (sym h) (subst IsRow (sym here) (record {
       name = may.named;
-      node = let held = (tree.each k l).node in held_changed clock (node_of rows k) may.stamp held.value held.acl held.title;
+      node = let held = (tree.each k l).node in
+          held_changed clock (node_of rows k) may.stamp held.value held.acl held.title;
       attached = (tree.each k l).attached;
     }))
     | inr h ↦ subst IsRow (sym (other j h)) (tree.each j jl)
@@ -131,33 +153,49 @@ module _ (rows : List Row) (tree : IsTree rows) (k : ℕ) (name : List ℕ) (clo
 
   as_many : (n : ℕ) → length (ids_below now 0 n) ≡ length (ids_below rows 0 n)
   as_many zero = refl
-  as_many (suc n) = rw (path_then rows tree.shape k may.live name (changed clock (node_of rows k)) n) (by_place (path_below rows 0 n) (as_many n))
+  as_many (suc n) =
+      rw (path_then rows tree.shape k may.live name (changed clock (node_of rows k)) n)
+      (by_place (path_below rows 0 n) (as_many n))
     where
       by_place : (o : Option Path) → length (ids_below now 0 n) ≡ length (ids_below rows 0 n)
-          → length (placed (option_map (rekeyed (path_of rows k) name) o) n (ids_below now 0 n)) ≡ length (placed o n (ids_below rows 0 n))
+          → length (placed (option_map (rekeyed (path_of rows k) name) o) n (ids_below now 0 n))
+          ≡ length (placed o n (ids_below rows 0 n))
       by_place None e = e
       by_place (Some p) e = ap suc e
 
-  short_print : (j : ℕ) → IsLive rows j → nat_le (length (printed_path (rekeyed (path_of rows k) name (path_of rows j)))) 255 ≡ true
-  short_print j there = keys_all (nodes rows) (λ q. nat_le (length (printed_path (rekeyed (path_of rows k) name q))) 255) (path_of rows j) (node_of rows j) may.fits (node_there rows tree.shape j there)
+  short_print : (j : ℕ) → IsLive rows j
+      → nat_le (length (printed_path (rekeyed (path_of rows k) name (path_of rows j)))) 255 ≡ true
+  short_print j there =
+      keys_all (nodes rows) (λ q. nat_le (length (printed_path (rekeyed (path_of rows k) name q))) 255) (path_of rows j)
+      (node_of rows j) may.fits (node_there rows tree.shape j there)
 
   within_then : (j : ℕ) → IsLive now j → is_within_limits (path_of now j) ≡ true
   within_then j there = by_place (path_below rows 0 j) refl
     where
       by_place : (o : Option Path) → path_below rows 0 j ≡ o → is_within_limits (path_of now j) ≡ true
       by_place None is =
-          let none : None ≡ Some (path_of now j) = sym (path_then rows tree.shape k may.live name (changed clock (node_of rows k)) j ∙ ap (option_map (rekeyed (path_of rows k) name)) is) ∙ there in
+          let none : None ≡ Some (path_of now j) =
+          sym (path_then rows tree.shape k may.live name (changed clock (node_of rows k)) j
+          ∙ ap (option_map (rekeyed (path_of rows k) name)) is) ∙ there in
           absurd (cc)
       by_place (Some p) is =
           let before = live_at rows j p is in
-          let after = live_at now j (rekeyed (path_of rows k) name p) (lies_then rows tree.shape k may.live name (changed clock (node_of rows k)) j p is) in
-          let names = all_named now shaped-renamed (λ i il. (row_is i (omega (arith, il, long))).name) (row_at now j).depth j (path_of now j) refl there in
+          let after =
+          live_at now j (rekeyed (path_of rows k) name p)
+          (lies_then rows tree.shape k may.live name (changed clock (node_of rows k)) j p is) in
+          let names =
+          all_named now shaped-renamed (λ i il. (row_is i (omega (arith, il, long))).name) (row_at now j).depth j
+          (path_of now j) refl there in
           let deep = depth_is now shaped-renamed (row_at now j).depth j (path_of now j) refl there in
-          let few : nat_le (length (path_of now j)) 16 ≡ true = few_names (length (path_of now j)) (omega (arith, deep, shaped-renamed.shallow j)) in
+          let few : nat_le (length (path_of now j)) 16 ≡ true =
+          few_names (length (path_of now j)) (omega (arith, deep, shaped-renamed.shallow j)) in
           let print : nat_le (length (printed_path (path_of now j))) 255 ≡ true =
-          ap (λ q. nat_le (length (printed_path q)) 255) (after.1 ∙ ap (rekeyed (path_of rows k) name) (sym before.1)) ∙ short_print j before.0 in
-          and_from (list_all is_short (path_of now j) && nat_le (length (path_of now j)) 16) (nat_le (length (printed_path (path_of now j))) 255)
-          (and_from (list_all is_short (path_of now j)) (nat_le (length (path_of now j)) 16) (all_short (path_of now j) names) few) print
+          ap (λ q. nat_le (length (printed_path q)) 255) (after.1 ∙ ap (rekeyed (path_of rows k) name) (sym before.1))
+          ∙ short_print j before.0 in
+          and_from (list_all is_short (path_of now j) && nat_le (length (path_of now j)) 16)
+          (nat_le (length (printed_path (path_of now j))) 255)
+          (and_from (list_all is_short (path_of now j)) (nat_le (length (path_of now j)) 16)
+          (all_short (path_of now j) names) few) print
 
   pub tree-renamed : IsTree now
   tree-renamed = record {
@@ -165,13 +203,23 @@ module _ (rows : List Row) (tree : IsTree rows) (k : ℕ) (name : List ℕ) (clo
     each = λ j jl. row_is j (omega (arith, jl, long));
     root = subst (λ (r : Row). IsRoot r.node) (sym (other 0 (omega (arith, no_root)))) tree.root;
     children = λ j at. record {
-      interior = interior (row_at now j).parent ∙ ap (λ i. (node_of rows i).interior) (parent j) ∙ (tree.children j (sym (attached j) ∙ at)).interior;
+      interior =
+          interior (row_at now j).parent ∙ ap (λ i. (node_of rows i).interior) (parent j)
+          ∙ (tree.children j (sym (attached j) ∙ at)).interior;
       permanent = λ p.
           permanent (row_at now j).parent ∙ ap (λ i. (node_of rows i).permanent) (parent j)
           ∙ (tree.children j (sym (attached j) ∙ at)).permanent (sym (permanent j) ∙ p);
     };
     within = within_then;
-    size = omega (arith, len-nodes now shaped-renamed, len-nodes rows tree.shape, as_many (length rows), tree.size, ap (λ n. length (ids_below now 0 n)) long);
+    size =
+        omega (
+          arith,
+          len-nodes now shaped-renamed,
+          len-nodes rows tree.shape,
+          as_many (length rows),
+          tree.size,
+          ap (λ n. length (ids_below now 0 n)) long,
+        );
   }
     where
       interior : (j : ℕ) → (node_of now j).interior ≡ (node_of rows j).interior
@@ -180,5 +228,8 @@ module _ (rows : List Row) (tree : IsTree rows) (k : ℕ) (name : List ℕ) (clo
       permanent : (j : ℕ) → (node_of now j).permanent ≡ (node_of rows j).permanent
       permanent j = of_both rows k _ (λ r. r.node.permanent) refl j l
 
-  pub takes_back-renamed : TakesBack (change.Name k (row_at rows k).name (node_of rows k).verno (node_of rows k).stamp) rows now
-  takes_back-renamed = again rows (change.Name k name (((node_of rows k).verno + 1) % 2 ^ 16) clock) tree (record { inside = l; ready = tt; sound = tree-renamed })
+  pub takes_back-renamed : TakesBack (change.Name k (row_at rows k).name (node_of rows k).verno (node_of rows k).stamp)
+      rows now
+  takes_back-renamed =
+      again rows (change.Name k name (((node_of rows k).verno + 1) % 2 ^ 16) clock) tree
+      (record { inside = l; ready = tt; sound = tree-renamed })

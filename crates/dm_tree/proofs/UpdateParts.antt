@@ -7,12 +7,16 @@ use Rattle.dm_tree.specs.declared.nodes.Value.{Value}
 use Rattle.dm_tree.specs.declared.nodes.Role.{Role}
 use Rattle.dm_tree.specs.declared.nodes.Role.TheVariants as role
 use Rattle.dm_tree.specs.Nodes.{Path, Nodes}
-use Rattle.dm_tree.specs.Devices.{is_of_update, is_update_state, Stands, HasUpdate, HasNoUpdate, IsUpdateInOrder, StaysForUpdate, KeepsUpdate}
+use Rattle.dm_tree.specs.Devices.{is_of_update, is_update_state, Stands, HasUpdate, HasNoUpdate, IsUpdateInOrder}
+use Rattle.dm_tree.specs.Devices.{StaysForUpdate, KeepsUpdate}
 use Rattle.dm_tree.specs.Laws.{ChangedKeepsUpdate, AddedKeepsUpdate, PrunedKeepsUpdate, RenamedKeepsUpdate}
-use Rattle.dm_tree.proofs.Keepings.{Was, Still, Keeps, some_node, keeps_changed, keeps_added, keeps_pruned, keeps_renamed}
+use Rattle.dm_tree.proofs.NodesKept.{Was, Still, Keeps, some_node, keeps_changed, keeps_added, keeps_pruned}
+use Rattle.dm_tree.proofs.NodesKept.{keeps_renamed}
 
-module _ (alike : Node → Node → Type 0) (stays : (x y : Node) → alike x y → StaysForUpdate x y) (m n : Nodes) (keeps : Keeps alike m n) where
-  pub stands : (q : Path) (interior : Bool) (r : Role) (x : Node) → Stands m q interior r x → (y : Node) × Stands n q interior r y × alike x y
+module _ (alike : Node → Node → Type 0) (stays : (x y : Node) → alike x y → StaysForUpdate x y) (m n : Nodes)
+    (keeps : Keeps alike m n) where
+  pub stands : (q : Path) (interior : Bool) (r : Role) (x : Node) → Stands m q interior r x
+      → (y : Node) × Stands n q interior r y × alike x y
   stands q interior r x s =
       let still = keeps.still q x s.there s.permanent in
       let stay = stays x still.new still.alike in (
@@ -26,13 +30,15 @@ module _ (alike : Node → Node → Type 0) (stays : (x y : Node) → alike x y 
         still.alike,
       )
 
-  state_then : (old new : Node) → StaysForUpdate old new → old.role ≡ role.State → is_update_state old.value.bytes ≡ true → is_update_state new.value.bytes ≡ true
+  state_then : (old new : Node) → StaysForUpdate old new → old.role ≡ role.State
+      → is_update_state old.value.bytes ≡ true → is_update_state new.value.bytes ≡ true
   state_then old new stay is_state state = elim (stay.state is_state) [
     | inl e ↦ ap (λ (v : Value). is_update_state v.bytes) e ∙ state
     | inr may ↦ may
   ]
 
-  moved_nowhere : {r : Path} {interior : Bool} {k : Role} (q : Path) (y : Node) (w : Was m q y) (x : Node) → Stands m r interior k x → w.at ≡ r → q ≡ r
+  moved_nowhere : {r : Path} {interior : Bool} {k : Role} (q : Path) (y : Node) (w : Was m q y) (x : Node)
+      → Stands m r interior k x → w.at ≡ r → q ≡ r
   moved_nowhere q y w x s e =
       let same : x ≡ w.old = some_node x w.old (sym s.there ∙ ap (get m) (sym e) ∙ w.there) in
       sym (w.unmoved (ap (λ (n : Node). n.permanent) (sym same) ∙ s.permanent)) ∙ e
@@ -93,10 +99,12 @@ changed_keeps_update m p old new there stay =
     keeps_update m (insert m p new) (keeps_changed StaysForUpdate itself m p old new there stay stay.role)
 
 pub added_keeps_update : AddedKeepsUpdate
-added_keeps_update m p new free role_is = keeps_update m (insert m p new) (keeps_added StaysForUpdate itself m p new free role_is)
+added_keeps_update m p new free role_is =
+    keeps_update m (insert m p new) (keeps_added StaysForUpdate itself m p new free role_is)
 
 pub pruned_keeps_update : PrunedKeepsUpdate
-pruned_keeps_update m p node formed there other = keeps_update m _ (keeps_pruned StaysForUpdate itself m p node formed there other)
+pruned_keeps_update m p node formed there other =
+    keeps_update m _ (keeps_pruned StaysForUpdate itself m p node formed there other)
 
 pub renamed_keeps_update : RenamedKeepsUpdate
 renamed_keeps_update m p name old new formed there other free role_is =

@@ -1,5 +1,6 @@
 -- The parts of a tree that have a role: the device's information and its update.
-use Rattle.std.specs.Prelude.{◌≡◌, ◌⊎◌, ◌==◌, ℕ, Bool, true, false, not, IsTrue, List, [], ◌∷◌, ◌++◌, map, codes, bytes_eq, Option, Some, None, unwrap_or, option_map, option_and_then, find}
+use Rattle.std.specs.Prelude.{◌≡◌, ◌⊎◌, ◌==◌, ℕ, Bool, true, false, not, IsTrue, List, [], ◌∷◌, ◌++◌, map, codes}
+use Rattle.std.specs.Prelude.{bytes_eq, Option, Some, None, unwrap_or, option_map, option_and_then, find}
 use Rattle.std.specs.Option.{option_map_or}
 use Rattle.std.specs.List.{list_any, list_all}
 use Rattle.std.specs.Str.{IsUtf8}
@@ -82,7 +83,8 @@ pub record HasUpdate (m : Nodes) (p : Path) : Type 0 where
   pub state_stands : Stands m (p ++ codes "State" ∷ []) false role.State state
   pub state_is : IsTrue (is_update_state state.value.bytes)
   pub alone : (q : Path) (node : Node) → get m q ≡ Some node → is_of_update node.role ≡ true
-      → (q ≡ p ++ codes "Update" ∷ []) ⊎ ((q ≡ p ++ codes "Update" ∷ codes "PkgData" ∷ []) ⊎ (q ≡ p ++ codes "State" ∷ []))
+      → (q ≡ p ++ codes "Update" ∷ [])
+      ⊎ ((q ≡ p ++ codes "Update" ∷ codes "PkgData" ∷ []) ⊎ (q ≡ p ++ codes "State" ∷ []))
 
 -- no node has a role of the update
 abbrev pub HasNoUpdate : Nodes → Type 0
@@ -140,16 +142,16 @@ pub record MayTake (r : Role) (value : Value) : Type 0 where
   pub state : r ≡ role.State → IsTrue (is_update_state value.bytes)
   pub media : IsText value.media
 
--- a node has become another one, which is of the same kind and for the same, and permanent where that was; its value is the
--- same or one that it may be given
+-- a node has become another one, which is of the same kind and for the same, and permanent where that was; its value is
+-- the same or one that it may be given
 pub record StaysAlike (old new : Node) : Type 0 where
   pub interior : new.interior ≡ old.interior
   pub permanent : old.permanent ≡ true → new.permanent ≡ true
   pub role : new.role ≡ old.role
   pub value : (new.value ≡ old.value) ⊎ MayTake old.role new.value
 
--- a node has become another one that serves the update alike: it is of the same kind and for the same, permanent where that
--- was, and if it is State, its value is the same or one of the five states
+-- a node has become another one that serves the update alike: it is of the same kind and for the same, permanent where
+-- that was, and if it is State, its value is the same or one of the five states
 pub record StaysForUpdate (old new : Node) : Type 0 where
   pub interior : new.interior ≡ old.interior
   pub permanent : old.permanent ≡ true → new.permanent ≡ true

@@ -1,5 +1,6 @@
 -- What edits do.
-use Rattle.std.specs.Prelude.{◌≡◌, ◌≤◌, ℕ, suc, Bool, true, false, not, nat_le, nat_lt, if◌then◌else◌, List, [], ◌∷◌, ◌++◌, length, map, drop, set, Some, None}
+use Rattle.std.specs.Prelude.{◌≡◌, ◌≤◌, ℕ, suc, Bool, true, false, not, nat_le, nat_lt, if◌then◌else◌, List, [], ◌∷◌}
+use Rattle.std.specs.Prelude.{◌++◌, length, map, drop, set, Some, None}
 use Rattle.std.specs.List.{list_all}
 use Rattle.std.specs.FinMap.{FinMap, from_entries, entries, keys, retain_keys}
 use Rattle.dm_uri.specs.Names.{printed_path}
@@ -25,7 +26,14 @@ attached_as rows k b = set rows k (record (row_at rows k) { attached = b })
 -- a new row below the row k
 abbrev pub new_row : List Row → ℕ → List ℕ → Node → Row
 new_row rows k name node =
-    record { parent = k; depth = suc (row_at rows k).depth; attached = true; given_up = false; name = name; node = node }
+    record {
+      parent = k;
+      depth = suc (row_at rows k).depth;
+      attached = true;
+      given_up = false;
+      name = name;
+      node = node;
+    }
 
 -- ---- a new node
 

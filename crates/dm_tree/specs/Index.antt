@@ -1,5 +1,7 @@
--- What is kept beside the rows, so that no call looks at every row: the children of each row, and how many rows lie below it.
-use Rattle.std.specs.Prelude.{◌≡◌, ◌≤◌, ◌<◌, ◌+◌, ◌&&◌, ℕ, zero, suc, Bool, true, false, not, if◌then◌else◌, nat_eq, nat_lt, List, [], length, get_or}
+-- What is kept beside the rows, so that no call looks at every row: the children of each row, and how many rows lie
+-- below it.
+use Rattle.std.specs.Prelude.{◌≡◌, ◌≤◌, ◌<◌, ◌+◌, ◌&&◌, ℕ, zero, suc, Bool, true, false, not, if◌then◌else◌, nat_eq}
+use Rattle.std.specs.Prelude.{nat_lt, List, [], length, get_or}
 use Rattle.std.specs.Ordering.{nat_cmp, is_lt}
 use Rattle.std.specs.Cmp.Lexicographic.{slice_cmp}
 use Rattle.dm_tree.specs.declared.rows.Row.{Row}
@@ -34,11 +36,13 @@ AreRows rows ids = (i : ℕ) → i < length ids → get_or ids i 0 < length rows
 
 -- each of these rows stands before those that come after it
 abbrev pub IsInOrder : List Row → List ℕ → Type 0
-IsInOrder rows ids = (i j : ℕ) → i < j → j < length ids → is_before rows (row_at rows (get_or ids j 0)).name (get_or ids i 0) ≡ true
+IsInOrder rows ids =
+    (i j : ℕ) → i < j → j < length ids → is_before rows (row_at rows (get_or ids j 0)).name (get_or ids i 0) ≡ true
 
 -- the row j was taken out from below the row k, and may be put in again; the root is below none
 abbrev pub is_parked_below : List Row → ℕ → ℕ → Bool
-is_parked_below rows k j = nat_lt 0 j && (not (row_at rows j).attached && (not (row_at rows j).given_up && nat_eq (row_at rows j).parent k))
+is_parked_below rows k j =
+    nat_lt 0 j && (not (row_at rows j).attached && (not (row_at rows j).given_up && nat_eq (row_at rows j).parent k))
 
 -- how many of the first n rows are such
 abbrev pub parked_below : List Row → ℕ → ℕ → ℕ

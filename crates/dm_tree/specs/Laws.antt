@@ -6,7 +6,8 @@ use Rattle.dm_acl.specs.declared.values.Entries.{Entries}
 use Rattle.dm_tree.specs.declared.nodes.Node.{Node}
 use Rattle.dm_tree.specs.Nodes.{Path, Nodes, above, is_below, IsWellFormed}
 use Rattle.dm_tree.specs.Edits.{pruned, renamed}
-use Rattle.dm_tree.specs.Devices.{is_of_update, update_node, pkg_data, state_node, HasUpdate, IsText, IsDeviceTree, StaysAlike, StaysForUpdate, KeepsDevice, KeepsUpdate, bare_device}
+use Rattle.dm_tree.specs.Devices.{is_of_update, update_node, pkg_data, state_node, HasUpdate, IsText, IsDeviceTree}
+use Rattle.dm_tree.specs.Devices.{StaysAlike, StaysForUpdate, KeepsDevice, KeepsUpdate, bare_device}
 use Rattle.dm_tree.specs.Order.{behind, below}
 
 -- a subtree begins with its top
@@ -21,11 +22,15 @@ TopIsBelow = (p : Path) → IsTrue (is_below p p)
 
 -- a node that stays alike keeps it
 abbrev pub ChangedKeepsUpdate : Type 0
-ChangedKeepsUpdate = (m : Nodes) (p : Path) (old new : Node) → get m p ≡ Some old → StaysForUpdate old new → KeepsUpdate m (insert m p new)
+ChangedKeepsUpdate =
+    (m : Nodes) (p : Path) (old new : Node) → get m p ≡ Some old → StaysForUpdate old new
+    → KeepsUpdate m (insert m p new)
 
 -- a node that comes in does, if it isn't of the update
 abbrev pub AddedKeepsUpdate : Type 0
-AddedKeepsUpdate = (m : Nodes) (p : Path) (new : Node) → get m p ≡ None → is_of_update new.role ≡ false → KeepsUpdate m (insert m p new)
+AddedKeepsUpdate =
+    (m : Nodes) (p : Path) (new : Node) → get m p ≡ None → is_of_update new.role ≡ false
+    → KeepsUpdate m (insert m p new)
 
 -- to take out a node that isn't permanent does
 abbrev pub PrunedKeepsUpdate : Type 0
@@ -57,14 +62,17 @@ PrunedKeepsDevice = (m : Nodes) (p : Path) (node : Node) → IsWellFormed m → 
 
 -- to give another name to a node that isn't permanent does, where no other node has the name
 abbrev pub RenamedKeepsDevice : Type 0
-RenamedKeepsDevice = (m : Nodes) (p : Path) (name : List ℕ) (old new : Node) → IsWellFormed m → IsDeviceTree m → get m p ≡ Some old
+RenamedKeepsDevice =
+    (m : Nodes) (p : Path) (name : List ℕ) (old new : Node) → IsWellFormed m → IsDeviceTree m → get m p ≡ Some old
     → old.permanent ≡ false → (get m (above p ++ name ∷ []) ≡ None) ⊎ (above p ++ name ∷ [] ≡ p) → StaysAlike old new
     → KeepsDevice m (insert (renamed m p name) (above p ++ name ∷ []) new)
 
 -- a tree with the root and the five values is one
 abbrev pub BareDeviceIsDevice : Type 0
-BareDeviceIsDevice = (acl : Entries) (dev_id man model dm_v lang : List ℕ) → IsTrue (is_short dev_id) → IsTrue (is_short man)
-    → IsTrue (is_short model) → IsTrue (is_short dm_v) → IsTrue (is_short lang) → IsDeviceTree (bare_device acl dev_id man model dm_v lang)
+BareDeviceIsDevice =
+    (acl : Entries) (dev_id man model dm_v lang : List ℕ) → IsTrue (is_short dev_id) → IsTrue (is_short man)
+    → IsTrue (is_short model) → IsTrue (is_short dm_v) → IsTrue (is_short lang)
+    → IsDeviceTree (bare_device acl dev_id man model dm_v lang)
 
 -- ---- where the update part is
 

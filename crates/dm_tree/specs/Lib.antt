@@ -1,9 +1,9 @@
-pub mod FirstTree
 pub mod Frees
 pub mod Nodes
 pub mod Rows
 pub mod Edits
 pub mod Undos
+pub mod Fields
 pub mod Notes
 pub mod Reuse
 pub mod Rights

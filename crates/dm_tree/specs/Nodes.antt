@@ -1,11 +1,13 @@
 -- What a node may hold, and the tree as a map from paths to nodes.
-use Rattle.std.specs.Prelude.{◌≡◌, ◌≤◌, ◌<◌, ◌+◌, ◌%◌, ◌^◌, ℕ, Bool, true, IsTrue, IsSome, List, [], ◌∷◌, ◌++◌, length, codes, bytes_eq, get_or, Option, Some, None, IfSome, Ok}
+use Rattle.std.specs.Prelude.{◌≡◌, ◌≤◌, ◌<◌, ◌+◌, ◌%◌, ◌^◌, ℕ, Bool, true, IsTrue, IsSome, List, [], ◌∷◌, ◌++◌, length}
+use Rattle.std.specs.Prelude.{codes, bytes_eq, get_or, Option, Some, None, IfSome, Ok}
 use Rattle.std.specs.List.{list_any}
 use Rattle.std.specs.Ordering.{nat_cmp, eq_by_cmp}
 use Rattle.std.specs.Cmp.Lexicographic.{slice_cmp}
 use Rattle.std.specs.FinMap.{FinMap, get, len}
 use Rattle.std.specs.Prelude.{take}
 use Rattle.std.specs.declared.cmp.Ordering.{Ordering}
+use Rattle.dm_base.specs.Limits.{node_limit, object_limit}
 use Rattle.dm_acl.specs.declared.values.Entries.{Entries}
 use Rattle.dm_acl.specs.Grammar.{printed}
 use Rattle.dm_acl.specs.Reading.{parse_of}
@@ -21,7 +23,8 @@ use Rattle.dm_tree.specs.declared.nodes.Value.{Value}
 -- the eight Formats
 abbrev pub formats : List (List ℕ)
 formats =
-    codes "b64" ∷ codes "bin" ∷ codes "bool" ∷ codes "chr" ∷ codes "int" ∷ codes "node" ∷ codes "null" ∷ codes "xml" ∷ []
+    codes "b64" ∷ codes "bin" ∷ codes "bool" ∷ codes "chr" ∷ codes "int" ∷ codes "node" ∷ codes "null" ∷ codes "xml"
+    ∷ []
 
 abbrev pub is_format : List ℕ → Bool
 is_format text = list_any (bytes_eq text) formats
@@ -36,7 +39,7 @@ pub record IsValue (interior : Bool) (value : Value) : Type 0 where
   pub kind : is_node_format value.format ≡ interior
   pub empty : interior ≡ true → value.bytes ≡ []
   pub media : length value.media ≤ 255
-  pub short : length value.bytes ≤ 4194304
+  pub short : length value.bytes ≤ object_limit
 
 -- an access list that is read again from its text, which so has at most 4,096 bytes
 abbrev pub IsReadAgain : Entries → Type 0
@@ -163,4 +166,4 @@ pub record IsWellFormed (nodes : Nodes) : Type 0 where
       → (parent : Node) × (get nodes p ≡ Some parent) × IsChildOf child parent
   pub each : (p : Path) (node : Node) → get nodes p ≡ Some node → IsNode node
   pub paths : (p : Path) (node : Node) → get nodes p ≡ Some node → IsPath p × IsTrue (is_within_limits p)
-  pub few : len nodes ≤ 65536
+  pub few : len nodes ≤ node_limit

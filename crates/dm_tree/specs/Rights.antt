@@ -1,5 +1,6 @@
 -- Whom a tree allows what. Each command is decided by itself, by the nearest node upwards whose access list names it.
-use Rattle.std.specs.Prelude.{ℕ, zero, suc, Bool, false, if◌then◌else◌, IsTrue, List, [], length, take, Option, Some, None}
+use Rattle.std.specs.Prelude.{ℕ, zero, suc, Bool, false, if◌then◌else◌, IsTrue, List, [], length, take, Option, Some}
+use Rattle.std.specs.Prelude.{None}
 use Rattle.std.specs.Option.{option_and_then, option_map_or}
 use Rattle.std.specs.FinMap.{get}
 use Rattle.dm_acl.specs.declared.values.Right.{Right}
@@ -20,7 +21,8 @@ names m p right = option_map_or (λ acl. has_entry acl right) (acl_at m p) false
 -- the longest of the beginnings of p with up to k names whose access list names the right
 abbrev pub effective_upto : Nodes → Path → Right → ℕ → Option Path
 effective_upto m p right zero = if names m [] right then Some [] else None
-effective_upto m p right (suc k) = if names m (take (suc k) p) right then Some (take (suc k) p) else effective_upto m p right k
+effective_upto m p right (suc k) =
+    if names m (take (suc k) p) right then Some (take (suc k) p) else effective_upto m p right k
 
 -- the path whose access list decides on the right at p: the longest beginning of p whose access list names it
 abbrev pub effective_path : Nodes → Path → Right → Option Path
@@ -28,7 +30,8 @@ effective_path m p right = effective_upto m p right (length p)
 
 -- the entry in force for the right at p
 abbrev pub effective : Nodes → Path → Right → Option Servers
-effective m p right = option_and_then (λ q. option_and_then (λ acl. entry_of acl right) (acl_at m q)) (effective_path m p right)
+effective m p right =
+    option_and_then (λ q. option_and_then (λ acl. entry_of acl right) (acl_at m q)) (effective_path m p right)
 
 -- that entry names everybody or the server
 abbrev pub allows : Nodes → Path → List ℕ → Right → Bool

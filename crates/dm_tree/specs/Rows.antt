@@ -1,7 +1,9 @@
 -- What the rows stand for: the tree, and the subtrees that were taken out of it.
-use Rattle.std.specs.Prelude.{◌≡◌, ◌≤◌, ◌<◌, ◌^◌, ℕ, zero, suc, true, false, cond, nat_eq, IsTrue, List, [], ◌∷◌, ◌++◌, length, Option, Some, None, get_or, unwrap_or}
+use Rattle.std.specs.Prelude.{◌≡◌, ◌≤◌, ◌<◌, ◌^◌, ℕ, zero, suc, true, false, cond, nat_eq, IsTrue, List, [], ◌∷◌, ◌++◌}
+use Rattle.std.specs.Prelude.{length, Option, Some, None, get_or, unwrap_or}
 use Rattle.std.specs.Option.{option_map}
 use Rattle.std.specs.FinMap.{from_entries, len}
+use Rattle.dm_base.specs.Limits.{node_limit}
 use Rattle.dm_uri.specs.Names.{is_name, is_within_limits}
 use Rattle.dm_tree.specs.declared.nodes.Node.{Node}
 use Rattle.dm_tree.specs.declared.nodes.Role.TheVariants.{Plain}
@@ -43,7 +45,8 @@ abbrev pub walk : List Row → ℕ → ℕ → ℕ → Option Path
 walk rows zero top k = cond (nat_eq k top) (Some []) None
 walk rows (suc d) top k =
     cond (nat_eq k top) (Some [])
-    (cond (row_at rows k).attached (option_map (λ p. p ++ (row_at rows k).name ∷ []) (walk rows d top (row_at rows k).parent)) None)
+    (cond (row_at rows k).attached
+    (option_map (λ p. p ++ (row_at rows k).name ∷ []) (walk rows d top (row_at rows k).parent)) None)
 
 -- the depth says how far up the topmost row can be
 abbrev pub path_below : List Row → ℕ → ℕ → Option Path
@@ -109,7 +112,8 @@ pub record IsShaped (rows : List Row) : Type 0 where
   pub falls : (k : ℕ) → (row_at rows k).attached ≡ true
       → (row_at rows k).depth ≡ suc (row_at rows (row_at rows k).parent).depth
   pub shallow : (k : ℕ) → (row_at rows k).depth ≤ 16
-  pub no_twins : (i j : ℕ) → (row_at rows i).attached ≡ true → (row_at rows j).attached ≡ true → (row_at rows i).parent ≡ (row_at rows j).parent → (row_at rows i).name ≡ (row_at rows j).name → i ≡ j
+  pub no_twins : (i j : ℕ) → (row_at rows i).attached ≡ true → (row_at rows j).attached ≡ true
+      → (row_at rows i).parent ≡ (row_at rows j).parent → (row_at rows i).name ≡ (row_at rows j).name → i ≡ j
 
 -- what a row keeps to by itself
 pub record IsRow (row : Row) : Type 0 where
@@ -122,6 +126,7 @@ pub record IsTree (rows : List Row) : Type 0 where
   pub shape : IsShaped rows
   pub each : (k : ℕ) → k < length rows → IsRow (row_at rows k)
   pub root : IsRoot (node_of rows 0)
-  pub children : (k : ℕ) → (row_at rows k).attached ≡ true → IsChildOf (node_of rows k) (node_of rows (row_at rows k).parent)
+  pub children : (k : ℕ) → (row_at rows k).attached ≡ true
+      → IsChildOf (node_of rows k) (node_of rows (row_at rows k).parent)
   pub within : (k : ℕ) → IsLive rows k → IsTrue (is_within_limits (path_of rows k))
-  pub size : len (nodes rows) ≤ 65536
+  pub size : len (nodes rows) ≤ node_limit

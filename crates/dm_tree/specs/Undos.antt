@@ -20,19 +20,25 @@ row_of (change.PutIn k) = k
 
 -- the rows after a flip
 abbrev pub flipped : List Row → Change → List Row
-flipped rows (change.Value k value verno stamp) = with_node rows k (counted (with_value (node_of rows k) value) verno stamp)
+flipped rows (change.Value k value verno stamp) =
+    with_node rows k (counted (with_value (node_of rows k) value) verno stamp)
 flipped rows (change.Acl k acl verno stamp) = with_node rows k (counted (with_acl (node_of rows k) acl) verno stamp)
-flipped rows (change.Title k title verno stamp) = with_node rows k (counted (with_title (node_of rows k) title) verno stamp)
+flipped rows (change.Title k title verno stamp) =
+    with_node rows k (counted (with_title (node_of rows k) title) verno stamp)
 flipped rows (change.Name k name verno stamp) = with_name rows k name (counted (node_of rows k) verno stamp)
 flipped rows (change.TakeOut k) = attached_as rows k false
 flipped rows (change.PutIn k) = attached_as rows k true
 
 -- what the Undo has become: what stood in the row before the flip
 abbrev pub turned : List Row → Change → Change
-turned rows (change.Value k value verno stamp) = change.Value k (node_of rows k).value (node_of rows k).verno (node_of rows k).stamp
-turned rows (change.Acl k acl verno stamp) = change.Acl k (node_of rows k).acl (node_of rows k).verno (node_of rows k).stamp
-turned rows (change.Title k title verno stamp) = change.Title k (node_of rows k).title (node_of rows k).verno (node_of rows k).stamp
-turned rows (change.Name k name verno stamp) = change.Name k (row_at rows k).name (node_of rows k).verno (node_of rows k).stamp
+turned rows (change.Value k value verno stamp) =
+    change.Value k (node_of rows k).value (node_of rows k).verno (node_of rows k).stamp
+turned rows (change.Acl k acl verno stamp) =
+    change.Acl k (node_of rows k).acl (node_of rows k).verno (node_of rows k).stamp
+turned rows (change.Title k title verno stamp) =
+    change.Title k (node_of rows k).title (node_of rows k).verno (node_of rows k).stamp
+turned rows (change.Name k name verno stamp) =
+    change.Name k (row_at rows k).name (node_of rows k).verno (node_of rows k).stamp
 turned rows (change.TakeOut k) = change.PutIn k
 turned rows (change.PutIn k) = change.TakeOut k
 
@@ -91,9 +97,10 @@ pub record TakesOut (undo : Change) (id : ℕ) (old new : List Row) : Type 0 whe
   pub nodes : nodes (flipped new undo) ≡ nodes old
   pub ids : ids (flipped new undo) ≡ ids old
 
--- a node has come in below `parent`, under the number id: in both maps, in a row of its own, and with an Undo that takes
--- it out
-pub record IsInserted (old new : List Row) (parent : ℕ) (name : List ℕ) (node : Node) (id : ℕ) (back : Change) : Type 0 where
+-- a node has come in below `parent`, under the number id: in both maps, in a row of its own, and with an Undo that
+-- takes it out
+pub record IsInserted (old new : List Row) (parent : ℕ) (name : List ℕ) (node : Node) (id : ℕ) (back : Change) :
+    Type 0 where
   pub nodes : nodes new ≡ insert (nodes old) (path_of old parent ++ name ∷ []) node
   pub ids : ids new ≡ insert (ids old) (path_of old parent ++ name ∷ []) id
   pub stays : StayLive old new

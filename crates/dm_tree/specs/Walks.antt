@@ -1,5 +1,6 @@
 -- What the searches through the rows find, row by row.
-use Rattle.std.specs.Prelude.{◌&&◌, ◌-◌, ℕ, zero, suc, Bool, true, false, if◌then◌else◌, nat_eq, nat_lt, bytes_eq, List, [], ◌∷◌, ◌++◌, length, is_some, Option, Some, None, option_and_then}
+use Rattle.std.specs.Prelude.{◌&&◌, ◌-◌, ℕ, zero, suc, Bool, true, false, if◌then◌else◌, nat_eq, nat_lt, bytes_eq, List}
+use Rattle.std.specs.Prelude.{[], ◌∷◌, ◌++◌, length, is_some, Option, Some, None, option_and_then}
 use Rattle.std.specs.Option.{option_map_or, option_or}
 use Rattle.std.specs.Ordering.{nat_cmp, is_lt}
 use Rattle.std.specs.Cmp.Lexicographic.{slice_cmp}
@@ -37,7 +38,8 @@ row_allows r server right = option_map_or (λ acl. allowed acl server right) r.n
 -- the first row that names the right among k and the d rows above it
 abbrev pub deciding_row : List Row → Right → ℕ → ℕ → Option ℕ
 deciding_row rows right zero k = if row_names (row_at rows k) right then Some k else None
-deciding_row rows right (suc d) k = if row_names (row_at rows k) right then Some k else deciding_row rows right d (row_at rows k).parent
+deciding_row rows right (suc d) k =
+    if row_names (row_at rows k) right then Some k else deciding_row rows right d (row_at rows k).parent
 
 -- ---- how long paths are, once the row `id` bears the name
 
@@ -82,7 +84,8 @@ next_past rows top zero k = None
 next_past rows top (suc d) k =
     if nat_eq k top
     then None
-    else option_or (least_child rows (row_at rows k).parent (Some k) (length rows)) (next_past rows top d (row_at rows k).parent)
+    else option_or (least_child rows (row_at rows k).parent (Some k) (length rows))
+    (next_past rows top d (row_at rows k).parent)
 
 -- the first child, or else, and with `past`, the first sibling behind
 abbrev pub next_row : List Row → ℕ → ℕ → Bool → Option ℕ

@@ -1,27 +1,32 @@
 // What changes the tree.
-ghost use Rattle.std.specs.Prelude.{ℕ, ◌≡◌, ◌<◌, ◌≤◌, ◌+◌, ◌%◌, ◌^◌, ◌↔◌, ◌++◌, ◌∷◌, [], set, true, false, length, IsTrue, IsSome, Option, None, Err, IfOk, IfErr, IfSome, OnOk, OnErr};
+ghost use Rattle.std.specs.Prelude.{ℕ, ◌≡◌, ◌<◌, ◌≤◌, ◌+◌, ◌%◌, ◌^◌, ◌↔◌, ◌++◌, ◌∷◌, [], set, true, false, length};
+ghost use Rattle.std.specs.Prelude.{IsTrue, IsSome, Option, None, Err, IfOk, IfErr, IfSome, OnOk, OnErr};
 ghost use Rattle.std.specs.FinMap as map;
 ghost use Rattle.dm_uri.specs.Names.{is_within_limits};
 ghost use Rattle.dm_tree.specs.declared.rows.Change.TheVariants as change;
 ghost use Rattle.dm_tree.specs.declared.edits.TreeError.TheVariants as error;
-ghost use Rattle.dm_tree.specs.Nodes.{made as made_node, changed, counted, with_value, with_acl, with_title, IsNewNode, IsValue, IsReadAgain, tree_order};
+ghost use Rattle.dm_tree.specs.Nodes.{made as made_node, changed, counted, with_value, with_acl, with_title, IsNewNode};
+ghost use Rattle.dm_tree.specs.Nodes.{IsValue, IsReadAgain, tree_order};
 ghost use Rattle.dm_tree.specs.Rows.{nodes, ids, row_at, node_of, path_of, IsLive, IsTree, IsParkedTop, StayLive};
 ghost use Rattle.dm_tree.specs.Index.{IsIndex, IsSized, IsKept};
 ghost use Rattle.dm_tree.specs.Edits.{with_node, attached_as, new_row as new_row_below, pruned, without_content};
+ghost use Rattle.dm_tree.specs.Fields.{with_field, change_of, IsField};
 ghost use Rattle.dm_tree.specs.Undos.{Fits, TakesBack, IsInserted, IsHeld, IsDiscarded, flipped, turned};
 ghost use Rattle.dm_tree.specs.Reuse.{IsUsed, IsFreeRow, IsPlaced};
 ghost use Rattle.dm_tree.specs.Notes.{GoesAlike, TakesEditBack, Stays};
 ghost use Rattle.dm_tree.specs.Frees.{IsGivenBack};
+ghost use Rattle.dm_base.specs.Limits.{node_limit};
 
-use crate::arena::Tree;
 use crate::clock::Clock;
 use crate::discards::{free_subtree, offer_above};
+use crate::fields::Field;
 use crate::index::{Children, put_in, take_out};
 use crate::new_rows::{new_row, place_row};
 use crate::nodes::{NewNode, Node, Stamp, Value};
 use crate::renames::flip_name;
 use crate::rows::{Change, NodeId, Row, Undo};
 use crate::sizes::{count_in, count_out};
+use crate::tree::Tree;
 use dm_acl::Acl;
 use dm_base::Bytes;
 use dm_uri::Name;
@@ -65,46 +70,27 @@ pub(crate) fn raised(verno: u16) -> u16
     verno.wrapping_add(1)
 }
 
-fn put_value(rows: &mut Vec<Row>, id: u32, value: Value, clock: Stamp) -> Change
+// Sets a field, and counts the change. Flipped, what it gives takes that back.
+fn put_field(rows: &mut Vec<Row>, id: u32, field: Field, clock: Stamp) -> Change
     requires { id < length rows.old.items }
-    ensures rows { rows.new.items ≡ with_node rows.old.items id (changed clock (with_value (node_of rows.old.items id) value)) }
-    ensures change { result ≡ change.Value id (node_of rows.old.items id).value
-        (node_of rows.old.items id).verno (node_of rows.old.items id).stamp }
+    ensures rows { rows.new.items
+        ≡ with_node rows.old.items id (changed clock (with_field (node_of rows.old.items id) field)) }
+    ensures change { result ≡ change_of rows.old.items id field }
 {
     let row = &mut rows[id as usize];
     let verno = row.node.verno;
     let stamp = row.node.stamp;
     row.node.verno = raised(verno);
     row.node.stamp = clock;
-    Change::Value(id, mem::replace(&mut row.node.value, value), verno, stamp)
-}
-
-fn put_acl(rows: &mut Vec<Row>, id: u32, acl: Option<Acl>, clock: Stamp) -> Change
-    requires { id < length rows.old.items }
-    ensures rows { rows.new.items ≡ with_node rows.old.items id (changed clock (with_acl (node_of rows.old.items id) acl)) }
-    ensures change { result ≡ change.Acl id (node_of rows.old.items id).acl
-        (node_of rows.old.items id).verno (node_of rows.old.items id).stamp }
-{
-    let row = &mut rows[id as usize];
-    let verno = row.node.verno;
-    let stamp = row.node.stamp;
-    row.node.verno = raised(verno);
-    row.node.stamp = clock;
-    Change::Acl(id, mem::replace(&mut row.node.acl, acl), verno, stamp)
-}
-
-fn put_title(rows: &mut Vec<Row>, id: u32, title: Bytes, clock: Stamp) -> Change
-    requires { id < length rows.old.items }
-    ensures rows { rows.new.items ≡ with_node rows.old.items id (changed clock (with_title (node_of rows.old.items id) title)) }
-    ensures change { result ≡ change.Title id (node_of rows.old.items id).title
-        (node_of rows.old.items id).verno (node_of rows.old.items id).stamp }
-{
-    let row = &mut rows[id as usize];
-    let verno = row.node.verno;
-    let stamp = row.node.stamp;
-    row.node.verno = raised(verno);
-    row.node.stamp = clock;
-    Change::Title(id, mem::replace(&mut row.node.title, title), verno, stamp)
+    match field {
+        Field::Value(value) => {
+            Change::Value(id, mem::replace(&mut row.node.value, value), verno, stamp)
+        }
+        Field::Acl(acl) => Change::Acl(id, mem::replace(&mut row.node.acl, acl), verno, stamp),
+        Field::Title(title) => {
+            Change::Title(id, mem::replace(&mut row.node.title, title), verno, stamp)
+        }
+    }
 }
 
 // Exchanges a node's VerNo and stamp with those that an Undo keeps.
@@ -172,8 +158,8 @@ fn recount(rows: &[Row], sizes: &mut Vec<u32>, change: &Change)
 }
 
 impl Tree {
-    /// Adds a node below an interior one. Its VerNo is 0, and its stamp the clock. Which number it gets is left open: one
-    /// that no node has that is in the tree or held by an Undo. It may be that of a node that was discarded.
+    /// Adds a node below an interior one. Its VerNo is 0, and its stamp the clock. Which number it gets is left open:
+    /// one that no node has that is in the tree or held by an Undo. It may be that of a node that was discarded.
     pub fn insert(
         &mut self,
         parent: NodeId,
@@ -192,7 +178,7 @@ impl Tree {
             × (path_of self.new.rows r.0 ≡ path_of self.old.rows parent ++ name ∷ [])) }
         ensures edit { IfOk result (λ r. TakesEditBack r.1 self.old.rows self.new.rows) }
         ensures clock { self.new.clock ≡ self.old.clock }
-        ensures full { (result ≡ Err error.Full) ↔ (map.len (nodes self.old.rows) ≡ 65536) }
+        ensures full { (result ≡ Err error.Full) ↔ (map.len (nodes self.old.rows) ≡ node_limit) }
         ensures err { OnErr result (self.new ≡ self.old) }
     {
         // Its contract says that the name keeps to the form and the limit.
@@ -211,8 +197,8 @@ impl Tree {
         Ok((NodeId::of(id), Undo::of(Change::TakeOut(id))))
     }
 
-    /// Takes a node out, with all that stands below it. The Undo holds them until it is discarded. It takes no memory, and
-    /// its time doesn't grow with the subtree.
+    /// Takes a node out, with all that stands below it. The Undo holds them until it is discarded. It takes no memory,
+    /// and its time doesn't grow with the subtree.
     pub fn detach(&mut self, id: NodeId) -> Undo
         requires live { IsLive self.old.rows id }
         requires removable { (node_of self.old.rows id).permanent ≡ false }
@@ -226,6 +212,25 @@ impl Tree {
         take_out(&mut self.rows, &mut self.index, id.row());
         count_out(&self.rows, &mut self.sizes, id.row());
         Undo::of(Change::PutIn(id.row()))
+    }
+
+    // The one edit that the three setters make.
+    fn set_field(&mut self, id: NodeId, field: Field) -> Undo
+        requires live { IsLive self.old.rows id }
+        requires field { IsField (node_of self.old.rows id) (path_of self.old.rows id) field }
+        ensures nodes { nodes self.new.rows ≡ map.insert (nodes self.old.rows) (path_of self.old.rows id)
+            (changed self.old.clock (with_field (node_of self.old.rows id) field)) }
+        ensures ids { ids self.new.rows ≡ ids self.old.rows }
+        ensures stays { StayLive self.old.rows self.new.rows }
+        ensures rows { self.new ≡ record self.old {
+          rows = with_node self.old.rows id
+              (changed self.old.clock (with_field (node_of self.old.rows id) field));
+        } }
+        ensures undo { TakesBack result self.old.rows self.new.rows }
+        ensures edit { TakesEditBack result self.old.rows self.new.rows }
+    {
+        let change = put_field(&mut self.rows, id.row(), field, self.clock.stamp());
+        Undo::of(change)
     }
 
     /// Sets the Format, Type and bytes of a leaf. It takes no memory.
@@ -244,8 +249,7 @@ impl Tree {
         ensures undo { TakesBack result self.old.rows self.new.rows }
         ensures edit { TakesEditBack result self.old.rows self.new.rows }
     {
-        let change = put_value(&mut self.rows, id.row(), value, self.clock.stamp());
-        Undo::of(change)
+        self.set_field(id, Field::Value(value))
     }
 
     /// Sets a node's own access list, or takes it away. The root keeps one. It takes no memory.
@@ -264,8 +268,7 @@ impl Tree {
         ensures undo { TakesBack result self.old.rows self.new.rows }
         ensures edit { TakesEditBack result self.old.rows self.new.rows }
     {
-        let change = put_acl(&mut self.rows, id.row(), acl, self.clock.stamp());
-        Undo::of(change)
+        self.set_field(id, Field::Acl(acl))
     }
 
     /// Sets a node's title, of at most 255 bytes. It takes no memory.
@@ -283,12 +286,11 @@ impl Tree {
         ensures undo { TakesBack result self.old.rows self.new.rows }
         ensures edit { TakesEditBack result self.old.rows self.new.rows }
     {
-        let change = put_title(&mut self.rows, id.row(), title, self.clock.stamp());
-        Undo::of(change)
+        self.set_field(id, Field::Title(title))
     }
 
-    /// Takes an edit back, the VerNo and stamp before it too, and turns the Undo into what does the edit again. The clock
-    /// stays. It takes no memory.
+    /// Takes an edit back, the VerNo and stamp before it too, and turns the Undo into what does the edit again. The
+    /// clock stays. It takes no memory.
     pub fn flip(&mut self, undo: &mut Undo)
         requires { Fits self.old.rows undo.old }
         ensures rows { self.new ≡ record self.old { rows = flipped self.old.rows undo.old } }
@@ -311,7 +313,8 @@ impl Tree {
         ensures stays { StayLive self.old.rows self.new.rows }
         ensures rows { IsDiscarded undo self.old.rows self.new.rows }
         ensures alike { GoesAlike (Stays self.old.rows undo) self.old.rows self.new.rows }
-        ensures parked { (k : ℕ) → IsParkedTop self.new.rows k → IsParkedTop self.old.rows k × Stays self.old.rows undo k }
+        ensures parked { (k : ℕ) → IsParkedTop self.new.rows k
+            → IsParkedTop self.old.rows k × Stays self.old.rows undo k }
         ensures used { (k : ℕ) → IsUsed self.old.rows k → Stays self.old.rows undo k → IsUsed self.new.rows k }
         ensures given_back { IsGivenBack undo self.old.rows self.new.rows }
         ensures clock { self.new.clock ≡ self.old.clock }

@@ -1,10 +1,12 @@
 // The children of each row in the byte order of their names, so that no search looks at every row.
-ghost use Rattle.std.specs.Prelude.{◌≡◌, ◌<◌, ◌≤◌, ◌&&◌, ◌+◌, ◌-◌, ◌^◌, ◌++◌, ◌∷◌, [], length, nat_lt, get_or, slice_get, set, true, false, OnOk, OnErr, IfSome};
+ghost use Rattle.std.specs.Prelude.{◌≡◌, ◌<◌, ◌≤◌, ◌&&◌, ◌+◌, ◌-◌, ◌^◌, ◌++◌, ◌∷◌, [], length, nat_lt, get_or};
+ghost use Rattle.std.specs.Prelude.{slice_get, set, true, false, OnOk, OnErr, IfSome};
 ghost use Rattle.std.specs.List.{insert, remove};
 ghost use Rattle.dm_tree.specs.Rows.{row_at, node_of, IsShaped, IsTree, IsParkedTop};
 ghost use Rattle.dm_tree.specs.Edits.{attached_as, with_name, without_content};
 ghost use Rattle.dm_tree.specs.Reuse.{IsFreeRow};
-ghost use Rattle.dm_tree.specs.Index.{no_children, is_before as is_named_before, AreRows, IsInOrder, IsIndex, IsPut, IsTaken, IsPlace, IsPlacePast};
+ghost use Rattle.dm_tree.specs.Index.{no_children, is_before as is_named_before, AreRows, IsInOrder, IsIndex, IsPut};
+ghost use Rattle.dm_tree.specs.Index.{IsTaken, IsPlace, IsPlacePast};
 
 use crate::rows::Row;
 use crate::walks::is_named;
@@ -128,7 +130,8 @@ impl Children {
     }
 }
 
-// The first eight bytes of a name, as a number. Names stand in the order of these numbers, but for those that begin alike.
+// The first eight bytes of a name, as a number. Names stand in the order of these numbers, but for those that begin
+// alike.
 fn key_of(name: &Name) -> u64 {
     let mut key = 0u64;
     for at in 0..8 {
@@ -161,7 +164,8 @@ fn follows(rows: &[Row], ids: &[u32], place: usize, name: &Name) -> bool
 fn precedes(rows: &[Row], ids: &[u32], place: usize, name: &Name) -> bool
     requires inside { AreRows rows.now ids.now }
     requires within { place ≤ length ids.now }
-    ensures { result ≡ true → place < length ids.now → is_named_before rows.now name.now (get_or ids.now place 0) ≡ false }
+    ensures { result ≡ true → place < length ids.now
+        → is_named_before rows.now name.now (get_or ids.now place 0) ≡ false }
 {
     if place == ids.len() {
         return true;
@@ -169,8 +173,8 @@ fn precedes(rows: &[Row], ids: &[u32], place: usize, name: &Name) -> bool
     !is_before(rows, ids[place], name)
 }
 
-/// Where a name stands among the children of a row, or where it would. The keys tell the place, and two names confirm it; where
-/// other names begin alike, the names alone tell it.
+/// Where a name stands among the children of a row, or where it would. The keys tell the place, and two names confirm
+/// it; where other names begin alike, the names alone tell it.
 pub(crate) fn place_of(rows: &[Row], ids: &[u32], keys: &[u64], name: &Name) -> usize
     requires inside { AreRows rows.now ids.now }
     requires order { IsInOrder rows.now ids.now }
@@ -328,7 +332,8 @@ fn exchange_name(rows: &mut Vec<Row>, id: u32, name: &mut Name)
     mem::swap(&mut rows[id as usize].name, name);
 }
 
-// Exchanges the name of a row that is in the tree or in a subtree, which gives it another place among its parent's children.
+// Exchanges the name of a row that is in the tree or in a subtree, which gives it another place among its parent's
+// children.
 fn move_name(rows: &mut Vec<Row>, index: &mut Vec<Children>, id: u32, name: &mut Name)
     requires attached { IsTaken rows.old.items id }
     requires after { IsShaped (with_name rows.old.items id name.old (node_of rows.old.items id)) }

@@ -1,8 +1,10 @@
 // Laws over the definitions alone.
-ghost use Rattle.dm_tree.specs.Laws.{SubtreeBegins, TopIsBelow, ChangedKeepsUpdate, AddedKeepsUpdate, PrunedKeepsUpdate, RenamedKeepsUpdate, ChangedKeepsDevice, AddedKeepsDevice, PrunedKeepsDevice, RenamedKeepsDevice, BareDeviceIsDevice, UpdateIsFound};
+ghost use Rattle.dm_tree.specs.Laws.{SubtreeBegins, TopIsBelow, ChangedKeepsUpdate, AddedKeepsUpdate};
+ghost use Rattle.dm_tree.specs.Laws.{PrunedKeepsUpdate, RenamedKeepsUpdate, ChangedKeepsDevice, AddedKeepsDevice};
+ghost use Rattle.dm_tree.specs.Laws.{PrunedKeepsDevice, RenamedKeepsDevice, BareDeviceIsDevice, UpdateIsFound};
 
 /// A subtree, in the order of the tree text, is its top, and then what stands behind that in it.
-#[tactic(auto, using(crate::proofs::Behinds::subtree_begins))]
+#[tactic(auto, using(crate::proofs::NodesBehind::subtree_begins))]
 pub fn subtree_begins()
     ensures { SubtreeBegins }
 {}
@@ -13,9 +15,9 @@ pub fn top_is_below()
     ensures { TopIsBelow }
 {}
 
-/// What an edit leaves of the update part: it stays where it is and in order, as long as its nodes stay for what they are,
-/// State's value is one of the five states, no further node of the update comes in, and nothing permanent is taken out or
-/// renamed.
+/// What an edit leaves of the update part: it stays where it is and in order, as long as its nodes stay for what they
+/// are, State's value is one of the five states, no further node of the update comes in, and nothing permanent is taken
+/// out or renamed.
 pub fn edits_keep_the_update()
     ensures changed { ChangedKeepsUpdate }
     ensures added { AddedKeepsUpdate }

@@ -4,27 +4,26 @@ ghost use Rattle.std.specs.FinMap as map;
 ghost use Rattle.dm_tree.specs.Nodes.{above, with_acl, with_title, with_mark, counted, IsReadAgain, IsStamp};
 ghost use Rattle.dm_tree.specs.Rows.{nodes, ids, node_of, path_of, IsLive, StayLive};
 ghost use Rattle.dm_tree.specs.Edits.{with_node};
+ghost use Rattle.dm_tree.specs.Fields.{with_field, IsField};
 
-use crate::arena::Tree;
+use crate::fields::Field;
 use crate::nodes::Stamp;
 use crate::rows::{NodeId, Row};
+use crate::tree::Tree;
 use dm_acl::Acl;
 use dm_base::Bytes;
 
-fn set_acl_alone(rows: &mut Vec<Row>, id: u32, acl: Acl)
+// Sets a field, and counts no change.
+fn lay(rows: &mut Vec<Row>, id: u32, field: Field)
     requires { id < length rows.old.items }
-    ensures { rows.new.items ≡ with_node rows.old.items id (with_acl (node_of rows.old.items id) (Some acl)) }
+    ensures { rows.new.items ≡ with_node rows.old.items id (with_field (node_of rows.old.items id) field) }
 {
     let row = &mut rows[id as usize];
-    row.node.acl = Some(acl);
-}
-
-fn set_title_alone(rows: &mut Vec<Row>, id: u32, title: Bytes)
-    requires { id < length rows.old.items }
-    ensures { rows.new.items ≡ with_node rows.old.items id (with_title (node_of rows.old.items id) title) }
-{
-    let row = &mut rows[id as usize];
-    row.node.title = title;
+    match field {
+        Field::Value(value) => row.node.value = value,
+        Field::Acl(acl) => row.node.acl = acl,
+        Field::Title(title) => row.node.title = title,
+    }
 }
 
 fn set_mark(rows: &mut Vec<Row>, id: u32)
@@ -46,6 +45,19 @@ fn set_counts(rows: &mut Vec<Row>, id: u32, verno: u16, stamp: Stamp)
 }
 
 impl Tree {
+    // What the access list and the title have in common.
+    fn lay_field(&mut self, id: NodeId, field: Field)
+        requires live { IsLive self.old.rows id }
+        requires field { IsField (node_of self.old.rows id) (path_of self.old.rows id) field }
+        ensures nodes { nodes self.new.rows ≡ map.insert (nodes self.old.rows) (path_of self.old.rows id)
+            (with_field (node_of self.old.rows id) field) }
+        ensures ids { ids self.new.rows ≡ ids self.old.rows }
+        ensures stays { StayLive self.old.rows self.new.rows }
+        ensures clock { self.new.clock ≡ self.old.clock }
+    {
+        lay(&mut self.rows, id.row(), field);
+    }
+
     /// Sets a node's own access list, and neither VerNo nor stamp. It takes no memory.
     pub fn lay_acl(&mut self, id: NodeId, acl: Acl)
         requires live { IsLive self.old.rows id }
@@ -56,7 +68,7 @@ impl Tree {
         ensures stays { StayLive self.old.rows self.new.rows }
         ensures clock { self.new.clock ≡ self.old.clock }
     {
-        set_acl_alone(&mut self.rows, id.row(), acl);
+        self.lay_field(id, Field::Acl(Some(acl)));
     }
 
     /// Sets a node's title, of at most 255 bytes, and neither VerNo nor stamp. It takes no memory.
@@ -69,7 +81,7 @@ impl Tree {
         ensures stays { StayLive self.old.rows self.new.rows }
         ensures clock { self.new.clock ≡ self.old.clock }
     {
-        set_title_alone(&mut self.rows, id.row(), title);
+        self.lay_field(id, Field::Title(title));
     }
 
     /// Makes a node permanent whose parent is, and sets neither VerNo nor stamp. It takes no memory.

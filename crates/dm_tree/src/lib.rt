@@ -1,10 +1,10 @@
-//! The management tree: nodes in rows, edits that are taken back, and access lists; and the tree of the first path.
+//! The management tree: nodes in rows, edits that are taken back, and access lists.
 #![tactic(auto)]
 
-pub mod arena;
 mod clock;
 mod discards;
 pub mod edits;
+mod fields;
 mod index;
 pub mod laws;
 mod lays;
@@ -14,14 +14,12 @@ mod renames;
 pub mod rows;
 mod siblings;
 mod sizes;
-mod text;
 pub mod tree;
 mod update;
 mod walks;
 
-pub use arena::Tree;
 pub use edits::TreeError;
 pub use nodes::{NewNode, Node, Role, Stamp, Value, View};
 pub use rows::{NodeId, Undo};
-pub use tree::{FirstTree, NamedLeaf};
+pub use tree::Tree;
 pub use update::UpdateIds;

@@ -1,5 +1,6 @@
 // Where a new row comes: in place of a free one, or behind the others.
-ghost use Rattle.std.specs.Prelude.{ℕ, ◌≡◌, ◌<◌, ◌+◌, ◌^◌, ◌++◌, ◌∷◌, [], set, true, false, length, IfOk, IfErr, OnOk, OnErr};
+ghost use Rattle.std.specs.Prelude.{ℕ, ◌≡◌, ◌<◌, ◌+◌, ◌^◌, ◌++◌, ◌∷◌, [], set, true, false, length, IfOk, IfErr, OnOk};
+ghost use Rattle.std.specs.Prelude.{OnErr};
 ghost use Rattle.dm_tree.specs.declared.edits.TreeError.TheVariants as error;
 ghost use Rattle.dm_tree.specs.Rows.{row_at, IsTree};
 ghost use Rattle.dm_tree.specs.Index.{IsKept};

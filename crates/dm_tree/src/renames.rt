@@ -10,11 +10,11 @@ ghost use Rattle.dm_tree.specs.Undos.{TakesBack};
 ghost use Rattle.dm_tree.specs.Notes.{TakesEditBack};
 ghost use Rattle.dm_tree.specs.Walks.{name_then, has_room as rows_have_room};
 
-use crate::arena::Tree;
 use crate::edits::{raised, swap_counts};
 use crate::index::{Children, swap_name};
 use crate::nodes::Stamp;
 use crate::rows::{Change, NodeId, Row, Undo};
+use crate::tree::Tree;
 use dm_uri::Name;
 
 // A path has at most 255 bytes in print, and the dot in front is one of them.
@@ -66,9 +66,11 @@ pub(crate) fn flip_name(
 )
     requires inside { id < length rows.old.items }
     requires tree { IsTree rows.old.items }
-    requires after { IsShaped (with_name rows.old.items id name.old (counted (node_of rows.old.items id) verno.old stamp.old)) }
+    requires after { IsShaped
+        (with_name rows.old.items id name.old (counted (node_of rows.old.items id) verno.old stamp.old)) }
     requires index { IsIndex rows.old.items index.old.items }
-    ensures rows { rows.new.items ≡ with_name rows.old.items id name.old (counted (node_of rows.old.items id) verno.old stamp.old) }
+    ensures rows { rows.new.items
+        ≡ with_name rows.old.items id name.old (counted (node_of rows.old.items id) verno.old stamp.old) }
     ensures name { name.new ≡ (row_at rows.old.items id).name }
     ensures verno { verno.new ≡ (node_of rows.old.items id).verno }
     ensures stamp { stamp.new ≡ (node_of rows.old.items id).stamp }

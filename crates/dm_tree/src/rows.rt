@@ -54,8 +54,8 @@ impl Model for NodeId {
     ghost inverse = { λ n. record { row = n } };
 }
 
-/// What takes an edit back. Flipped, it becomes what does the edit again. It is to be discarded once it isn't needed any
-/// more: the rows of a subtree that it holds are used again only then.
+/// What takes an edit back. Flipped, it becomes what does the edit again. It is to be discarded once it isn't needed
+/// any more: the rows of a subtree that it holds are used again only then.
 #[derive(Drop)]
 pub struct Undo {
     pub(crate) change: Change,

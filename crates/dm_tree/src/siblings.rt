@@ -1,17 +1,20 @@
 // The order of the tree text: siblings by the bytes of their names, each node before all that stands below it.
-ghost use Rattle.std.specs.Prelude.{◌≡◌, ◌<◌, ◌^◌, ◌∷◌, ◌++◌, [], length, false, Some, None, IsTrue, IfSome, IfOk, OnOk, unwrap_or, option_and_then};
+ghost use Rattle.std.specs.Prelude.{◌≡◌, ◌<◌, ◌^◌, ◌∷◌, ◌++◌, [], length, false, Some, None, IsTrue, IfSome, IfOk};
+ghost use Rattle.std.specs.Prelude.{OnOk, unwrap_or, option_and_then};
 ghost use Rattle.std.specs.Option.{option_map_or};
 ghost use Rattle.std.specs.FinMap as map;
 ghost use Rattle.dm_uri.specs.Names.{joined};
 ghost use Rattle.dm_tree.specs.Nodes.{last_name, is_below};
 ghost use Rattle.dm_tree.specs.Rows.{nodes, ids, row_at, path_of, IsLive, IsShaped};
-ghost use Rattle.dm_tree.specs.Order.{first_child as first_child_of, next_sibling as next_sibling_of, next_below as next_path_below, children, children_behind, child_names, behind};
-ghost use Rattle.dm_tree.specs.Walks.{least_child as least_child_of, next_past as next_row_past, next_row as next_row_of};
+ghost use Rattle.dm_tree.specs.Order.{first_child as first_child_of, next_sibling as next_sibling_of};
+ghost use Rattle.dm_tree.specs.Order.{next_below as next_path_below, children, children_behind, child_names, behind};
+ghost use Rattle.dm_tree.specs.Walks.{least_child as least_child_of, next_past as next_row_past};
+ghost use Rattle.dm_tree.specs.Walks.{next_row as next_row_of};
 ghost use Rattle.dm_tree.specs.Index.{IsIndex};
 
-use crate::arena::Tree;
 use crate::index::{Children, id_at, place_past};
 use crate::rows::{NodeId, Row};
+use crate::tree::Tree;
 use dm_base::{Bytes, Memory};
 use std::alloc::Global;
 
@@ -116,7 +119,7 @@ impl Tree {
     }
 
     /// The names of the nodes right below, in byte order, with a `/` between each two. It is empty where there is none.
-    #[tactic(auto, using(crate::proofs::Children::first_joined, crate::proofs::Children::next_joined, crate::proofs::Children::all_joined))]
+    #[tactic(auto, using(crate::proofs::ChildListing::first_joined, crate::proofs::ChildListing::next_joined, crate::proofs::ChildListing::all_joined))]
     pub fn child_names(&self, alloc: Global, id: NodeId) -> Result<Bytes, Memory>
         requires { IsLive self.now.rows id }
         ensures { IfOk result (λ text.
@@ -136,8 +139,9 @@ impl Tree {
         Ok(out)
     }
 
-    /// The node behind this one in the order of the tree text, among those at and below `top`; with `past`, the one behind
-    /// all that stand below it. None comes exactly where there is none. From `top` on, it goes through the whole subtree.
+    /// The node behind this one in the order of the tree text, among those at and below `top`; with `past`, the one
+    /// behind all that stand below it. None comes exactly where there is none. From `top` on, it goes through the whole
+    /// subtree.
     pub fn next_below(&self, top: NodeId, id: NodeId, past: bool) -> Option<NodeId>
         requires top { IsLive self.now.rows top }
         requires live { IsLive self.now.rows id }

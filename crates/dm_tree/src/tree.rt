@@ -1,128 +1,228 @@
-// The tree of the first path, which goes when the arena comes.
-ghost use Rattle.std.specs.Prelude.{◌≡◌, ◌≤◌, [], length, not, if◌then◌else◌, true, false, Some, OnOk, OnErr, IfOk, IfSome, option_map, is_some};
-ghost use Rattle.std.specs.List.{insert};
-ghost use Rattle.dm_tree.specs.declared.tree.NamedLeaf.{NamedLeaf as Named};
-ghost use Rattle.dm_tree.specs.FirstTree.{FirstNodes, HasShortInfo, leaf_of, with_leaf, is_before, tree_text};
+// The tree, and what is read of it.
+ghost use Rattle.std.specs.Prelude.{◌≡◌, ◌<◌, ◌≤◌, ◌++◌, ◌∷◌, [], Some, None, if◌then◌else◌, IfOk, IfSome, option_map};
+ghost use Rattle.std.specs.Prelude.{option_and_then};
+ghost use Rattle.std.specs.Option.{option_copied};
+ghost use Rattle.std.specs.FinMap as map;
+ghost use Rattle.dm_tree.specs.Nodes.{first_stamp, root_node, above, last_name, tree_order, Nodes, IsReadAgain};
+ghost use Rattle.dm_tree.specs.Nodes.{IsStamp, IsWellFormed};
+ghost use Rattle.dm_tree.specs.Rows.{nodes, ids, node_of, path_of, IsLive, IsTree};
+ghost use Rattle.dm_tree.specs.Rights.{effective_path, allows};
+ghost use Rattle.dm_tree.specs.Views.{shown};
 
-use crate::text::put_tree;
-use dm_base::{Bytes, FirstInfo, FirstLeaf, Memory};
+use crate::clock::Clock;
+use crate::index::Children;
+use crate::nodes::{Node, Role, Stamp, Value, View};
+use crate::rows::{NodeId, Row};
+use crate::walks::{child_row, deciding_row, found_row, put_path, row_allows};
+use dm_acl::{Acl, Right};
+use dm_base::{Bytes, Memory};
+use dm_uri::{Name, Path, parse_name};
 use std::alloc::Global;
 use std::marker::Model;
 
-/// A leaf below the root, and its name.
+const FIRST_STAMP: Stamp = Stamp {
+    bytes: *b"00000000T000000Z",
+};
+
+/// The management tree, and a clock. A tree has a root; every other node has a name and stands below an interior node.
+/// At most 65,536 nodes stand in it, at most 16 names deep; the written form of each path has at most 255 bytes.
+///
+/// A node has a number, which it keeps as long as it stays. The condition on each number that is handed to a call is
+/// that its node stands in the tree.
 #[derive(Drop)]
-pub struct NamedLeaf {
-    pub name: Bytes,
-    pub leaf: FirstLeaf,
+pub struct Tree {
+    pub(crate) alloc: Global,
+    pub(crate) rows: Vec<Row>,
+    /// The children of each row, and how many rows lie at and below it.
+    pub(crate) index: Vec<Children>,
+    pub(crate) sizes: Vec<u32>,
+    /// The row that a new node may take, or 0. The next one stands with its children.
+    pub(crate) free: u32,
+    pub(crate) clock: Clock,
 }
 
-// The leaf of a name.
-fn leaf_in<'a>(leaves: &'a [NamedLeaf], name: &[u8]) -> Option<&'a FirstLeaf>
-    ensures { option_map (λ leaf. leaf.now) result ≡ leaf_of leaves.now name.now }
+impl Model for Tree {
+    ghost use Rattle.dm_tree.specs.Rows.{Tree as Kept};
+    ghost use Rattle.dm_tree.specs.Index.{IsKept};
+
+    ghost Value = { Kept };
+
+    ghost view = { λ t. record { rows = t.rows.items; clock = t.clock } };
+
+    ghost invariant = { λ t. IsKept t.rows.items t.index.items t.sizes.items };
+}
+
+fn root_of(alloc: Global, acl: Acl) -> Result<Node, Memory>
+    ensures { IfOk result (λ node. node ≡ root_node acl) }
 {
-    for named in leaves {
-        if named.name.as_slice() == name {
-            return Some(&named.leaf);
-        }
-    }
-    None
+    let format = Bytes::of_slice(alloc, b"node")?;
+    Ok(Node {
+        interior: true,
+        value: Value {
+            format,
+            media: Bytes::new(alloc),
+            bytes: Bytes::new(alloc),
+        },
+        acl: Some(acl),
+        title: Bytes::new(alloc),
+        verno: 0,
+        stamp: FIRST_STAMP,
+        permanent: true,
+        role: Role::Plain,
+    })
 }
 
-// Whether one name comes before another, byte by byte.
-pub(crate) fn comes_before(name: &[u8], other: &[u8]) -> bool
-    ensures { result ≡ is_before name.now other.now }
-{
-    name.cmp(other).is_lt()
-}
+impl Tree {
+    /// A tree that is its root, with this access list. Its clock is `00000000T000000Z`.
+    pub fn new(alloc: Global, root_acl: Acl) -> Result<Tree, Memory>
+        requires { IsReadAgain root_acl }
+        ensures nodes { IfOk result (λ tree.
+            nodes tree.rows ≡ map.insert map.empty [] (root_node root_acl)) }
+        ensures clock { IfOk result (λ tree. tree.clock ≡ first_stamp) }
+    {
+        // No one sees the root's name.
+        let name = match parse_name(alloc, b"root") {
+            Ok(name) => name,
+            Err(_) => return Err(Memory),
+        };
+        let node = root_of(alloc, root_acl)?;
+        let mut rows = Vec::new(alloc);
+        rows.push(Row {
+            parent: 0,
+            depth: 0,
+            attached: false,
+            given_up: false,
+            name,
+            node,
+        })?;
+        let mut index = Vec::new(alloc);
+        index.push(Children::new(alloc))?;
+        let sizes = Vec::from_slice(alloc, &[1])?;
+        Ok(Tree {
+            alloc,
+            rows,
+            index,
+            sizes,
+            free: 0,
+            clock: Clock::at(FIRST_STAMP),
+        })
+    }
 
-// The place of a name that isn't there: before the first leaf whose name comes behind it.
-fn place_of(leaves: &[NamedLeaf], name: &[u8]) -> usize
-    ensures within { result ≤ length leaves.now }
-    ensures place { (l : Named) → l.name ≡ name.now → insert leaves.now result l ≡ with_leaf leaves.now l }
-{
-    for (at, named) in leaves.iter().enumerate() {
-        if comes_before(name, named.name.as_slice()) {
-            return at;
+    /// The number of the node at a path. None comes exactly where no node is there.
+    pub fn find(&self, path: &Path) -> Option<NodeId>
+        ensures found { result ≡ map.get (ids self.now.rows) path.now }
+        ensures node { map.get (nodes self.now.rows) path.now ≡ option_map (node_of self.now.rows) result }
+        ensures live { IfSome result (λ id.
+            IsLive self.now.rows id × (path_of self.now.rows id ≡ path.now)) }
+    {
+        NodeId::of_row(found_row(&self.rows, &self.index, path.as_slice()))
+    }
+
+    /// The number of the root. Every tree keeps to the limits and is in order.
+    pub fn root(&self) -> NodeId
+        ensures id { Some result ≡ map.get (ids self.now.rows) [] }
+        ensures live { IsLive self.now.rows result × (path_of self.now.rows result ≡ []) }
+        ensures well_formed { IsWellFormed (nodes self.now.rows) }
+        ensures sound { IsTree self.now.rows }
+    {
+        let _ = &self.rows;
+        NodeId::of(0)
+    }
+
+    /// The child of this name. None comes exactly where no such node is there.
+    pub fn child(&self, id: NodeId, name: &Name) -> Option<NodeId>
+        requires { IsLive self.now.rows id }
+        ensures found { result ≡ map.get (ids self.now.rows) (path_of self.now.rows id ++ name.now ∷ []) }
+        ensures node { map.get (nodes self.now.rows) (path_of self.now.rows id ++ name.now ∷ [])
+            ≡ option_map (node_of self.now.rows) result }
+        ensures live { IfSome result (λ child. IsLive self.now.rows child
+            × (path_of self.now.rows child ≡ path_of self.now.rows id ++ name.now ∷ [])) }
+    {
+        NodeId::of_row(child_row(&self.rows, &self.index, id.row(), name))
+    }
+
+    /// The node above. None comes exactly at the root.
+    pub fn parent(&self, id: NodeId) -> Option<NodeId>
+        requires { IsLive self.now.rows id }
+        ensures found { result ≡ option_and_then (λ _. map.get (ids self.now.rows) (above (path_of self.now.rows id)))
+            (last_name (path_of self.now.rows id)) }
+        ensures live { IfSome result (λ parent. IsLive self.now.rows parent
+            × (path_of self.now.rows parent ≡ above (path_of self.now.rows id))) }
+    {
+        if id.row() == 0 {
+            return None;
+        }
+        Some(NodeId::of(self.rows[id.row() as usize].parent))
+    }
+
+    /// How many nodes stand in the tree, the root among them.
+    pub fn count(&self) -> u32
+        ensures { result ≡ map.len (nodes self.now.rows) }
+    {
+        self.sizes[0]
+    }
+
+    /// The node as it stands.
+    pub fn view(&self, id: NodeId) -> View
+        requires { IsLive self.now.rows id }
+        ensures node { shown result ≡ node_of self.now.rows id }
+        ensures name { option_copied result.name ≡ last_name (path_of self.now.rows id) }
+        ensures there { map.get (nodes self.now.rows) (path_of self.now.rows id) ≡ Some (node_of self.now.rows id) }
+    {
+        let row = &self.rows[id.row() as usize];
+        View {
+            interior: row.node.interior,
+            value: &row.node.value,
+            acl: row.node.acl.as_ref(),
+            title: &row.node.title,
+            permanent: row.node.permanent,
+            role: row.node.role,
+            verno: row.node.verno,
+            stamp: row.node.stamp,
+            name: if id.row() == 0 { None } else { Some(&row.name) },
         }
     }
-    leaves.len()
-}
 
-/// The root, `./DevInfo` with its five leaves, and leaves below the root, in byte order of their names.
-#[derive(Drop)]
-pub struct FirstTree {
-    info: FirstInfo,
-    leaves: Vec<NamedLeaf>,
-}
-
-impl Model for FirstTree {
-    ghost use Rattle.dm_tree.specs.FirstTree.{FirstNodes, IsFirstTree};
-
-    ghost Value = { FirstNodes };
-
-    ghost view = { λ t. record { info = t.info; leaves = t.leaves.items } };
-
-    ghost invariant = { λ t. IsFirstTree (record { info = t.info; leaves = t.leaves.items }) };
-}
-
-impl FirstTree {
-    /// The tree without leaves below the root.
-    pub fn new(alloc: Global, info: FirstInfo) -> FirstTree
-        requires { HasShortInfo info }
-        ensures { result ≡ record { info = info; leaves = [] } }
+    /// The path of a node.
+    pub fn path(&self, id: NodeId) -> Result<Path, Memory>
+        requires { IsLive self.now.rows id }
+        ensures { IfOk result (λ path. path ≡ path_of self.now.rows id) }
     {
-        FirstTree {
-            info,
-            leaves: Vec::new(alloc),
+        let mut path = Path::new(self.alloc);
+        let depth = self.rows[id.row() as usize].depth;
+        put_path(self.alloc, &self.rows, id.row(), depth, &mut path)?;
+        Ok(path)
+    }
+
+    /// The node whose access list decides on a right: the nearest upwards, itself first, whose list names it. None
+    /// comes exactly where none does.
+    pub fn effective(&self, id: NodeId, right: Right) -> Option<NodeId>
+        requires { IsLive self.now.rows id }
+        ensures found { result ≡ option_and_then (map.get (ids self.now.rows))
+            (effective_path (nodes self.now.rows) (path_of self.now.rows id) right) }
+        ensures live { IfSome result (λ decides. IsLive self.now.rows decides
+            × (effective_path (nodes self.now.rows) (path_of self.now.rows id) right
+            ≡ Some (path_of self.now.rows decides))) }
+    {
+        NodeId::of_row(deciding_row(&self.rows, id.row(), right))
+    }
+
+    /// Whether the entry in force for a right names everybody or the server.
+    pub fn allows(&self, id: NodeId, server: &[u8], right: Right) -> bool
+        requires { IsLive self.now.rows id }
+        ensures { result ≡ allows (nodes self.now.rows) (path_of self.now.rows id) server.now right }
+    {
+        match deciding_row(&self.rows, id.row(), right) {
+            None => false,
+            Some(row) => row_allows(&self.rows[row as usize], server, right),
         }
     }
 
-    /// What the device tells of itself.
-    pub fn info(&self) -> &FirstInfo
-        ensures value { result.now ≡ self.now.info }
-        ensures short { HasShortInfo self.now.info }
+    /// The stamp that was set last.
+    pub fn clock(&self) -> Stamp
+        ensures value { result ≡ self.now.clock }
+        ensures kept { IsStamp result }
     {
-        &self.info
-    }
-
-    /// How many leaves stand below the root.
-    pub fn count(&self) -> usize
-        ensures { result ≡ length self.now.leaves }
-    {
-        self.leaves.len()
-    }
-
-    /// Adds a leaf below the root. False comes exactly where its name is there, and then nothing changes.
-    pub fn add(&mut self, name: Bytes, leaf: FirstLeaf) -> Result<bool, Memory>
-        requires { length leaf.value ≤ 4096 }
-        ensures there { IfOk result (λ added. added ≡ not (is_some (leaf_of self.old.leaves name))) }
-        ensures leaves { IfOk result (λ added. self.new ≡ (if added
-            then record self.old { leaves = with_leaf self.old.leaves (record { name = name; leaf = leaf }) }
-            else self.old)) }
-        ensures err { OnErr result (self.new ≡ self.old) }
-    {
-        if leaf_in(self.leaves.as_slice(), name.as_slice()).is_some() {
-            return Ok(false);
-        }
-        let at = place_of(self.leaves.as_slice(), name.as_slice());
-        match self.leaves.insert(at, NamedLeaf { name, leaf }) {
-            Ok(()) => Ok(true),
-            Err(_) => Err(Memory),
-        }
-    }
-
-    /// The leaf of a name. None comes exactly where the name isn't there.
-    pub fn leaf(&self, name: &[u8]) -> Option<&FirstLeaf>
-        ensures found { option_map (λ leaf. leaf.now) result ≡ leaf_of self.now.leaves name.now }
-        ensures short { IfSome result (λ leaf. length leaf.now.value ≤ 4096) }
-    {
-        leaf_in(self.leaves.as_slice(), name)
-    }
-
-    /// The tree text.
-    pub fn text(&self, alloc: Global) -> Result<Bytes, Memory>
-        ensures { IfOk result (λ text. text ≡ tree_text self.now) }
-    {
-        put_tree(alloc, &self.info, self.leaves.as_slice())
+        self.clock.stamp()
     }
 }

@@ -3,11 +3,12 @@ ghost use Rattle.std.specs.Prelude.{◌≡◌, ◌↔◌, ◌⊎◌, None, Some,
 ghost use Rattle.std.specs.FinMap as map;
 ghost use Rattle.dm_tree.specs.declared.nodes.Role.TheVariants as role;
 ghost use Rattle.dm_tree.specs.Rows.{nodes, ids, node_of, path_of, IsLive};
-ghost use Rattle.dm_tree.specs.Devices.{update_node as update_path, pkg_data, state_node, child_of_role, is_role as is_one};
+ghost use Rattle.dm_tree.specs.Devices.{update_node as update_path, pkg_data, state_node, child_of_role};
+ghost use Rattle.dm_tree.specs.Devices.{is_role as is_one};
 
-use crate::arena::Tree;
 use crate::nodes::Role;
 use crate::rows::NodeId;
+use crate::tree::Tree;
 
 /// The nodes of the update: the update node, PkgData right below it, and State right beside it.
 #[derive(Clone, Copy, Debug, PartialEq, Eq)]
@@ -24,8 +25,8 @@ fn is_role(role: Role, wanted: Role) -> bool
 }
 
 impl Tree {
-    /// Of the nodes right below, the first with this role, in byte order of their names. It goes through them, and takes no
-    /// memory.
+    /// Of the nodes right below, the first with this role, in byte order of their names. It goes through them, and
+    /// takes no memory.
     pub fn child_of_role(&self, id: NodeId, role: Role) -> Option<NodeId>
         requires { IsLive self.now.rows id }
         ensures live { IfSome result (λ child. IsLive self.now.rows child
@@ -45,8 +46,8 @@ impl Tree {
         None
     }
 
-    /// The nodes of the update, each found by its role; None where one isn't there. Where the update part is in order, they
-    /// are its nodes. It takes no memory.
+    /// The nodes of the update, each found by its role; None where one isn't there. Where the update part is in order,
+    /// they are its nodes. It takes no memory.
     pub fn update_ids(&self) -> Option<UpdateIds>
         ensures live { IfSome result (λ found. IsLive self.now.rows found.update
             × (IsLive self.now.rows found.pkg_data × IsLive self.now.rows found.state)) }
@@ -70,8 +71,8 @@ impl Tree {
     }
 
     /// The first node in the order of the tree text whose role is that of an update node; where the update part is in
-    /// order, there is at most one. None comes exactly where there is none. It goes through the tree up to there, and takes
-    /// no memory.
+    /// order, there is at most one. None comes exactly where there is none. It goes through the tree up to there, and
+    /// takes no memory.
     pub fn update_node(&self) -> Option<NodeId>
         ensures found { result ≡ option_and_then (map.get (ids self.now.rows)) (update_path (nodes self.now.rows)) }
         ensures live { IfSome result (λ id. IsLive self.now.rows id

@@ -2,7 +2,8 @@
 ghost use Rattle.std.specs.Prelude.{◌≡◌, ◌<◌, ◌≤◌, ◌+◌, ◌^◌, ◌++◌, length, bytes_eq, OnOk, OnErr, IfOk, is_some};
 ghost use Rattle.dm_tree.specs.Rows.{IsShaped, row_at, path_below};
 ghost use Rattle.dm_tree.specs.Index.{IsIndex};
-ghost use Rattle.dm_tree.specs.Walks.{child_of, find_from, path_up, row_names as names_right, row_allows as row_allows_it, deciding_row};
+ghost use Rattle.dm_tree.specs.Walks.{child_of, find_from, path_up, row_names as names_right};
+ghost use Rattle.dm_tree.specs.Walks.{row_allows as row_allows_it, deciding_row};
 
 use crate::index::{Children, id_at, place_of};
 use crate::rows::Row;

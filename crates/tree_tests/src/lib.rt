@@ -6,8 +6,6 @@ mod access;
 #[cfg(test)]
 mod access_rows;
 #[cfg(test)]
-mod first_tree;
-#[cfg(test)]
 mod journals;
 #[cfg(test)]
 mod large_trees;

@@ -3,9 +3,10 @@ use Rattle.std.proofs.lemmas.List.{get_or_default}
 use Rattle.dm_tree.specs.declared.rows.Row.{Row}
 use Rattle.dm_tree.specs.Rows.{blank, row_at}
 use Rattle.dm_tree.specs.Index.{IsIndex, IsKept}
-use Rattle.dm_tree.proofs.GivenUps.{tree-given_up}
-use Rattle.dm_tree.proofs.Kepts.{kept-given_up}
-use Rattle.dm_tree.proofs.Goings.{IsGoing, to_go, going-begins, going-inside, child-read, none-read, left-below, going-down, fewer-down, going-up, fewer-up, going-ends}
+use Rattle.dm_tree.proofs.GivenUpRows.{tree-given_up}
+use Rattle.dm_tree.proofs.InvariantKept.{kept-given_up}
+use Rattle.dm_tree.proofs.FreeingWalk.{IsGoing, to_go, going-begins, going-inside, child-read, none-read, left-below}
+use Rattle.dm_tree.proofs.FreeingWalk.{going-down, fewer-down, going-up, fewer-up, going-ends}
 use Rattle.dm_tree.proofs.discards.free_subtree.Goals as goal
 
 pub loop-child-init : goal.loop-child-init
@@ -15,7 +16,9 @@ loop-child-init c =
     record {
       going = subst (λ r. IsGoing old c.args.top r c.args.top) (sym c.give_up_top.ensures.rows)
           (going-begins old c.requires.kept.tree c.args.top c.requires.parked);
-      kept = kept-given_up old old c.give_up_top.new.rows.items c.args.top refl c.requires.parked c.give_up_top.ensures.rows tree
+      kept =
+          kept-given_up old old c.give_up_top.new.rows.items c.args.top refl c.requires.parked
+          c.give_up_top.ensures.rows tree
           c.args.index.now.items c.give_up_top.new.index.items c.args.sizes.now.items c.requires.kept
           (subst (λ r. IsIndex r c.give_up_top.new.index.items) c.give_up_top.ensures.rows c.give_up_top.ensures.index);
     }
@@ -24,28 +27,37 @@ loop-child-init c =
 pub free_child-requires-clause-left : goal.free_child-requires-clause-left
 free_child-requires-clause-left c =
     let below =
-    child-read c.loop-child.rows.items c.loop-child.at c.loop-child.index.items c.deref.result.now c.deref.ensures.value c.loop-child.invariant.kept.index
-    (going-inside _ _ _ _ c.loop-child.invariant.going) c.last_child.result c.last_child.ensures c.in-Some.child c.in-Some.is in
-    left-below c.args.rows.now.items c.requires.kept.tree c.args.top c.requires.parked c.loop-child.rows.items c.loop-child.at c.loop-child.invariant.going
+    child-read c.loop-child.rows.items c.loop-child.at c.loop-child.index.items c.deref.result.now c.deref.ensures.value
+    c.loop-child.invariant.kept.index
+    (going-inside _ _ _ _ c.loop-child.invariant.going) c.last_child.result c.last_child.ensures c.in-Some.child
+    c.in-Some.is in
+    left-below c.args.rows.now.items c.requires.kept.tree c.args.top c.requires.parked c.loop-child.rows.items
+    c.loop-child.at c.loop-child.invariant.going
     c.in-Some.child below.0 below.1
 
 pub loop-child-smaller-in-Some : goal.loop-child-smaller-in-Some
 loop-child-smaller-in-Some c =
     let below =
-    child-read c.loop-child.rows.items c.loop-child.at c.loop-child.index.items c.deref.result.now c.deref.ensures.value c.loop-child.invariant.kept.index
-    (going-inside _ _ _ _ c.loop-child.invariant.going) c.last_child.result c.last_child.ensures c.in-Some.child c.in-Some.is in
+    child-read c.loop-child.rows.items c.loop-child.at c.loop-child.index.items c.deref.result.now c.deref.ensures.value
+    c.loop-child.invariant.kept.index
+    (going-inside _ _ _ _ c.loop-child.invariant.going) c.last_child.result c.last_child.ensures c.in-Some.child
+    c.in-Some.is in
     subst (λ r. to_go r c.in-Some.child < to_go c.loop-child.rows.items c.loop-child.at) (sym c.free_child.ensures.rows)
-    (fewer-down c.args.rows.now.items c.requires.kept.tree c.args.top c.requires.parked c.loop-child.rows.items c.loop-child.at c.loop-child.invariant.going
+    (fewer-down c.args.rows.now.items c.requires.kept.tree c.args.top c.requires.parked c.loop-child.rows.items
+    c.loop-child.at c.loop-child.invariant.going
     c.in-Some.child below.0 below.1)
 
 pub loop-child-preserved-in-Some : goal.loop-child-preserved-in-Some
 loop-child-preserved-in-Some c =
     let below =
-    child-read c.loop-child.rows.items c.loop-child.at c.loop-child.index.items c.deref.result.now c.deref.ensures.value c.loop-child.invariant.kept.index
-    (going-inside _ _ _ _ c.loop-child.invariant.going) c.last_child.result c.last_child.ensures c.in-Some.child c.in-Some.is in
+    child-read c.loop-child.rows.items c.loop-child.at c.loop-child.index.items c.deref.result.now c.deref.ensures.value
+    c.loop-child.invariant.kept.index
+    (going-inside _ _ _ _ c.loop-child.invariant.going) c.last_child.result c.last_child.ensures c.in-Some.child
+    c.in-Some.is in
     record {
       going = subst (λ r. IsGoing c.args.rows.now.items c.args.top r c.in-Some.child) (sym c.free_child.ensures.rows)
-          (going-down c.args.rows.now.items c.requires.kept.tree c.args.top c.requires.parked c.loop-child.rows.items c.loop-child.at c.loop-child.invariant.going
+          (going-down c.args.rows.now.items c.requires.kept.tree c.args.top c.requires.parked c.loop-child.rows.items
+          c.loop-child.at c.loop-child.invariant.going
           c.in-Some.child below.0 below.1);
       kept = c.free_child.ensures.kept;
     }
@@ -53,28 +65,39 @@ loop-child-preserved-in-Some c =
 -- nothing is left below it
 pub returns-then-at-top-clause-freed : goal.returns-then-at-top-clause-freed
 returns-then-at-top-clause-freed c =
-    going-ends c.args.rows.now.items c.requires.kept.tree c.args.top c.requires.parked c.loop-child.rows.items c.loop-child.at c.loop-child.invariant.going
-    (none-read c.loop-child.rows.items c.loop-child.at c.loop-child.index.items c.deref.result.now c.deref.ensures.value c.loop-child.invariant.kept.index
-    (going-inside _ _ _ _ c.loop-child.invariant.going) c.last_child.result c.last_child.ensures c.in-None.is) (omega (arith, c.if-at-top.true))
+    going-ends c.args.rows.now.items c.requires.kept.tree c.args.top c.requires.parked c.loop-child.rows.items
+    c.loop-child.at c.loop-child.invariant.going
+    (none-read c.loop-child.rows.items c.loop-child.at c.loop-child.index.items c.deref.result.now c.deref.ensures.value
+    c.loop-child.invariant.kept.index
+    (going-inside _ _ _ _ c.loop-child.invariant.going) c.last_child.result c.last_child.ensures c.in-None.is)
+    (omega (arith, c.if-at-top.true))
 
 above : (c : goal.After-index) → c.index.result.now.parent ≡ (row_at c.loop-child.rows.items c.loop-child.at).parent
 above c =
     ap (λ (r : Row). r.parent)
-    (c.index.ensures ∙ get_or_default c.loop-child.rows.items c.loop-child.at c.index.result.now blank (going-inside _ _ _ _ c.loop-child.invariant.going))
+    (c.index.ensures
+    ∙ get_or_default c.loop-child.rows.items c.loop-child.at c.index.result.now blank
+    (going-inside _ _ _ _ c.loop-child.invariant.going))
 
 pub loop-child-smaller : goal.loop-child-smaller
 loop-child-smaller c =
     subst (λ i. to_go c.loop-child.rows.items i < to_go c.loop-child.rows.items c.loop-child.at) (sym (above c))
-    (fewer-up c.args.rows.now.items c.requires.kept.tree c.args.top c.requires.parked c.loop-child.rows.items c.loop-child.at c.loop-child.invariant.going
-    (none-read c.loop-child.rows.items c.loop-child.at c.loop-child.index.items c.deref.result.now c.deref.ensures.value c.loop-child.invariant.kept.index
-    (going-inside _ _ _ _ c.loop-child.invariant.going) c.last_child.result c.last_child.ensures c.in-None.is) (λ e. omega (arith, e, c.if-at-top.false)))
+    (fewer-up c.args.rows.now.items c.requires.kept.tree c.args.top c.requires.parked c.loop-child.rows.items
+    c.loop-child.at c.loop-child.invariant.going
+    (none-read c.loop-child.rows.items c.loop-child.at c.loop-child.index.items c.deref.result.now c.deref.ensures.value
+    c.loop-child.invariant.kept.index
+    (going-inside _ _ _ _ c.loop-child.invariant.going) c.last_child.result c.last_child.ensures c.in-None.is)
+    (λ e. omega (arith, e, c.if-at-top.false)))
 
 pub loop-child-preserved : goal.loop-child-preserved
 loop-child-preserved c = record {
   going = subst (IsGoing c.args.rows.now.items c.args.top c.loop-child.rows.items) (sym (above c))
-      (going-up c.args.rows.now.items c.requires.kept.tree c.args.top c.requires.parked c.loop-child.rows.items c.loop-child.at c.loop-child.invariant.going
-      (none-read c.loop-child.rows.items c.loop-child.at c.loop-child.index.items c.deref.result.now c.deref.ensures.value c.loop-child.invariant.kept.index
-      (going-inside _ _ _ _ c.loop-child.invariant.going) c.last_child.result c.last_child.ensures c.in-None.is) (λ e. omega (arith, e, c.if-at-top.false)));
+      (going-up c.args.rows.now.items c.requires.kept.tree c.args.top c.requires.parked c.loop-child.rows.items
+      c.loop-child.at c.loop-child.invariant.going
+      (none-read c.loop-child.rows.items c.loop-child.at c.loop-child.index.items c.deref.result.now
+      c.deref.ensures.value c.loop-child.invariant.kept.index
+      (going-inside _ _ _ _ c.loop-child.invariant.going) c.last_child.result c.last_child.ensures c.in-None.is)
+      (λ e. omega (arith, e, c.if-at-top.false)));
   kept = record {
     tree = c.loop-child.invariant.kept.tree;
     index = subst (λ r. IsIndex r c.offer.new.index.items) c.deref-in-None.ensures.value c.offer.ensures;

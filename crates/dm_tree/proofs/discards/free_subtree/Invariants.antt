@@ -1,5 +1,5 @@
 use Rattle.dm_tree.specs.Index.{IsKept}
-use Rattle.dm_tree.proofs.Goings.{IsGoing, to_go}
+use Rattle.dm_tree.proofs.FreeingWalk.{IsGoing, to_go}
 use Rattle.dm_tree.proofs.discards.free_subtree.Given as goal
 
 abbrev pub invariant-loop-child : goal.invariant-loop-child

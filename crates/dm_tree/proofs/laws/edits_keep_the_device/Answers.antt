@@ -1,4 +1,5 @@
-use Rattle.dm_tree.proofs.DeviceTrees.{changed_keeps_device, added_keeps_device, pruned_keeps_device, renamed_keeps_device}
+use Rattle.dm_tree.proofs.DeviceTrees.{changed_keeps_device, added_keeps_device, pruned_keeps_device}
+use Rattle.dm_tree.proofs.DeviceTrees.{renamed_keeps_device}
 use Rattle.dm_tree.proofs.laws.edits_keep_the_device.Goals as goal
 
 pub returns-clause-changed : goal.returns-clause-changed

@@ -1,4 +1,5 @@
-use Rattle.dm_tree.proofs.UpdateParts.{changed_keeps_update, added_keeps_update, pruned_keeps_update, renamed_keeps_update}
+use Rattle.dm_tree.proofs.UpdateParts.{changed_keeps_update, added_keeps_update, pruned_keeps_update}
+use Rattle.dm_tree.proofs.UpdateParts.{renamed_keeps_update}
 use Rattle.dm_tree.proofs.laws.edits_keep_the_update.Goals as goal
 
 pub returns-clause-changed : goal.returns-clause-changed

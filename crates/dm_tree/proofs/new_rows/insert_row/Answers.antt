@@ -2,37 +2,48 @@ use Rattle.std.proofs.Common.{◌≡◌, ◌∙◌, ◌<◌, ◌++◌, ◌∷◌
 use Rattle.dm_tree.specs.Rows.{IsShaped, IsTree}
 use Rattle.dm_tree.specs.Edits.{attached_as}
 use Rattle.dm_tree.specs.Index.{IsPut, IsSized, IsKept}
-use Rattle.dm_tree.proofs.Kepts.{new_parent, new_put, new_sizes, put_last}
+use Rattle.dm_tree.proofs.InvariantKept.{new_parent, new_put, new_sizes, put_last}
 use Rattle.dm_tree.proofs.new_rows.insert_row.Goals as goal
 
 pub add_row-requires-clause-parent : goal.add_row-requires-clause-parent
-add_row-requires-clause-parent c = new_parent c.args.rows.now.items c.args.row c.requires.attached c.requires.held c.requires.after c.requires.kept.tree.shape.rooted
+add_row-requires-clause-parent c =
+    new_parent c.args.rows.now.items c.args.row c.requires.attached c.requires.held c.requires.after
+    c.requires.kept.tree.shape.rooted
 
 pub put_in-requires-clause-out : goal.put_in-requires-clause-out
 put_in-requires-clause-out c =
     subst (IsPut c.add_row.new.rows.items) (sym (c.len-id.ensures ∙ c.args.rows.now.ok.0))
-    (new_put c.args.rows.now.items c.args.row c.requires.attached c.requires.held c.requires.after c.requires.kept.tree.shape.rooted c.add_row.new.rows.items c.in-Ok.ensures.ok)
+    (new_put c.args.rows.now.items c.args.row c.requires.attached c.requires.held c.requires.after
+    c.requires.kept.tree.shape.rooted c.add_row.new.rows.items c.in-Ok.ensures.ok)
 
 -- the rows that the code left
 rows_are : (c : goal.After-count_in) → c.put_in.new.rows.items ≡ c.args.rows.now.items ++ c.args.row ∷ []
 rows_are c =
-    c.put_in.ensures.rows ∙ ap (λ k. attached_as c.add_row.new.rows.items k true) (c.len-id.ensures ∙ c.args.rows.now.ok.0)
-    ∙ put_last c.args.rows.now.items c.args.row c.requires.attached c.requires.held c.requires.after c.requires.kept.tree.shape.rooted c.add_row.new.rows.items c.in-Ok.ensures.ok
+    c.put_in.ensures.rows
+    ∙ ap (λ k. attached_as c.add_row.new.rows.items k true) (c.len-id.ensures ∙ c.args.rows.now.ok.0)
+    ∙ put_last c.args.rows.now.items c.args.row c.requires.attached c.requires.held c.requires.after
+    c.requires.kept.tree.shape.rooted c.add_row.new.rows.items c.in-Ok.ensures.ok
 
 pub count_in-requires-clause-shaped : goal.count_in-requires-clause-shaped
 count_in-requires-clause-shaped c =
     let rows : c.put_in.new.rows.items ≡ c.args.rows.now.items ++ c.args.row ∷ [] =
-    c.put_in.ensures.rows ∙ ap (λ k. attached_as c.add_row.new.rows.items k true) (c.len-id.ensures ∙ c.args.rows.now.ok.0)
-    ∙ put_last c.args.rows.now.items c.args.row c.requires.attached c.requires.held c.requires.after c.requires.kept.tree.shape.rooted c.add_row.new.rows.items c.in-Ok.ensures.ok in
+    c.put_in.ensures.rows
+    ∙ ap (λ k. attached_as c.add_row.new.rows.items k true) (c.len-id.ensures ∙ c.args.rows.now.ok.0)
+    ∙ put_last c.args.rows.now.items c.args.row c.requires.attached c.requires.held c.requires.after
+    c.requires.kept.tree.shape.rooted c.add_row.new.rows.items c.in-Ok.ensures.ok in
     subst IsShaped (sym (c.deref.ensures.value ∙ rows)) c.requires.after.shape
 
 pub count_in-requires-clause-sizes : goal.count_in-requires-clause-sizes
 count_in-requires-clause-sizes c =
     let rows : c.put_in.new.rows.items ≡ c.args.rows.now.items ++ c.args.row ∷ [] =
-    c.put_in.ensures.rows ∙ ap (λ k. attached_as c.add_row.new.rows.items k true) (c.len-id.ensures ∙ c.args.rows.now.ok.0)
-    ∙ put_last c.args.rows.now.items c.args.row c.requires.attached c.requires.held c.requires.after c.requires.kept.tree.shape.rooted c.add_row.new.rows.items c.in-Ok.ensures.ok in
-    subst (λ (k : ℕ). IsSized (attached_as c.deref.result.now k false) c.add_row.new.sizes.items) (sym (c.len-id.ensures ∙ c.args.rows.now.ok.0))
-    (new_sizes c.args.rows.now.items c.args.row c.requires.attached c.requires.held c.requires.after c.requires.kept.tree.shape.rooted c.requires.kept.tree.shape c.deref.result.now (c.deref.ensures.value ∙ rows)
+    c.put_in.ensures.rows
+    ∙ ap (λ k. attached_as c.add_row.new.rows.items k true) (c.len-id.ensures ∙ c.args.rows.now.ok.0)
+    ∙ put_last c.args.rows.now.items c.args.row c.requires.attached c.requires.held c.requires.after
+    c.requires.kept.tree.shape.rooted c.add_row.new.rows.items c.in-Ok.ensures.ok in
+    subst (λ (k : ℕ). IsSized (attached_as c.deref.result.now k false) c.add_row.new.sizes.items)
+    (sym (c.len-id.ensures ∙ c.args.rows.now.ok.0))
+    (new_sizes c.args.rows.now.items c.args.row c.requires.attached c.requires.held c.requires.after
+    c.requires.kept.tree.shape.rooted c.requires.kept.tree.shape c.deref.result.now (c.deref.ensures.value ∙ rows)
     c.args.sizes.now.items c.add_row.new.sizes.items c.in-Ok.ensures.sizes c.requires.kept.sizes)
 
 pub returns-in-Ok-clause-ok : goal.returns-in-Ok-clause-ok

@@ -3,29 +3,37 @@ use Rattle.std.proofs.Math.ListN.{set}
 use Rattle.dm_tree.specs.Rows.{IsShaped, IsTree}
 use Rattle.dm_tree.specs.Edits.{attached_as}
 use Rattle.dm_tree.specs.Index.{IsSized}
-use Rattle.dm_tree.proofs.Fills.{put_filled, may_put, sizes_before}
+use Rattle.dm_tree.proofs.IndexFills.{put_filled, may_put, sizes_before}
 use Rattle.dm_tree.proofs.new_rows.reuse_row.Goals as goal
 
 pub put_in-requires-clause-out : goal.put_in-requires-clause-out
 put_in-requires-clause-out c =
-    may_put c.args.rows.now.items c.requires.kept.tree c.args.id c.requires.free c.args.row c.requires.attached c.requires.held c.requires.after c.fill_row.new.rows.items c.in-Ok.ensures.ok
+    may_put c.args.rows.now.items c.requires.kept.tree c.args.id c.requires.free c.args.row c.requires.attached
+    c.requires.held c.requires.after c.fill_row.new.rows.items c.in-Ok.ensures.ok
 
 -- the rows that the code left
 rows_are : (c : goal.After-count_in) → c.put_in.new.rows.items ≡ set c.args.rows.now.items c.args.id c.args.row
 rows_are c =
-    c.put_in.ensures.rows ∙ put_filled c.args.rows.now.items c.requires.kept.tree c.args.id c.requires.free c.args.row c.requires.attached c.requires.held c.requires.after c.fill_row.new.rows.items c.in-Ok.ensures.ok
+    c.put_in.ensures.rows
+    ∙ put_filled c.args.rows.now.items c.requires.kept.tree c.args.id c.requires.free c.args.row c.requires.attached
+    c.requires.held c.requires.after c.fill_row.new.rows.items c.in-Ok.ensures.ok
 
 pub count_in-requires-clause-shaped : goal.count_in-requires-clause-shaped
 count_in-requires-clause-shaped c =
     let rows : c.put_in.new.rows.items ≡ set c.args.rows.now.items c.args.id c.args.row =
-    c.put_in.ensures.rows ∙ put_filled c.args.rows.now.items c.requires.kept.tree c.args.id c.requires.free c.args.row c.requires.attached c.requires.held c.requires.after c.fill_row.new.rows.items c.in-Ok.ensures.ok in
+    c.put_in.ensures.rows
+    ∙ put_filled c.args.rows.now.items c.requires.kept.tree c.args.id c.requires.free c.args.row c.requires.attached
+    c.requires.held c.requires.after c.fill_row.new.rows.items c.in-Ok.ensures.ok in
     subst IsShaped (sym (c.deref.ensures.value ∙ rows)) c.requires.after.shape
 
 pub count_in-requires-clause-sizes : goal.count_in-requires-clause-sizes
 count_in-requires-clause-sizes c =
     let rows : c.put_in.new.rows.items ≡ set c.args.rows.now.items c.args.id c.args.row =
-    c.put_in.ensures.rows ∙ put_filled c.args.rows.now.items c.requires.kept.tree c.args.id c.requires.free c.args.row c.requires.attached c.requires.held c.requires.after c.fill_row.new.rows.items c.in-Ok.ensures.ok in
-    sizes_before c.args.rows.now.items c.requires.kept.tree c.args.id c.requires.free c.args.row c.requires.attached c.requires.held c.requires.after c.deref.result.now (c.deref.ensures.value ∙ rows)
+    c.put_in.ensures.rows
+    ∙ put_filled c.args.rows.now.items c.requires.kept.tree c.args.id c.requires.free c.args.row c.requires.attached
+    c.requires.held c.requires.after c.fill_row.new.rows.items c.in-Ok.ensures.ok in
+    sizes_before c.args.rows.now.items c.requires.kept.tree c.args.id c.requires.free c.args.row c.requires.attached
+    c.requires.held c.requires.after c.deref.result.now (c.deref.ensures.value ∙ rows)
     c.args.sizes.now.items c.requires.kept.sizes
 
 pub returns-in-Ok-clause-ok : goal.returns-in-Ok-clause-ok

@@ -1,6 +1,6 @@
 use Rattle.std.proofs.Common.{◌<◌, length}
 use Rattle.dm_tree.specs.Rows.{row_at}
-use Rattle.dm_tree.proofs.Counts.{Lack}
+use Rattle.dm_tree.proofs.RowCounts.{Lack}
 use Rattle.dm_tree.proofs.sizes.count_in.Given as goal
 
 abbrev pub invariant-loop-at : goal.invariant-loop-at

@@ -1,6 +1,6 @@
 use Rattle.std.proofs.Common.{◌<◌, length}
 use Rattle.dm_tree.specs.Rows.{row_at}
-use Rattle.dm_tree.proofs.Counts.{Exceed}
+use Rattle.dm_tree.proofs.RowCounts.{Exceed}
 use Rattle.dm_tree.proofs.sizes.count_out.Given as goal
 
 abbrev pub invariant-loop-at : goal.invariant-loop-at

@@ -7,4 +7,5 @@ use Rattle.tree_tests.proofs.rows.rows_of.Given as goal
 -- the next node is below the root
 abbrev pub invariant-loop : goal.invariant-loop
 invariant-loop l =
-    IfSome l.next (λ id. IsLive l.tree.rows id × IsTrue (is_below (path_of l.tree.rows l.root) (path_of l.tree.rows id)))
+    IfSome l.next (λ id.
+    IsLive l.tree.rows id × IsTrue (is_below (path_of l.tree.rows l.root) (path_of l.tree.rows id)))
