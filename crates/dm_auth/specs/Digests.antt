@@ -1,5 +1,6 @@
 -- Credentials of the type `syncml:auth-md5` (SyncML representation protocol, "MD5 digest").
-use Rattle.std.specs.Prelude.{◌&&◌, ℕ, Bool, true, false, if◌then◌else◌, List, ◌∷◌, ◌++◌, codes, bytes_eq, Option, Some, None}
+use Rattle.std.specs.Prelude.{◌&&◌, ℕ, Bool, true, false, if◌then◌else◌, List, ◌∷◌, ◌++◌, codes, bytes_eq, Option, Some}
+use Rattle.std.specs.Prelude.{None}
 use Rattle.std.specs.Result.{result_ok}
 use Rattle.md5.specs.Md5.{md5}
 use Rattle.base64.specs.Engines.{standard}

@@ -3,9 +3,10 @@ ghost use Rattle.std.specs.Prelude.{◌≡◌, IfOk};
 
 use dm_base::{Bytes, Memory};
 use std::alloc::Global;
+use syncml_types::copies::copy_bytes;
 
 /// A server that the client talks to, by its identifier: the password with which the server shows itself, the user and
-/// the password with which the client does, and the nonces that each of them used last. A side without a password
+/// the password with which the client does, and the nonce that each of them uses next. A side without a password
 /// shows no credential.
 #[derive(Drop)]
 pub struct Account {
@@ -17,15 +18,6 @@ pub struct Account {
     pub user_nonce: Bytes,
 }
 
-fn copy_text(alloc: Global, text: &Option<Bytes>) -> Result<Option<Bytes>, Memory>
-    ensures { IfOk result (λ copy. copy ≡ text.now) }
-{
-    match text {
-        Some(text) => Ok(Some(text.copy(alloc)?)),
-        None => Ok(None),
-    }
-}
-
 impl Account {
     /// An equal account.
     pub fn copy(&self, alloc: Global) -> Result<Account, Memory>
@@ -33,10 +25,10 @@ impl Account {
     {
         Ok(Account {
             server: self.server.copy(alloc)?,
-            server_password: copy_text(alloc, &self.server_password)?,
+            server_password: copy_bytes(alloc, &self.server_password)?,
             server_nonce: self.server_nonce.copy(alloc)?,
-            user: copy_text(alloc, &self.user)?,
-            user_password: copy_text(alloc, &self.user_password)?,
+            user: copy_bytes(alloc, &self.user)?,
+            user_password: copy_bytes(alloc, &self.user_password)?,
             user_nonce: self.user_nonce.copy(alloc)?,
         })
     }

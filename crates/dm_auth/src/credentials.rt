@@ -1,6 +1,7 @@
 // What the ends show, and what it comes to.
 ghost use Rattle.std.specs.Prelude.{◌≡◌, ◌&&◌, List, ℕ, length, take, bytes_eq, codes, IfOk, option_map};
-ghost use Rattle.dm_auth.specs.Digests.{base64_of, digest_of, is_text, is_text_or_none, is_md5_meta, verdict, md5_meta, credential, challenge};
+ghost use Rattle.dm_auth.specs.Digests.{base64_of, digest_of, is_text, is_text_or_none, is_md5_meta, verdict, md5_meta};
+ghost use Rattle.dm_auth.specs.Digests.{credential, challenge};
 
 use base64::engine::general_purpose::STANDARD;
 use dm_base::{Bytes, Memory, Nonce};

@@ -1,5 +1,6 @@
 -- The members, commands and Statuses that are left.
-use Rattle.std.proofs.Common.{◌≡◌, ℕ, suc, ◌+◌, ◌<◌, List, ◌∷◌, ◌++◌, map, length, drop, get_or, sym, ◌∙◌, ap, add-one, drop-cons}
+use Rattle.std.proofs.Common.{◌≡◌, ℕ, suc, ◌+◌, ◌<◌, List, ◌∷◌, ◌++◌, map, length, drop, get_or, sym, ◌∙◌, ap, add-one}
+use Rattle.std.proofs.Common.{drop-cons}
 use Rattle.std.specs.Option.{option_or}
 use Rattle.syncml_types.specs.declared.command.Member.{Member}
 use Rattle.syncml_types.specs.declared.command.SeqMember.{SeqMember}

@@ -6,7 +6,8 @@ use Rattle.dm_auth.specs.declared.accounts.Account.{Account}
 use Rattle.dm_headers.specs.declared.checks.Side.{Side}
 use Rattle.dm_headers.specs.declared.standings.Standing.{Standing}
 use Rattle.dm_headers.specs.CmdIds.{body_ids, has_twins}
-use Rattle.dm_headers.specs.Checks.{Login, login_of, with_both, fault_of, judged_by, header_code, is_challenged, is_denied, passes, header_status, status_read}
+use Rattle.dm_headers.specs.Checks.{Login, login_of, with_both, fault_of, judged_by, header_code, is_challenged}
+use Rattle.dm_headers.specs.Checks.{is_denied, passes, header_status, status_read}
 use Rattle.dm_headers.specs.Standings.{standing_after, is_second, hears}
 use Rattle.dm_headers.specs.Laws.{ReadsNothing, StaysAccepted}
 

@@ -1,5 +1,6 @@
 -- What the header of a message comes to: its code, by the checks and by the credential that it shows.
-use Rattle.std.specs.Prelude.{◌==◌, ◌&&◌, ◌||◌, ℕ, Bool, not, if◌then◌else◌, List, [], ◌∷◌, codes, bytes_eq, Option, None, Some, unwrap_or, is_some, option_and_then}
+use Rattle.std.specs.Prelude.{◌==◌, ◌&&◌, ◌||◌, ℕ, Bool, not, if◌then◌else◌, List, [], ◌∷◌, codes, bytes_eq, Option}
+use Rattle.std.specs.Prelude.{None, Some, unwrap_or, is_some, option_and_then}
 use Rattle.std.specs.Option.{option_or}
 use Rattle.syncml_types.specs.declared.values.Cred.{Cred}
 use Rattle.syncml_types.specs.declared.values.Meta.{Meta}

@@ -7,7 +7,8 @@ use Rattle.dm_headers.specs.declared.standings.Standing.{Standing}
 use Rattle.dm_headers.specs.Checks.{fault_of}
 use Rattle.dm_headers.specs.Standings.{hears, Heard}
 
--- in a message with a fault neither credentials nor the Status are read: nonces and acceptance stay, and no failure counts
+-- in a message with a fault neither credentials nor the Status are read: nonces and acceptance stay, and no failure
+-- counts
 pub record ReadsNothing (a : Account) (s : Standing) (h : Heard) : Type 0 where
   pub account : h.account ≡ a
   pub accepted : h.standing.accepted ≡ s.accepted

@@ -1,17 +1,20 @@
 -- How the two ends of a session stand to each other, and what a message changes of it.
 use Rattle.std.specs.Prelude.{◌==◌, ◌&&◌, ◌||◌, ℕ, Bool, List, None, Some, option_and_then, nat_lt, if◌then◌else◌}
 use Rattle.std.specs.Option.{option_map_or}
+use Rattle.dm_base.specs.Limits.{least_room, message_limit}
 use Rattle.syncml_types.specs.declared.values.Header.{Header}
 use Rattle.syncml_types.specs.declared.values.Meta.{Meta}
 use Rattle.syncml_types.specs.Message.{Parts}
 use Rattle.dm_auth.specs.declared.accounts.Account.{Account}
 use Rattle.dm_headers.specs.declared.checks.Side.{Side}
 use Rattle.dm_headers.specs.declared.standings.Standing.{Standing}
-use Rattle.dm_headers.specs.Checks.{login_of, with_both, header_code, is_challenged, is_denied, passes, status_read, code_read, nonce_in}
+use Rattle.dm_headers.specs.Checks.{login_of, with_both, header_code, is_challenged, is_denied, passes, status_read}
+use Rattle.dm_headers.specs.Checks.{code_read, nonce_in}
 
 -- a room that is told counts from 2,048 to 65,536
 abbrev pub room_told : ℕ → ℕ
-room_told told = if nat_lt told 2048 then 2048 else if nat_lt 65536 told then 65536 else told
+room_told told =
+    if nat_lt told least_room then least_room else if nat_lt message_limit told then message_limit else told
 
 -- the last room that a message told
 abbrev pub room_after : ℕ → Header → ℕ

@@ -1,7 +1,8 @@
 // The checks of a message's header, and the code that they come to.
 ghost use Rattle.std.specs.Prelude.{◌≡◌, IfOk, bytes_eq, option_map};
 ghost use Rattle.syncml_types.specs.declared.values.Cred.{Cred as ACred};
-ghost use Rattle.dm_headers.specs.Checks.{fault_of, verdict_code, judged as judged_so, judged_by, login_of, header_code as code_of};
+ghost use Rattle.dm_headers.specs.Checks.{fault_of, verdict_code, judged as judged_so, judged_by, login_of};
+ghost use Rattle.dm_headers.specs.Checks.{header_code as code_of};
 
 use crate::cmd_ids::has_twins;
 use dm_auth::{Account, Verdict, judge};

@@ -1,6 +1,7 @@
 // The CmdIDs of a message, and whether two of them are equal.
 ghost use Rattle.std.specs.Prelude.{◌≡◌, ◌++◌, ◌∷◌, IfOk, OnOk, map};
-ghost use Rattle.dm_headers.specs.CmdIds.{member_id as id_of, seq_member_ids, seq_members_ids, command_ids, body_ids, has_twins as twins_in};
+ghost use Rattle.dm_headers.specs.CmdIds.{member_id as id_of, seq_member_ids, seq_members_ids, command_ids, body_ids};
+ghost use Rattle.dm_headers.specs.CmdIds.{has_twins as twins_in};
 ghost use Rattle.dm_headers.specs.Rising.{is_rising as rising};
 
 use dm_base::{List, Memory};

@@ -3,7 +3,8 @@ ghost use Rattle.std.specs.Prelude.{◌≡◌, ◌+◌, ◌<◌, ◌^◌, Some, 
 ghost use Rattle.std.specs.Fmt.{decimal as decimal_of};
 ghost use Rattle.dm_auth.specs.Digests.{challenge as challenge_of};
 ghost use Rattle.dm_headers.specs.Checks.{login_of, is_challenged as is_challenged_code};
-ghost use Rattle.dm_headers.specs.Headers.{status_of as status_told, header_answer, shown, cred_of as cred_then, limits_meta as limits_told, next_header as header_then};
+ghost use Rattle.dm_headers.specs.Headers.{status_of as status_told, header_answer, shown, cred_of as cred_then};
+ghost use Rattle.dm_headers.specs.Headers.{limits_meta as limits_told, next_header as header_then};
 
 use crate::checks::Side;
 use crate::standings::Standing;

@@ -1,6 +1,7 @@
 // How the two ends of a session stand to each other.
 ghost use Rattle.std.specs.Prelude.{◌≡◌};
-ghost use Rattle.dm_headers.specs.Standings.{room_told as room_counted, room_after as room_then, standing_after, is_second as second};
+ghost use Rattle.dm_headers.specs.Standings.{room_told as room_counted, room_after as room_then, standing_after};
+ghost use Rattle.dm_headers.specs.Standings.{is_second as second};
 
 use crate::statuses::{is_denied, passes};
 use syncml_types::{Header, Message, Meta};

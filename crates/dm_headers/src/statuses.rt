@@ -1,7 +1,10 @@
 // The Status that a message holds for the header of the last message of this end.
 ghost use Rattle.std.specs.Prelude.{◌≡◌, IfOk, option_map};
 ghost use Rattle.syncml_types.specs.declared.command.StatusCmd.{StatusCmd as AStatus};
-ghost use Rattle.dm_headers.specs.Checks.{is_challenged as challenged, is_denied as denied, passes as passing, is_for_header as for_header, status_in as status_of, header_status, status_read, code_read as code_in, told_nonce, nonce_in as nonce_told_in, fault_of};
+ghost use Rattle.dm_headers.specs.Checks.{is_challenged as challenged, is_denied as denied, passes as passing};
+ghost use Rattle.dm_headers.specs.Checks.{is_for_header as for_header, status_in as status_of, header_status};
+ghost use Rattle.dm_headers.specs.Checks.{status_read, code_read as code_in, told_nonce, nonce_in as nonce_told_in};
+ghost use Rattle.dm_headers.specs.Checks.{fault_of};
 
 use dm_auth::nonce_of;
 use dm_base::{Bytes, List, Memory};

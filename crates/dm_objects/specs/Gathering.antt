@@ -1,5 +1,6 @@
 -- A large object, put together from its pieces (OMA DM protocol, "Large object handling").
-use Rattle.std.specs.Prelude.{ℕ, ◌+◌, ◌==◌, ◌&&◌, Bool, true, false, not, if◌then◌else◌, nat_lt, List, [], ◌++◌, length, bytes_eq, Option, None, Some, is_some, unwrap_or}
+use Rattle.std.specs.Prelude.{ℕ, ◌+◌, ◌==◌, ◌&&◌, Bool, true, false, not, if◌then◌else◌, nat_lt, List, [], ◌++◌, length}
+use Rattle.std.specs.Prelude.{bytes_eq, Option, None, Some, is_some, unwrap_or}
 use Rattle.syncml_types.specs.declared.command.Step.{Step}
 use Rattle.syncml_types.specs.declared.command.Verb.{Verb}
 use Rattle.syncml_types.specs.declared.command.Verb.TheVariants.{Add, Copy, Delete, Exec, Get, Replace}
@@ -90,7 +91,8 @@ first_of_several max piece (Some size) =
 
 -- a piece that is the whole object; its Size isn't looked at
 abbrev pub single : ℕ → Piece → Came
-single max piece = if nat_lt max (length piece.step.value) then came Nothing (Refused 416) else came Nothing (Whole piece.step)
+single max piece =
+    if nat_lt max (length piece.step.value) then came Nothing (Refused 416) else came Nothing (Whole piece.step)
 
 -- the object is the concatenation of its pieces, with the Format and Type of the first
 abbrev pub whole_step : Begun → Step → Step

@@ -1,5 +1,6 @@
 -- The objects that an inbox has held since it was settled, the present one last.
-use Rattle.std.specs.Prelude.{◌≡◌, ℕ, ◌&&◌, Bool, true, false, not, if◌then◌else◌, List, [], ◌∷◌, ◌++◌, take}
+use Rattle.std.specs.Prelude.{◌≡◌, ℕ, ◌&&◌, Bool, true, false, not, if◌then◌else◌, List, [], ◌∷◌, ◌++◌}
+use Rattle.std.specs.Prelude.{length, take, nat_le}
 use Rattle.dm_objects.specs.declared.object.Object.{Object}
 use Rattle.dm_objects.specs.declared.object.Object.TheVariants.{Nothing, Buffering, Skipping}
 use Rattle.dm_objects.specs.declared.log.Past.{Past}
@@ -24,6 +25,10 @@ abbrev pub is_unfinished : Object → Bool
 is_unfinished Nothing = false
 is_unfinished (Buffering begun) = true
 is_unfinished (Skipping key code) = true
+
+-- a piece that is a whole step, no larger than the greatest, where nothing is unfinished
+abbrev pub passes : ℕ → Object → Piece → Bool
+passes max object piece = not (is_unfinished object) && not piece.more && nat_le (length piece.step.value) max
 
 -- another object is the present one; where there was none and is none, nothing is new
 abbrev pub now_holding : List Object → Object → List Object

@@ -7,15 +7,7 @@ use crate::piece::Piece;
 use dm_base::{Bytes, Memory};
 use std::alloc::Global;
 use syncml_types::Step;
-
-pub(crate) fn copy_bytes(alloc: Global, bytes: &Option<Bytes>) -> Result<Option<Bytes>, Memory>
-    ensures { IfOk result (λ copy. copy ≡ bytes.now) }
-{
-    match bytes {
-        None => Ok(None),
-        Some(bytes) => Ok(Some(bytes.copy(alloc)?)),
-    }
-}
+use syncml_types::copies::copy_bytes;
 
 pub(crate) fn copy_step(alloc: Global, step: &Step) -> Result<Step, Memory>
     ensures { IfOk result (λ copy. copy ≡ step.now) }

@@ -1,11 +1,13 @@
 // The inbox, which can go back to where a mark was taken.
-ghost use Rattle.std.specs.Prelude.{◌≡◌, [], ◌∷◌, ◌++◌, ◌+◌, ◌<◌, length, take, is_some, true, false, OnOk, OnErr, IfOk};
+ghost use Rattle.std.specs.Prelude.{◌≡◌, [], ◌∷◌, ◌++◌, ◌+◌, ◌<◌, length, take, is_some, true, false, OnOk, OnErr};
+ghost use Rattle.std.specs.Prelude.{None, IfOk};
 ghost use Rattle.dm_objects.specs.declared.object.Object.TheVariants.{Nothing, Skipping};
 ghost use Rattle.dm_objects.specs.declared.piece.Piece.{Piece as APiece};
+ghost use Rattle.dm_objects.specs.declared.piece.What.TheVariants.{Whole};
 ghost use Rattle.dm_objects.specs.Gathering.{key_of, continues, buffered_target};
 ghost use Rattle.dm_objects.specs.Changes.{changed};
 ghost use Rattle.dm_objects.specs.Inside.{is_buffering_inside, stays, failed};
-ghost use Rattle.dm_objects.specs.Seen.{Seen, present, is_unfinished, holding, extended, Takes};
+ghost use Rattle.dm_objects.specs.Seen.{Seen, present, is_unfinished, passes, holding, extended, Takes};
 
 use crate::copies::{copy_key, key_of};
 use crate::keys::{continues, is_unfinished};
@@ -107,7 +109,28 @@ impl Inbox {
         continues(&self.object, piece)
     }
 
-    /// Gives up what stood here before: the present object alone is kept, and it can be gone back to. It takes no memory.
+    // Whether a piece meets nothing unfinished, is the only one, and is no larger than the greatest object.
+    #[tactic(auto, using(crate::proofs::SeenObjects::present_seen))]
+    fn is_alone(&self, piece: &Piece) -> bool
+        ensures { result ≡ passes self.now.max_obj (present self.now.objects) piece.now }
+    {
+        !is_unfinished(&self.object)
+            && !piece.more
+            && piece.step.value.len() as u64 <= u64::from(self.max_obj)
+    }
+
+    /// Whether a piece is a whole step as it stands, so that taking it breaks nothing and changes nothing here: nothing
+    /// is unfinished, no more follows, and its bytes don't pass `max_obj`. The step needn't be copied then.
+    pub fn passes(&self, piece: &Piece) -> bool
+        ensures exact { result ≡ passes self.now.max_obj (present self.now.objects) piece.now }
+        ensures takes { result ≡ true
+            → Takes self.now self.now piece.now (record { broken = None; what = Whole piece.now.step }) }
+    {
+        self.is_alone(piece)
+    }
+
+    /// Gives up what stood here before: the present object alone is kept, and it can be gone back to. It takes no
+    /// memory.
     #[tactic(auto, using(crate::proofs::SeenObjects::present_seen))]
     pub fn settle(&mut self)
         ensures { self.new ≡ record self.old { objects = present self.old.objects ∷ [] } }
@@ -261,8 +284,8 @@ impl Inbox {
         }
     }
 
-    /// Refuses with 500 what continues an object that was begun in an Atomic and is being buffered. After `Memory` all is
-    /// as before.
+    /// Refuses with 500 what continues an object that was begun in an Atomic and is being buffered. After `Memory` all
+    /// is as before.
     #[tactic(auto, using(crate::proofs::SeenObjects::present_seen))]
     pub fn skip_inside(&mut self) -> Result<(), Memory>
         ensures ok { OnOk result (self.new ≡ failed self.old) }

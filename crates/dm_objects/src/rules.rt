@@ -2,15 +2,17 @@
 ghost use Rattle.std.specs.Prelude.{◌≡◌, if◌then◌else◌, IfOk};
 ghost use Rattle.dm_objects.specs.declared.object.Object.TheVariants.{Nothing, Buffering, Skipping};
 ghost use Rattle.dm_objects.specs.declared.piece.What.TheVariants.{Whole, Refused};
-ghost use Rattle.dm_objects.specs.Gathering.{key_of, first_of_several, single, next_piece, write_piece, by_rules, buffered_target};
+ghost use Rattle.dm_objects.specs.Gathering.{key_of, first_of_several, single, next_piece, write_piece, by_rules};
+ghost use Rattle.dm_objects.specs.Gathering.{buffered_target};
 ghost use Rattle.dm_objects.specs.Changes.{IsCame, changed};
 
-use crate::copies::{begun_by, copy_bytes, copy_key, copy_step, key_of, whole_step};
+use crate::copies::{begun_by, copy_key, copy_step, key_of, whole_step};
 use crate::keys::is_write;
 use crate::object::{Begun, Key, Object};
 use crate::piece::{Piece, What};
 use dm_base::{Bytes, Memory};
 use std::alloc::Global;
+use syncml_types::copies::copy_bytes;
 
 /// How a piece changes the object that it meets. With `Grows` the piece's bytes come behind the object's own.
 #[derive(Drop)]

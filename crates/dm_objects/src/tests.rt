@@ -285,8 +285,8 @@ fn end_of(alloc: Global, inbox: &mut Inbox, bytes: &[u8]) -> Result<(u32, usize)
     Ok(told)
 }
 
-// An object in 69 pieces of 60,000 bytes and a last one: the code of the first piece, and of the last, and how many bytes
-// come out.
+// An object in 69 pieces of 60,000 bytes and a last one: the code of the first piece, and of the last, and how many
+// bytes come out.
 fn in_pieces(
     alloc: Global,
     inbox: &mut Inbox,
@@ -372,7 +372,8 @@ fn taken_inside(alloc: Global, inbox: &mut Inbox, bytes: &[u8], more: bool) -> R
     Ok(code_of(&inbox.take(&piece)?))
 }
 
-// The first piece's code, whether it is being buffered inside before it is skipped and behind, and the next piece's code.
+// The first piece's code, whether it is being buffered inside before it is skipped and behind, and the next piece's
+// code.
 fn skipped_inside(alloc: Global, inbox: &mut Inbox) -> Result<(u32, bool, bool, u32), Memory> {
     let first = taken_inside(alloc, inbox, b"ab", true)?;
     let before = inbox.buffering_inside();

@@ -6,7 +6,8 @@ use Rattle.dm_objects.proofs.inbox.Inbox.back.Given as goal
 
 abbrev pub invariant-loop-mark : goal.invariant-loop-mark
 invariant-loop-mark l = record {
-  seen : Begins (seen_of l.self-inside.past.items l.self-inside.object) (seen_of l.initial.self-inside.past.items l.initial.self-inside.object);
+  seen : Begins (seen_of l.self-inside.past.items l.self-inside.object)
+      (seen_of l.initial.self-inside.past.items l.initial.self-inside.object);
   low : l.mark-inside.at ≤ length l.self-inside.past.items;
   most : l.self-inside.max_obj ≡ l.initial.self-inside.max_obj;
   room : is_unfinished l.self-inside.object ≡ true → vec_len l.self-inside.past < vec_capacity l.self-inside.past;
