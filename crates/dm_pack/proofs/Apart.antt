@@ -1,5 +1,6 @@
 -- Data kept apart from its command.
-use Rattle.std.proofs.Common.{◌≡◌, ◌<◌, ◌-◌, ℕ, false, List, [], ◌∷◌, length, take, drop, length-drop, Option, Some, None, IfSome, option_map, refl, sym, ap, ◌∙◌, arith}
+use Rattle.std.proofs.Common.{◌≡◌, ◌<◌, ◌-◌, ℕ, false, List, [], ◌∷◌, length, take, drop, length-drop, Option, Some}
+use Rattle.std.proofs.Common.{None, IfSome, option_map, refl, sym, ap, ◌∙◌, arith}
 use Rattle.std.proofs.lemmas.List.{take_all}
 use Rattle.syncml_types.specs.declared.values.Item.{Item}
 use Rattle.syncml_types.specs.declared.command.Command.{Command}
@@ -74,7 +75,8 @@ taken_apart c = record {
 
 -- ---- and put back
 
-back_at : (b : ℕ) (bs : List ℕ) (c : Command) (d : HasData c) → b ∷ bs ≡ cut_data c → cut_changed (with_value (b ∷ bs)) (cut_changed hollow_item c) ≡ c
+back_at : (b : ℕ) (bs : List ℕ) (c : Command) (d : HasData c) → b ∷ bs ≡ cut_data c
+    → cut_changed (with_value (b ∷ bs)) (cut_changed hollow_item c) ≡ c
 back_at b bs c d same =
     twice (with_value (b ∷ bs)) hollow_item c
     ∙ agree_at (λ i. with_value (b ∷ bs) (hollow_item i)) (λ i. i) c d.item d.is
@@ -95,18 +97,21 @@ put_back_again c = back_by c (cut_data c) refl
 pub fresh_apart : (c : Command) → entry_of (cut_changed hollow_item c) (cut_data c) 0 ≡ fresh c
 fresh_apart c = ap (λ d. record { command = d; begun = false }) (put_back_again c)
 
-data_put : (b : ℕ) (bs : List ℕ) (c : Command) (e : HasEmptyData c) → cut_data (cut_changed (with_value (b ∷ bs)) c) ≡ b ∷ bs
+data_put : (b : ℕ) (bs : List ℕ) (c : Command) (e : HasEmptyData c)
+    → cut_data (cut_changed (with_value (b ∷ bs)) c) ≡ b ∷ bs
 data_put b bs c e = ap data_in (item_changed (with_value (b ∷ bs)) c ∙ ap (option_map (with_value (b ∷ bs))) e.is)
 
 data_by : (c : Command) (v : List ℕ) → cut_data c ≡ [] → (0 < length v → HasEmptyData c) → cut_data (put_back v c) ≡ v
 data_by c [] hollow place = hollow
 data_by c (b ∷ bs) hollow place = data_put b bs c (place (omega arith))
 
-rest_place : (c : Command) (value : List ℕ) (sent : ℕ) → IsApart c value sent → 0 < length (drop sent value) → HasEmptyData c
+rest_place : (c : Command) (value : List ℕ) (sent : ℕ) → IsApart c value sent → 0 < length (drop sent value)
+    → HasEmptyData c
 rest_place c value sent a h = let long = length-drop sent value in a.place (omega (arith, h, long))
 
 -- the Data of the entry is what is left of it
-pub data_apart : (c : Command) (value : List ℕ) (sent : ℕ) → IsApart c value sent → cut_data (entry_of c value sent).command ≡ drop sent value
+pub data_apart : (c : Command) (value : List ℕ) (sent : ℕ) → IsApart c value sent
+    → cut_data (entry_of c value sent).command ≡ drop sent value
 data_apart c value sent a = data_by c (drop sent value) a.hollow (rest_place c value sent a)
 
 hollow_put : (b : ℕ) (bs : List ℕ) (c : Command) → cut_data c ≡ [] → HasEmptyData c
@@ -117,7 +122,8 @@ hollow_put b bs c hollow e =
     (ap (λ v. record e.item { value = v }) (sym (ap (option_map (λ _. [])) e.empty)))
     ∙ nothing_out c hollow
 
-hollow_by : (c : Command) (v : List ℕ) → cut_data c ≡ [] → (0 < length v → HasEmptyData c) → cut_changed hollow_item (put_back v c) ≡ c
+hollow_by : (c : Command) (v : List ℕ) → cut_data c ≡ [] → (0 < length v → HasEmptyData c)
+    → cut_changed hollow_item (put_back v c) ≡ c
 hollow_by c [] hollow place = nothing_out c hollow
 hollow_by c (b ∷ bs) hollow place = hollow_put b bs c hollow (place (omega arith))
 
@@ -127,7 +133,8 @@ pub hollow_apart : (c : Command) (value : List ℕ) (sent : ℕ) → IsApart c v
 hollow_apart c value sent a = hollow_by c (drop sent value) a.hollow (rest_place c value sent a)
 
 pub drop_slice : (sent : ℕ) (value : List ℕ) → take (length value - sent) (drop sent value) ≡ drop sent value
-drop_slice sent value = let long = length-drop sent value in take_all (length value - sent) (drop sent value) (omega (arith, long))
+drop_slice sent value = let long = length-drop sent value in
+    take_all (length value - sent) (drop sent value) (omega (arith, long))
 
 pub untaken : (c : Command) → cut_item c ≡ None → cut_changed hollow_item c ≡ c
 untaken c h = no_item hollow_item c h
@@ -139,5 +146,6 @@ pub taken_data : (c : Command) (i : Item) → cut_item c ≡ Some i → bytes_in
 taken_data c i h = sym (ap data_in h)
 
 -- an item that was written in place of the command's own
-pub written : (f : Item → Item) (c : Command) (i j : Item) → cut_item c ≡ Some i → j ≡ f i → cut_changed (λ _. j) c ≡ cut_changed f c
+pub written : (f : Item → Item) (c : Command) (i j : Item) → cut_item c ≡ Some i → j ≡ f i
+    → cut_changed (λ _. j) c ≡ cut_changed f c
 written f c i j h e = agree_at (λ _. j) f c i h e

@@ -13,8 +13,12 @@ use Rattle.syncml_types.specs.declared.command.SeqMember.{SeqMember}
 use Rattle.syncml_types.specs.declared.command.SeqMember.TheVariants as seq_member
 use Rattle.syncml_types.specs.declared.command.Command.{Command}
 use Rattle.syncml_types.specs.declared.command.Command.TheVariants as command
-use Rattle.syncml_types.specs.Canonical.{parent_tokens, item_tokens, items_tokens, plain_tokens, member_tokens, members_tokens, atomic_tokens, seq_member_tokens, seq_members_tokens, sequence_tokens, results_tokens, command_tokens}
-use Rattle.syncml_types.specs.Packing.{only_item, write_item, member_item, seq_member_item, last_of, cut_item, only_changed, write_changed, member_changed, seq_member_changed, last_changed, cut_changed}
+use Rattle.syncml_types.specs.Canonical.{parent_tokens, item_tokens, items_tokens, plain_tokens, member_tokens}
+use Rattle.syncml_types.specs.Canonical.{members_tokens, atomic_tokens, seq_member_tokens, seq_members_tokens}
+use Rattle.syncml_types.specs.Canonical.{sequence_tokens, results_tokens, command_tokens}
+use Rattle.syncml_types.specs.Packing.{only_item, write_item, member_item, seq_member_item, last_of, cut_item}
+use Rattle.syncml_types.specs.Packing.{only_changed, write_changed, member_changed, seq_member_changed, last_changed}
+use Rattle.syncml_types.specs.Packing.{cut_changed}
 use Rattle.syncml_types.proofs.Last.{last_next}
 
 -- whatever the item is changed to, the rest stays
@@ -23,7 +27,8 @@ pub record Around (i : Item) (tokens : (Item → Item) → List Token) : Type 0 
   pub after : List Token
   pub is : (f : Item → Item) → tokens f ≡ before ++ item_tokens (f i) ++ after
 
-around_front : {i : Item} {tokens : (Item → Item) → List Token} (front : List Token) → Around i tokens → Around i (λ f. front ++ tokens f)
+around_front : {i : Item} {tokens : (Item → Item) → List Token} (front : List Token) → Around i tokens
+    → Around i (λ f. front ++ tokens f)
 around_front {i} front a = record {
   before = front ++ a.before;
   after = a.after;
@@ -33,14 +38,16 @@ around_front {i} front a = record {
       ∙ ap (λ l. l ++ a.after) (sym (append_assoc front a.before (item_tokens (f i))));
 }
 
-around_back : {i : Item} {tokens : (Item → Item) → List Token} (back : List Token) → Around i tokens → Around i (λ f. tokens f ++ back)
+around_back : {i : Item} {tokens : (Item → Item) → List Token} (back : List Token) → Around i tokens
+    → Around i (λ f. tokens f ++ back)
 around_back {i} back a = record {
   before = a.before;
   after = a.after ++ back;
   is = λ f. ap (λ l. l ++ back) (a.is f) ∙ append_assoc (a.before ++ item_tokens (f i)) a.after back;
 }
 
-around_parent : {i : Item} {tokens : (Item → Item) → List Token} (e : Element) → Around i tokens → Around i (λ f. parent_tokens e (tokens f))
+around_parent : {i : Item} {tokens : (Item → Item) → List Token} (e : Element) → Around i tokens
+    → Around i (λ f. parent_tokens e (tokens f))
 around_parent e a = around_front (Tag e true ∷ []) (around_back (End ∷ []) a)
 
 around_only : (is : List Item) (i : Item) → only_item is ≡ Some i → Around i (λ f. items_tokens (only_changed f is))
@@ -51,7 +58,8 @@ around_only (j ∷ []) i h =
     record { before = []; after = []; is = λ f. ap (λ x. item_tokens (f x) ++ []) same }
 around_only (j ∷ k ∷ is) i h = absurd (cc)
 
-around_write : (v : Verb) (is : List Item) (i : Item) → write_item v is ≡ Some i → Around i (λ f. items_tokens (write_changed f v is))
+around_write : (v : Verb) (is : List Item) (i : Item) → write_item v is ≡ Some i
+    → Around i (λ f. items_tokens (write_changed f v is))
 around_write verb.Add is i h = around_only is i h
 around_write verb.Replace is i h = around_only is i h
 around_write verb.Copy is i h = absurd (cc)
@@ -64,7 +72,8 @@ unfolding member_tokens plain_tokens
 around_member (member.One c) i h = around_parent _ (around_front _ (around_write c.verb c.items i h))
 around_member (member.Alert c) i h = absurd (cc)
 
-around_seq_member : (m : SeqMember) (i : Item) → seq_member_item m ≡ Some i → Around i (λ f. seq_member_tokens (seq_member_changed f m))
+around_seq_member : (m : SeqMember) (i : Item) → seq_member_item m ≡ Some i
+    → Around i (λ f. seq_member_tokens (seq_member_changed f m))
 unfolding seq_member_tokens
 around_seq_member (seq_member.Single m) i h = around_member m i h
 around_seq_member (seq_member.Atomic b) i h = absurd (cc)
@@ -86,6 +95,7 @@ around (command.Alert c) i h = absurd (cc)
 around (command.Atomic b) i h =
     around_parent _ (around_front _ (around_last member_tokens member_item member_changed around_member b.members i h))
 around (command.Sequence b) i h =
-    around_parent _ (around_front _ (around_last seq_member_tokens seq_member_item seq_member_changed around_seq_member b.members i h))
+    around_parent _
+    (around_front _ (around_last seq_member_tokens seq_member_item seq_member_changed around_seq_member b.members i h))
 around (command.Status c) i h = absurd (cc)
 around (command.Results c) i h = around_parent _ (around_front _ (around_only c.items i h))

@@ -1,5 +1,6 @@
 -- What a message leaves: what is left of entries that can be sent can be sent.
-use Rattle.std.proofs.Common.{◌≡◌, ◌≤◌, ◌+◌, ◌-◌, ℕ, zero, suc, Bool, true, false, List, [], ◌∷◌, ◌++◌, length, drop, Option, Some, None, refl, sym, ap, ◌∙◌, arith, if◌then◌else◌, take}
+use Rattle.std.proofs.Common.{◌≡◌, ◌≤◌, ◌+◌, ◌-◌, ℕ, zero, suc, Bool, true, false, List, [], ◌∷◌, ◌++◌, length, drop}
+use Rattle.std.proofs.Common.{Option, Some, None, refl, sym, ap, ◌∙◌, arith, if◌then◌else◌, take}
 use Rattle.std.specs.List.{list_all, AllByRecursion}
 use Rattle.std.proofs.lemmas.Bool.{and_parts, leb-true, le-leb}
 use Rattle.std.proofs.lemmas.List.{length-drop}
@@ -11,18 +12,26 @@ use Rattle.syncml_types.specs.declared.command.SeqMember.{SeqMember}
 use Rattle.syncml_types.specs.declared.command.Command.{Command}
 use Rattle.syncml_types.specs.declared.command.Command.TheVariants as command
 use Rattle.wbxml_tables.specs.declared.Element.TheVariants.{ESequence}
-use Rattle.syncml_types.specs.Canonical.{is_text, member_tokens, members_tokens, seq_member_tokens, seq_members_tokens, sequence_tokens, command_tokens}
-use Rattle.syncml_types.specs.Fitness.{is_short, is_filled, all_of, meta_texts, item_texts, item_data, member_texts, seq_member_texts, atomic_texts, sequence_texts, command_texts, member_data, seq_member_data, command_data, atomic_numbers, command_numbers, member_filled, seq_member_filled, atomic_filled, command_filled, member_correlates, seq_member_correlates, command_correlates}
-use Rattle.syncml_types.specs.Numbering.{with_number, numbered_members, numbered_seq_member, numbered_seq_members, ids_in_seq_member, ids_in_seq_members, ids_in, with_numbers}
+use Rattle.syncml_types.specs.Canonical.{is_text, member_tokens, members_tokens, seq_member_tokens, seq_members_tokens}
+use Rattle.syncml_types.specs.Canonical.{sequence_tokens, command_tokens}
+use Rattle.syncml_types.specs.Fitness.{is_short, is_filled, all_of, meta_texts, item_texts, item_data, member_texts}
+use Rattle.syncml_types.specs.Fitness.{seq_member_texts, atomic_texts, sequence_texts, command_texts, member_data}
+use Rattle.syncml_types.specs.Fitness.{seq_member_data, command_data, atomic_numbers, command_numbers, member_filled}
+use Rattle.syncml_types.specs.Fitness.{seq_member_filled, atomic_filled, command_filled, member_correlates}
+use Rattle.syncml_types.specs.Fitness.{seq_member_correlates, command_correlates}
+use Rattle.syncml_types.specs.Numbering.{with_number, numbered_members, numbered_seq_member, numbered_seq_members}
+use Rattle.syncml_types.specs.Numbering.{ids_in_seq_member, ids_in_seq_members, ids_in, with_numbers}
 use Rattle.syncml_types.specs.Packing.{cut_changed, bytes_in}
-use Rattle.dm_pack.specs.Entries.{Entry, data_left, part_of, IsFitCommand, IsReady, without_value, bare_length, most_bytes, rest_item, last_only, last_alone, rest_of}
+use Rattle.dm_pack.specs.Entries.{Entry, data_left, part_of, IsFitCommand, IsReady, without_value, bare_length}
+use Rattle.dm_pack.specs.Entries.{most_bytes, rest_item, last_only, last_alone, rest_of}
 use Rattle.dm_pack.specs.Filling.{next_rest, left_after, fill, fits, taken, cut, commands_of, HasMore, CanBeTaken}
 use Rattle.dm_pack.specs.Laws.{TheRestIsLeft, WhatIsLeftIsReady}
 use Rattle.dm_pack.proofs.Bare.{fewer, later, near_all, near_block, near_seq_numbered}
 use Rattle.dm_pack.proofs.Changing.{twice}
 use Rattle.dm_pack.proofs.Fit.{both, is_one, are_numbered, are_seq_numbered, changed_fit}
 use Rattle.dm_pack.proofs.Greatest.{greatest_most}
-use Rattle.dm_pack.proofs.Near.{Near, NotLonger, gap_none, near_nothing, near_same, near_then, near_both, near_missing, near_parent}
+use Rattle.dm_pack.proofs.Near.{Near, NotLonger, gap_none, near_nothing, near_same, near_then, near_both, near_missing}
+use Rattle.dm_pack.proofs.Near.{near_parent}
 use Rattle.dm_pack.proofs.Numbers.{few_ids, ids_changed}
 use Rattle.dm_pack.proofs.Parts.{only_next, alone_changed}
 use Rattle.dm_pack.proofs.Taking.{all_behind}
@@ -41,7 +50,8 @@ last_filled (x ∷ xs) h =
     let long = length-drop (length (x ∷ xs) - 1) (x ∷ xs) in
     is_one (length (last_only (x ∷ xs))) (omega (arith, long))
 
-texts_alone : (test : List ℕ → Bool) (c : Command) → command_texts test c ≡ true → command_texts test (last_alone c) ≡ true
+texts_alone : (test : List ℕ → Bool) (c : Command) → command_texts test c ≡ true
+    → command_texts test (last_alone c) ≡ true
 unfolding command_texts atomic_texts sequence_texts
 texts_alone test (command.Plain c) h = h
 texts_alone test (command.Alert c) h = h
@@ -85,7 +95,8 @@ correlates_alone (command.Sequence b) h = last_test seq_member_correlates b.memb
 correlates_alone (command.Status c) h = h
 correlates_alone (command.Results c) h = h
 
-numbers_alone : (c : Command) → command_numbers (with_numbers 1 c) ≡ true → command_numbers (with_numbers 1 (last_alone c)) ≡ true
+numbers_alone : (c : Command) → command_numbers (with_numbers 1 c) ≡ true
+    → command_numbers (with_numbers 1 (last_alone c)) ≡ true
 unfolding command_numbers with_numbers atomic_numbers
 numbers_alone (command.Plain c) h = h
 numbers_alone (command.Alert c) h = h
@@ -108,7 +119,9 @@ alone_fit c fit =
 -- ---- and so is what is left of its Data
 
 shorter : (n : ℕ) (o : Option (List ℕ)) → all_of is_short o ≡ true → is_short (drop n (bytes_in o)) ≡ true
-shorter n None h = le-leb (length (drop n (bytes_in None))) 2147483648 (let long = length-drop n (bytes_in None) in omega (arith, long))
+shorter n None h =
+    le-leb (length (drop n (bytes_in None))) 2147483648
+    (let long = length-drop n (bytes_in None) in omega (arith, long))
 shorter n (Some v) h =
     let low = leb-true (length v) 2147483648 h in
     let long = length-drop n v in
@@ -139,7 +152,8 @@ near_last n m (x ∷ y ∷ xs) l =
     record { low = omega (arith, low); ten_digits = omega (arith, digits); high = omega (arith, high) })))
 
 near_seq_last : (n m : ℕ) (xs : List SeqMember) → NotLonger n m (ids_in_seq_members xs)
-    → Near 0 (seq_members_tokens (numbered_seq_members n (last_only xs))) (seq_members_tokens (numbered_seq_members m xs))
+    → Near 0 (seq_members_tokens (numbered_seq_members n (last_only xs)))
+    (seq_members_tokens (numbered_seq_members m xs))
 unfolding seq_members_tokens numbered_seq_members ids_in_seq_members
 near_seq_last n m [] l = near_nothing
 near_seq_last n m (x ∷ []) l = near_then (near_seq_numbered n m x (fewer l (ids_in_seq_member x) (omega arith))) []
@@ -158,19 +172,23 @@ unfolding command_tokens with_numbers ids_in sequence_tokens
 near_alone n (command.Plain c) l = near_same _
 near_alone n (command.Alert c) l = near_same _
 near_alone n (command.Atomic b) l =
-    near_block 0 n n b _ _ (fewer l 1 (omega arith)) (near_last (n + 1) (n + 1) b.members (later l 1 (length b.members) (omega arith)))
+    near_block 0 n n b _ _ (fewer l 1 (omega arith))
+    (near_last (n + 1) (n + 1) b.members (later l 1 (length b.members) (omega arith)))
 near_alone n (command.Sequence b) l =
     near_parent ESequence
-    (near_both (near_same _) (near_seq_last (n + 1) (n + 1) b.members (later l 1 (ids_in_seq_members b.members) (omega arith))))
+    (near_both (near_same _)
+    (near_seq_last (n + 1) (n + 1) b.members (later l 1 (ids_in_seq_members b.members) (omega arith))))
 near_alone n (command.Status c) l = near_same _
 near_alone n (command.Results c) l = near_same _
 
-bare_alone : (n : ℕ) (c : Command) → ids_in c ≤ 1000 → bare_length (last_alone (cut_changed (rest_item n) c)) ≤ bare_length c
+bare_alone : (n : ℕ) (c : Command) → ids_in c ≤ 1000
+    → bare_length (last_alone (cut_changed (rest_item n) c)) ≤ bare_length c
 bare_alone n c few =
     let d = cut_changed without_value c in
     let ids = ids_changed without_value c in
     let alike : cut_changed without_value (last_alone (cut_changed (rest_item n) c)) ≡ last_alone d =
-    sym (alone_changed without_value (cut_changed (rest_item n) c)) ∙ ap last_alone (twice without_value (rest_item n) c) in
+    sym (alone_changed without_value (cut_changed (rest_item n) c))
+    ∙ ap last_alone (twice without_value (rest_item n) c) in
     let long = ap (λ e. length (spelled 0 (command_tokens (with_numbers 1000000000 e)))) alike in
     let near = (near_alone 1000000000 d
     (record { low = omega (arith, ids, few); ten_digits = omega arith; high = omega (arith, ids, few) })).at 0 0 in
@@ -229,7 +247,8 @@ cut_low h room before (e ∷ es) =
     let most = greatest_most (λ n. fits h room (before ++ part_of e n ∷ [])) (data_left e - 1) in
     omega (arith, most, some)
 
-pub fill_taken : (es : List Entry) (h : Header) (room : ℕ) (heard : Bool) → CanBeTaken es (fill es h room heard).whole (fill es h room heard).cut
+pub fill_taken : (es : List Entry) (h : Header) (room : ℕ) (heard : Bool)
+    → CanBeTaken es (fill es h room heard).whole (fill es h room heard).cut
 unfolding fill
 fill_taken es h room heard =
     record {
@@ -237,5 +256,6 @@ fill_taken es h room heard =
       part_there = cut_low h room (commands_of (take (taken h room [] es) es)) (drop (taken h room [] es) es);
     }
 
-pub same_taken : (es : List Entry) (whole cut w n : ℕ) → CanBeTaken es w n → whole ≡ w → cut ≡ n → CanBeTaken es whole cut
+pub same_taken : (es : List Entry) (whole cut w n : ℕ) → CanBeTaken es w n → whole ≡ w → cut ≡ n
+    → CanBeTaken es whole cut
 same_taken es whole cut w n can x y = rw (x, y) can

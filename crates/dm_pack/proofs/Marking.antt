@@ -1,11 +1,15 @@
 -- What Size and MoreData add to an entry without its Data.
-use Rattle.std.proofs.Common.{◌≡◌, ◌==◌, ◌&&◌, ◌<◌, ◌+◌, ◌^◌, ℕ, Bool, true, false, if◌then◌else◌, List, [], ◌∷◌, ◌++◌, length, length-append, drop, Option, Some, None, option_map, refl, sym, ap, ◌∙◌, append_assoc, arith}
+use Rattle.std.proofs.Common.{◌≡◌, ◌==◌, ◌&&◌, ◌<◌, ◌+◌, ◌^◌, ℕ, Bool, true, false, if◌then◌else◌, List, [], ◌∷◌, ◌++◌}
+use Rattle.std.proofs.Common.{length, length-append, drop, Option, Some, None, option_map, refl, sym, ap, ◌∙◌}
+use Rattle.std.proofs.Common.{append_assoc, arith}
 use Rattle.std.specs.Prelude.{⊤}
 use Rattle.std.specs.Option.{is_none}
 use Rattle.std.specs.Fmt.{decimal}
 use Rattle.std.proofs.lemmas.Fmt.{decimal_nonempty}
 use Rattle.wbxml_tables.specs.declared.Element.{Element}
-use Rattle.wbxml_tables.specs.declared.Element.TheVariants.{EData, EFormat, EItem, EMark, EMaxMsgSize, EMaxObjSize, EMeta, EMoreData, ENextNonce, ESize, ESource, ETarget, EType, EVersion}
+use Rattle.wbxml_tables.specs.declared.Element.TheVariants.{EData, EFormat, EItem, EMark, EMaxMsgSize, EMaxObjSize}
+use Rattle.wbxml_tables.specs.declared.Element.TheVariants.{EMeta, EMoreData, ENextNonce, ESize, ESource, ETarget}
+use Rattle.wbxml_tables.specs.declared.Element.TheVariants.{EType, EVersion}
 use Rattle.wbxml_tables.specs.Tables.{page_of}
 use Rattle.wbxml_tokens.specs.declared.token.Token.{Token}
 use Rattle.wbxml_tokens.specs.declared.token.Token.TheVariants.{Tag, End, Text, Opaque}
@@ -13,7 +17,9 @@ use Rattle.wbxml_tokens.specs.Spelling.{token_bytes, spelled, page_behind}
 use Rattle.syncml_types.specs.declared.values.Meta.{Meta}
 use Rattle.syncml_types.specs.declared.values.Item.{Item}
 use Rattle.syncml_types.specs.declared.command.Command.{Command}
-use Rattle.syncml_types.specs.Canonical.{parent_tokens, element_tokens, text_tokens, number_tokens, flag_tokens, data_tokens, optional, loc_tokens, meta_children, is_empty_meta, meta_tokens, item_children, item_tokens, command_tokens}
+use Rattle.syncml_types.specs.Canonical.{parent_tokens, element_tokens, text_tokens, number_tokens, flag_tokens}
+use Rattle.syncml_types.specs.Canonical.{data_tokens, optional, loc_tokens, meta_children, is_empty_meta, meta_tokens}
+use Rattle.syncml_types.specs.Canonical.{item_children, item_tokens, command_tokens}
 use Rattle.syncml_types.specs.Numbering.{with_numbers}
 use Rattle.syncml_types.specs.Packing.{cut_item, cut_changed, cut_data, bytes_in}
 use Rattle.syncml_types.specs.Pages.{with_value}
@@ -21,7 +27,8 @@ use Rattle.syncml_types.proofs.Bare.{bare_meta, full_meta}
 use Rattle.syncml_types.proofs.Parted.{page_append}
 use Rattle.dm_pack.specs.declared.place.Place.{Place}
 use Rattle.dm_pack.specs.Entries.{Entry, with_size, part_item, part_of, data_left}
-use Rattle.dm_pack.specs.Measures.{hollow_item, put_back, entry_of, marked, size_told, meta_cost, marks_cost, marks_in, marks_of, IsApart, behind, behind_hollow}
+use Rattle.dm_pack.specs.Measures.{hollow_item, put_back, entry_of, marked, size_told, meta_cost, marks_cost, marks_in}
+use Rattle.dm_pack.specs.Measures.{marks_of, IsApart, behind, behind_hollow}
 use Rattle.dm_pack.proofs.Apart.{has_data}
 use Rattle.dm_pack.proofs.Around.{Around, around}
 use Rattle.dm_pack.proofs.Changing.{agree_at, same, twice, item_changed}
@@ -73,10 +80,13 @@ on_numbers e (Some n) h = on_text e (decimal n) h
 on_children : (m : Meta) → OnOne (meta_children m)
 on_children m =
     on_append _ _ (on_append _ _ (on_append _ _ (on_append _ _ (on_append _ _ (on_append _ _ (on_append _ _
-    (on_texts EFormat m.format refl) (on_texts EType m.media refl)) (on_numbers ESize m.size refl)) (on_texts ENextNonce m.next_nonce refl))
-    (on_numbers EMaxMsgSize m.max_msg refl)) (on_numbers EMaxObjSize m.max_obj refl)) (on_texts EMark m.mark refl)) (on_texts EVersion m.version refl)
+    (on_texts EFormat m.format refl) (on_texts EType m.media refl)) (on_numbers ESize m.size refl))
+    (on_texts ENextNonce m.next_nonce refl))
+    (on_numbers EMaxMsgSize m.max_msg refl)) (on_numbers EMaxObjSize m.max_obj refl)) (on_texts EMark m.mark refl))
+    (on_texts EVersion m.version refl)
 
-one_apart : (ts us : List Token) → OnOne ts → length (spelled 1 (ts ++ us)) ≡ length (spelled 1 ts) + length (spelled 1 us)
+one_apart : (ts us : List Token) → OnOne ts
+    → length (spelled 1 (ts ++ us)) ≡ length (spelled 1 ts) + length (spelled 1 us)
 one_apart ts us a =
     let whole = apart 1 ts us in
     let page = ap (λ p. length (spelled p us)) a.stays in
@@ -93,7 +103,8 @@ others m =
     + length (spelled 1 (optional (text_tokens EMark) m.mark))
     + length (spelled 1 (optional (text_tokens EVersion) m.version))
 
-children_long : (m : Meta) → length (spelled 1 (meta_children m)) ≡ others m + length (spelled 1 (optional (number_tokens ESize) m.size))
+children_long : (m : Meta)
+    → length (spelled 1 (meta_children m)) ≡ others m + length (spelled 1 (optional (number_tokens ESize) m.size))
 unfolding others
 children_long m =
     let a = optional (text_tokens EFormat) m.format in
@@ -121,7 +132,8 @@ children_long m =
 
 -- ---- a Meta in front of Data
 
-tag_on : (p : ℕ) (c d : Bool) (t : Bool) (x y : ℕ) → length {A = ℕ} (if t then x ∷ [] else 0 ∷ p ∷ x ∷ []) ≡ length {A = ℕ} (if t then y ∷ [] else 0 ∷ p ∷ y ∷ [])
+tag_on : (p : ℕ) (c d : Bool) (t : Bool) (x y : ℕ)
+    → length {A = ℕ} (if t then x ∷ [] else 0 ∷ p ∷ x ∷ []) ≡ length {A = ℕ} (if t then y ∷ [] else 0 ∷ p ∷ y ∷ [])
 tag_on p c d true x y = refl
 tag_on p c d false x y = refl
 
@@ -134,7 +146,8 @@ closed : (ts : List Token) → length (spelled 1 (End ∷ Tag EData false ∷ ts
 closed ts = omega arith
 
 -- children come to their page
-comes : (ts us : List Token) → Begins ts → 0 < length ts → length (spelled 0 (ts ++ us)) ≡ 2 + length (spelled 1 (ts ++ us))
+comes : (ts us : List Token) → Begins ts → 0 < length ts
+    → length (spelled 0 (ts ++ us)) ≡ 2 + length (spelled 1 (ts ++ us))
 comes [] us h some = absurd (omega (arith, some))
 comes (Tag e content ∷ ts) us h some =
     let zero = one_more 0 (Tag e content) (ts ++ us) in
@@ -181,7 +194,8 @@ rest_sized n None = refl
 rest_sized n (Some m) = refl
 
 meta_full : (q : ℕ) (m : Meta) (ts : List Token) → is_empty_meta m ≡ false
-    → length (spelled q (meta_tokens m ++ Tag EData false ∷ ts)) ≡ length (token_bytes q (Tag EData false)) + 6 + length (spelled 1 (meta_children m)) + length (spelled 0 ts)
+    → length (spelled q (meta_tokens m ++ Tag EData false ∷ ts)) ≡ length (token_bytes q (Tag EData false)) + 6
+    + length (spelled 1 (meta_children m)) + length (spelled 0 ts)
 meta_full q m ts h =
     let children = meta_children m in
     let on = on_children m in
@@ -195,7 +209,8 @@ meta_full q m ts h =
     omega (arith, is, whole, inside, way, parts, end, alike)
 
 meta_bare : (q : ℕ) (m : Meta) (ts : List Token) → is_empty_meta m ≡ true
-    → length (spelled q (meta_tokens m ++ Tag EData false ∷ ts)) ≡ length (token_bytes q (Tag EData false)) + 1 + length (spelled 0 ts)
+    → length (spelled q (meta_tokens m ++ Tag EData false ∷ ts)) ≡ length (token_bytes q (Tag EData false)) + 1
+    + length (spelled 0 ts)
 meta_bare q m ts h =
     let is = ap (λ l. length (spelled q (l ++ Tag EData false ∷ ts))) (bare_meta m h) in
     let whole = one_more q (Tag EMeta false) (Tag EData false ∷ ts) in
@@ -226,7 +241,8 @@ meta_long q (Some m) ts = meta_by q m ts (is_empty_meta m) refl
 
 -- ---- an item with empty Data
 
-more_long : (more : Bool) (ts : List Token) → length (spelled 0 (flag_tokens EMoreData more ++ End ∷ ts)) ≡ (if more then 1 else 0) + 1 + length (spelled 0 ts)
+more_long : (more : Bool) (ts : List Token)
+    → length (spelled 0 (flag_tokens EMoreData more ++ End ∷ ts)) ≡ (if more then 1 else 0) + 1 + length (spelled 0 ts)
 unfolding flag_tokens
 more_long true ts = omega arith
 more_long false ts = omega arith
@@ -236,7 +252,8 @@ unfolding flag_tokens
 more_page true ts = refl
 more_page false ts = refl
 
-regrouped : (l m f after : List Token) (d e : Token) → (l ++ m ++ d ∷ [] ++ f ++ e ∷ []) ++ after ≡ l ++ (m ++ d ∷ (f ++ e ∷ after))
+regrouped : (l m f after : List Token) (d e : Token)
+    → (l ++ m ++ d ∷ [] ++ f ++ e ∷ []) ++ after ≡ l ++ (m ++ d ∷ (f ++ e ∷ after))
 regrouped l m f after d e =
     append_assoc (l ++ m ++ d ∷ [] ++ f) (e ∷ []) after
     ∙ append_assoc (l ++ m ++ d ∷ []) f (e ∷ after)
@@ -263,17 +280,21 @@ some_item l m f d =
     let b = length-append (l ++ m) (d ∷ []) in
     omega (arith, a, b)
 
-item_is : (i : Item) (after : List Token) → i.value ≡ Some [] → item_tokens i ++ after ≡ Tag EItem true ∷ (places i ++ behind_places i after)
+item_is : (i : Item) (after : List Token) → i.value ≡ Some []
+    → item_tokens i ++ after ≡ Tag EItem true ∷ (places i ++ behind_places i after)
 unfolding item_tokens
 item_is i after empty =
     ap (λ l. element_tokens EItem l ++ after) (children_are i empty)
-    ∙ ap (λ l. l ++ after) (full EItem _ (some_item (places i) (optional meta_tokens i.meta) (flag_tokens EMoreData i.more) (Tag EData false)))
-    ∙ ap (λ l. Tag EItem true ∷ l) (regrouped (places i) (optional meta_tokens i.meta) (flag_tokens EMoreData i.more) after (Tag EData false) End)
+    ∙ ap (λ l. l ++ after)
+    (full EItem _ (some_item (places i) (optional meta_tokens i.meta) (flag_tokens EMoreData i.more) (Tag EData false)))
+    ∙ ap (λ l. Tag EItem true ∷ l)
+    (regrouped (places i) (optional meta_tokens i.meta) (flag_tokens EMoreData i.more) after (Tag EData false) End)
 
 -- what doesn't depend on Meta and MoreData
 fixed : ℕ → List Token → List Token → ℕ
 fixed q l after =
-    length (token_bytes q (Tag EItem true)) + length (spelled 0 l) + length (token_bytes (page_behind 0 l) (Tag EData false)) + 1 + length (spelled 0 after)
+    length (token_bytes q (Tag EItem true)) + length (spelled 0 l)
+    + length (token_bytes (page_behind 0 l) (Tag EData false)) + 1 + length (spelled 0 after)
 
 item_long : (q : ℕ) (i : Item) (after : List Token) → i.value ≡ Some []
     → length (spelled q (item_tokens i ++ after)) ≡ fixed q (places i) after + rest i.meta + marks_cost i
@@ -287,24 +308,29 @@ item_long q i after empty =
     let more = more_long i.more after in
     omega (arith, is, whole, parts, meta, more)
 
-item_page : (q : ℕ) (i : Item) (after : List Token) → i.value ≡ Some [] → page_behind q (item_tokens i ++ after) ≡ page_behind 0 after
+item_page : (q : ℕ) (i : Item) (after : List Token) → i.value ≡ Some []
+    → page_behind q (item_tokens i ++ after) ≡ page_behind 0 after
 item_page q i after empty =
     ap (page_behind q) (item_is i after empty)
     ∙ page_append 0 (places i) (behind_places i after)
-    ∙ page_append (page_behind 0 (places i)) (optional meta_tokens i.meta) (Tag EData false ∷ (flag_tokens EMoreData i.more ++ End ∷ after))
+    ∙ page_append (page_behind 0 (places i)) (optional meta_tokens i.meta)
+    (Tag EData false ∷ (flag_tokens EMoreData i.more ++ End ∷ after))
     ∙ more_page i.more after
 
 -- ---- a command
 
 around_long : (p : ℕ) (i : Item) (tokens : (Item → Item) → List Token) (a : Around i tokens) (f : Item → Item)
-    → length (spelled p (tokens f)) ≡ length (spelled p a.before) + length (spelled (page_behind p a.before) (item_tokens (f i) ++ a.after))
+    → length (spelled p (tokens f))
+    ≡ length (spelled p a.before) + length (spelled (page_behind p a.before) (item_tokens (f i) ++ a.after))
 around_long p i tokens a f =
-    ap (λ l. length (spelled p l)) (a.is f ∙ append_assoc a.before (item_tokens (f i)) a.after) ∙ apart p a.before (item_tokens (f i) ++ a.after)
+    ap (λ l. length (spelled p l)) (a.is f ∙ append_assoc a.before (item_tokens (f i)) a.after)
+    ∙ apart p a.before (item_tokens (f i) ++ a.after)
 
 around_page : (p : ℕ) (i : Item) (tokens : (Item → Item) → List Token) (a : Around i tokens) (f : Item → Item)
     → page_behind p (tokens f) ≡ page_behind (page_behind p a.before) (item_tokens (f i) ++ a.after)
 around_page p i tokens a f =
-    ap (page_behind p) (a.is f ∙ append_assoc a.before (item_tokens (f i)) a.after) ∙ page_append p a.before (item_tokens (f i) ++ a.after)
+    ap (page_behind p) (a.is f ∙ append_assoc a.before (item_tokens (f i)) a.after)
+    ∙ page_append p a.before (item_tokens (f i) ++ a.after)
 
 rest_marked : (size : Option ℕ) (i : Item) → rest (marked size i).meta ≡ rest i.meta
 rest_marked None i = refl
@@ -334,7 +360,8 @@ marks_apart p size c i is empty =
     omega (arith, new, old, new_item, old_item, same_rest, same_places)
 
 pub marks_page : (p : ℕ) (size : Option ℕ) (c : Command) (i : Item) → cut_item c ≡ Some i → i.value ≡ Some []
-    → page_behind p (command_tokens (cut_changed (marked size) c)) ≡ page_behind p (command_tokens (cut_changed (λ j. j) c))
+    → page_behind p (command_tokens (cut_changed (marked size) c))
+    ≡ page_behind p (command_tokens (cut_changed (λ j. j) c))
 marks_page p size c i is empty =
     let a = around c i is in
     let q = page_behind p a.before in
@@ -362,11 +389,13 @@ sized_by false b d e f g h = refl
 sized_by true false d e f g h = refl
 sized_by true true d e f g h = refl
 
-pub sized_cost : (n : ℕ) (o : Option Meta) → meta_cost (with_size n o) ≡ 6 + length (spelled 1 (optional (number_tokens ESize) (Some n)))
+pub sized_cost : (n : ℕ) (o : Option Meta)
+    → meta_cost (with_size n o) ≡ 6 + length (spelled 1 (optional (number_tokens ESize) (Some n)))
 sized_cost n None = refl
 sized_cost n (Some m) =
     ap (λ t. if t then 1 else 6 + length (spelled 1 (optional (number_tokens ESize) (Some n))))
-    (sized_by (is_none m.format) (is_none m.media) (is_none m.next_nonce) (is_none m.max_msg) (is_none m.max_obj) (is_none m.mark) (is_none m.version))
+    (sized_by (is_none m.format) (is_none m.media) (is_none m.next_nonce) (is_none m.max_msg) (is_none m.max_obj)
+    (is_none m.mark) (is_none m.version))
 
 -- how long an entry's Data is, where none of it went out
 abbrev size_of : Entry → Option ℕ
@@ -379,7 +408,8 @@ marked_by false i v is =
     ap (λ o. record i { meta = with_size (length v) i.meta; value = option_map (λ _. []) o; more = true }) is
     ∙ ap (λ o. record i { meta = with_size (length (bytes_in o)) i.meta; value = Some []; more = true }) (sym is)
 
-hollow_marked : (e : Entry) → 0 < data_left e → cut_changed (marked (size_of e)) (cut_changed hollow_item e.command) ≡ part_of e 0
+hollow_marked : (e : Entry) → 0 < data_left e
+    → cut_changed (marked (size_of e)) (cut_changed hollow_item e.command) ≡ part_of e 0
 unfolding part_of
 hollow_marked e some =
     let d = has_data e.command some in
@@ -399,17 +429,21 @@ is_marked p e some =
     let size = size_of e in
     let c = with_numbers p.next (cut_changed hollow_item e.command) in
     let i = hollow_item d.item in
-    let there : cut_item (cut_changed hollow_item e.command) ≡ Some i = item_changed hollow_item e.command ∙ ap (option_map hollow_item) d.is in
+    let there : cut_item (cut_changed hollow_item e.command) ≡ Some i =
+    item_changed hollow_item e.command ∙ ap (option_map hollow_item) d.is in
     let is : cut_item c ≡ Some i = item_numbered p.next (cut_changed hollow_item e.command) ∙ there in
     let empty : i.value ≡ Some [] = ap (option_map (λ _. [])) d.value in
     let part : cut_changed (marked size) c ≡ with_numbers p.next (part_of e 0) =
-    sym (number_changed (marked size) p.next (cut_changed hollow_item e.command)) ∙ ap (with_numbers p.next) (hollow_marked e some) in
+    sym (number_changed (marked size) p.next (cut_changed hollow_item e.command))
+    ∙ ap (with_numbers p.next) (hollow_marked e some) in
     let apart_are = marks_apart p.page size c i is empty in
     let part_long = ap (λ x. length (spelled p.page (command_tokens x))) part in
     let whole_long = ap (λ x. length (spelled p.page (command_tokens x))) (same c) in
     let old : marks_of e.command ≡ marks_cost i = ap marks_in d.is in
     let new : marks_of (part_of e 0) ≡ marks_cost (marked size i) =
-    ap marks_of (sym (hollow_marked e some)) ∙ ap marks_in (item_changed (marked size) (cut_changed hollow_item e.command) ∙ ap (option_map (marked size)) there) in
+    ap marks_of (sym (hollow_marked e some))
+    ∙ ap marks_in (item_changed (marked size) (cut_changed hollow_item e.command)
+    ∙ ap (option_map (marked size)) there) in
     record {
       used = omega (arith, apart_are, part_long, whole_long, old, new);
       page =
@@ -430,12 +464,15 @@ marks_put [] c = refl
 marks_put (b ∷ bs) c = ap marks_in (item_changed (with_value (b ∷ bs)) c) ∙ marks_put_in (b ∷ bs) (cut_item c)
 
 -- before the entry is marked
-pub marks_kept : (c : Command) (value : List ℕ) (sent : ℕ) (e : Entry) → entry_of c value sent ≡ e → marks_of e.command ≡ marks_in (cut_item c)
+pub marks_kept : (c : Command) (value : List ℕ) (sent : ℕ) (e : Entry) → entry_of c value sent ≡ e
+    → marks_of e.command ≡ marks_in (cut_item c)
 marks_kept c value sent e is = ap (λ (x : Entry). marks_of x.command) (sym is) ∙ marks_put (drop sent value) c
 
 -- and behind it
-pub marks_part : (c : Command) (value : List ℕ) (sent : ℕ) (size : Option ℕ) (e : Entry) → IsApart c value sent → entry_of c value sent ≡ e
-    → 0 < data_left e → size ≡ size_told sent value → marks_of (part_of e 0) ≡ marks_in (option_map (marked size) (cut_item c))
+pub marks_part : (c : Command) (value : List ℕ) (sent : ℕ) (size : Option ℕ) (e : Entry) → IsApart c value sent
+    → entry_of c value sent ≡ e
+    → 0 < data_left e → size ≡ size_told sent value
+    → marks_of (part_of e 0) ≡ marks_in (option_map (marked size) (cut_item c))
 marks_part c value sent size e a is some told =
     let left = ap data_left is in
     ap (λ (x : Entry). marks_of (part_of x 0)) (sym is)

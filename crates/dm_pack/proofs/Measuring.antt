@@ -1,5 +1,7 @@
 -- How far a message has come, and whether it fits.
-use Rattle.std.proofs.Common.{◌≡◌, ◌==◌, ◌<◌, ◌≤◌, ◌+◌, ◌-◌, ℕ, Bool, true, false, if◌then◌else◌, List, [], ◌∷◌, ◌++◌, length, length-append, nat_le, Some, None, option_map, refl, sym, ap, ◌∙◌, arith, min, ◌^◌}
+use Rattle.std.proofs.Common.{◌≡◌, ◌==◌, ◌<◌, ◌≤◌, ◌+◌, ◌-◌, ℕ, Bool, true, false, if◌then◌else◌, List, [], ◌∷◌, ◌++◌}
+use Rattle.std.proofs.Common.{length, length-append, nat_le, Some, None, option_map, refl, sym, ap, ◌∙◌, arith, min}
+use Rattle.std.proofs.Common.{◌^◌}
 use Rattle.std.proofs.lemmas.List.{append-nil}
 use Rattle.std.proofs.lemmas.Bool.{ne_eqb, leb-true, leb-false, le-leb}
 use Rattle.wbxml_tables.specs.declared.Element.TheVariants.{EFinal, ESyncBody}
@@ -11,7 +13,8 @@ use Rattle.syncml_types.specs.declared.command.Command.{Command}
 use Rattle.syncml_types.specs.Canonical.{canonical, command_tokens, commands_tokens, header_tokens, flag_tokens}
 use Rattle.syncml_types.specs.Lengths.{head_tokens, up_to_most, spelled_length}
 use Rattle.syncml_types.specs.Numbering.{with_numbers, ids_in}
-use Rattle.syncml_types.specs.Packing.{cut_changed, cut_data, emptied, data_in, data_length, head_bytes, body_tag, tail_tokens}
+use Rattle.syncml_types.specs.Packing.{cut_changed, cut_data, emptied, data_in, data_length, head_bytes, body_tag}
+use Rattle.syncml_types.specs.Packing.{tail_tokens}
 use Rattle.syncml_types.specs.Pages.{with_value}
 use Rattle.syncml_types.proofs.Parted.{spells_in_parts, spells_commands, bounds_data}
 use Rattle.syncml_types.proofs.Pages.{page_without_data, page_without_numbers}
@@ -19,7 +22,8 @@ use Rattle.syncml_types.proofs.Rest.{rest_and_data}
 use Rattle.dm_pack.specs.declared.place.Place.{Place}
 use Rattle.dm_pack.specs.Entries.{Entry}
 use Rattle.dm_pack.specs.Filling.{numbered, asks_next, fits}
-use Rattle.dm_pack.specs.Measures.{ids_of, front_length, front_page, end_length, behind, behind_hollow, fits_at, within, with_cost, place_of, hollow_item, data_cost, cost_within}
+use Rattle.dm_pack.specs.Measures.{ids_of, front_length, front_page, end_length, behind, behind_hollow, fits_at, within}
+use Rattle.dm_pack.specs.Measures.{with_cost, place_of, hollow_item, data_cost, cost_within}
 use Rattle.dm_pack.proofs.Changing.{agree_at}
 use Rattle.dm_pack.proofs.Numbers.{numbered_append, ids_append, number_changed, item_numbered, many_bytes, ids_changed}
 use Rattle.dm_pack.proofs.Apart.{HasData, has_data, nothing_out}
@@ -36,35 +40,41 @@ place_at used page next = record { used = used; page = page; next = next }
 pub same_place : (a b p q m n : ℕ) → a ≡ b → p ≡ q → m ≡ n → place_at a p m ≡ place_at b q n
 same_place a b p q m n x y z = rw (x, y, z) refl
 
-next_number : (h : Header) (cs : List Command) (c : Command) → numbered 1 (cs ++ c ∷ []) ≡ numbered 1 cs ++ with_numbers (1 + ids_of cs) c ∷ []
+next_number : (h : Header) (cs : List Command) (c : Command)
+    → numbered 1 (cs ++ c ∷ []) ≡ numbered 1 cs ++ with_numbers (1 + ids_of cs) c ∷ []
 next_number h cs c = numbered_append 1 cs (c ∷ [])
 
 tokens_next : (page : ℕ) (ns : List Command) (d : Command)
-    → spelled page (commands_tokens (ns ++ d ∷ [])) ≡ spelled page (commands_tokens ns) ++ spelled (page_behind page (commands_tokens ns)) (command_tokens d)
+    → spelled page (commands_tokens (ns ++ d ∷ [])) ≡ spelled page (commands_tokens ns)
+    ++ spelled (page_behind page (commands_tokens ns)) (command_tokens d)
 tokens_next page ns d =
     (spells_commands page ns (d ∷ [])).0
     ∙ ap (λ ts. spelled page (commands_tokens ns) ++ spelled (page_behind page (commands_tokens ns)) ts) (one_alone d)
 
 page_next : (page : ℕ) (ns : List Command) (d : Command)
-    → page_behind page (commands_tokens (ns ++ d ∷ [])) ≡ page_behind (page_behind page (commands_tokens ns)) (command_tokens d)
+    → page_behind page (commands_tokens (ns ++ d ∷ []))
+    ≡ page_behind (page_behind page (commands_tokens ns)) (command_tokens d)
 page_next page ns d =
     (spells_commands page ns (d ∷ [])).1 ∙ ap (page_behind (page_behind page (commands_tokens ns))) (one_alone d)
 
 longer : (h : Header) (cs : List Command) (c : Command)
-    → front_length h (cs ++ c ∷ []) ≡ front_length h cs + length (spelled (front_page cs) (command_tokens (with_numbers (1 + ids_of cs) c)))
+    → front_length h (cs ++ c ∷ [])
+    ≡ front_length h cs + length (spelled (front_page cs) (command_tokens (with_numbers (1 + ids_of cs) c)))
 unfolding front_length front_page
 longer h cs c =
     let number = next_number h cs c in
     let tokens = tokens_next 0 (numbered 1 cs) (with_numbers (1 + ids_of cs) c) in
     let whole = ap (λ ns. length (spelled 0 (commands_tokens ns))) number ∙ ap length tokens
-    ∙ length-append (spelled 0 (commands_tokens (numbered 1 cs))) (spelled (page_behind 0 (commands_tokens (numbered 1 cs))) (command_tokens (with_numbers (1 + ids_of cs) c))) in
+    ∙ length-append (spelled 0 (commands_tokens (numbered 1 cs)))
+    (spelled (page_behind 0 (commands_tokens (numbered 1 cs))) (command_tokens (with_numbers (1 + ids_of cs) c))) in
     omega (arith, whole)
 
 page_later : (h : Header) (cs : List Command) (c : Command)
     → front_page (cs ++ c ∷ []) ≡ page_behind (front_page cs) (command_tokens (with_numbers (1 + ids_of cs) c))
 unfolding front_page
 page_later h cs c =
-    ap (λ ns. page_behind 0 (commands_tokens ns)) (next_number h cs c) ∙ page_next 0 (numbered 1 cs) (with_numbers (1 + ids_of cs) c)
+    ap (λ ns. page_behind 0 (commands_tokens ns)) (next_number h cs c)
+    ∙ page_next 0 (numbered 1 cs) (with_numbers (1 + ids_of cs) c)
 
 next_later : (cs : List Command) (c : Command) → 1 + ids_of (cs ++ c ∷ []) ≡ 1 + ids_of cs + ids_in c
 next_later cs c = let sum = ids_append cs (c ∷ []) in omega (arith, sum)
@@ -76,13 +86,15 @@ behind_is h cs c = sym (same_place _ _ _ _ _ _ (longer h cs c) (page_later h cs 
 
 parted : (h : Header) (cs : List Command) (last : Bool) → 0 < length cs
     → canonical (record { header = h; body = cs; last = last })
-    ≡ head_bytes h ++ spelled (page_behind 0 (head_tokens h)) body_tag ++ spelled 0 (commands_tokens cs) ++ spelled (page_behind 0 (commands_tokens cs)) (tail_tokens last)
+    ≡ head_bytes h ++ spelled (page_behind 0 (head_tokens h)) body_tag ++ spelled 0 (commands_tokens cs)
+    ++ spelled (page_behind 0 (commands_tokens cs)) (tail_tokens last)
 parted h [] last some = absurd (omega (arith, some))
 parted h (c ∷ cs) last some = spells_in_parts h c cs last
 
 pub long_parted : (h : Header) (cs : List Command) (last : Bool) → 0 < length cs
     → length (canonical (record { header = h; body = cs; last = last }))
-    ≡ length (head_bytes h) + length (spelled (page_behind 0 (head_tokens h)) body_tag) + length (spelled 0 (commands_tokens cs)) + length (spelled (page_behind 0 (commands_tokens cs)) (tail_tokens last))
+    ≡ length (head_bytes h) + length (spelled (page_behind 0 (head_tokens h)) body_tag)
+    + length (spelled 0 (commands_tokens cs)) + length (spelled (page_behind 0 (commands_tokens cs)) (tail_tokens last))
 long_parted h cs last some =
     let a = head_bytes h in
     let b = spelled (page_behind 0 (head_tokens h)) body_tag in
@@ -98,14 +110,20 @@ some_more : {A : Type 0} (xs : List A) (x : A) → 0 < length (xs ++ x ∷ [])
 some_more xs x = let sum = length-append xs (x ∷ []) in omega (arith, sum)
 
 pub long_measured : (h : Header) (cs : List Command)
-    → length (canonical (record { header = h; body = numbered 1 (cs ++ asks_next ∷ []); last = true })) ≡ front_length h cs + end_length (front_page cs) (1 + ids_of cs)
+    → length (canonical (record { header = h; body = numbered 1 (cs ++ asks_next ∷ []); last = true }))
+    ≡ front_length h cs + end_length (front_page cs) (1 + ids_of cs)
 unfolding front_length front_page end_length
 long_measured h cs =
     let d = with_numbers (1 + ids_of cs) asks_next in
     let ns = numbered 1 cs in
-    let body = ap (λ b. length (canonical (record { header = h; body = b; last = true }))) (numbered_append 1 cs (asks_next ∷ [])) in
+    let body =
+    ap (λ b. length (canonical (record { header = h; body = b; last = true })))
+    (numbered_append 1 cs (asks_next ∷ [])) in
     let whole = long_parted h (ns ++ d ∷ []) true (some_more ns d) in
-    let tokens = ap length (tokens_next 0 ns d) ∙ length-append (spelled 0 (commands_tokens ns)) (spelled (page_behind 0 (commands_tokens ns)) (command_tokens d)) in
+    let tokens =
+    ap length (tokens_next 0 ns d)
+    ∙ length-append (spelled 0 (commands_tokens ns))
+    (spelled (page_behind 0 (commands_tokens ns)) (command_tokens d)) in
     let tail = ap (λ p. length (spelled p (tail_tokens true))) (page_next 0 ns d) in
     omega (arith, body, whole, tokens, tail)
 
@@ -113,7 +131,8 @@ pub fits_is : (h : Header) (room : ℕ) (cs : List Command) → fits h room cs �
 unfolding fits
 fits_is h room cs = ap (λ n. nat_le n room) (long_measured h cs)
 
-pub fits_next : (h : Header) (room : ℕ) (cs : List Command) (c : Command) → fits h room (cs ++ c ∷ []) ≡ fits_at room (behind (place_of h cs) c)
+pub fits_next : (h : Header) (room : ℕ) (cs : List Command) (c : Command)
+    → fits h room (cs ++ c ∷ []) ≡ fits_at room (behind (place_of h cs) c)
 fits_next h room cs c = fits_is h room (cs ++ c ∷ []) ∙ ap (fits_at room) (sym (behind_is h cs c))
 
 pub next_low : (p : Place) (c : Command) → p.next ≤ 1 + p.used → (behind p c).next ≤ 1 + (behind p c).used
@@ -161,7 +180,8 @@ pub long_apart : (page n : ℕ) (c : Command)
 long_apart page n c = long_by page n c (cut_data c) refl
 
 page_by : (page n : ℕ) (c : Command) (v : List ℕ) → cut_data c ≡ v
-    → page_behind page (command_tokens (with_numbers n (cut_changed hollow_item c))) ≡ page_behind page (command_tokens (with_numbers n c))
+    → page_behind page (command_tokens (with_numbers n (cut_changed hollow_item c)))
+    ≡ page_behind page (command_tokens (with_numbers n c))
 page_by page n c [] is = ap (λ d. page_behind page (command_tokens (with_numbers n d))) (nothing_out c is)
 page_by page n c (b ∷ bs) is =
     let d = has_data c (let long = ap length is in omega (arith, long)) in
@@ -172,7 +192,8 @@ page_by page n c (b ∷ bs) is =
     ∙ sym (page_without_numbers page n c)
 
 pub page_apart : (page n : ℕ) (c : Command)
-    → page_behind page (command_tokens (with_numbers n (cut_changed hollow_item c))) ≡ page_behind page (command_tokens (with_numbers n c))
+    → page_behind page (command_tokens (with_numbers n (cut_changed hollow_item c)))
+    ≡ page_behind page (command_tokens (with_numbers n c))
 page_apart page n c = page_by page n c (cut_data c) refl
 
 pub ids_apart : (c : Command) → ids_in (cut_changed hollow_item c) ≡ ids_in c
@@ -184,7 +205,8 @@ pub tail_on_page : length (spelled 0 (tail_tokens true)) ≡ 3
 unfolding flag_tokens
 tail_on_page = refl
 
-tail_by : (p : ℕ) (same : Bool) → (page_of EFinal == p) ≡ same → same ≡ false → length (spelled p (tail_tokens true)) ≡ 5
+tail_by : (p : ℕ) (same : Bool) → (page_of EFinal == p) ≡ same → same ≡ false
+    → length (spelled p (tail_tokens true)) ≡ 5
 unfolding flag_tokens
 tail_by p true e h = absurd (cc)
 tail_by p false e h = rw e refl
@@ -203,7 +225,8 @@ by_test : (n room : ℕ) (b : Bool) → nat_le n room ≡ b → b ≡ false → 
 by_test n room true e h = absurd (cc)
 by_test n room false e h = rw e refl
 
-by_test_some : (n room : ℕ) (b : Bool) → nat_le n room ≡ b → b ≡ true → (if nat_le n room then Some n else None) ≡ Some n
+by_test_some : (n room : ℕ) (b : Bool) → nat_le n room ≡ b → b ≡ true
+    → (if nat_le n room then Some n else None) ≡ Some n
 by_test_some n room true e h = rw e refl
 by_test_some n room false e h = absurd (cc)
 
@@ -227,11 +250,13 @@ was_over_by n room false e h = leb-false n room e
 pub cost_was_over : (v : List ℕ) (room : ℕ) → cost_within v room ≡ None → room < data_cost v
 cost_was_over v room h = was_over_by (data_cost v) room (nat_le (data_cost v) room) refl h
 
-was_under_by : (n room cost : ℕ) (t : Bool) → nat_le n room ≡ t → (if t then Some n else None) ≡ Some cost → (n ≤ room) × (cost ≡ n)
+was_under_by : (n room cost : ℕ) (t : Bool) → nat_le n room ≡ t → (if t then Some n else None) ≡ Some cost
+    → (n ≤ room) × (cost ≡ n)
 was_under_by n room cost true e h = (leb-true n room e, let same : n ≡ cost = cc in sym same)
 was_under_by n room cost false e h = absurd (cc)
 
-pub cost_was_under : (v : List ℕ) (room cost : ℕ) → cost_within v room ≡ Some cost → (data_cost v ≤ room) × (cost ≡ data_cost v)
+pub cost_was_under : (v : List ℕ) (room cost : ℕ) → cost_within v room ≡ Some cost
+    → (data_cost v ≤ room) × (cost ≡ data_cost v)
 cost_was_under v room cost h = was_under_by (data_cost v) room cost (nat_le (data_cost v) room) refl h
 
 pub cost_none : (v : List ℕ) (room : ℕ) → 0 < length v → room ≤ length v → cost_within v room ≡ None
@@ -263,7 +288,8 @@ pub head_long : (h : Header) → length (spelled 0 (head_tokens h)) ≡ 1 + leng
 head_long h = omega arith
 
 pub start_is : (h : Header) (bytes page tag : ℕ) → length (spelled 0 (header_tokens h)) ≤ 600
-    → bytes ≡ spelled_length 5 0 (head_tokens h) → page ≡ page_behind 0 (head_tokens h) → tag ≡ length (spelled page body_tag)
+    → bytes ≡ spelled_length 5 0 (head_tokens h) → page ≡ page_behind 0 (head_tokens h)
+    → tag ≡ length (spelled page body_tag)
     → place_at (bytes + tag) 0 1 ≡ place_of h []
 unfolding front_length front_page commands_tokens
 start_is h bytes page tag short b p t =
@@ -285,10 +311,13 @@ data_behind p c =
     let whole = long_apart p.page p.next c in
     same_place _ _ _ _ _ _ (omega (arith, whole)) (page_apart p.page p.next c) (ap (λ n. p.next + n) (ids_apart c))
 
-pub reached : (p q : Place) (e : Entry) (v : List ℕ) → v ≡ cut_data e.command → q ≡ behind_hollow p e → with_cost v q ≡ behind p e.command
-reached p q e v left is = ap (λ w. with_cost w q) left ∙ ap (with_cost (cut_data e.command)) is ∙ data_behind p e.command
+pub reached : (p q : Place) (e : Entry) (v : List ℕ) → v ≡ cut_data e.command → q ≡ behind_hollow p e
+    → with_cost v q ≡ behind p e.command
+reached p q e v left is =
+    ap (λ w. with_cost w q) left ∙ ap (with_cost (cut_data e.command)) is ∙ data_behind p e.command
 
-pub hollow_is : (p : Place) (e : Entry) (bytes page ids : ℕ) → length (spelled p.page (command_tokens (with_numbers p.next (cut_changed hollow_item e.command)))) ≤ 1045
+pub hollow_is : (p : Place) (e : Entry) (bytes page ids : ℕ)
+    → length (spelled p.page (command_tokens (with_numbers p.next (cut_changed hollow_item e.command)))) ≤ 1045
     → bytes ≡ spelled_length 0 p.page (command_tokens (with_numbers p.next (cut_changed hollow_item e.command)))
     → page ≡ page_behind p.page (command_tokens (with_numbers p.next e.command)) → ids ≡ ids_in e.command
     → place_at (p.used + bytes) page (p.next + ids) ≡ behind_hollow p e
@@ -302,7 +331,8 @@ least_of p end = min (p.used + end) (2 ^ 64 - 1)
 
 pub no_room : (p : Place) (v : List ℕ) (room end least : ℕ) → end ≡ up_to_most (end_length p.page p.next) → room ≤ 65536
     → least ≡ least_of p end → room < least → None ≡ within room (with_cost v p)
-no_room p v room end least e most is over = sym (not_within room (with_cost v p) (over_false _ room (omega (arith, e, most, is, over))))
+no_room p v room end least e most is over =
+    sym (not_within room (with_cost v p) (over_false _ room (omega (arith, e, most, is, over))))
 
 pub no_data : (p : Place) (v : List ℕ) (room end least : ℕ) → end ≡ up_to_most (end_length p.page p.next) → room ≤ 65536
     → least ≡ least_of p end → least ≤ room → None ≡ cost_within v (room - least) → None ≡ within room (with_cost v p)
@@ -310,7 +340,8 @@ no_data p v room end least e most is under none =
     let over = cost_was_over v (room - least) (sym none) in
     sym (not_within room (with_cost v p) (over_false _ room (omega (arith, e, most, is, under, over))))
 
-pub with_data : (p : Place) (v : List ℕ) (room end least cost : ℕ) → end ≡ up_to_most (end_length p.page p.next) → room ≤ 65536
+pub with_data : (p : Place) (v : List ℕ) (room end least cost : ℕ) → end ≡ up_to_most (end_length p.page p.next)
+    → room ≤ 65536
     → least ≡ least_of p end → least ≤ room → Some cost ≡ cost_within v (room - least)
     → Some (place_at (p.used + cost) p.page p.next) ≡ within room (with_cost v p)
 with_data p v room end least cost e most is under some =
@@ -320,4 +351,5 @@ with_data p v room end least cost e most is under some =
     ∙ sym (is_within room (with_cost v p) (le-leb _ room (omega (arith, e, most, is, under, low))))
 
 pub cost_most : (v : List ℕ) (room cost : ℕ) → Some cost ≡ cost_within v room → cost ≤ room
-cost_most v room cost some = let costs = cost_was_under v room cost (sym some) in let low = costs.0 in let is = costs.1 in omega (arith, low, is)
+cost_most v room cost some = let costs = cost_was_under v room cost (sym some) in let low = costs.0 in
+    let is = costs.1 in omega (arith, low, is)

@@ -1,5 +1,6 @@
 -- Tokens that are at most so many bytes longer than others, from whichever page.
-use Rattle.std.proofs.Common.{◌≡◌, ◌<◌, ◌≤◌, ◌+◌, ◌*◌, ◌/◌, ◌==◌, ◌^◌, ℕ, zero, suc, Bool, true, false, if◌then◌else◌, List, [], ◌∷◌, ◌++◌, length, length-append, refl, ap, ◌∙◌, arith}
+use Rattle.std.proofs.Common.{◌≡◌, ◌<◌, ◌≤◌, ◌+◌, ◌*◌, ◌/◌, ◌==◌, ◌^◌, ℕ, zero, suc, Bool, true, false, if◌then◌else◌}
+use Rattle.std.proofs.Common.{List, [], ◌∷◌, ◌++◌, length, length-append, refl, ap, ◌∙◌, arith}
 use Rattle.std.proofs.lemmas.Bool.{eqb-true, eq-eqb}
 use Rattle.std.proofs.lemmas.Fmt.{length-decimal-le, decimal_step, decimal_nonempty}
 use Rattle.std.specs.Fmt.{decimal}
@@ -17,7 +18,8 @@ unfoldable pub gap : ℕ → ℕ → ℕ
 gap p q = if p == q then 0 else 2
 
 pub record Near (k : ℕ) (ts us : List Token) : Type 0 where
-  pub at : (p q : ℕ) → length (spelled p ts) + gap (page_behind p ts) (page_behind q us) ≤ length (spelled q us) + gap p q + k
+  pub at : (p q : ℕ)
+      → length (spelled p ts) + gap (page_behind p ts) (page_behind q us) ≤ length (spelled q us) + gap p q + k
 
 gap_by : (t : Bool) → (if t then 0 else 2) ≤ 2
 gap_by true = omega arith
@@ -40,7 +42,8 @@ near_more n low = record { at = λ p q. let is = n.at p q in omega (arith, is, l
 pub near_nothing : Near 0 [] []
 near_nothing = record { at = λ p q. omega arith }
 
-pub near_append : {j k : ℕ} {xs ys cs ds : List Token} → Near j xs ys → Near k cs ds → Near (j + k) (xs ++ cs) (ys ++ ds)
+pub near_append : {j k : ℕ} {xs ys cs ds : List Token} → Near j xs ys → Near k cs ds
+    → Near (j + k) (xs ++ cs) (ys ++ ds)
 near_append {j} {k} {xs} {ys} {cs} {ds} m n =
     record {
       at = λ p q.
@@ -55,7 +58,8 @@ near_append {j} {k} {xs} {ys} {cs} {ds} m n =
 -- ---- single tokens
 
 same_tag_by : (same : Bool) (p t u : ℕ)
-    → length ((if same then t ∷ [] else 0 ∷ p ∷ t ∷ []) ++ []) ≡ length ((if same then u ∷ [] else 0 ∷ p ∷ u ∷ []) ++ [])
+    → length ((if same then t ∷ [] else 0 ∷ p ∷ t ∷ []) ++ [])
+    ≡ length ((if same then u ∷ [] else 0 ∷ p ∷ u ∷ []) ++ [])
 same_tag_by true p t u = refl
 same_tag_by false p t u = refl
 
@@ -106,7 +110,8 @@ near_token End = near_end
 near_token (Text v) = near_text_token v v (omega arith)
 near_token (Opaque v) = record { at = λ p q. omega arith }
 
-pub near_cons : {j k : ℕ} {t u : Token} {ts us : List Token} → Near j (t ∷ []) (u ∷ []) → Near k ts us → Near (j + k) (t ∷ ts) (u ∷ us)
+pub near_cons : {j k : ℕ} {t u : Token} {ts us : List Token} → Near j (t ∷ []) (u ∷ []) → Near k ts us
+    → Near (j + k) (t ∷ ts) (u ∷ us)
 near_cons m n = near_append m n
 
 pub near_same : (ts : List Token) → Near 0 ts ts
@@ -114,7 +119,8 @@ near_same [] = near_nothing
 near_same (t ∷ ts) = near_more (near_cons (near_token t) (near_same ts)) (omega arith)
 
 -- what comes in between, or in another's place, costs its bytes, and at most the way back to the page
-pub near_inserted : {us : List Token} (k : ℕ) (ts : List Token) → ((p : ℕ) → length (spelled p ts) + 2 ≤ k) → Near k ts us
+pub near_inserted : {us : List Token} (k : ℕ) (ts : List Token) → ((p : ℕ) → length (spelled p ts) + 2 ≤ k)
+    → Near k ts us
 near_inserted {us} k ts most =
     record {
       at = λ p q.
@@ -134,11 +140,13 @@ near_behind xs n = near_more (near_append (near_same xs) n) (omega arith)
 
 -- ---- what is left out
 
-far_tag : (p t : ℕ) (end : List ℕ) (same : Bool) → same ≡ false → 3 ≤ length ((if same then t ∷ [] else 0 ∷ p ∷ t ∷ []) ++ end)
+far_tag : (p t : ℕ) (end : List ℕ) (same : Bool) → same ≡ false
+    → 3 ≤ length ((if same then t ∷ [] else 0 ∷ p ∷ t ∷ []) ++ end)
 far_tag p t end true h = absurd (cc)
 far_tag p t end false h = omega arith
 
-skip_by : (e : Element) (c : Bool) (p q : ℕ) (t : Bool) → (page_of e == q) ≡ t → gap p (page_of e) ≤ length (spelled q (Tag e c ∷ [])) + gap p q
+skip_by : (e : Element) (c : Bool) (p q : ℕ) (t : Bool) → (page_of e == q) ≡ t
+    → gap p (page_of e) ≤ length (spelled q (Tag e c ∷ [])) + gap p q
 skip_by e c p q true is =
     let alike = ap (gap p) (eqb-true (page_of e) q is) in
     omega (arith, alike)
@@ -159,7 +167,8 @@ near_missing (u ∷ us) = near_both (near_skipped u) (near_missing us)
 
 -- ---- elements
 
-pub near_parent : {k : ℕ} {ts us : List Token} (e : Element) → Near k ts us → Near k (parent_tokens e ts) (parent_tokens e us)
+pub near_parent : {k : ℕ} {ts us : List Token} (e : Element) → Near k ts us
+    → Near k (parent_tokens e ts) (parent_tokens e us)
 near_parent e n = near_more (near_cons (near_tag e true true) (near_append n near_end)) (omega arith)
 
 near_end_more : Near 0 [] (End ∷ [])
@@ -168,7 +177,8 @@ near_end_more = record { at = λ p q. omega arith }
 near_end_less : Near 1 (End ∷ []) []
 near_end_less = record { at = λ p q. omega arith }
 
-pub near_element : {k : ℕ} (ts us : List Token) (e : Element) → Near k ts us → Near (k + 1) (element_tokens e ts) (element_tokens e us)
+pub near_element : {k : ℕ} (ts us : List Token) (e : Element) → Near k ts us
+    → Near (k + 1) (element_tokens e ts) (element_tokens e us)
 near_element [] [] e n = near_more (near_tag e false false) (omega arith)
 near_element [] (u ∷ us) e n =
     near_more (near_cons (near_tag e false true) (near_append n (near_end_more))) (omega arith)
@@ -188,7 +198,8 @@ near_text e [] (c ∷ cs) low =
           omega (arith, tag, one, alone);
     }
 near_text e (b ∷ bs) [] low = absurd (omega (arith, low))
-near_text e (b ∷ bs) (c ∷ cs) low = near_cons (near_tag e true true) (near_cons (near_text_token (b ∷ bs) (c ∷ cs) low) near_end)
+near_text e (b ∷ bs) (c ∷ cs) low =
+    near_cons (near_tag e true true) (near_cons (near_text_token (b ∷ bs) (c ∷ cs) low) near_end)
 
 -- ---- numbers
 
@@ -227,6 +238,7 @@ shorter_number n m count l some =
     let least = long_least 9 m (omega (arith, digits)) (omega (arith, high, some)) in
     omega (arith, most, least)
 
-pub near_number : (e : Element) (n m count : ℕ) → NotLonger n m count → 0 < count → Near 0 (number_tokens e n) (number_tokens e m)
+pub near_number : (e : Element) (n m count : ℕ) → NotLonger n m count → 0 < count
+    → Near 0 (number_tokens e n) (number_tokens e m)
 unfolding number_tokens
 near_number e n m count l some = near_text e (decimal n) (decimal m) (shorter_number n m count l some)

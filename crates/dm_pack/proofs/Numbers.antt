@@ -1,5 +1,6 @@
 -- CmdIDs, and the item whose Data may be cut.
-use Rattle.std.proofs.Common.{◌≡◌, ◌≤◌, ◌+◌, ℕ, suc, Bool, true, false, if◌then◌else◌, List, [], ◌∷◌, ◌++◌, length, length-append, option_and_then, refl, sym, ap, ◌∙◌, arith}
+use Rattle.std.proofs.Common.{◌≡◌, ◌≤◌, ◌+◌, ℕ, suc, Bool, true, false, if◌then◌else◌, List, [], ◌∷◌, ◌++◌, length}
+use Rattle.std.proofs.Common.{length-append, option_and_then, refl, sym, ap, ◌∙◌, arith}
 use Rattle.wbxml_tables.specs.declared.Element.{Element}
 use Rattle.wbxml_tables.specs.declared.Element.TheVariants.{EAtomic, ESequence, ECmdID, ENoResp}
 use Rattle.wbxml_tokens.specs.declared.token.Token.{Token}
@@ -13,9 +14,14 @@ use Rattle.syncml_types.specs.declared.command.SeqMember.{SeqMember}
 use Rattle.syncml_types.specs.declared.command.SeqMember.TheVariants as seq_member
 use Rattle.syncml_types.specs.declared.command.Command.{Command}
 use Rattle.syncml_types.specs.declared.command.Command.TheVariants as command
-use Rattle.syncml_types.specs.Canonical.{parent_tokens, number_tokens, flag_tokens, optional, meta_tokens, plain_tokens, alert_tokens, member_tokens, members_tokens, atomic_tokens, seq_member_tokens, seq_members_tokens, sequence_tokens, status_tokens, results_tokens, command_tokens}
-use Rattle.syncml_types.specs.Numbering.{with_number, numbered_members, numbered_seq_member, numbered_seq_members, ids_in_seq_member, ids_in_seq_members, ids_in, with_numbers}
-use Rattle.syncml_types.specs.Packing.{member_item, seq_member_item, last_of, cut_item, member_changed, seq_member_changed, last_changed, cut_changed}
+use Rattle.syncml_types.specs.Canonical.{parent_tokens, number_tokens, flag_tokens, optional, meta_tokens, plain_tokens}
+use Rattle.syncml_types.specs.Canonical.{alert_tokens, member_tokens, members_tokens, atomic_tokens, seq_member_tokens}
+use Rattle.syncml_types.specs.Canonical.{seq_members_tokens, sequence_tokens, status_tokens, results_tokens}
+use Rattle.syncml_types.specs.Canonical.{command_tokens}
+use Rattle.syncml_types.specs.Numbering.{with_number, numbered_members, numbered_seq_member, numbered_seq_members}
+use Rattle.syncml_types.specs.Numbering.{ids_in_seq_member, ids_in_seq_members, ids_in, with_numbers}
+use Rattle.syncml_types.specs.Packing.{member_item, seq_member_item, last_of, cut_item, member_changed}
+use Rattle.syncml_types.specs.Packing.{seq_member_changed, last_changed, cut_changed}
 use Rattle.syncml_types.proofs.Last.{last_next}
 use Rattle.dm_pack.specs.Entries.{Entry, IsReady, bare_length, most_bytes, without_value}
 use Rattle.dm_pack.specs.Filling.{numbered}
@@ -23,7 +29,8 @@ use Rattle.dm_pack.specs.Measures.{ids_of}
 
 -- ---- numbers and changes
 
-number_member : (f : Item → Item) (n : ℕ) (m : Member) → with_number n (member_changed f m) ≡ member_changed f (with_number n m)
+number_member : (f : Item → Item) (n : ℕ) (m : Member)
+    → with_number n (member_changed f m) ≡ member_changed f (with_number n m)
 number_member f n (member.One c) = refl
 number_member f n (member.Alert c) = refl
 
@@ -40,13 +47,16 @@ number_seq_member f n (seq_member.Single m) = ap seq_member.Single (number_membe
 number_seq_member f n (seq_member.Atomic b) = refl
 
 number_seq_members : (f : Item → Item) (n : ℕ) (ms : List SeqMember)
-    → numbered_seq_members n (last_changed (seq_member_changed f) ms) ≡ last_changed (seq_member_changed f) (numbered_seq_members n ms)
+    → numbered_seq_members n (last_changed (seq_member_changed f) ms)
+    ≡ last_changed (seq_member_changed f) (numbered_seq_members n ms)
 unfolding numbered_seq_members
 number_seq_members f n [] = refl
 number_seq_members f n (m ∷ []) = ap (λ x. x ∷ []) (number_seq_member f n m)
-number_seq_members f n (m ∷ k ∷ ms) = ap (λ l. numbered_seq_member n m ∷ l) (number_seq_members f (n + ids_in_seq_member m) (k ∷ ms))
+number_seq_members f n (m ∷ k ∷ ms) =
+    ap (λ l. numbered_seq_member n m ∷ l) (number_seq_members f (n + ids_in_seq_member m) (k ∷ ms))
 
-pub number_changed : (f : Item → Item) (n : ℕ) (c : Command) → with_numbers n (cut_changed f c) ≡ cut_changed f (with_numbers n c)
+pub number_changed : (f : Item → Item) (n : ℕ) (c : Command)
+    → with_numbers n (cut_changed f c) ≡ cut_changed f (with_numbers n c)
 unfolding with_numbers
 number_changed f n (command.Plain c) = refl
 number_changed f n (command.Alert c) = refl
@@ -61,12 +71,14 @@ item_number : (n : ℕ) (m : Member) → member_item (with_number n m) ≡ membe
 item_number n (member.One c) = refl
 item_number n (member.Alert c) = refl
 
-item_members : (n : ℕ) (ms : List Member) → option_and_then member_item (last_of (numbered_members n ms)) ≡ option_and_then member_item (last_of ms)
+item_members : (n : ℕ) (ms : List Member)
+    → option_and_then member_item (last_of (numbered_members n ms)) ≡ option_and_then member_item (last_of ms)
 unfolding numbered_members
 item_members n [] = refl
 item_members n (m ∷ []) = item_number n m
 item_members n (m ∷ k ∷ ms) =
-    ap (option_and_then member_item) (last_next (with_number n m) (with_number (n + 1) k) (numbered_members (n + 1 + 1) ms))
+    ap (option_and_then member_item)
+    (last_next (with_number n m) (with_number (n + 1) k) (numbered_members (n + 1 + 1) ms))
     ∙ item_members (n + 1) (k ∷ ms)
     ∙ ap (option_and_then member_item) (sym (last_next m k ms))
 
@@ -75,12 +87,15 @@ item_seq_number n (seq_member.Single m) = item_number n m
 item_seq_number n (seq_member.Atomic b) = refl
 
 item_seq_members : (n : ℕ) (ms : List SeqMember)
-    → option_and_then seq_member_item (last_of (numbered_seq_members n ms)) ≡ option_and_then seq_member_item (last_of ms)
+    → option_and_then seq_member_item (last_of (numbered_seq_members n ms))
+    ≡ option_and_then seq_member_item (last_of ms)
 unfolding numbered_seq_members
 item_seq_members n [] = refl
 item_seq_members n (m ∷ []) = item_seq_number n m
 item_seq_members n (m ∷ k ∷ ms) =
-    ap (option_and_then seq_member_item) (last_next (numbered_seq_member n m) (numbered_seq_member (n + ids_in_seq_member m) k) (numbered_seq_members (n + ids_in_seq_member m + ids_in_seq_member k) ms))
+    ap (option_and_then seq_member_item)
+    (last_next (numbered_seq_member n m) (numbered_seq_member (n + ids_in_seq_member m) k)
+    (numbered_seq_members (n + ids_in_seq_member m + ids_in_seq_member k) ms))
     ∙ item_seq_members (n + ids_in_seq_member m) (k ∷ ms)
     ∙ ap (option_and_then seq_member_item) (sym (last_next m k ms))
 
@@ -104,7 +119,8 @@ ids_seq_member : (f : Item → Item) (m : SeqMember) → ids_in_seq_member (seq_
 ids_seq_member f (seq_member.Single m) = refl
 ids_seq_member f (seq_member.Atomic b) = refl
 
-ids_seq_members : (f : Item → Item) (ms : List SeqMember) → ids_in_seq_members (last_changed (seq_member_changed f) ms) ≡ ids_in_seq_members ms
+ids_seq_members : (f : Item → Item) (ms : List SeqMember)
+    → ids_in_seq_members (last_changed (seq_member_changed f) ms) ≡ ids_in_seq_members ms
 unfolding ids_in_seq_members
 ids_seq_members f [] = refl
 ids_seq_members f (m ∷ []) = ap (λ n. n + 0) (ids_seq_member f m)
@@ -140,26 +156,32 @@ inside_parent e a b =
     let whole = length-append (a ++ b) (End ∷ []) in
     omega (arith, sum, whole)
 
-atomic_head : (e : Element) (a b c d : List Token) (n : ℕ) → n ≤ length d → 1 + n ≤ length (parent_tokens e (a ++ b ++ c ++ d))
+atomic_head : (e : Element) (a b c d : List Token) (n : ℕ) → n ≤ length d
+    → 1 + n ≤ length (parent_tokens e (a ++ b ++ c ++ d))
 atomic_head e a b c d n h = let inside = inside_parent e (a ++ b ++ c) d in omega (arith, inside, h)
 
-many_atomic : (n : ℕ) (b : Block) → 1 + length b.members ≤ length (atomic_tokens (record b { id = n; members = numbered_members (n + 1) b.members }))
+many_atomic : (n : ℕ) (b : Block)
+    → 1 + length b.members ≤ length (atomic_tokens (record b { id = n; members = numbered_members (n + 1) b.members }))
 unfolding atomic_tokens
 many_atomic n b =
-    atomic_head EAtomic (number_tokens ECmdID n) (flag_tokens ENoResp b.no_resp) (optional meta_tokens b.meta) (members_tokens (numbered_members (n + 1) b.members)) (length b.members) (many_members (n + 1) b.members)
+    atomic_head EAtomic (number_tokens ECmdID n) (flag_tokens ENoResp b.no_resp) (optional meta_tokens b.meta)
+    (members_tokens (numbered_members (n + 1) b.members)) (length b.members) (many_members (n + 1) b.members)
 
 many_seq_member : (n : ℕ) (m : SeqMember) → ids_in_seq_member m ≤ length (seq_member_tokens (numbered_seq_member n m))
 unfolding seq_member_tokens
 many_seq_member n (seq_member.Single m) = one_member (with_number n m)
 many_seq_member n (seq_member.Atomic b) = many_atomic n b
 
-many_seq_members : (n : ℕ) (ms : List SeqMember) → ids_in_seq_members ms ≤ length (seq_members_tokens (numbered_seq_members n ms))
+many_seq_members : (n : ℕ) (ms : List SeqMember)
+    → ids_in_seq_members ms ≤ length (seq_members_tokens (numbered_seq_members n ms))
 unfolding seq_members_tokens numbered_seq_members ids_in_seq_members
 many_seq_members n [] = omega arith
 many_seq_members n (m ∷ ms) =
     let one = many_seq_member n m in
     let rest = many_seq_members (n + ids_in_seq_member m) ms in
-    let sum = length-append (seq_member_tokens (numbered_seq_member n m)) (seq_members_tokens (numbered_seq_members (n + ids_in_seq_member m) ms)) in
+    let sum =
+    length-append (seq_member_tokens (numbered_seq_member n m))
+    (seq_members_tokens (numbered_seq_members (n + ids_in_seq_member m) ms)) in
     omega (arith, one, rest, sum)
 
 many_tokens : (n : ℕ) (c : Command) → ids_in c ≤ length (command_tokens (with_numbers n c))
@@ -168,7 +190,9 @@ many_tokens n (command.Plain c) = omega arith
 many_tokens n (command.Alert c) = omega arith
 many_tokens n (command.Atomic b) = many_atomic n b
 many_tokens n (command.Sequence b) =
-    atomic_head ESequence (number_tokens ECmdID n) (flag_tokens ENoResp b.no_resp) (optional meta_tokens b.meta) (seq_members_tokens (numbered_seq_members (n + 1) b.members)) (ids_in_seq_members b.members) (many_seq_members (n + 1) b.members)
+    atomic_head ESequence (number_tokens ECmdID n) (flag_tokens ENoResp b.no_resp) (optional meta_tokens b.meta)
+    (seq_members_tokens (numbered_seq_members (n + 1) b.members)) (ids_in_seq_members b.members)
+    (many_seq_members (n + 1) b.members)
 many_tokens n (command.Status c) = omega arith
 many_tokens n (command.Results c) = omega arith
 
@@ -198,7 +222,8 @@ many_bytes page n c =
 
 -- ---- lists of commands
 
-pub numbered_append : (n : ℕ) (cs ds : List Command) → numbered n (cs ++ ds) ≡ numbered n cs ++ numbered (n + ids_of cs) ds
+pub numbered_append : (n : ℕ) (cs ds : List Command)
+    → numbered n (cs ++ ds) ≡ numbered n cs ++ numbered (n + ids_of cs) ds
 numbered_append n [] ds = ap (λ k. numbered k ds) (omega arith)
 numbered_append n (c ∷ cs) ds =
     ap (λ l. with_numbers n c ∷ l) (numbered_append (n + ids_in c) cs ds)

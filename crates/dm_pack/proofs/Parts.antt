@@ -1,15 +1,19 @@
 -- Parts of entries whose Data is kept apart.
-use Rattle.std.proofs.Common.{◌≡◌, ◌<◌, ◌+◌, ◌-◌, ◌==◌, ℕ, zero, suc, Bool, true, false, not, if◌then◌else◌, List, [], ◌∷◌, length, length-drop, take, drop, Option, Some, None, option_map, option_and_then, refl, sym, ap, ◌∙◌, arith}
+use Rattle.std.proofs.Common.{◌≡◌, ◌<◌, ◌+◌, ◌-◌, ◌==◌, ℕ, zero, suc, Bool, true, false, not, if◌then◌else◌, List, []}
+use Rattle.std.proofs.Common.{◌∷◌, length, length-drop, take, drop, Option, Some, None, option_map, option_and_then}
+use Rattle.std.proofs.Common.{refl, sym, ap, ◌∙◌, arith}
 use Rattle.std.proofs.lemmas.List.{drop-drop}
 use Rattle.std.proofs.lemmas.Bool.{ne_eqb, eqb-true, eqb-false}
 use Rattle.syncml_types.specs.declared.values.Item.{Item}
 use Rattle.syncml_types.specs.declared.command.Command.{Command}
 use Rattle.syncml_types.specs.declared.command.Command.TheVariants as command
-use Rattle.syncml_types.specs.Packing.{cut_item, cut_changed, cut_data, data_in, bytes_in, member_item, seq_member_item, member_changed, seq_member_changed, last_of, last_changed}
+use Rattle.syncml_types.specs.Packing.{cut_item, cut_changed, cut_data, data_in, bytes_in, member_item, seq_member_item}
+use Rattle.syncml_types.specs.Packing.{member_changed, seq_member_changed, last_of, last_changed}
 use Rattle.syncml_types.specs.Pages.{with_value}
 use Rattle.syncml_types.specs.Numbering.{with_numbers, ids_in}
 use Rattle.syncml_types.proofs.Last.{less_one, last_next}
-use Rattle.dm_pack.specs.Entries.{Entry, part_item, part_meta, part_of, rest_item, rest_of, last_only, last_alone, with_size, data_left}
+use Rattle.dm_pack.specs.Entries.{Entry, part_item, part_meta, part_of, rest_item, rest_of, last_only, last_alone}
+use Rattle.dm_pack.specs.Entries.{with_size, data_left}
 use Rattle.dm_pack.specs.Measures.{hollow_item, put_back, entry_of, marked, size_told, HasEmptyData, IsApart}
 use Rattle.dm_pack.proofs.Changing.{agree_at, twice, item_changed}
 use Rattle.dm_pack.proofs.Numbers.{number_changed, ids_changed}
@@ -21,7 +25,8 @@ part_first : (b : ℕ) (bs : List ℕ) (i : Item) → i.value ≡ Some []
     → part_item false 0 (with_value (b ∷ bs) i) ≡ marked (Some (length (b ∷ bs))) i
 part_first b bs i e = ap (λ o. record i { meta = with_size (length (b ∷ bs)) i.meta; value = o; more = true }) (sym e)
 
-part_later : (b : ℕ) (bs : List ℕ) (i : Item) → i.value ≡ Some [] → part_item true 0 (with_value (b ∷ bs) i) ≡ marked None i
+part_later : (b : ℕ) (bs : List ℕ) (i : Item) → i.value ≡ Some []
+    → part_item true 0 (with_value (b ∷ bs) i) ≡ marked None i
 part_later b bs i e = ap (λ o. record i { value = o; more = true }) (sym e)
 
 marked_part : (begun : Bool) (size : Option ℕ) (c : Command) (v : List ℕ) → HasEmptyData c → 0 < length v
@@ -30,12 +35,15 @@ marked_part : (begun : Bool) (size : Option ℕ) (c : Command) (v : List ℕ) �
 marked_part begun size c [] e some is = absurd (omega (arith, some))
 marked_part true size c (b ∷ bs) e some is =
     rw is (twice (part_item true 0) (with_value (b ∷ bs)) c
-    ∙ agree_at (λ i. part_item true 0 (with_value (b ∷ bs) i)) (marked None) c e.item e.is (part_later b bs e.item e.empty))
+    ∙ agree_at (λ i. part_item true 0 (with_value (b ∷ bs) i)) (marked None) c e.item e.is
+    (part_later b bs e.item e.empty))
 marked_part false size c (b ∷ bs) e some is =
     rw is (twice (part_item false 0) (with_value (b ∷ bs)) c
-    ∙ agree_at (λ i. part_item false 0 (with_value (b ∷ bs) i)) (marked (Some (length (b ∷ bs)))) c e.item e.is (part_first b bs e.item e.empty))
+    ∙ agree_at (λ i. part_item false 0 (with_value (b ∷ bs) i)) (marked (Some (length (b ∷ bs)))) c e.item e.is
+    (part_first b bs e.item e.empty))
 
-size_by : (sent : ℕ) (value : List ℕ) → size_told sent value ≡ (if not (sent == 0) then None else Some (length (drop sent value)))
+size_by : (sent : ℕ) (value : List ℕ)
+    → size_told sent value ≡ (if not (sent == 0) then None else Some (length (drop sent value)))
 size_by zero value = refl
 size_by (suc sent) value = rw (ne_eqb (suc sent) 0 (λ e. omega (arith, e))) refl
 
@@ -50,7 +58,8 @@ unfolding part_of
 part_hollow size c value sent a some is =
     let left = ap length (data_apart c value sent a) in
     let more : 0 < length (drop sent value) = omega (arith, some, left) in
-    sym (marked_part (not (sent == 0)) size c (drop sent value) (a.place (some_left value sent more)) more (is ∙ size_by sent value))
+    sym (marked_part (not (sent == 0)) size c (drop sent value) (a.place (some_left value sent more)) more
+    (is ∙ size_by sent value))
 
 -- and so is a copy with CmdIDs
 part_marked : (first : ℕ) (size : Option ℕ) (c : Command) (value : List ℕ) (sent : ℕ) → IsApart c value sent
@@ -63,21 +72,25 @@ part_marked first size c value sent a some is =
 
 put_item : (begun : Bool) (n : ℕ) (i : Item) (v : List ℕ) → i.value ≡ Some v
     → with_value (take n v) (part_item begun 0 i) ≡ part_item begun n i
-put_item begun n i v e = ap (λ o. record i { meta = part_meta begun i; value = Some (take n (bytes_in o)); more = true }) (sym e)
+put_item begun n i v e =
+    ap (λ o. record i { meta = part_meta begun i; value = Some (take n (bytes_in o)); more = true }) (sym e)
 
 part_filled : (first n : ℕ) (e : Entry) → 0 < data_left e
-    → cut_changed (with_value (take n (cut_data e.command))) (with_numbers first (part_of e 0)) ≡ with_numbers first (part_of e n)
+    → cut_changed (with_value (take n (cut_data e.command))) (with_numbers first (part_of e 0))
+    ≡ with_numbers first (part_of e n)
 unfolding part_of
 part_filled first n e some =
     let d = has_data e.command some in
     sym (number_changed (with_value (take n (cut_data e.command))) first (cut_changed (part_item e.begun 0) e.command))
     ∙ ap (with_numbers first)
     (twice (with_value (take n (cut_data e.command))) (part_item e.begun 0) e.command
-    ∙ agree_at (λ i. with_value (take n (cut_data e.command)) (part_item e.begun 0 i)) (part_item e.begun n) e.command d.item d.is
+    ∙ agree_at (λ i. with_value (take n (cut_data e.command)) (part_item e.begun 0 i)) (part_item e.begun n) e.command
+    d.item d.is
     (put_item e.begun n d.item (cut_data e.command) d.value))
 
 -- marked and filled, a copy is the next part
-pub part_made : (first n : ℕ) (size : Option ℕ) (c : Command) (value : List ℕ) (sent : ℕ) (e : Entry) (v : List ℕ) → IsApart c value sent
+pub part_made : (first n : ℕ) (size : Option ℕ) (c : Command) (value : List ℕ) (sent : ℕ) (e : Entry) (v : List ℕ)
+    → IsApart c value sent
     → entry_of c value sent ≡ e → 0 < data_left e → size ≡ size_told sent value → v ≡ take n (cut_data e.command)
     → cut_changed (with_value v) (cut_changed (marked size) (with_numbers first c)) ≡ with_numbers first (part_of e n)
 part_made first n size c value sent e v a is some told filled =
@@ -97,15 +110,18 @@ pub put_some : (v : List ℕ) (c : Command) → (length v == 0) ≡ false → pu
 put_some [] c h = absurd (eqb-false 0 0 h refl)
 put_some (b ∷ bs) c h = refl
 
-put_numbered : (first : ℕ) (v : List ℕ) (c : Command) → put_back v (with_numbers first c) ≡ with_numbers first (put_back v c)
+put_numbered : (first : ℕ) (v : List ℕ) (c : Command)
+    → put_back v (with_numbers first c) ≡ with_numbers first (put_back v c)
 put_numbered first [] c = refl
 put_numbered first (b ∷ bs) c = sym (number_changed (with_value (b ∷ bs)) first c)
 
 pub whole_filled : (first : ℕ) (c : Command) (value : List ℕ) (sent : ℕ) (e : Entry) (v : List ℕ) → IsApart c value sent
-    → entry_of c value sent ≡ e → v ≡ cut_data e.command → put_back v (with_numbers first c) ≡ with_numbers first e.command
+    → entry_of c value sent ≡ e → v ≡ cut_data e.command
+    → put_back v (with_numbers first c) ≡ with_numbers first e.command
 whole_filled first c value sent e v a is left =
     put_numbered first v c
-    ∙ ap (λ w. with_numbers first (put_back w c)) (left ∙ ap (λ (x : Entry). cut_data x.command) (sym is) ∙ data_apart c value sent a)
+    ∙ ap (λ w. with_numbers first (put_back w c))
+    (left ∙ ap (λ (x : Entry). cut_data x.command) (sym is) ∙ data_apart c value sent a)
     ∙ ap (λ (x : Entry). with_numbers first x.command) is
 
 -- ---- the command that is kept
@@ -121,19 +137,22 @@ kept_ids c value sent e a is = ap ids_in (sym (kept c value sent e a is)) ∙ id
 -- ---- the rest
 
 pub only_next : {A : Type 0} (x y : A) (xs : List A) → last_only (x ∷ y ∷ xs) ≡ last_only (y ∷ xs)
-only_next x y xs = ap (λ k. drop k (x ∷ y ∷ xs)) (less_one (suc (length xs))) ∙ ap (λ k. drop k (y ∷ xs)) (sym (less_one (length xs)))
+only_next x y xs =
+    ap (λ k. drop k (x ∷ y ∷ xs)) (less_one (suc (length xs))) ∙ ap (λ k. drop k (y ∷ xs)) (sym (less_one (length xs)))
 
 last_of_only : {A : Type 0} (xs : List A) → last_of (last_only xs) ≡ last_of xs
 last_of_only [] = refl
 last_of_only (x ∷ []) = refl
 last_of_only (x ∷ y ∷ xs) = ap last_of (only_next x y xs) ∙ last_of_only (y ∷ xs) ∙ sym (last_next x y xs)
 
-only_changed_last : {A : Type 0} (f : A → A) (xs : List A) → last_only (last_changed f xs) ≡ last_changed f (last_only xs)
+only_changed_last : {A : Type 0} (f : A → A) (xs : List A)
+    → last_only (last_changed f xs) ≡ last_changed f (last_only xs)
 only_changed_last f [] = refl
 only_changed_last f (x ∷ []) = refl
 only_changed_last f (x ∷ y ∷ []) = refl
 only_changed_last f (x ∷ y ∷ z ∷ xs) =
-    only_next x y (last_changed f (z ∷ xs)) ∙ only_changed_last f (y ∷ z ∷ xs) ∙ ap (last_changed f) (sym (only_next x y (z ∷ xs)))
+    only_next x y (last_changed f (z ∷ xs)) ∙ only_changed_last f (y ∷ z ∷ xs)
+    ∙ ap (last_changed f) (sym (only_next x y (z ∷ xs)))
 
 item_alone : (c : Command) → cut_item (last_alone c) ≡ cut_item c
 item_alone (command.Plain c) = refl
@@ -146,8 +165,10 @@ item_alone (command.Results c) = refl
 pub alone_changed : (f : Item → Item) (c : Command) → last_alone (cut_changed f c) ≡ cut_changed f (last_alone c)
 alone_changed f (command.Plain c) = refl
 alone_changed f (command.Alert c) = refl
-alone_changed f (command.Atomic b) = ap (λ ms. command.Atomic (record b { members = ms })) (only_changed_last (member_changed f) b.members)
-alone_changed f (command.Sequence b) = ap (λ ms. command.Sequence (record b { members = ms })) (only_changed_last (seq_member_changed f) b.members)
+alone_changed f (command.Atomic b) =
+    ap (λ ms. command.Atomic (record b { members = ms })) (only_changed_last (member_changed f) b.members)
+alone_changed f (command.Sequence b) =
+    ap (λ ms. command.Sequence (record b { members = ms })) (only_changed_last (seq_member_changed f) b.members)
 alone_changed f (command.Status c) = refl
 alone_changed f (command.Results c) = refl
 
@@ -159,7 +180,8 @@ pub left_long : (c : Command) (value : List ℕ) (sent : ℕ) (e : Entry) → Is
 left_long c value sent e a is =
     ap data_left (sym is) ∙ ap length (data_apart c value sent a) ∙ length-drop sent value
 
-pub gone_apart : (c : Command) (value : List ℕ) (sent n later : ℕ) (e : Entry) → IsApart c value sent → entry_of c value sent ≡ e
+pub gone_apart : (c : Command) (value : List ℕ) (sent n later : ℕ) (e : Entry) → IsApart c value sent
+    → entry_of c value sent ≡ e
     → n < data_left e → later ≡ sent + n → IsApart (last_alone c) value later
 gone_apart c value sent n later e a is left same =
     let long = left_long c value sent e a is in
@@ -185,7 +207,8 @@ entry_at c begun = record { command = c; begun = begun }
 rest_entry : (c d : Command) (a b : Bool) → c ≡ d → a ≡ b → entry_at c a ≡ entry_at d b
 rest_entry c d a b x y = rw (x, y) refl
 
-pub gone_is : (c : Command) (value : List ℕ) (sent n later : ℕ) (e : Entry) → IsApart c value sent → entry_of c value sent ≡ e
+pub gone_is : (c : Command) (value : List ℕ) (sent n later : ℕ) (e : Entry) → IsApart c value sent
+    → entry_of c value sent ≡ e
     → 0 < n → n < data_left e → later ≡ sent + n → entry_of (last_alone c) value later ≡ rest_of e n
 unfolding rest_of
 gone_is c value sent n later e a is some left same =
@@ -205,7 +228,8 @@ pub hollow_part : (e : Entry) (n : ℕ) → cut_changed hollow_item (part_of e n
 unfolding part_of
 hollow_part e n = twice hollow_item (part_item e.begun n) e.command
 
-part_bytes : (begun : Bool) (n : ℕ) (c : Command) (d : HasData c) → cut_data (cut_changed (part_item begun n) c) ≡ take n (cut_data c)
+part_bytes : (begun : Bool) (n : ℕ) (c : Command) (d : HasData c)
+    → cut_data (cut_changed (part_item begun n) c) ≡ take n (cut_data c)
 part_bytes begun n c d =
     ap data_in (item_changed (part_item begun n) c ∙ ap (option_map (part_item begun n)) d.is)
     ∙ ap (λ o. take n (bytes_in o)) d.value

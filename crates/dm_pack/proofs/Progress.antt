@@ -1,5 +1,7 @@
 -- The first entry of a message always gets on, and so does the second behind a short one.
-use Rattle.std.proofs.Common.{◌≡◌, ◌⊎◌, inl, inr, ◌<◌, ◌≤◌, ◌+◌, ◌-◌, ◌^◌, ℕ, zero, suc, Bool, true, false, if◌then◌else◌, List, [], ◌∷◌, ◌++◌, length, take, drop, nat_le, Option, Some, None, option_map, refl, ap, ◌∙◌, arith}
+use Rattle.std.proofs.Common.{◌≡◌, ◌⊎◌, inl, inr, ◌<◌, ◌≤◌, ◌+◌, ◌-◌, ◌^◌, ℕ, zero, suc, Bool, true, false}
+use Rattle.std.proofs.Common.{if◌then◌else◌, List, [], ◌∷◌, ◌++◌, length, take, drop, nat_le, Option, Some, None}
+use Rattle.std.proofs.Common.{option_map, refl, ap, ◌∙◌, arith}
 use Rattle.std.proofs.lemmas.Bool.{le-leb, leb-true, leb-false}
 use Rattle.std.proofs.lemmas.List.{length-take}
 use Rattle.std.proofs.lemmas.Fmt.{length-decimal-le}
@@ -12,13 +14,16 @@ use Rattle.syncml_types.specs.declared.values.Meta.{Meta}
 use Rattle.syncml_types.specs.declared.values.Item.{Item}
 use Rattle.syncml_types.specs.declared.values.Header.{Header}
 use Rattle.syncml_types.specs.declared.command.Command.{Command}
-use Rattle.syncml_types.specs.Canonical.{optional, number_tokens, flag_tokens, data_tokens, data_piece, is_text, loc_tokens, meta_children, meta_tokens, item_tokens, command_tokens, commands_tokens}
+use Rattle.syncml_types.specs.Canonical.{optional, number_tokens, flag_tokens, data_tokens, data_piece, is_text}
+use Rattle.syncml_types.specs.Canonical.{loc_tokens, meta_children, meta_tokens, item_tokens, command_tokens}
+use Rattle.syncml_types.specs.Canonical.{commands_tokens}
 use Rattle.syncml_types.specs.Numbering.{ids_in, with_numbers}
 use Rattle.syncml_types.specs.Packing.{cut_item, cut_changed, bytes_in, data_in}
 use Rattle.syncml_types.proofs.Parted.{bounds_data}
 use Rattle.syncml_types.proofs.Short.{short_cut}
 use Rattle.dm_pack.specs.declared.place.Place.{Place}
-use Rattle.dm_pack.specs.Entries.{Entry, IsReady, data_left, no_meta, with_size, part_meta, part_item, part_of, without_value}
+use Rattle.dm_pack.specs.Entries.{Entry, IsReady, data_left, no_meta, with_size, part_meta, part_item, part_of}
+use Rattle.dm_pack.specs.Entries.{without_value}
 use Rattle.dm_pack.specs.Filling.{IsReadyHeader, fits, commands_of, taken, greatest, cut, fill}
 use Rattle.dm_pack.specs.Laws.{TheFirstGoesOut, TheSecondGoesOut}
 use Rattle.dm_pack.specs.Measures.{ids_of, front_length, front_page, behind, behind_hollow, place_of, hollow_item}
@@ -26,7 +31,8 @@ use Rattle.dm_pack.proofs.Bare.{NearItem, near_command}
 use Rattle.dm_pack.proofs.Changing.{same}
 use Rattle.dm_pack.proofs.Fit.{short_items}
 use Rattle.dm_pack.proofs.Measuring.{behind_is, fits_next}
-use Rattle.dm_pack.proofs.Near.{Near, NotLonger, gap_most, near_more, near_nothing, near_append, near_same, near_then, near_behind, near_element, near_inserted}
+use Rattle.dm_pack.proofs.Near.{Near, NotLonger, gap_most, near_more, near_nothing, near_append, near_same, near_then}
+use Rattle.dm_pack.proofs.Near.{near_behind, near_element, near_inserted}
 use Rattle.dm_pack.proofs.Numbers.{few_ids, few_most, ids_changed, many_bytes}
 use Rattle.dm_pack.proofs.Parts.{part_ids}
 use Rattle.dm_pack.proofs.Taking.{taken_one, taken_none}
@@ -34,7 +40,8 @@ use Rattle.dm_pack.proofs.Within.{tag_most, one_more, text_most, bare_front, end
 
 -- ---- what a part's item costs
 
-same_piece : (p : ℕ) (v : List ℕ) (t : Bool) → token_bytes p (if t then Text v else Opaque v) ≡ token_bytes 0 (if t then Text v else Opaque v)
+same_piece : (p : ℕ) (v : List ℕ) (t : Bool)
+    → token_bytes p (if t then Text v else Opaque v) ≡ token_bytes 0 (if t then Text v else Opaque v)
 same_piece p v true = refl
 same_piece p v false = refl
 
@@ -60,9 +67,11 @@ near_more_data : (more : Bool) → Near 5 (flag_tokens EMoreData true) (flag_tok
 unfolding flag_tokens
 near_more_data more =
     near_inserted 5 (Tag EMoreData false ∷ [])
-    (λ p. let tag = tag_most p EMoreData false in let whole = one_more p (Tag EMoreData false) [] in omega (arith, tag, whole))
+    (λ p. let tag = tag_most p EMoreData false in let whole = one_more p (Tag EMoreData false) [] in
+    omega (arith, tag, whole))
 
-near_size : (size : ℕ) (o : Option ℕ) → size < 2 ^ 32 → Near 18 (number_tokens ESize size) (optional (number_tokens ESize) o)
+near_size : (size : ℕ) (o : Option ℕ) → size < 2 ^ 32
+    → Near 18 (number_tokens ESize size) (optional (number_tokens ESize) o)
 unfolding number_tokens
 near_size size o low =
     near_inserted 18 (number_tokens ESize size)
@@ -71,11 +80,13 @@ near_size size o low =
     let most = text_most p ESize (decimal size) in
     omega (arith, digits, most))
 
-near_children : (size : ℕ) (meta : Meta) → size < 2 ^ 32 → Near 18 (meta_children (record meta { size = Some size })) (meta_children meta)
+near_children : (size : ℕ) (meta : Meta) → size < 2 ^ 32
+    → Near 18 (meta_children (record meta { size = Some size })) (meta_children meta)
 near_children size meta low =
     near_then (near_then (near_then (near_then (near_then (near_behind _ (near_size size meta.size low)) _) _) _) _) _
 
-near_meta : (size : ℕ) (meta : Meta) → size < 2 ^ 32 → Near 19 (meta_tokens (record meta { size = Some size })) (meta_tokens meta)
+near_meta : (size : ℕ) (meta : Meta) → size < 2 ^ 32
+    → Near 19 (meta_tokens (record meta { size = Some size })) (meta_tokens meta)
 unfolding meta_tokens
 near_meta size meta low = near_element _ _ EMeta (near_children size meta low)
 
@@ -86,7 +97,8 @@ no_meta_most p =
     let whole = one_more p (Tag EMeta false) [] in
     omega (arith, tag, whole)
 
-near_sized : (size : ℕ) (o : Option Meta) → size < 2 ^ 32 → Near 26 (optional meta_tokens (with_size size o)) (optional meta_tokens o)
+near_sized : (size : ℕ) (o : Option Meta) → size < 2 ^ 32
+    → Near 26 (optional meta_tokens (with_size size o)) (optional meta_tokens o)
 near_sized size None low =
     near_inserted 26 (meta_tokens (record no_meta { size = Some size }))
     (λ p.
@@ -110,7 +122,8 @@ unfolding item_tokens
 near_part_item begun i low =
     near_element _ _ EItem
     (near_append
-    (near_append (near_behind (optional (loc_tokens ETarget) i.target ++ optional (loc_tokens ESource) i.source) (near_part_meta begun i low))
+    (near_append (near_behind (optional (loc_tokens ETarget) i.target ++ optional (loc_tokens ESource) i.source)
+    (near_part_meta begun i low))
     (near_value (Some (take 1 (bytes_in i.value))) (one_most (bytes_in i.value))))
     (near_more_data i.more))
 
@@ -135,7 +148,8 @@ not_longer n ids low few = record { low = omega (arith, low, few); ten_digits = 
 bare_most : (f : Item → Item) (p n : ℕ) (e : Entry) → IsReady e → n ≤ 70000 → NearItem 43 f (cut_item e.command)
     → length (spelled p (command_tokens (with_numbers n (cut_changed f e.command)))) ≤ 1045
 bare_most f p n e ready low item =
-    let near = (near_command 43 f n 1000000000 e.command (not_longer n (ids_in e.command) low (few_ids e ready)) item).at p 0 in
+    let near =
+    (near_command 43 f n 1000000000 e.command (not_longer n (ids_in e.command) low (few_ids e ready)) item).at p 0 in
     let way = gap_most p 0 in
     let short = ready.short in
     let most = few_most e.command in
@@ -190,7 +204,8 @@ pub record HasRoom (h : Header) (before : List Command) : Type 0 where
   pub front : front_length h before ≤ 859
   pub ids : ids_of before ≤ 250
 
-fits_more : (h : Header) (room : ℕ) (before : List Command) (c : Command) → HasRoom h before → 2048 ≤ room → ids_in c ≤ 1000
+fits_more : (h : Header) (room : ℕ) (before : List Command) (c : Command) → HasRoom h before → 2048 ≤ room
+    → ids_in c ≤ 1000
     → length (spelled (front_page before) (command_tokens (with_numbers (1 + ids_of before) c))) ≤ 1045
     → fits h room (before ++ c ∷ []) ≡ true
 fits_more h room before c has most few short =
@@ -207,13 +222,15 @@ greatest_by p k false h = h
 some_greatest : (p : ℕ → Bool) (most : ℕ) → 0 < most → p 1 ≡ true → 0 < greatest p most
 some_greatest p zero some one = absurd (omega (arith, some))
 some_greatest p (suc zero) some one = rw one (omega arith)
-some_greatest p (suc (suc k)) some one = greatest_by p (suc k) (p (suc (suc k))) (some_greatest p (suc k) (omega arith) one)
+some_greatest p (suc (suc k)) some one =
+    greatest_by p (suc k) (p (suc (suc k))) (some_greatest p (suc k) (omega arith) one)
 
 abbrev Moves : Header → ℕ → List Command → Entry → List Entry → Type 0
 Moves h room before e es =
     (0 < taken h room before (e ∷ es)) ⊎ ((taken h room before (e ∷ es) ≡ 0) × (0 < cut h room before (e ∷ es)))
 
-a_part : (h : Header) (room : ℕ) (before : List Command) (e : Entry) (es : List Entry) → HasRoom h before → 2048 ≤ room → IsReady e
+a_part : (h : Header) (room : ℕ) (before : List Command) (e : Entry) (es : List Entry) → HasRoom h before → 2048 ≤ room
+    → IsReady e
     → 1 < data_left e → 0 < cut h room before (e ∷ es)
 a_part h room before e es has most ready more =
     some_greatest (λ n. fits h room (before ++ part_of e n ∷ [])) (data_left e - 1) (omega (arith, more))
@@ -225,23 +242,28 @@ more_left : (h : Header) (room : ℕ) (before : List Command) (e : Entry) → Ha
     → fits h room (before ++ e.command ∷ []) ≡ false → (t : Bool) → nat_le (data_left e) 1 ≡ t → 1 < data_left e
 more_left h room before e has most ready not_fit true few =
     let fit = fits_more h room before e.command has most (few_ids e ready)
-    (whole_most (front_page before) (1 + ids_of before) e ready (let ids = has.ids in omega (arith, ids)) (leb-true (data_left e) 1 few)) in
+    (whole_most (front_page before) (1 + ids_of before) e ready (let ids = has.ids in omega (arith, ids))
+    (leb-true (data_left e) 1 few)) in
     absurd (cc)
 more_left h room before e has most ready not_fit false many = leb-false (data_left e) 1 many
 
-moves_by : (h : Header) (room : ℕ) (before : List Command) (e : Entry) (es : List Entry) → HasRoom h before → 2048 ≤ room → IsReady e
+moves_by : (h : Header) (room : ℕ) (before : List Command) (e : Entry) (es : List Entry) → HasRoom h before
+    → 2048 ≤ room → IsReady e
     → (t : Bool) → fits h room (before ++ e.command ∷ []) ≡ t → Moves h room before e es
 moves_by h room before e es has most ready true fit =
     inl (let is = taken_one h room before e es fit in omega (arith, is))
 moves_by h room before e es has most ready false fit =
     inr (
       taken_none h room before e es fit,
-      a_part h room before e es has most ready (more_left h room before e has most ready fit (nat_le (data_left e) 1) refl),
+      a_part h room before e es has most ready
+          (more_left h room before e has most ready fit (nat_le (data_left e) 1) refl),
     )
 
-moves : (h : Header) (room : ℕ) (before : List Command) (e : Entry) (es : List Entry) → HasRoom h before → 2048 ≤ room → IsReady e
+moves : (h : Header) (room : ℕ) (before : List Command) (e : Entry) (es : List Entry) → HasRoom h before → 2048 ≤ room
+    → IsReady e
     → Moves h room before e es
-moves h room before e es has most ready = moves_by h room before e es has most ready (fits h room (before ++ e.command ∷ [])) refl
+moves h room before e es has most ready =
+    moves_by h room before e es has most ready (fits h room (before ++ e.command ∷ [])) refl
 
 -- ---- the first entry
 
@@ -260,7 +282,8 @@ the_first_goes_out e es h room heard ready header most =
 
 -- ---- the second
 
-short_front : (h : Header) (c : Command) → IsReadyHeader h → length (spelled 0 (command_tokens (with_numbers 1 c))) ≤ 250
+short_front : (h : Header) (c : Command) → IsReadyHeader h
+    → length (spelled 0 (command_tokens (with_numbers 1 c))) ≤ 250
     → front_length h (c ∷ []) ≤ 859
 unfolding front_page commands_tokens
 short_front h c ready short =
@@ -268,7 +291,8 @@ short_front h c ready short =
     let front = bare_front h ready in
     omega (arith, is, front, short)
 
-short_room : (h : Header) (c : Command) → IsReadyHeader h → length (spelled 0 (command_tokens (with_numbers 1 c))) ≤ 250 → HasRoom h (c ∷ [])
+short_room : (h : Header) (c : Command) → IsReadyHeader h → length (spelled 0 (command_tokens (with_numbers 1 c))) ≤ 250
+    → HasRoom h (c ∷ [])
 short_room h c ready short =
     record {
       front = short_front h c ready short;

@@ -1,16 +1,23 @@
 -- Statuses, Results and Alerts of bounded texts can be sent.
-use Rattle.std.proofs.Common.{◌≡◌, ◌<◌, ◌≤◌, ◌+◌, ◌^◌, ℕ, Bool, true, false, not, List, [], ◌∷◌, length, Option, Some, None, refl, sym, ap, subst, arith}
+use Rattle.std.proofs.Common.{◌≡◌, ◌<◌, ◌≤◌, ◌+◌, ◌^◌, ℕ, Bool, true, false, not, List, [], ◌∷◌, length, Option, Some}
+use Rattle.std.proofs.Common.{None, refl, sym, ap, subst, arith}
 use Rattle.std.specs.Prelude.{⊤}
 use Rattle.std.specs.List.{list_all}
 use Rattle.std.proofs.lemmas.Bool.{le-leb, ne_eqb}
 use Rattle.wbxml_tables.specs.declared.Element.{Element}
-use Rattle.wbxml_tables.specs.declared.Element.TheVariants.{EAlert, EChal, ECmd, ECmdID, ECmdRef, EData, EFormat, EItem, ELocURI, EMeta, EMsgRef, ENextNonce, EResults, ESource, EStatus, ETargetRef, EType}
+use Rattle.wbxml_tables.specs.declared.Element.TheVariants.{EAlert, EChal, ECmd, ECmdID, ECmdRef, EData, EFormat, EItem}
+use Rattle.wbxml_tables.specs.declared.Element.TheVariants.{ELocURI, EMeta, EMsgRef, ENextNonce, EResults, ESource}
+use Rattle.wbxml_tables.specs.declared.Element.TheVariants.{EStatus, ETargetRef, EType}
 use Rattle.syncml_types.specs.declared.values.Meta.{Meta}
 use Rattle.syncml_types.specs.declared.values.Item.{Item}
 use Rattle.syncml_types.specs.declared.command.Command.{Command}
 use Rattle.syncml_types.specs.declared.command.Command.TheVariants as command
-use Rattle.syncml_types.specs.Canonical.{is_text, optional, text_tokens, flag_tokens, loc_tokens, meta_tokens, chal_tokens, item_tokens, items_tokens, texts_tokens, alert_tokens, status_tokens, results_tokens, command_tokens}
-use Rattle.syncml_types.specs.Fitness.{all_of, is_short, is_number, loc_texts, meta_texts, item_texts, item_data, alert_texts, status_texts, results_texts, command_texts, command_data, command_numbers, command_filled, command_correlates}
+use Rattle.syncml_types.specs.Canonical.{is_text, optional, text_tokens, flag_tokens, loc_tokens, meta_tokens}
+use Rattle.syncml_types.specs.Canonical.{chal_tokens, item_tokens, items_tokens, texts_tokens, alert_tokens}
+use Rattle.syncml_types.specs.Canonical.{status_tokens, results_tokens, command_tokens}
+use Rattle.syncml_types.specs.Fitness.{all_of, is_short, is_number, loc_texts, meta_texts, item_texts, item_data}
+use Rattle.syncml_types.specs.Fitness.{alert_texts, status_texts, results_texts, command_texts, command_data}
+use Rattle.syncml_types.specs.Fitness.{command_numbers, command_filled, command_correlates}
 use Rattle.syncml_types.specs.Numbering.{with_numbers}
 use Rattle.dm_pack.specs.Entries.{IsReady, fresh, no_meta}
 use Rattle.dm_pack.proofs.Fit.{both}
@@ -46,18 +53,21 @@ short_passes = record { pass = λ t text few. le-leb (length t) 2147483648 (omeg
 pass_text : (test : List ℕ → Bool) (most : ℕ) (t : List ℕ) → Passes test → most ≤ 1000 → IsText most t → test t ≡ true
 pass_text test most t passes within is = let few = is.few in passes.pass t is.text (omega (arith, few, within))
 
-pass_optional : (test : List ℕ → Bool) (most : ℕ) (o : Option (List ℕ)) → Passes test → most ≤ 1000 → IsOptional most o → all_of test o ≡ true
+pass_optional : (test : List ℕ → Bool) (most : ℕ) (o : Option (List ℕ)) → Passes test → most ≤ 1000 → IsOptional most o
+    → all_of test o ≡ true
 pass_optional test most None passes within is = refl
 pass_optional test most (Some t) passes within is = pass_text test most t passes within is
 
-pass_one : (test : List ℕ → Bool) (most : ℕ) (ts : List (List ℕ)) → Passes test → most ≤ 1000 → IsOneAtMost most ts → list_all test ts ≡ true
+pass_one : (test : List ℕ → Bool) (most : ℕ) (ts : List (List ℕ)) → Passes test → most ≤ 1000 → IsOneAtMost most ts
+    → list_all test ts ≡ true
 pass_one test most [] passes within is = refl
 pass_one test most (t ∷ []) passes within is = both (test t) true (pass_text test most t passes within is) refl
 pass_one test most (t ∷ u ∷ ts) passes within is = absurd is
 
 -- ---- lengths
 
-most_optional : (most : ℕ) (e : Element) (o : Option (List ℕ)) → IsOptional most o → Most (most + 6) (optional (text_tokens e) o)
+most_optional : (most : ℕ) (e : Element) (o : Option (List ℕ)) → IsOptional most o
+    → Most (most + 6) (optional (text_tokens e) o)
 most_optional most e None is = record { at = λ p. omega arith }
 most_optional most e (Some t) is = most_text most e t is.few
 
@@ -69,7 +79,8 @@ most_one most e (t ∷ []) is =
     record { at = λ p. let most = whole.at p in omega (arith, most) }
 most_one most e (t ∷ u ∷ ts) is = absurd is
 
-most_source : (most : ℕ) (uri : List ℕ) → IsText most uri → Most (most + 10) (loc_tokens ESource (record { uri = uri; name = None }))
+most_source : (most : ℕ) (uri : List ℕ) → IsText most uri
+    → Most (most + 10) (loc_tokens ESource (record { uri = uri; name = None }))
 unfolding loc_tokens
 most_source most uri is =
     let inside = most_parent ESource (most_append (most_text most ELocURI uri is.few) none) in
@@ -94,7 +105,8 @@ abbrev pub IsChal : Option Meta → Type 0
 IsChal None = ⊤
 IsChal (Some m) = IsChalMeta m
 
-three_pass : (test : List ℕ → Bool) (format media nonce : List ℕ) → test format ≡ true → test media ≡ true → test nonce ≡ true
+three_pass : (test : List ℕ → Bool) (format media nonce : List ℕ) → test format ≡ true → test media ≡ true
+    → test nonce ≡ true
     → meta_texts test (chal format media nonce) ≡ true
 unfolding meta_texts
 three_pass test format media nonce f t n = rw (f, t, n) refl
@@ -104,46 +116,73 @@ chal_pass test None passes is = refl
 chal_pass test (Some m) passes is =
     subst (λ x. meta_texts test x ≡ true) (sym is.is)
     (three_pass test is.format is.media is.nonce (pass_text test 20 is.format passes (omega arith) is.format_text)
-    (pass_text test 40 is.media passes (omega arith) is.media_text) (pass_text test 40 is.nonce passes (omega arith) is.nonce_text))
+    (pass_text test 40 is.media passes (omega arith) is.media_text)
+    (pass_text test 40 is.nonce passes (omega arith) is.nonce_text))
 
-most_meta : (format media nonce : List ℕ) → IsText 20 format → IsText 40 media → IsText 40 nonce → Most 130 (chal_tokens (chal format media nonce))
+most_meta : (format media nonce : List ℕ) → IsText 20 format → IsText 40 media → IsText 40 nonce
+    → Most 130 (chal_tokens (chal format media nonce))
 unfolding chal_tokens meta_tokens
 most_meta format media nonce f t n =
     let meta = most_element _ EMeta
-    (most_append (most_append (most_append (most_append (most_append (most_append (most_append (most_text 20 EFormat format f.few) (most_text 40 EType media t.few)) none) (most_text 40 ENextNonce nonce n.few)) none) none) none) none) in
+    (most_append
+    (most_append
+    (most_append
+    (most_append
+    (most_append (most_append (most_append (most_text 20 EFormat format f.few) (most_text 40 EType media t.few)) none)
+    (most_text 40 ENextNonce nonce n.few)) none) none) none) none) in
     let inside = most_parent EChal meta in
     record { at = λ p. let most = inside.at p in omega (arith, most) }
 
 most_chal : (o : Option Meta) → IsChal o → Most 130 (optional chal_tokens o)
 most_chal None is = record { at = λ p. omega arith }
 most_chal (Some m) is =
-    subst (λ x. Most 130 (chal_tokens x)) (sym is.is) (most_meta is.format is.media is.nonce is.format_text is.media_text is.nonce_text)
+    subst (λ x. Most 130 (chal_tokens x)) (sym is.is)
+    (most_meta is.format is.media is.nonce is.format_text is.media_text is.nonce_text)
 
 abbrev pub status : ℕ → ℕ → List ℕ → List (List ℕ) → Option Meta → ℕ → Command
 status msg ref cmd targets challenge code =
-    command.Status (record { id = 0; msg_ref = msg; cmd_ref = ref; cmd = cmd; target_refs = targets; source_refs = []; chal = challenge; code = code; items = [] })
+    command.Status (record {
+      id = 0;
+      msg_ref = msg;
+      cmd_ref = ref;
+      cmd = cmd;
+      target_refs = targets;
+      source_refs = [];
+      chal = challenge;
+      code = code;
+      items = [];
+    })
 
-most_status : (msg ref : ℕ) (cmd : List ℕ) (targets : List (List ℕ)) (challenge : Option Meta) (code : ℕ) → msg < 2 ^ 32 → ref < 2 ^ 32 → IsText 20 cmd
+most_status : (msg ref : ℕ) (cmd : List ℕ) (targets : List (List ℕ)) (challenge : Option Meta) (code : ℕ) → msg < 2 ^ 32
+    → ref < 2 ^ 32 → IsText 20 cmd
     → IsOneAtMost 255 targets → IsChal challenge → code < 2 ^ 32
     → Most 485 (command_tokens (with_numbers 1000000000 (status msg ref cmd targets challenge code)))
 unfolding command_tokens with_numbers status_tokens texts_tokens items_tokens
 most_status msg ref cmd targets challenge code m r c t h k =
     let inside = most_append (most_append (most_append (most_append (most_append (most_append (most_append (most_append
-    (most_number ECmdID 1000000000 (omega arith)) (most_number EMsgRef msg m)) (most_number ECmdRef ref r)) (most_text 20 ECmd cmd c.few))
+    (most_number ECmdID 1000000000 (omega arith)) (most_number EMsgRef msg m)) (most_number ECmdRef ref r))
+    (most_text 20 ECmd cmd c.few))
     (most_one 255 ETargetRef targets t)) none) (most_chal challenge h)) (most_number EData code k)) none in
     record { at = λ p. let most = (most_parent EStatus inside).at p in omega (arith, most) }
 
-status_pass : (test : List ℕ → Bool) (msg ref : ℕ) (cmd : List ℕ) (targets : List (List ℕ)) (challenge : Option Meta) (code : ℕ) → Passes test → IsText 20 cmd
+status_pass : (test : List ℕ → Bool) (msg ref : ℕ) (cmd : List ℕ) (targets : List (List ℕ)) (challenge : Option Meta)
+    (code : ℕ) → Passes test → IsText 20 cmd
     → IsOneAtMost 255 targets → IsChal challenge → command_texts test (status msg ref cmd targets challenge code) ≡ true
 unfolding command_texts status_texts
 status_pass test msg ref cmd targets challenge code passes c t h =
-    rw (pass_text test 20 cmd passes (omega arith) c, pass_one test 255 targets passes (omega arith) t, chal_pass test challenge passes h) refl
+    rw (
+      pass_text test 20 cmd passes (omega arith) c,
+      pass_one test 255 targets passes (omega arith) t,
+      chal_pass test challenge passes h,
+    ) refl
 
 some_number : (n : ℕ) → 0 < n → is_number n ≡ true
 some_number n some = ap not (ne_eqb n 0 (λ e. omega (arith, e, some)))
 
-pub status_ready : (msg ref : ℕ) (cmd : List ℕ) (targets : List (List ℕ)) (challenge : Option Meta) (code : ℕ) → 0 < msg → msg < 2 ^ 32 → ref < 2 ^ 32
-    → IsText 20 cmd → IsOneAtMost 255 targets → IsChal challenge → code < 2 ^ 32 → IsReady (fresh (status msg ref cmd targets challenge code))
+pub status_ready : (msg ref : ℕ) (cmd : List ℕ) (targets : List (List ℕ)) (challenge : Option Meta) (code : ℕ) → 0 < msg
+    → msg < 2 ^ 32 → ref < 2 ^ 32
+    → IsText 20 cmd → IsOneAtMost 255 targets → IsChal challenge → code < 2 ^ 32
+    → IsReady (fresh (status msg ref cmd targets challenge code))
 unfolding command_data command_numbers command_filled command_correlates with_numbers
 status_ready msg ref cmd targets challenge code some m r c t h k =
     record {
@@ -172,36 +211,61 @@ found_item uri format media value = record {
 
 abbrev pub results : ℕ → ℕ → Item → Command
 results msg ref i =
-    command.Results (record { id = 0; msg_ref = Some msg; cmd_ref = ref; meta = None; target_ref = None; source_ref = None; items = i ∷ [] })
+    command.Results (record {
+      id = 0;
+      msg_ref = Some msg;
+      cmd_ref = ref;
+      meta = None;
+      target_ref = None;
+      source_ref = None;
+      items = i ∷ [];
+    })
 
 most_found : (uri format : List ℕ) (media : Option (List ℕ)) → IsText 255 uri → IsText 20 format → IsOptional 255 media
     → Most 560 (item_tokens (found_item uri format media None))
 unfolding item_tokens flag_tokens meta_tokens
 most_found uri format media u f t =
     let meta = most_element _ EMeta
-    (most_append (most_append (most_append (most_append (most_append (most_append (most_append (most_text 20 EFormat format f.few) (most_optional 255 EType media t)) none) none) none) none) none) none) in
+    (most_append
+    (most_append
+    (most_append
+    (most_append
+    (most_append (most_append (most_append (most_text 20 EFormat format f.few) (most_optional 255 EType media t)) none)
+    none) none) none) none) none) in
     let inside = most_element _ EItem
     (most_append (most_append (most_append (most_append none (most_source 255 uri u)) meta) none) none) in
     record { at = λ p. let most = inside.at p in omega (arith, most) }
 
-most_results : (msg ref : ℕ) (uri format : List ℕ) (media value : Option (List ℕ)) → msg < 2 ^ 32 → ref < 2 ^ 32 → IsText 255 uri → IsText 20 format
-    → IsOptional 255 media → Most 612 (command_tokens (with_numbers 1000000000 (results msg ref (record (found_item uri format media value) { value = None }))))
+most_results : (msg ref : ℕ) (uri format : List ℕ) (media value : Option (List ℕ)) → msg < 2 ^ 32 → ref < 2 ^ 32
+    → IsText 255 uri → IsText 20 format
+    → IsOptional 255 media
+    → Most 612
+    (command_tokens (with_numbers 1000000000
+    (results msg ref (record (found_item uri format media value) { value = None }))))
 unfolding command_tokens with_numbers results_tokens items_tokens
 most_results msg ref uri format media value m r u f t =
     let inside = most_parent EResults
     (most_append (most_append (most_append (most_append (most_append (most_append
-    (most_number ECmdID 1000000000 (omega arith)) (most_number EMsgRef msg m)) (most_number ECmdRef ref r)) none) none) none)
+    (most_number ECmdID 1000000000 (omega arith)) (most_number EMsgRef msg m)) (most_number ECmdRef ref r)) none) none)
+    none)
     (most_append (most_found uri format media u f t) none)) in
     record { at = λ p. let most = inside.at p in omega (arith, most) }
 
-results_pass : (test : List ℕ → Bool) (msg ref : ℕ) (uri format : List ℕ) (media value : Option (List ℕ)) → Passes test → IsText 255 uri → IsText 20 format
+results_pass : (test : List ℕ → Bool) (msg ref : ℕ) (uri format : List ℕ) (media value : Option (List ℕ)) → Passes test
+    → IsText 255 uri → IsText 20 format
     → IsOptional 255 media → command_texts test (results msg ref (found_item uri format media value)) ≡ true
 unfolding command_texts results_texts item_texts loc_texts meta_texts
 results_pass test msg ref uri format media value passes u f t =
-    rw (pass_text test 255 uri passes (omega arith) u, pass_text test 20 format passes (omega arith) f, pass_optional test 255 media passes (omega arith) t) refl
+    rw (
+      pass_text test 255 uri passes (omega arith) u,
+      pass_text test 20 format passes (omega arith) f,
+      pass_optional test 255 media passes (omega arith) t,
+    ) refl
 
-pub results_ready : (msg ref : ℕ) (uri format : List ℕ) (media value : Option (List ℕ)) → 0 < msg → msg < 2 ^ 32 → ref < 2 ^ 32 → IsText 255 uri
-    → IsText 20 format → IsOptional 255 media → all_of is_short value ≡ true → IsReady (fresh (results msg ref (found_item uri format media value)))
+pub results_ready : (msg ref : ℕ) (uri format : List ℕ) (media value : Option (List ℕ)) → 0 < msg → msg < 2 ^ 32
+    → ref < 2 ^ 32 → IsText 255 uri
+    → IsText 20 format → IsOptional 255 media → all_of is_short value ≡ true
+    → IsReady (fresh (results msg ref (found_item uri format media value)))
 unfolding command_data command_numbers command_filled command_correlates with_numbers item_data
 results_ready msg ref uri format media value some m r u f t few =
     record {
@@ -221,28 +285,36 @@ results_ready msg ref uri format media value some m r u f t few =
 abbrev pub named_items : List (List ℕ) → List Item
 named_items [] = []
 named_items (uri ∷ uris) =
-    record { target = None; source = Some (record { uri = uri; name = None }); meta = None; value = None; more = false } ∷ named_items uris
+    record { target = None; source = Some (record { uri = uri; name = None }); meta = None; value = None; more = false }
+    ∷ named_items uris
 
 abbrev pub alert : ℕ → List (List ℕ) → Command
-alert code uris = command.Alert (record { id = 0; no_resp = false; code = code; correlator = None; items = named_items uris })
+alert code uris =
+    command.Alert (record { id = 0; no_resp = false; code = code; correlator = None; items = named_items uris })
 
 most_named : (uris : List (List ℕ)) → IsOneAtMost 255 uris → Most 269 (items_tokens (named_items uris))
 unfolding items_tokens item_tokens flag_tokens
 most_named [] is = record { at = λ p. omega arith }
 most_named (uri ∷ []) is =
-    let item = most_element _ EItem (most_append (most_append (most_append (most_append none (most_source 255 uri is)) none) none) none) in
+    let item =
+    most_element _ EItem
+    (most_append (most_append (most_append (most_append none (most_source 255 uri is)) none) none) none) in
     let whole = most_append item none in
     record { at = λ p. let most = whole.at p in omega (arith, most) }
 most_named (uri ∷ v ∷ uris) is = absurd is
 
-most_alert : (code : ℕ) (uris : List (List ℕ)) → code < 2 ^ 32 → IsOneAtMost 255 uris → Most 305 (command_tokens (with_numbers 1000000000 (alert code uris)))
+most_alert : (code : ℕ) (uris : List (List ℕ)) → code < 2 ^ 32 → IsOneAtMost 255 uris
+    → Most 305 (command_tokens (with_numbers 1000000000 (alert code uris)))
 unfolding command_tokens with_numbers alert_tokens flag_tokens
 most_alert code uris k is =
     let inside = most_parent EAlert
-    (most_append (most_append (most_append (most_append (most_number ECmdID 1000000000 (omega arith)) none) (most_number EData code k)) none) (most_named uris is)) in
+    (most_append
+    (most_append (most_append (most_append (most_number ECmdID 1000000000 (omega arith)) none)
+    (most_number EData code k)) none) (most_named uris is)) in
     record { at = λ p. let most = inside.at p in omega (arith, most) }
 
-named_pass : (test : List ℕ → Bool) (uris : List (List ℕ)) → Passes test → IsOneAtMost 255 uris → list_all (item_texts test) (named_items uris) ≡ true
+named_pass : (test : List ℕ → Bool) (uris : List (List ℕ)) → Passes test → IsOneAtMost 255 uris
+    → list_all (item_texts test) (named_items uris) ≡ true
 unfolding item_texts loc_texts
 named_pass test [] passes is = refl
 named_pass test (uri ∷ []) passes is = rw (pass_text test 255 uri passes (omega arith) is) refl
@@ -253,7 +325,8 @@ unfolding item_data
 named_data [] = refl
 named_data (uri ∷ uris) = named_data uris
 
-pub alert_ready : (code : ℕ) (uris : List (List ℕ)) → code < 2 ^ 32 → IsOneAtMost 255 uris → IsReady (fresh (alert code uris))
+pub alert_ready : (code : ℕ) (uris : List (List ℕ)) → code < 2 ^ 32 → IsOneAtMost 255 uris
+    → IsReady (fresh (alert code uris))
 unfolding command_texts alert_texts command_data command_numbers command_filled command_correlates with_numbers
 alert_ready code uris k is =
     record {

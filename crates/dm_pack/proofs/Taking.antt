@@ -1,5 +1,6 @@
 -- Entries taken from the front, one by one.
-use Rattle.std.proofs.Common.{◌≡◌, ◌≤◌, ◌+◌, ℕ, zero, suc, Bool, true, false, if◌then◌else◌, List, [], ◌∷◌, ◌++◌, length, take, drop, Some, None, refl, sym, ap, ◌∙◌, arith}
+use Rattle.std.proofs.Common.{◌≡◌, ◌≤◌, ◌+◌, ℕ, zero, suc, Bool, true, false, if◌then◌else◌, List, [], ◌∷◌, ◌++◌}
+use Rattle.std.proofs.Common.{length, take, drop, Some, None, refl, sym, ap, ◌∙◌, arith}
 use Rattle.std.proofs.Math.Seq.{take-add}
 use Rattle.std.proofs.lemmas.List.{drop_all}
 use Rattle.std.specs.List.{AllByRecursion}
@@ -27,14 +28,16 @@ pub commands_next : (es : List Entry) (at : ℕ) (e : Entry) (rest : List Entry)
 commands_next es at e rest is =
     ap commands_of (take-add at 1 es ∙ ap (λ l. take at es ++ take 1 l) is) ∙ map_append (take at es) (e ∷ [])
 
-was_within_by : (room : ℕ) (p q : Place) (t : Bool) → fits_at room p ≡ t → Some q ≡ (if t then Some p else None) → (q ≡ p) × (fits_at room p ≡ true)
+was_within_by : (room : ℕ) (p q : Place) (t : Bool) → fits_at room p ≡ t → Some q ≡ (if t then Some p else None)
+    → (q ≡ p) × (fits_at room p ≡ true)
 was_within_by room p q true e h = (let same : q ≡ p = cc in same, e)
 was_within_by room p q false e h = absurd (cc)
 
 pub was_within : (room : ℕ) (p q : Place) → Some q ≡ within room p → (q ≡ p) × (fits_at room p ≡ true)
 was_within room p q h = was_within_by room p q (fits_at room p) refl h
 
-was_not_by : (room : ℕ) (p : Place) (t : Bool) → fits_at room p ≡ t → None ≡ (if t then Some p else None) → fits_at room p ≡ false
+was_not_by : (room : ℕ) (p : Place) (t : Bool) → fits_at room p ≡ t → None ≡ (if t then Some p else None)
+    → fits_at room p ≡ false
 was_not_by room p true e h = absurd (cc)
 was_not_by room p false e h = e
 
@@ -42,7 +45,8 @@ pub was_not_within : (room : ℕ) (p : Place) → None ≡ within room p → fit
 was_not_within room p h = was_not_by room p (fits_at room p) refl h
 
 -- what holds where so many entries were taken
-pub record HasTaken (h : Header) (room : ℕ) (es : List Entry) (at : ℕ) (place : Place) (body : List Command) : Type 0 where
+pub record HasTaken (h : Header) (room : ℕ) (es : List Entry) (at : ℕ) (place : Place) (body : List Command) :
+    Type 0 where
   pub rest : at + taken h room (commands_of (take at es)) (drop at es) ≡ taken h room [] es
   pub place_is : place ≡ place_of h (commands_of (take at es))
   pub body_is : body ≡ numbered 1 (commands_of (take at es))
@@ -50,25 +54,29 @@ pub record HasTaken (h : Header) (room : ℕ) (es : List Entry) (at : ℕ) (plac
   pub next_is_low : place.next ≤ 1 + place.used
   pub ready : AllByRecursion IsReady (drop at es)
 
-pub taken_one : (h : Header) (room : ℕ) (cs : List Command) (e : Entry) (es : List Entry) → fits h room (cs ++ e.command ∷ []) ≡ true
+pub taken_one : (h : Header) (room : ℕ) (cs : List Command) (e : Entry) (es : List Entry)
+    → fits h room (cs ++ e.command ∷ []) ≡ true
     → taken h room cs (e ∷ es) ≡ suc (taken h room (cs ++ e.command ∷ []) es)
 taken_one h room cs e es fit = rw fit refl
 
-pub taken_none : (h : Header) (room : ℕ) (cs : List Command) (e : Entry) (es : List Entry) → fits h room (cs ++ e.command ∷ []) ≡ false
+pub taken_none : (h : Header) (room : ℕ) (cs : List Command) (e : Entry) (es : List Entry)
+    → fits h room (cs ++ e.command ∷ []) ≡ false
     → taken h room cs (e ∷ es) ≡ 0
 taken_none h room cs e es fit = rw fit refl
 
 fit_low : (room : ℕ) (p : Place) → fits_at room p ≡ true → p.used ≤ room
 fit_low room p h = let low = leb-true _ room h in omega (arith, low)
 
-pub all_rest : (xs : List Entry) (e : Entry) (rest : List Entry) → xs ≡ e ∷ rest → AllByRecursion IsReady xs → IsReady e × AllByRecursion IsReady rest
+pub all_rest : (xs : List Entry) (e : Entry) (rest : List Entry) → xs ≡ e ∷ rest → AllByRecursion IsReady xs
+    → IsReady e × AllByRecursion IsReady rest
 all_rest [] e rest is h = absurd (let long = ap length is in omega (arith, long))
 all_rest (x ∷ xs) e rest is h =
     let first : x ≡ e = cc in
     let others : xs ≡ rest = cc in
     (rw (sym first) h.0, rw (sym others) h.1)
 
-pub one_more : (h : Header) (room at : ℕ) (es : List Entry) (e : Entry) (place next : Place) (body later : List Command) → HasTaken h room es at place body
+pub one_more : (h : Header) (room at : ℕ) (es : List Entry) (e : Entry) (place next : Place) (body later : List Command)
+    → HasTaken h room es at place body
     → room ≤ 65536 → drop at es ≡ e ∷ drop (at + 1) es → Some next ≡ within room (behind place e.command)
     → later ≡ body ++ with_numbers place.next e.command ∷ [] → HasTaken h room es (at + 1) next later
 one_more h room at es e place next body later t most is some pushed =
@@ -86,7 +94,8 @@ one_more h room at es e place next body later t most is some pushed =
     let next_bound = next_low place e.command t.next_is_low in
     record {
       rest = omega (arith, one, same, before);
-      place_is = was.0 ∙ ap (λ p. behind p e.command) t.place_is ∙ behind_is h cs e.command ∙ ap (place_of h) (sym more);
+      place_is =
+          was.0 ∙ ap (λ p. behind p e.command) t.place_is ∙ behind_is h cs e.command ∙ ap (place_of h) (sym more);
       body_is =
           pushed
           ∙ ap (λ b. b ++ with_numbers place.next e.command ∷ []) t.body_is
@@ -98,24 +107,28 @@ one_more h room at es e place next body later t most is some pushed =
       ready = (all_rest (drop at es) e (drop (at + 1) es) is t.ready).1;
     }
 
-pub ended : (h : Header) (room at : ℕ) (es : List Entry) (e : Entry) (place : Place) (body : List Command) → HasTaken h room es at place body
+pub ended : (h : Header) (room at : ℕ) (es : List Entry) (e : Entry) (place : Place) (body : List Command)
+    → HasTaken h room es at place body
     → drop at es ≡ e ∷ drop (at + 1) es → None ≡ within room (behind place e.command) → at ≡ taken h room [] es
 ended h room at es e place body t is none =
     let cs = commands_of (take at es) in
     let fit : fits h room (cs ++ e.command ∷ []) ≡ false =
-    fits_next h room cs e.command ∙ ap (λ p. fits_at room (behind p e.command)) (sym t.place_is) ∙ was_not_within room (behind place e.command) none in
+    fits_next h room cs e.command ∙ ap (λ p. fits_at room (behind p e.command)) (sym t.place_is)
+    ∙ was_not_within room (behind place e.command) none in
     let stop = ap (taken h room cs) is ∙ taken_none h room cs e (drop (at + 1) es) fit in
     let before = t.rest in
     omega (arith, stop, before)
 
-pub all_taken : (h : Header) (room at : ℕ) (es : List Entry) (place : Place) (body : List Command) → HasTaken h room es at place body
+pub all_taken : (h : Header) (room at : ℕ) (es : List Entry) (place : Place) (body : List Command)
+    → HasTaken h room es at place body
     → length es ≤ at → at ≡ taken h room [] es
 all_taken h room at es place body t whole =
     let stop = ap (taken h room (commands_of (take at es))) (drop_all at es whole) in
     let before = t.rest in
     omega (arith, stop, before)
 
-pub none_yet : (h : Header) (room : ℕ) (es : List Entry) (place : Place) (body : List Command) → place ≡ place_of h [] → body ≡ []
+pub none_yet : (h : Header) (room : ℕ) (es : List Entry) (place : Place) (body : List Command) → place ≡ place_of h []
+    → body ≡ []
     → place.used ≤ 65536 → place.next ≤ 1 + place.used → AllByRecursion IsReady es → HasTaken h room es 0 place body
 none_yet h room es place body p b low next ready = record {
   rest = omega arith;
@@ -128,7 +141,8 @@ none_yet h room es place body p b low next ready = record {
 
 -- ---- what is sent is fit
 
-all_append : {A : Type 0} (P : A → Type 0) (xs ys : List A) → AllByRecursion P xs → AllByRecursion P ys → AllByRecursion P (xs ++ ys)
+all_append : {A : Type 0} (P : A → Type 0) (xs ys : List A) → AllByRecursion P xs → AllByRecursion P ys
+    → AllByRecursion P (xs ++ ys)
 all_append P [] ys h k = k
 all_append P (x ∷ xs) ys h k = (h.0, all_append P xs ys h.1 k)
 
@@ -157,5 +171,6 @@ pub message_fit : (h : Header) (es : List Entry) (whole n : ℕ) (t : Tail) → 
 message_fit h es whole n t fit all =
     numbered_fit h (commands_of (take whole es) ++ next_part n (drop whole es) ++ tail_commands t) fit
     (all_append IsFitCommand (commands_of (take whole es) ++ next_part n (drop whole es)) (tail_commands t)
-    (all_append IsFitCommand (commands_of (take whole es)) (next_part n (drop whole es)) (all_fit es whole all) (next_fit n (drop whole es) (all_behind es whole all)))
+    (all_append IsFitCommand (commands_of (take whole es)) (next_part n (drop whole es)) (all_fit es whole all)
+    (next_fit n (drop whole es) (all_behind es whole all)))
     (tail_fit t))

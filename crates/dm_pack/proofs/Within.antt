@@ -1,18 +1,23 @@
 -- No message is longer than the room.
-use Rattle.std.proofs.Common.{◌≡◌, ◌<◌, ◌≤◌, ◌+◌, ◌-◌, ◌^◌, ℕ, zero, suc, Bool, true, false, if◌then◌else◌, List, [], ◌∷◌, ◌++◌, length, length-append, min, take, drop, None, refl, sym, ap, ◌∙◌, arith, append_assoc}
+use Rattle.std.proofs.Common.{◌≡◌, ◌<◌, ◌≤◌, ◌+◌, ◌-◌, ◌^◌, ℕ, zero, suc, Bool, true, false, if◌then◌else◌, List, []}
+use Rattle.std.proofs.Common.{◌∷◌, ◌++◌, length, length-append, min, take, drop, None, refl, sym, ap, ◌∙◌, arith}
+use Rattle.std.proofs.Common.{append_assoc}
 use Rattle.std.proofs.lemmas.List.{append-nil}
 use Rattle.std.proofs.lemmas.Bool.{leb-true, le-leb}
 use Rattle.std.proofs.lemmas.Fmt.{length-decimal-le}
 use Rattle.std.specs.Fmt.{decimal}
 use Rattle.wbxml_tables.specs.declared.Element.{Element}
-use Rattle.wbxml_tables.specs.declared.Element.TheVariants.{EAlert, ENoResp, ECorrelator, ECmdID, EData, EFinal, ESyncML, ESyncBody}
+use Rattle.wbxml_tables.specs.declared.Element.TheVariants.{EAlert, ENoResp, ECorrelator, ECmdID, EData, EFinal}
+use Rattle.wbxml_tables.specs.declared.Element.TheVariants.{ESyncML, ESyncBody}
 use Rattle.wbxml_tables.specs.Tables.{page_of}
 use Rattle.wbxml_tokens.specs.declared.token.Token.{Token}
 use Rattle.wbxml_tokens.specs.declared.token.Token.TheVariants.{Tag, End, Text}
 use Rattle.wbxml_tokens.specs.Spelling.{token_bytes, page_after, spelled, page_behind}
 use Rattle.syncml_types.specs.declared.values.Header.{Header}
 use Rattle.syncml_types.specs.declared.command.Command.{Command}
-use Rattle.syncml_types.specs.Canonical.{canonical, optional, parent_tokens, text_tokens, number_tokens, flag_tokens, items_tokens, alert_tokens, command_tokens, commands_tokens, header_tokens, body_tokens, message_tokens}
+use Rattle.syncml_types.specs.Canonical.{canonical, optional, parent_tokens, text_tokens, number_tokens, flag_tokens}
+use Rattle.syncml_types.specs.Canonical.{items_tokens, alert_tokens, command_tokens, commands_tokens, header_tokens}
+use Rattle.syncml_types.specs.Canonical.{body_tokens, message_tokens}
 use Rattle.syncml_types.specs.Lengths.{head_tokens, up_to_most, spelled_length}
 use Rattle.syncml_types.specs.Numbering.{with_numbers}
 use Rattle.syncml_types.specs.Packing.{body_tag, tail_tokens}
@@ -21,7 +26,8 @@ use Rattle.dm_pack.specs.declared.place.Place.{Place}
 use Rattle.dm_pack.specs.declared.filled.Tail.{Tail}
 use Rattle.dm_pack.specs.declared.filled.Tail.TheVariants.{Final, NextMessage, Nothing}
 use Rattle.dm_pack.specs.Entries.{Entry, part_of, data_left}
-use Rattle.dm_pack.specs.Filling.{numbered, asks_next, fits, commands_of, taken, greatest, cut, next_part, next_rest, tail_of, tail_commands, is_final, fill, IsReadyHeader}
+use Rattle.dm_pack.specs.Filling.{numbered, asks_next, fits, commands_of, taken, greatest, cut, next_part, next_rest}
+use Rattle.dm_pack.specs.Filling.{tail_of, tail_commands, is_final, fill, IsReadyHeader}
 use Rattle.dm_pack.specs.Measures.{ids_of, front_length, front_page, end_length, tail_length}
 use Rattle.dm_pack.proofs.Numbers.{numbered_append, some_bytes}
 use Rattle.dm_pack.proofs.Measuring.{one_alone, fits_is, long_parted, long_measured, head_long}
@@ -42,10 +48,12 @@ tag_least_by false p t = omega arith
 pub tag_least : (p : ℕ) (e : Element) (content : Bool) → 1 ≤ length (token_bytes p (Tag e content))
 tag_least p e content = tag_least_by _ _ _
 
-pub apart : (p : ℕ) (a b : List Token) → length (spelled p (a ++ b)) ≡ length (spelled p a) + length (spelled (page_behind p a) b)
+pub apart : (p : ℕ) (a b : List Token)
+    → length (spelled p (a ++ b)) ≡ length (spelled p a) + length (spelled (page_behind p a) b)
 apart p a b = ap length (spelled_append p a b) ∙ length-append (spelled p a) (spelled (page_behind p a) b)
 
-pub one_more : (p : ℕ) (t : Token) (ts : List Token) → length (spelled p (t ∷ ts)) ≡ length (token_bytes p t) + length (spelled (page_after p t) ts)
+pub one_more : (p : ℕ) (t : Token) (ts : List Token)
+    → length (spelled p (t ∷ ts)) ≡ length (token_bytes p t) + length (spelled (page_after p t) ts)
 one_more p t ts = length-append (token_bytes p t) (spelled (page_after p t) ts)
 
 pub text_most : (p : ℕ) (e : Element) (v : List ℕ) → length (spelled p (text_tokens e v)) ≤ length v + 6
@@ -61,7 +69,8 @@ text_most p e (b ∷ bs) =
     let inside = length-append (b ∷ bs) (0 ∷ []) in
     omega (arith, tag, whole, text, inside)
 
-alert_children : (q : ℕ) (a b : List Token) (m n : ℕ) → ((p : ℕ) → length (spelled p a) ≤ m) → ((p : ℕ) → length (spelled p b) ≤ n)
+alert_children : (q : ℕ) (a b : List Token) (m n : ℕ) → ((p : ℕ) → length (spelled p a) ≤ m)
+    → ((p : ℕ) → length (spelled p b) ≤ n)
     → length (spelled q (a ++ [] ++ b ++ [] ++ [])) ≤ m + n
 alert_children q a b m n first second =
     let v = apart q (a ++ [] ++ b ++ []) [] in
@@ -72,7 +81,8 @@ alert_children q a b m n first second =
     let s = second (page_behind q (a ++ [])) in
     omega (arith, v, w, x, y, f, s)
 
-pub parent_most : (p : ℕ) (e : Element) (ts : List Token) (m : ℕ) → ((q : ℕ) → length (spelled q ts) ≤ m) → length (spelled p (parent_tokens e ts)) ≤ m + 4
+pub parent_most : (p : ℕ) (e : Element) (ts : List Token) (m : ℕ) → ((q : ℕ) → length (spelled q ts) ≤ m)
+    → length (spelled p (parent_tokens e ts)) ≤ m + 4
 parent_most p e ts m most =
     let tag = tag_most p e true in
     let whole = one_more p (Tag e true) (ts ++ End ∷ []) in
@@ -86,7 +96,8 @@ alert_most p n low =
     let id = length-decimal-le 10 n (omega arith) (omega (arith, low)) (omega (arith, low)) in
     let code = length-decimal-le 4 1222 (omega arith) (omega arith) (omega arith) in
     let most = parent_most p EAlert _ _
-    (λ q. alert_children q (text_tokens ECmdID (decimal n)) (text_tokens EData (decimal 1222)) (length (decimal n) + 6) (length (decimal 1222) + 6)
+    (λ q. alert_children q (text_tokens ECmdID (decimal n)) (text_tokens EData (decimal 1222)) (length (decimal n) + 6)
+    (length (decimal 1222) + 6)
     (λ r. text_most r ECmdID (decimal n)) (λ r. text_most r EData (decimal 1222))) in
     omega (arith, id, code, most)
 
@@ -96,7 +107,10 @@ two_tokens e ts = let sum = length-append ts (End ∷ []) in omega (arith, sum)
 alert_least : (p n : ℕ) → 2 ≤ length (spelled p (command_tokens (with_numbers n asks_next)))
 unfolding command_tokens with_numbers alert_tokens
 alert_least p n =
-    let tokens = two_tokens EAlert (number_tokens ECmdID n ++ flag_tokens ENoResp false ++ number_tokens EData 1222 ++ optional (text_tokens ECorrelator) None ++ items_tokens []) in
+    let tokens =
+    two_tokens EAlert
+    (number_tokens ECmdID n ++ flag_tokens ENoResp false ++ number_tokens EData 1222
+    ++ optional (text_tokens ECorrelator) None ++ items_tokens []) in
     let bytes = some_bytes p (command_tokens (with_numbers n asks_next)) in
     omega (arith, tokens, bytes)
 
@@ -135,11 +149,13 @@ end_least p n =
 
 -- ---- what stands at the end
 
-pub final_end : (p : Place) (n : ℕ) → n ≡ length (spelled p.page (tail_tokens true)) → n ≡ up_to_most (tail_length p Final)
+pub final_end : (p : Place) (n : ℕ) → n ≡ length (spelled p.page (tail_tokens true))
+    → n ≡ up_to_most (tail_length p Final)
 unfolding tail_length commands_tokens
 final_end p n is = let most = tail_most p.page true in omega (arith, is, most)
 
-pub next_end : (p : Place) (bytes n : ℕ) → bytes ≡ spelled_length 0 p.page (command_tokens (with_numbers p.next asks_next))
+pub next_end : (p : Place) (bytes n : ℕ)
+    → bytes ≡ spelled_length 0 p.page (command_tokens (with_numbers p.next asks_next))
     → n ≡ min (bytes + 2) (2 ^ 64 - 1) → n ≡ up_to_most (tail_length p NextMessage)
 unfolding tail_length
 next_end p bytes n is sum =
@@ -155,7 +171,8 @@ nothing_end p = let two = tail_open p.page in omega (arith, two)
 -- ---- a message without commands
 
 body_tag_most : (p : ℕ) → length (spelled p body_tag) ≤ 3
-body_tag_most p = let tag = tag_most p ESyncBody true in let whole = one_more p (Tag ESyncBody true) [] in omega (arith, tag, whole)
+body_tag_most p = let tag = tag_most p ESyncBody true in let whole = one_more p (Tag ESyncBody true) [] in
+    omega (arith, tag, whole)
 
 pub bare_front : (h : Header) → IsReadyHeader h → front_length h [] ≤ 609
 unfolding front_length commands_tokens
@@ -184,7 +201,8 @@ bare_body p false =
     let whole = one_more p (Tag ESyncBody false) [] in
     omega (arith, tag, whole)
 
-bare_message : (h : Header) (last : Bool) → IsReadyHeader h → length (canonical (record { header = h; body = []; last = last })) ≤ 614
+bare_message : (h : Header) (last : Bool) → IsReadyHeader h
+    → length (canonical (record { header = h; body = []; last = last })) ≤ 614
 unfolding canonical message_tokens
 bare_message h last ready =
     let whole = one_more 0 (Tag ESyncML true) ((header_tokens h ++ body_tokens [] last) ++ End ∷ []) in
@@ -196,19 +214,26 @@ bare_message h last ready =
 
 -- ---- what is taken fits
 
-taken_by : (h : Header) (room : ℕ) (before : List Command) (e : Entry) (es : List Entry) (t : Bool) → fits h room (before ++ e.command ∷ []) ≡ t
+taken_by : (h : Header) (room : ℕ) (before : List Command) (e : Entry) (es : List Entry) (t : Bool)
+    → fits h room (before ++ e.command ∷ []) ≡ t
     → fits h room before ≡ true
-    → (fits h room (before ++ e.command ∷ []) ≡ true → fits h room ((before ++ e.command ∷ []) ++ commands_of (take (taken h room (before ++ e.command ∷ []) es) es)) ≡ true)
-    → fits h room (before ++ commands_of (take (if t then suc (taken h room (before ++ e.command ∷ []) es) else 0) (e ∷ es))) ≡ true
+    → (fits h room (before ++ e.command ∷ []) ≡ true
+    → fits h room ((before ++ e.command ∷ []) ++ commands_of (take (taken h room (before ++ e.command ∷ []) es) es))
+    ≡ true)
+    → fits h room (before
+    ++ commands_of (take (if t then suc (taken h room (before ++ e.command ∷ []) es) else 0) (e ∷ es))) ≡ true
 taken_by h room before e es true is fit more =
-    ap (fits h room) (sym (append_assoc before (e.command ∷ []) (commands_of (take (taken h room (before ++ e.command ∷ []) es) es)))) ∙ more is
+    ap (fits h room)
+    (sym (append_assoc before (e.command ∷ []) (commands_of (take (taken h room (before ++ e.command ∷ []) es) es))))
+    ∙ more is
 taken_by h room before e es false is fit more = ap (fits h room) (append-nil before) ∙ fit
 
 taken_fits : (h : Header) (room : ℕ) (before : List Command) (es : List Entry) → fits h room before ≡ true
     → fits h room (before ++ commands_of (take (taken h room before es) es)) ≡ true
 taken_fits h room before [] fit = ap (fits h room) (append-nil before) ∙ fit
 taken_fits h room before (e ∷ es) fit =
-    taken_by h room before e es (fits h room (before ++ e.command ∷ [])) refl fit (λ is. taken_fits h room (before ++ e.command ∷ []) es is)
+    taken_by h room before e es (fits h room (before ++ e.command ∷ [])) refl fit
+    (λ is. taken_fits h room (before ++ e.command ∷ []) es is)
 
 passes_by : (p : ℕ → Bool) (k : ℕ) (t : Bool) → p (suc k) ≡ t → (0 < greatest p k → p (greatest p k) ≡ true)
     → 0 < (if t then suc k else greatest p k) → p (if t then suc k else greatest p k) ≡ true
@@ -219,7 +244,8 @@ pub greatest_passes : (p : ℕ → Bool) (most : ℕ) → 0 < greatest p most �
 greatest_passes p zero h = absurd (omega (arith, h))
 greatest_passes p (suc k) h = passes_by p k (p (suc k)) refl (greatest_passes p k) h
 
-part_by : (h : Header) (room : ℕ) (before : List Command) (e : Entry) (es : List Entry) (n : ℕ) → fits h room before ≡ true
+part_by : (h : Header) (room : ℕ) (before : List Command) (e : Entry) (es : List Entry) (n : ℕ)
+    → fits h room before ≡ true
     → (0 < n → fits h room (before ++ part_of e n ∷ []) ≡ true) → fits h room (before ++ next_part n (e ∷ es)) ≡ true
 part_by h room before e es zero fit passes = ap (fits h room) (append-nil before) ∙ fit
 part_by h room before e es (suc n) fit passes = passes (omega arith)
@@ -251,7 +277,8 @@ open_within h room cs fit =
     let three = tail_least (page_behind 0 (commands_tokens ns)) in
     omega (arith, measured, closed, opened, two, three)
 
-bare_within : (h : Header) (room : ℕ) (cs : List Command) (last : Bool) → IsReadyHeader h → 2048 ≤ room → fits h room cs ≡ true
+bare_within : (h : Header) (room : ℕ) (cs : List Command) (last : Bool) → IsReadyHeader h → 2048 ≤ room
+    → fits h room cs ≡ true
     → length (canonical (record { header = h; body = numbered 1 cs; last = last })) ≤ room
 unfolding fits front_length
 bare_within h room [] last ready most fit = let short = bare_message h last ready in omega (arith, short, most)
@@ -263,7 +290,8 @@ bare_within h room (c ∷ cs) last ready most fit =
     let tail = tail_most (page_behind 0 (commands_tokens (numbered 1 (c ∷ cs)))) last in
     omega (arith, low, measured, whole, end, tail)
 
-tail_within : (h : Header) (room : ℕ) (cs : List Command) (t : Tail) → IsReadyHeader h → 2048 ≤ room → fits h room cs ≡ true
+tail_within : (h : Header) (room : ℕ) (cs : List Command) (t : Tail) → IsReadyHeader h → 2048 ≤ room
+    → fits h room cs ≡ true
     → length (canonical (record { header = h; body = numbered 1 (cs ++ tail_commands t); last = is_final t })) ≤ room
 tail_within h room cs NextMessage ready most fit = open_within h room cs fit
 tail_within h room cs Final ready most fit =
@@ -271,7 +299,8 @@ tail_within h room cs Final ready most fit =
     let short = bare_within h room cs true ready most fit in
     omega (arith, same, short)
 tail_within h room cs Nothing ready most fit =
-    let same = ap (λ l. length (canonical (record { header = h; body = numbered 1 l; last = false }))) (append-nil cs) in
+    let same =
+    ap (λ l. length (canonical (record { header = h; body = numbered 1 l; last = false }))) (append-nil cs) in
     let short = bare_within h room cs false ready most fit in
     omega (arith, same, short)
 

@@ -1,12 +1,14 @@
 -- Entries that wait to be sent, the parts in which they go out, and what is left of them then.
-use Rattle.std.specs.Prelude.{◌≡◌, ◌-◌, ◌≤◌, ℕ, Bool, true, false, if◌then◌else◌, List, length, take, drop, Option, Some, None}
+use Rattle.std.specs.Prelude.{◌≡◌, ◌-◌, ◌≤◌, ℕ, Bool, true, false, if◌then◌else◌, List, length, take, drop, Option}
+use Rattle.std.specs.Prelude.{Some, None}
 use Rattle.wbxml_tokens.specs.Spelling.{spelled}
 use Rattle.syncml_types.specs.declared.values.Meta.{Meta}
 use Rattle.syncml_types.specs.declared.values.Item.{Item}
 use Rattle.syncml_types.specs.declared.command.Command.{Command}
 use Rattle.syncml_types.specs.declared.command.Command.TheVariants as command
 use Rattle.syncml_types.specs.Canonical.{is_text, command_tokens}
-use Rattle.syncml_types.specs.Fitness.{is_short, command_texts, command_data, command_numbers, command_filled, command_correlates}
+use Rattle.syncml_types.specs.Fitness.{is_short, command_texts, command_data, command_numbers, command_filled}
+use Rattle.syncml_types.specs.Fitness.{command_correlates}
 use Rattle.syncml_types.specs.Numbering.{with_numbers}
 use Rattle.syncml_types.specs.Packing.{cut_changed, cut_data, bytes_in}
 

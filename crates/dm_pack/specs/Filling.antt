@@ -1,6 +1,7 @@
--- One message packed from the entries that wait: as many from the front as fit, then a part of the next one where it may
--- be cut.
-use Rattle.std.specs.Prelude.{◌≡◌, ◌≤◌, ◌<◌, ◌+◌, ◌-◌, ℕ, zero, suc, Bool, true, false, if◌then◌else◌, List, [], ◌∷◌, ◌++◌, length, map, take, drop, None, nat_le}
+-- One message packed from the entries that wait: as many from the front as fit, then a part of the next one where it
+-- may be cut.
+use Rattle.std.specs.Prelude.{◌≡◌, ◌≤◌, ◌<◌, ◌+◌, ◌-◌, ℕ, zero, suc, Bool, true, false, if◌then◌else◌, List, [], ◌∷◌}
+use Rattle.std.specs.Prelude.{◌++◌, length, map, take, drop, None, nat_le}
 use Rattle.wbxml_tokens.specs.Spelling.{spelled}
 use Rattle.syncml_types.specs.declared.values.Header.{Header}
 use Rattle.syncml_types.specs.declared.command.Command.{Command}
@@ -93,7 +94,11 @@ fill es header room heard =
     let left = next_rest n next in
     let tail = tail_of left heard in
     record {
-      message = record { header = header; body = numbered 1 (before ++ next_part n next ++ tail_commands tail); last = is_final tail };
+      message = record {
+        header = header;
+        body = numbered 1 (before ++ next_part n next ++ tail_commands tail);
+        last = is_final tail;
+      };
       left = left;
       whole = whole;
       cut = n;

@@ -1,5 +1,6 @@
 -- What is kept while a message is packed: entries with their Data apart, and how far the message has come.
-use Rattle.std.specs.Prelude.{◌≡◌, ◌==◌, ◌<◌, ◌≤◌, ◌+◌, ℕ, Bool, true, not, if◌then◌else◌, List, [], ◌∷◌, length, drop, Option, Some, None, option_map, take, nat_le, ◌-◌}
+use Rattle.std.specs.Prelude.{◌≡◌, ◌==◌, ◌<◌, ◌≤◌, ◌+◌, ℕ, Bool, true, not, if◌then◌else◌, List, [], ◌∷◌, length, drop}
+use Rattle.std.specs.Prelude.{Option, Some, None, option_map, take, nat_le, ◌-◌}
 use Rattle.wbxml_tokens.specs.Spelling.{spelled, page_behind}
 use Rattle.wbxml_tables.specs.declared.Element.TheVariants.{ESize}
 use Rattle.syncml_types.specs.declared.values.Meta.{Meta}
@@ -43,7 +44,8 @@ size_told sent value = if sent == 0 then Some (length value) else None
 -- what a Meta costs in front of empty Data, the children but Size aside
 abbrev pub meta_cost : Option Meta → ℕ
 meta_cost None = 0
-meta_cost (Some meta) = if is_empty_meta meta then 1 else 6 + length (spelled 1 (optional (number_tokens ESize) meta.size))
+meta_cost (Some meta) =
+    if is_empty_meta meta then 1 else 6 + length (spelled 1 (optional (number_tokens ESize) meta.size))
 
 -- and with MoreData
 abbrev pub marks_cost : Item → ℕ
@@ -77,7 +79,8 @@ ids_of (c ∷ cs) = ids_in c + ids_of cs
 -- the bytes up to the end of its commands
 unfoldable pub front_length : Header → List Command → ℕ
 front_length h cs =
-    length (head_bytes h) + length (spelled (page_behind 0 (head_tokens h)) body_tag) + length (spelled 0 (commands_tokens (numbered 1 cs)))
+    length (head_bytes h) + length (spelled (page_behind 0 (head_tokens h)) body_tag)
+    + length (spelled 0 (commands_tokens (numbered 1 cs)))
 
 -- the page behind them
 unfoldable pub front_page : List Command → ℕ

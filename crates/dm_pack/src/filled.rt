@@ -8,13 +8,15 @@ ghost use Rattle.dm_pack.specs.Filling as Spec;
 ghost use Rattle.dm_pack.specs.Filling.{numbered, tail_commands, is_final, IsReadyHeader, CanBeTaken, fill as fill_of};
 
 use crate::fitting::{push_next, take_entries};
-use crate::headers::copy_header;
 use crate::place::asks_next;
 use crate::queue::Queue;
 use dm_base::{Bytes, List, Memory};
 use std::alloc::Global;
 use syncml_codec::encode_with_length;
 use syncml_types::{Command, Header, Message};
+
+// About as many bytes as a Status takes; where entries take fewer, the list of a message's commands grows.
+const ENTRY: usize = 64;
 
 /// What stands at the end of a message.
 #[derive(Clone, Copy, Debug, PartialEq, Eq)]
@@ -110,29 +112,28 @@ fn spelled(
 
 /// The message that is sent next: as many entries from the front as fit into `room` bytes, measured as if an Alert 1222
 /// and Final stood behind them, and a part of the next one where it may be cut, with the greatest number of bytes with
-/// which the message fits so, fewer than are left. It ends with Final where nothing is left and the other side's package
-/// has ended (`heard`), with an Alert 1222 where nothing is left and it hasn't, else with neither. Each entry is measured
-/// once, and nothing is made or spelled to be measured.
-pub fn fill(queue: &Queue, header: &Header, room: u64, heard: bool) -> Result<Filled, Memory>
+/// which the message fits so, fewer than are left. It ends with Final where nothing is left and the other side's
+/// package has ended (`heard`), with an Alert 1222 where nothing is left and it hasn't, else with neither. Each entry
+/// is measured once, and nothing is made or spelled to be measured.
+pub fn fill(queue: &Queue, header: Header, room: u64, heard: bool) -> Result<Filled, Memory>
     requires ready { AllByRecursion IsReady queue.now }
-    requires header { IsReadyHeader header.now }
+    requires header { IsReadyHeader header }
     requires room { (2048 ≤ room) × (room ≤ 65536) }
-    ensures message { IfOk result (λ f. f.message ≡ (fill_of queue.now header.now room heard).message) }
-    ensures bytes { IfOk result (λ f. f.bytes ≡ canonical (fill_of queue.now header.now room heard).message) }
-    ensures whole { IfOk result (λ f. f.whole ≡ (fill_of queue.now header.now room heard).whole) }
-    ensures cut { IfOk result (λ f. f.cut ≡ (fill_of queue.now header.now room heard).cut) }
-    ensures tail { IfOk result (λ f. f.tail ≡ (fill_of queue.now header.now room heard).tail) }
+    ensures message { IfOk result (λ f. f.message ≡ (fill_of queue.now header room heard).message) }
+    ensures bytes { IfOk result (λ f. f.bytes ≡ canonical (fill_of queue.now header room heard).message) }
+    ensures whole { IfOk result (λ f. f.whole ≡ (fill_of queue.now header room heard).whole) }
+    ensures cut { IfOk result (λ f. f.cut ≡ (fill_of queue.now header room heard).cut) }
+    ensures tail { IfOk result (λ f. f.tail ≡ (fill_of queue.now header room heard).tail) }
     ensures within { IfOk result (λ f. length f.bytes ≤ room) }
     ensures taken { IfOk result (λ f. CanBeTaken queue.now f.whole f.cut) }
 {
     let alloc = queue.alloc();
-    let header_copy = copy_header(alloc, header)?;
-    let mut body = List::new(alloc);
-    let taken = take_entries(queue, header, room, &mut body)?;
+    let mut body = List::with_room(alloc, queue.len().min(room as usize / ENTRY))?;
+    let taken = take_entries(queue, &header, room, &mut body)?;
     let (cut, place) = push_next(queue, taken, room, &mut body)?;
     let tail = tail_of(queue, taken.whole, heard);
     push_tail(alloc, tail, place.next, &mut body)?;
     let message_length = place.used.saturating_add(place.tail_length(alloc, tail));
-    let message = Message::of_parts(header_copy, body, is_final(tail));
+    let message = Message::of_parts(header, body, is_final(tail));
     spelled(alloc, message, message_length, taken.whole, cut, tail)
 }

@@ -6,7 +6,8 @@ ghost use Rattle.syncml_types.specs.Numbering.{with_numbers, ids_in};
 ghost use Rattle.syncml_types.specs.Packing as Packing;
 ghost use Rattle.dm_pack.specs.Entries.{IsReady, data_left, part_of};
 ghost use Rattle.dm_pack.specs.Filling.{IsReadyHeader, numbered, commands_of, taken, next_part};
-ghost use Rattle.dm_pack.specs.Measures.{place_of, behind_all, behind_hollow, hollow_next, greatest_within, greatest_with, greatest_at, cut_at};
+ghost use Rattle.dm_pack.specs.Measures.{place_of, behind_all, behind_hollow, hollow_next, greatest_within};
+ghost use Rattle.dm_pack.specs.Measures.{greatest_with, greatest_at, cut_at};
 
 use crate::place::{Place, end_length};
 use crate::queue::Queue;
@@ -15,8 +16,8 @@ use dm_base::{List, Memory};
 use std::alloc::Global;
 use syncml_types::{Command, Header, data_length};
 
-// How many entries a message holds whole, where it has come to with them, and where it comes to with the next one without
-// the Data that may be cut, which isn't measured again.
+// How many entries a message holds whole, where it has come to with them, and where it comes to with the next one
+// without the Data that may be cut, which isn't measured again.
 #[derive(Clone, Copy)]
 pub(crate) struct Taken {
     pub(crate) whole: usize,
@@ -24,8 +25,9 @@ pub(crate) struct Taken {
     pub(crate) hollow: Option<Place>,
 }
 
-// The greatest number of bytes from 1 on, fewer than all, that fit with their token, and how long the token is; 0 where none
-// does. A token is at least two bytes longer than the Data, and at most four in a message, so few numbers are tried.
+// The greatest number of bytes from 1 on, fewer than all, that fit with their token, and how long the token is; 0 where
+// none does. A token is at least two bytes longer than the Data, and at most four in a message, so few numbers are
+// tried.
 #[tactic(auto, using(crate::proofs::Greatest::from_below))]
 fn greatest_part(value: &[u8], budget: u64) -> (u64, u64)
     requires { IsShortData value.now }
@@ -130,8 +132,8 @@ fn push_bytes(
     body.push(entry.to_part(alloc, first, bytes as usize)?)
 }
 
-// Adds a part of an entry with as many bytes of its Data as fit, where that is one at least and fewer than all. It gives
-// the number, and where the message has come to.
+// Adds a part of an entry with as many bytes of its Data as fit, where that is one at least and fewer than all. It
+// gives the number, and where the message has come to.
 fn push_part(
     alloc: Global,
     place: Place,
@@ -183,7 +185,8 @@ pub(crate) fn push_next(
     requires low { (taken.place.used ≤ 65536) × (taken.place.next ≤ 1 + taken.place.used) }
     ensures number { IfOk result (λ r. r.0 ≡ cut_at taken.place room (drop taken.whole queue.now)) }
     ensures place { IfOk result (λ r. r.1 ≡ behind_all taken.place (next_part r.0 (drop taken.whole queue.now))) }
-    ensures body { IfOk result (λ r. body.new ≡ body.old ++ numbered taken.place.next (next_part r.0 (drop taken.whole queue.now))) }
+    ensures body { IfOk result
+        (λ r. body.new ≡ body.old ++ numbered taken.place.next (next_part r.0 (drop taken.whole queue.now))) }
     ensures low { IfOk result (λ r. r.1.next ≤ 70000) }
 {
     match taken.hollow {

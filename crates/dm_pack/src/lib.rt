@@ -4,7 +4,6 @@
 mod counting;
 pub mod filled;
 mod fitting;
-mod headers;
 pub mod laws;
 mod marks;
 mod place;

@@ -70,8 +70,8 @@ pub(crate) fn end_length(alloc: Global, page: u8, next: u32) -> u64
     bytes.saturating_add(final_length(behind))
 }
 
-// What Data costs beside an empty Data element, where there is room for it. Data that is longer than the room isn't looked
-// at.
+// What Data costs beside an empty Data element, where there is room for it. Data that is longer than the room isn't
+// looked at.
 #[tactic(auto, using(crate::proofs::Measuring::cost_none, crate::proofs::Measuring::cost_over, crate::proofs::Measuring::cost_under, crate::proofs::Measuring::cost_nothing, crate::proofs::Measuring::cost_of))]
 fn cost_within(value: &[u8], room: u64) -> Option<u64>
     requires { IsShortData value.now }

@@ -102,8 +102,8 @@ impl Queue {
         })
     }
 
-    /// Takes off what a message holds: the whole entries, and the part of the next one, which is begun then. It takes no
-    /// memory, and moves no Data and no entry that waits.
+    /// Takes off what a message holds: the whole entries, and the part of the next one, which is begun then. It takes
+    /// no memory, and moves no Data and no entry that waits.
     #[tactic(auto, unfolding(crate::specs::Filling::left_after))]
     pub fn commit(&mut self, filled: &Filled)
         requires { CanBeTaken self.old filled.now.whole filled.now.cut }

@@ -195,7 +195,8 @@ impl Waiting {
     pub(crate) fn hollow_length(&self, page: u8, first: u32) -> (u64, u8)
         requires fit { command_data is_short self.now.command ≡ true }
         requires room { first + ids_of_command self.now.command < 2 ^ 32 }
-        ensures length { result.0 ≡ spelled_length 0 page (command_tokens (with_numbers first (cut_changed hollow_item self.now.command))) }
+        ensures length { result.0
+            ≡ spelled_length 0 page (command_tokens (with_numbers first (cut_changed hollow_item self.now.command))) }
         ensures page { result.1 ≡ page_behind page (command_tokens (with_numbers first self.now.command)) }
     {
         numbered_length(page, first, &self.command)

@@ -5,7 +5,7 @@ ghost use Rattle.syncml_types.specs.declared.command.Member.TheVariants.{One};
 ghost use Rattle.dm_pack.specs.Entries.{IsReady, fresh, no_meta};
 ghost use Rattle.dm_pack.specs.Filling.{IsReadyHeader};
 
-use crate::tests::{add_first, add_statuses, header, pairs, queue_of, status, text};
+use crate::tests::{add_first, add_statuses, header, queue_of, repeated, status, text};
 use crate::{Filled, Queue, fill};
 use dm_base::{Bytes, List, Memory};
 use std::alloc::Global;
@@ -65,9 +65,9 @@ fn part_in(filled: &Filled) -> Option<Part> {
 }
 
 #[tactic(auto, using(crate::proofs::Left::what_is_left_is_ready))]
-fn sent_part(queue: &mut Queue, header: &Header) -> Result<Option<Part>, Memory>
+fn sent_part(queue: &mut Queue, header: Header) -> Result<Option<Part>, Memory>
     requires ready { AllByRecursion IsReady queue.old }
-    requires header { IsReadyHeader header.now }
+    requires header { IsReadyHeader header }
     ensures { AllByRecursion IsReady queue.new }
 {
     match fill(queue, header, 2048, true) {
@@ -86,12 +86,11 @@ fn three_parts(alloc: Global, queue: Queue) -> Result<[Option<Part>; 3], Memory>
     requires { AllByRecursion IsReady queue }
 {
     let mut queue = queue;
-    let header = header(alloc)?;
-    let first = sent_part(&mut queue, &header)?;
+    let first = sent_part(&mut queue, header(alloc)?)?;
     add_statuses(alloc, &mut queue, b"Alert")?;
-    let second = sent_part(&mut queue, &header)?;
+    let second = sent_part(&mut queue, header(alloc)?)?;
     add_statuses(alloc, &mut queue, b"Alert")?;
-    let third = sent_part(&mut queue, &header)?;
+    let third = sent_part(&mut queue, header(alloc)?)?;
     Ok([first, second, third])
 }
 
@@ -207,7 +206,7 @@ const FIRST: Part = Part {
 // Of 5,000 bytes the last 1,325 stand in the third message, without Size and MoreData.
 #[test]
 fn the_first_part_alone_tells_the_size(rt: HostRuntime) -> Result<(), Fail> {
-    let value = pairs(rt.alloc(), 2500, (b'a', b'a'))?;
+    let value = repeated(rt.alloc(), 2500, b"aa")?;
     assert!(rt; value.len() == 5000);
     let queue = queue_of(rt.alloc(), value)?;
     let [first, second, third] = three_parts(rt.alloc(), queue)?;
@@ -231,7 +230,7 @@ fn the_first_part_alone_tells_the_size(rt: HostRuntime) -> Result<(), Fail> {
 // A later part of a container holds the member alone whose Data goes on.
 #[test]
 fn a_cut_member_goes_on_alone(rt: HostRuntime) -> Result<(), Fail> {
-    let value = pairs(rt.alloc(), 2500, (b'a', b'a'))?;
+    let value = repeated(rt.alloc(), 2500, b"aa")?;
     assert!(rt; value.len() == 5000);
     let queue = queue_with_atomic(rt.alloc(), value)?;
     let [first, second, third] = three_parts(rt.alloc(), queue)?;

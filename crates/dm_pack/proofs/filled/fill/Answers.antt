@@ -1,4 +1,4 @@
-use Rattle.std.proofs.Common.{◌∙◌, sym, ap, arith, length}
+use Rattle.std.proofs.Common.{◌∙◌, refl, sym, ap, arith, length}
 use Rattle.dm_pack.proofs.Left.{fill_taken, same_taken}
 use Rattle.dm_pack.proofs.Within.{fill_within}
 use Rattle.syncml_types.specs.Canonical.{canonical}
@@ -10,7 +10,8 @@ use Rattle.dm_pack.proofs.filled.fill.Goals as goal
 
 pub of_parts-message-requires : goal.of_parts-message-requires
 of_parts-message-requires c =
-    packed_fit c.args.header.now c.in_ok-header_copy.header_copy c.args.queue.now c.args.room c.args.heard c.in_ok-taken.taken.whole c.in_ok-cut.cut c.in_ok-taken.taken.place c.in_ok-cut.place c.tail_of-tail.result
+    packed_fit c.args.header c.args.header c.args.queue.now c.args.room c.args.heard
+    c.in_ok-taken.taken.whole c.in_ok-cut.cut c.in_ok-taken.taken.place c.in_ok-cut.place c.tail_of-tail.result
     c.take_entries.new.body c.push_next.new.body c.push_tail.new.body
     (record {
       whole_is = c.in_ok-taken.ensures.whole;
@@ -22,12 +23,15 @@ of_parts-message-requires c =
       tail_there = c.tail_of-tail.ensures;
       body_is = c.in_ok-push_tail.ensures;
     })
-    c.in_ok-header_copy.ensures c.requires.header.fit c.requires.ready
+    refl c.requires.header.fit c.requires.ready
 
 pub spelled-requires : goal.spelled-requires
 spelled-requires c =
-    packed_length c.args.header.now c.in_ok-header_copy.header_copy c.args.queue.now c.args.room c.args.heard c.is_final.result c.in_ok-taken.taken.whole c.in_ok-cut.cut c.in_ok-taken.taken.place c.in_ok-cut.place c.tail_of-tail.result
-    c.take_entries.new.body c.push_next.new.body c.push_tail.new.body c.tail_length.result c.saturating_add-message_length.result
+    packed_length c.args.header c.args.header c.args.queue.now c.args.room c.args.heard
+    c.is_final.result c.in_ok-taken.taken.whole c.in_ok-cut.cut c.in_ok-taken.taken.place c.in_ok-cut.place
+    c.tail_of-tail.result
+    c.take_entries.new.body c.push_next.new.body c.push_tail.new.body c.tail_length.result
+    c.saturating_add-message_length.result
     (record {
       whole_is = c.in_ok-taken.ensures.whole;
       place_is = c.in_ok-taken.ensures.place;
@@ -38,12 +42,17 @@ spelled-requires c =
       tail_there = c.tail_of-tail.ensures;
       body_is = c.in_ok-push_tail.ensures;
     })
-    c.in_ok-header_copy.ensures c.is_final.ensures c.requires.ready c.requires.header c.requires.room.0 c.tail_length.ensures c.saturating_add-message_length.ensures
+    refl c.is_final.ensures c.requires.ready c.requires.header c.requires.room.0
+    c.tail_length.ensures c.saturating_add-message_length.ensures
     ∙ ap (λ m. up_to_most (length (canonical m))) (sym c.of_parts-message.ensures)
 
 pub returns-clause-message : goal.returns-clause-message
 returns-clause-message c =
-    let message = c.of_parts-message.ensures ∙ packed_message c.args.header.now c.in_ok-header_copy.header_copy c.args.queue.now c.args.room c.args.heard c.is_final.result c.in_ok-taken.taken.whole c.in_ok-cut.cut c.in_ok-taken.taken.place c.in_ok-cut.place c.tail_of-tail.result
+    let message =
+    c.of_parts-message.ensures
+    ∙ packed_message c.args.header c.args.header c.args.queue.now c.args.room c.args.heard
+    c.is_final.result c.in_ok-taken.taken.whole c.in_ok-cut.cut c.in_ok-taken.taken.place c.in_ok-cut.place
+    c.tail_of-tail.result
     c.take_entries.new.body c.push_next.new.body c.push_tail.new.body
     (record {
       whole_is = c.in_ok-taken.ensures.whole;
@@ -55,12 +64,16 @@ returns-clause-message c =
       tail_there = c.tail_of-tail.ensures;
       body_is = c.in_ok-push_tail.ensures;
     })
-    c.in_ok-header_copy.ensures c.is_final.ensures in
+    refl c.is_final.ensures in
     if_ok c.spelled.result _ _ (λ f h. h ∙ message) c.spelled.ensures.message
 
 pub returns-clause-bytes : goal.returns-clause-bytes
 returns-clause-bytes c =
-    let message = c.of_parts-message.ensures ∙ packed_message c.args.header.now c.in_ok-header_copy.header_copy c.args.queue.now c.args.room c.args.heard c.is_final.result c.in_ok-taken.taken.whole c.in_ok-cut.cut c.in_ok-taken.taken.place c.in_ok-cut.place c.tail_of-tail.result
+    let message =
+    c.of_parts-message.ensures
+    ∙ packed_message c.args.header c.args.header c.args.queue.now c.args.room c.args.heard
+    c.is_final.result c.in_ok-taken.taken.whole c.in_ok-cut.cut c.in_ok-taken.taken.place c.in_ok-cut.place
+    c.tail_of-tail.result
     c.take_entries.new.body c.push_next.new.body c.push_tail.new.body
     (record {
       whole_is = c.in_ok-taken.ensures.whole;
@@ -72,12 +85,16 @@ returns-clause-bytes c =
       tail_there = c.tail_of-tail.ensures;
       body_is = c.in_ok-push_tail.ensures;
     })
-    c.in_ok-header_copy.ensures c.is_final.ensures in
+    refl c.is_final.ensures in
     if_ok c.spelled.result _ _ (λ f h. h ∙ ap canonical message) c.spelled.ensures.bytes
 
 pub returns-clause-within : goal.returns-clause-within
 returns-clause-within c =
-    let message = c.of_parts-message.ensures ∙ packed_message c.args.header.now c.in_ok-header_copy.header_copy c.args.queue.now c.args.room c.args.heard c.is_final.result c.in_ok-taken.taken.whole c.in_ok-cut.cut c.in_ok-taken.taken.place c.in_ok-cut.place c.tail_of-tail.result
+    let message =
+    c.of_parts-message.ensures
+    ∙ packed_message c.args.header c.args.header c.args.queue.now c.args.room c.args.heard
+    c.is_final.result c.in_ok-taken.taken.whole c.in_ok-cut.cut c.in_ok-taken.taken.place c.in_ok-cut.place
+    c.tail_of-tail.result
     c.take_entries.new.body c.push_next.new.body c.push_tail.new.body
     (record {
       whole_is = c.in_ok-taken.ensures.whole;
@@ -89,13 +106,17 @@ returns-clause-within c =
       tail_there = c.tail_of-tail.ensures;
       body_is = c.in_ok-push_tail.ensures;
     })
-    c.in_ok-header_copy.ensures c.is_final.ensures in
-    let short = fill_within c.args.header.now c.args.queue.now c.args.room c.args.heard c.requires.header c.requires.room.0 in
-    if_ok c.spelled.result _ _ (λ f h. let same = ap length (h ∙ ap canonical message) in omega (arith, same, short)) c.spelled.ensures.bytes
+    refl c.is_final.ensures in
+    let short =
+    fill_within c.args.header c.args.queue.now c.args.room c.args.heard c.requires.header c.requires.room.0 in
+    if_ok c.spelled.result _ _ (λ f h. let same = ap length (h ∙ ap canonical message) in omega (arith, same, short))
+    c.spelled.ensures.bytes
 
 pub returns-clause-whole : goal.returns-clause-whole
 returns-clause-whole c =
-    let same = packed c.args.header.now c.args.queue.now c.args.room c.args.heard c.in_ok-taken.taken.whole c.in_ok-cut.cut c.in_ok-taken.taken.place c.in_ok-cut.place c.tail_of-tail.result
+    let same =
+    packed c.args.header c.args.queue.now c.args.room c.args.heard c.in_ok-taken.taken.whole c.in_ok-cut.cut
+    c.in_ok-taken.taken.place c.in_ok-cut.place c.tail_of-tail.result
     c.take_entries.new.body c.push_next.new.body c.push_tail.new.body
     (record {
       whole_is = c.in_ok-taken.ensures.whole;
@@ -111,7 +132,9 @@ returns-clause-whole c =
 
 pub returns-clause-cut : goal.returns-clause-cut
 returns-clause-cut c =
-    let same = packed c.args.header.now c.args.queue.now c.args.room c.args.heard c.in_ok-taken.taken.whole c.in_ok-cut.cut c.in_ok-taken.taken.place c.in_ok-cut.place c.tail_of-tail.result
+    let same =
+    packed c.args.header c.args.queue.now c.args.room c.args.heard c.in_ok-taken.taken.whole c.in_ok-cut.cut
+    c.in_ok-taken.taken.place c.in_ok-cut.place c.tail_of-tail.result
     c.take_entries.new.body c.push_next.new.body c.push_tail.new.body
     (record {
       whole_is = c.in_ok-taken.ensures.whole;
@@ -127,7 +150,9 @@ returns-clause-cut c =
 
 pub returns-clause-tail : goal.returns-clause-tail
 returns-clause-tail c =
-    let same = packed c.args.header.now c.args.queue.now c.args.room c.args.heard c.in_ok-taken.taken.whole c.in_ok-cut.cut c.in_ok-taken.taken.place c.in_ok-cut.place c.tail_of-tail.result
+    let same =
+    packed c.args.header c.args.queue.now c.args.room c.args.heard c.in_ok-taken.taken.whole c.in_ok-cut.cut
+    c.in_ok-taken.taken.place c.in_ok-cut.place c.tail_of-tail.result
     c.take_entries.new.body c.push_next.new.body c.push_tail.new.body
     (record {
       whole_is = c.in_ok-taken.ensures.whole;
@@ -143,7 +168,9 @@ returns-clause-tail c =
 
 pub returns-clause-taken : goal.returns-clause-taken
 returns-clause-taken c =
-    let same = packed c.args.header.now c.args.queue.now c.args.room c.args.heard c.in_ok-taken.taken.whole c.in_ok-cut.cut c.in_ok-taken.taken.place c.in_ok-cut.place c.tail_of-tail.result
+    let same =
+    packed c.args.header c.args.queue.now c.args.room c.args.heard c.in_ok-taken.taken.whole c.in_ok-cut.cut
+    c.in_ok-taken.taken.place c.in_ok-cut.place c.tail_of-tail.result
     c.take_entries.new.body c.push_next.new.body c.push_tail.new.body
     (record {
       whole_is = c.in_ok-taken.ensures.whole;
@@ -155,7 +182,8 @@ returns-clause-taken c =
       tail_there = c.tail_of-tail.ensures;
       body_is = c.in_ok-push_tail.ensures;
     }) in
-    let taken = fill_taken c.args.queue.now c.args.header.now c.args.room c.args.heard in
+    let taken = fill_taken c.args.queue.now c.args.header c.args.room c.args.heard in
     if_ok c.spelled.result _ _
-    (λ f h. same_taken c.args.queue.now f.whole f.cut _ _ taken (h.0 ∙ ap (λ (d : Filling). d.whole) same) (h.1 ∙ ap (λ (d : Filling). d.cut) same))
+    (λ f h. same_taken c.args.queue.now f.whole f.cut _ _ taken (h.0 ∙ ap (λ (d : Filling). d.whole) same)
+    (h.1 ∙ ap (λ (d : Filling). d.cut) same))
     c.spelled.ensures.counts

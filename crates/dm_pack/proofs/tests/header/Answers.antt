@@ -4,7 +4,8 @@ use Rattle.dm_pack.proofs.tests.header.Goals as goal
 
 pub returns : goal.returns
 returns c =
-    header_ready c.in_ok-text.field-0 c.in_ok-text-2.field-0 c.in_ok-text-3.field-0 c.in_ok-text-4.field-0 c.in_ok-text-5.field-0
+    header_ready c.in_ok-text.field-0 c.in_ok-text-2.field-0 c.in_ok-text-3.field-0 c.in_ok-text-4.field-0
+    c.in_ok-text-5.field-0
     (record { text = c.in_ok-text.ensures.text; few = c.in_ok-text.ensures.few })
     (record { text = c.in_ok-text-2.ensures.text; few = c.in_ok-text-2.ensures.few })
     (record { text = c.in_ok-text-3.ensures.text; few = c.in_ok-text-3.ensures.few })

@@ -11,7 +11,8 @@ returns c =
     let uri = c.requires.few.0 in
     let value = c.requires.value in
     rw is
-    (results_ready 1 1 c.args.uri c.args.format (Some c.args.media) (Some c.args.value) (omega arith) (omega arith) (omega arith)
+    (results_ready 1 1 c.args.uri c.args.format (Some c.args.media) (Some c.args.value) (omega arith) (omega arith)
+    (omega arith)
     (record { text = c.requires.texts.0; few = omega (arith, uri) })
     (record { text = c.requires.texts.1.0; few = c.requires.few.1.0 })
     (record { text = c.requires.texts.1.1; few = omega (arith, media) })

@@ -8,4 +8,5 @@ pub returns-in-None : goal.returns-in-None
 returns-in-None c = sym (no_item (marked c.args.size) c.args.command.now (sym c.in-None.ensures.value))
 
 pub returns-in-Some : goal.returns-in-Some
-returns-in-Some c = written (marked c.args.size) c.args.command.now _ _ (sym c.in-Some.ensures.value) c.mark_item.ensures
+returns-in-Some c =
+    written (marked c.args.size) c.args.command.now _ _ (sym c.in-Some.ensures.value) c.mark_item.ensures

@@ -8,4 +8,5 @@ pub returns-in-None : goal.returns-in-None
 returns-in-None c = sym (no_item (with_value c.args.value) c.args.command.now (sym c.in-None.ensures.value))
 
 pub returns-in-Some : goal.returns-in-Some
-returns-in-Some c = written (with_value c.args.value) c.args.command.now _ _ (sym c.in-Some.ensures.value) c.write_value.ensures
+returns-in-Some c =
+    written (with_value c.args.value) c.args.command.now _ _ (sym c.in-Some.ensures.value) c.write_value.ensures

@@ -9,7 +9,8 @@ head_length-bytes-requires c = (spellable c.args.header.now [] c.requires.fit).c
 
 pub returns-clause-place : goal.returns-clause-place
 returns-clause-place c =
-    start_is c.args.header.now c.head_length-bytes.result.0 c.head_length-bytes.result.1 c.tag_length.result c.requires.short
+    start_is c.args.header.now c.head_length-bytes.result.0 c.head_length-bytes.result.1 c.tag_length.result
+    c.requires.short
     c.head_length-bytes.ensures.length c.head_length-bytes.ensures.page c.tag_length.ensures.value
 
 pub returns-clause-low : goal.returns-clause-low

@@ -29,7 +29,8 @@ pub returns-clause-place : goal.returns-clause-place
 returns-clause-place c =
     let low = c.requires.low in
     let most = hollow_most c.args.self.page c.args.self.next c.args.entry.now c.requires.ready (omega (arith, low)) in
-    hollow_is c.args.self c.args.entry.now c.hollow_length-bytes.result.0 c.hollow_length-bytes.result.1 c.ids.result most
+    hollow_is c.args.self c.args.entry.now c.hollow_length-bytes.result.0 c.hollow_length-bytes.result.1 c.ids.result
+    most
     c.hollow_length-bytes.ensures.length c.hollow_length-bytes.ensures.page c.ids.ensures
 
 pub returns-clause-low : goal.returns-clause-low

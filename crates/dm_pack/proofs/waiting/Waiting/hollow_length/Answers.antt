@@ -17,18 +17,22 @@ numbered_length-requires-clause-short c =
 
 pub numbered_length-requires-clause-room : goal.numbered_length-requires-clause-room
 numbered_length-requires-clause-room c =
-    let same = kept_ids c.self.inside.command c.self.inside.value c.self.inside.sent c.args.self.now c.self.invariant c.self.view_is in
+    let same =
+    kept_ids c.self.inside.command c.self.inside.value c.self.inside.sent c.args.self.now c.self.invariant
+    c.self.view_is in
     omega (arith, same, c.requires.room)
 
 pub returns-clause-length : goal.returns-clause-length
 returns-clause-length c =
     c.numbered_length.ensures.length
     ∙ ap (λ d. spelled_length 0 c.args.page (command_tokens (with_numbers c.args.first d)))
-    (sym (kept c.self.inside.command c.self.inside.value c.self.inside.sent c.args.self.now c.self.invariant c.self.view_is))
+    (sym (kept c.self.inside.command c.self.inside.value c.self.inside.sent c.args.self.now c.self.invariant
+    c.self.view_is))
 
 pub returns-clause-page : goal.returns-clause-page
 returns-clause-page c =
     c.numbered_length.ensures.page
     ∙ ap (λ d. page_behind c.args.page (command_tokens (with_numbers c.args.first d)))
-    (sym (kept c.self.inside.command c.self.inside.value c.self.inside.sent c.args.self.now c.self.invariant c.self.view_is))
+    (sym (kept c.self.inside.command c.self.inside.value c.self.inside.sent c.args.self.now c.self.invariant
+    c.self.view_is))
     ∙ page_apart c.args.page c.args.first c.args.self.now.command

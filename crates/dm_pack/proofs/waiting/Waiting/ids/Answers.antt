@@ -4,10 +4,13 @@ use Rattle.dm_pack.proofs.waiting.Waiting.ids.Goals as goal
 
 pub ids_in-requires : goal.ids_in-requires
 ids_in-requires c =
-    let same = kept_ids c.self.inside.command c.self.inside.value c.self.inside.sent c.args.self.now c.self.invariant c.self.view_is in
+    let same =
+    kept_ids c.self.inside.command c.self.inside.value c.self.inside.sent c.args.self.now c.self.invariant
+    c.self.view_is in
     omega (arith, same, c.requires)
 
 pub returns : goal.returns
 returns c =
     c.ids_in.ensures
-    ∙ kept_ids c.self.inside.command c.self.inside.value c.self.inside.sent c.args.self.now c.self.invariant c.self.view_is
+    ∙ kept_ids c.self.inside.command c.self.inside.value c.self.inside.sent c.args.self.now c.self.invariant
+    c.self.view_is

@@ -11,7 +11,8 @@ overflow_sub-result c =
     let sent = c.self.inside.sent in
     let size = c.size_of-size.result in
     let old = marks_kept command value sent e c.self.view_is ∙ ap marks_in (sym c.in-Some.ensures) in
-    let new = marks_part command value sent size e c.self.invariant c.self.view_is c.requires.some c.size_of-size.ensures
+    let new =
+    marks_part command value sent size e c.self.invariant c.self.view_is c.requires.some c.size_of-size.ensures
     ∙ ap (λ o. marks_in (option_map (marked size) o)) (sym c.in-Some.ensures) in
     omega (arith, old, new, c.requires.marks, c.marked_cost.ensures.value, c.marks_cost.ensures.value)
 
@@ -23,6 +24,7 @@ returns-in-Some-clause-value c =
     let sent = c.self.inside.sent in
     let size = c.size_of-size.result in
     let old = marks_kept command value sent e c.self.view_is ∙ ap marks_in (sym c.in-Some.ensures) in
-    let new = marks_part command value sent size e c.self.invariant c.self.view_is c.requires.some c.size_of-size.ensures
+    let new =
+    marks_part command value sent size e c.self.invariant c.self.view_is c.requires.some c.size_of-size.ensures
     ∙ ap (λ o. marks_in (option_map (marked size) o)) (sym c.in-Some.ensures) in
     omega (arith, old, new, c.requires.marks, c.marked_cost.ensures.value, c.marks_cost.ensures.value)

@@ -16,7 +16,9 @@ slice_bounds-of_slice-end c =
 pub set_ids-requires : goal.set_ids-requires
 set_ids-requires c =
     let copied = ap ids_in c.in_ok-command.ensures in
-    let same = kept_ids c.self.inside.command c.self.inside.value c.self.inside.sent c.args.self.now c.self.invariant c.self.view_is in
+    let same =
+    kept_ids c.self.inside.command c.self.inside.value c.self.inside.sent c.args.self.now c.self.invariant
+    c.self.view_is in
     omega (arith, copied, same, c.requires.room)
 
 pub returns : goal.returns
@@ -24,6 +26,9 @@ returns c =
     c.put_value.ensures
     ∙ ap (cut_changed (with_value c.in_ok-value.value))
     (c.mark_part.ensures
-    ∙ ap (cut_changed (marked c.size_of.result)) (c.set_ids.ensures.command ∙ ap (with_numbers c.args.first) c.in_ok-command.ensures))
-    ∙ part_made c.args.first c.args.bytes c.size_of.result c.self.inside.command c.self.inside.value c.self.inside.sent c.args.self.now c.in_ok-value.value
-    c.self.invariant c.self.view_is c.requires.some c.size_of.ensures (c.in_ok-value.ensures ∙ ap (take c.args.bytes) c.left.ensures)
+    ∙ ap (cut_changed (marked c.size_of.result))
+    (c.set_ids.ensures.command ∙ ap (with_numbers c.args.first) c.in_ok-command.ensures))
+    ∙ part_made c.args.first c.args.bytes c.size_of.result c.self.inside.command c.self.inside.value c.self.inside.sent
+    c.args.self.now c.in_ok-value.value
+    c.self.invariant c.self.view_is c.requires.some c.size_of.ensures
+    (c.in_ok-value.ensures ∙ ap (take c.args.bytes) c.left.ensures)
