@@ -1,5 +1,6 @@
 -- Permanent nodes stay where they are, and so does what stands above them.
-use Rattle.std.proofs.Common.{◌≡◌, ℕ, Bool, true, false, zero, suc, List, [], ◌∷◌, ◌++◌, length, drop, None, Some, refl, sym, ◌∙◌, ap, subst, arith, inl, inr, append_assoc, length-append}
+use Rattle.std.proofs.Common.{◌≡◌, ℕ, Bool, true, false, zero, suc, List, [], ◌∷◌, ◌++◌, length, drop, None, Some, refl}
+use Rattle.std.proofs.Common.{sym, ◌∙◌, ap, subst, arith, inl, inr, append_assoc, length-append}
 use Rattle.std.specs.Prelude.{◌⊎◌}
 use Rattle.std.specs.FinMap.{get, insert}
 use Rattle.dm_tree.specs.declared.nodes.Node.{Node}
@@ -7,12 +8,12 @@ use Rattle.dm_tree.specs.declared.nodes.Value.{Value}
 use Rattle.dm_tree.specs.Nodes.{Path, Nodes, above, is_below, IsWellFormed}
 use Rattle.dm_tree.specs.Edits.{pruned, rekeyed, renamed}
 use Rattle.dm_tree.specs.Devices.{is_of_update, is_update_state, StaysForUpdate}
-use Rattle.dm_tree.proofs.Cuts.{get-pruned}
-use Rattle.dm_tree.proofs.Forks.{rest_below}
-use Rattle.dm_tree.proofs.Keepings.{Was, Keeps, some_node, at_insert, still_insert, was_there, keeps_changed}
-use Rattle.dm_tree.proofs.Keys.{moved_from, moved_to}
+use Rattle.dm_tree.proofs.SubtreeCuts.{get-pruned}
+use Rattle.dm_tree.proofs.PathOrder.{rest_below}
+use Rattle.dm_tree.proofs.NodesKept.{Was, Keeps, some_node, at_insert, still_insert, was_there, keeps_changed}
+use Rattle.dm_tree.proofs.MapKeys.{moved_from, moved_to}
 use Rattle.dm_tree.proofs.Paths.{Ends, ends, none, last}
-use Rattle.dm_tree.proofs.Rekeyed.{rekeyed-apart, rekeyed-below}
+use Rattle.dm_tree.proofs.RenamedRows.{rekeyed-apart, rekeyed-below}
 use Rattle.dm_tree.proofs.UpdateParts.{in_order}
 use Rattle.dm_atomic.specs.Updates.{IsAnchored, HasFixedUpdate}
 

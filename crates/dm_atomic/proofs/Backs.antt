@@ -1,9 +1,12 @@
 -- Marks that are taken and gone back to, and an engine that is settled.
-use Rattle.std.proofs.Common.{◌≡◌, ℕ, zero, suc, ◌+◌, ◌-◌, ◌<◌, ◌≤◌, Bool, true, false, if◌then◌else◌, List, [], ◌∷◌, ◌++◌, length, take, drop, get_or, refl, sym, ◌∙◌, ap, subst, arith, length-append, None, inl, inr}
+use Rattle.std.proofs.Common.{◌≡◌, ℕ, zero, suc, ◌+◌, ◌-◌, ◌<◌, ◌≤◌, Bool, true, false, if◌then◌else◌, List, [], ◌∷◌}
+use Rattle.std.proofs.Common.{◌++◌, length, take, drop, get_or, refl, sym, ◌∙◌, ap, subst, arith, length-append, None}
+use Rattle.std.proofs.Common.{inl, inr}
 use Rattle.std.specs.Prelude.{vec_len, vec_capacity}
 use Rattle.std.proofs.Math.ListN.{get_or-append}
 use Rattle.std.proofs.Math.Seq.{get_or-append_seam, take-length}
 use Rattle.std.proofs.lemmas.List.{take-append-le, take-take, length-take-le, get_or-take, drop-drop}
+use Rattle.dm_tree.specs.declared.rows.Row.{Row}
 use Rattle.dm_tree.specs.Devices.{IsUpdateInOrder}
 use Rattle.dm_tree.proofs.Paths.{same_or_not}
 use Rattle.dm_undo.specs.declared.entries.Entry.{Entry}
@@ -14,14 +17,17 @@ use Rattle.dm_undo.specs.Trees.{Maps, maps_of, tree_at}
 use Rattle.dm_undo.specs.Marks.{Recalls as RecallsTrees, RecallsFrom}
 use Rattle.dm_undo.specs.Sound.{IsSound}
 use Rattle.dm_undo.proofs.Noted.{within-records}
+use Rattle.dm_undo.proofs.Told.{at_end}
 use Rattle.dm_undo.proofs.Shapes.{alike_drop, records_alike}
 use Rattle.dm_objects.specs.Seen.{Seen, present}
+use Rattle.dm_atomic.specs.declared.reports.Part.{Part}
 use Rattle.dm_atomic.specs.declared.engine.Engine.{Engine}
 use Rattle.dm_atomic.specs.declared.engine.EndedGroup.{EndedGroup}
 use Rattle.dm_atomic.specs.declared.marks.EngineMark.{EngineMark}
-use Rattle.dm_atomic.specs.Engine.{group_of, FitsObject, IsSoundEngine}
-use Rattle.dm_atomic.specs.Marks.{Whole, base_ids_of, whole_of, no_group, group_at, starts_of, tree_there, recalled, IsOpenAt, IsHeld, Recalls, IsEarlier}
-use Rattle.dm_atomic.proofs.Held.{at-end, group-kept, base-ids-kept, same-whole}
+use Rattle.dm_atomic.specs.Engine.{group_of, state_of, FitsObject, IsSoundEngine}
+use Rattle.dm_atomic.specs.Marks.{Whole, base_ids_of, whole_of, no_group, group_at, starts_of, tree_there, recalled}
+use Rattle.dm_atomic.specs.Marks.{past_of, past_at, no_past, IsOpenAt, IsHeld, Recalls, IsEarlier}
+use Rattle.dm_atomic.proofs.Held.{at-end, group-kept, base-ids-kept, same-whole, same-past, entries-before}
 
 drop-none : {A : Type 0} (l : List A) (n : ℕ) → n ≡ 0 → drop n l ≡ l
 drop-none [] zero e = refl
@@ -39,7 +45,8 @@ few-taken (suc k) (suc n) (x ∷ l) h g =
 -- ---- a mark that is taken
 
 module _ (e : Engine) (m : EngineMark) (s : IsSoundEngine e) (j : m.journal ≡ length e.journal.entries)
-    (t : tree_at e.journal.entries e.tree.rows m.journal ≡ maps_of e.tree.rows) (i : m.inbox + 1 ≡ length e.inbox.objects)
+    (t : tree_at e.journal.entries e.tree.rows m.journal ≡ maps_of e.tree.rows)
+    (i : m.inbox + 1 ≡ length e.inbox.objects)
     (a : m.starts ≡ length e.starts.items) (g : m.groups ≡ length e.ended.items) (p : m.parts ≡ length e.parts)
     (o : m.is_open ≡ e.is_open) where
   all : take (m.inbox + 1) e.inbox.objects ≡ e.inbox.objects
@@ -62,7 +69,8 @@ module _ (e : Engine) (m : EngineMark) (s : IsSoundEngine e) (j : m.journal ≡ 
             subst (λ l. AreRecords (m.journal - (group_at e m.groups).mark) l)
             (sym (drop-none e.journal.entries (length e.journal.entries - m.journal) (omega (arith, j))))
             (subst (λ n. AreRecords n e.journal.entries)
-            (let q : length e.journal.entries - e.mark ≡ m.journal - (group_at e m.groups).mark = omega (arith, j, mark_is) in q)
+            (let q : length e.journal.entries - e.mark ≡ m.journal - (group_at e m.groups).mark =
+            omega (arith, j, mark_is) in q)
             can.plain);
         spare = omega (arith, j, can.spare);
         update = subst (λ n. IsUpdateInOrder (tree_there e n).nodes) (sym mark_is) can.update;
@@ -94,6 +102,14 @@ module _ (e : Engine) (m : EngineMark) (s : IsSoundEngine e) (j : m.journal ≡ 
         ∙ base-ids-kept e.is_open e.tree.rows e.tree.rows e.journal.entries e.journal.entries e.mark
         (group_at e m.groups).mark (λ _. ap (tree_there e) mark_is));
   }
+
+  pub marked_past : past_at e m ≡ past_of e
+  marked_past =
+      same-past _ _ _ _ _ _ _ _
+      (ap (λ b. if b then (group_at e m.groups).mark else m.journal) o
+      ∙ entries-before e.is_open (group_at e m.groups).mark e.mark m.journal (length e.journal.entries)
+      (λ is. mark_is) (λ is. j))
+      (let q : m.inbox ≡ length e.inbox.objects - 1 = omega (arith, i) in q) a g
 
   -- no mark that is held was taken later
   pub marked_latest : (k : EngineMark) → IsHeld e k → IsEarlier k m
@@ -154,7 +170,8 @@ module _ (e f : Engine) (m : EngineMark) (h : IsHeld e m) (b : GoesBack e f m) w
       same-whole (maps_of f.tree.rows) (tree_there e m.journal) _ _ _ _ _ _ _ _ b.there
       (ap (λ (i : Seen). present i.objects) b.inbox)
       (ap (λ x. group_of f.tree.rows f.journal.entries x f.mark f.parts) b.is_open
-      ∙ group-kept m.is_open e.tree.rows f.tree.rows e.journal.entries f.journal.entries (group_at e m.groups).mark f.mark
+      ∙ group-kept m.is_open e.tree.rows f.tree.rows e.journal.entries f.journal.entries (group_at e m.groups).mark
+      f.mark
       (take m.parts (group_at e m.groups).parts) f.parts (λ is. (base is, b.parts)))
       b.started
       (ap (λ x. base_ids_of f.tree.rows f.journal.entries x f.mark) b.is_open
@@ -167,9 +184,23 @@ module _ (e f : Engine) (m : EngineMark) (h : IsHeld e m) (b : GoesBack e f m) w
   ended_long : length f.ended.items ≡ m.groups
   ended_long = ap length b.ended ∙ length-take-le m.groups e.ended.items h.groups
 
+  pub back_past : past_of f ≡ past_at e m
+  back_past =
+      same-past _ _ _ _ _ _ _ _
+      (ap (λ x. if x then f.mark else length f.journal.entries) b.is_open
+      ∙ entries-before m.is_open f.mark (group_at e m.groups).mark (length f.journal.entries) m.journal
+      (λ is. b.mark) (λ is. b.long))
+      (let q : length f.inbox.objects - 1 ≡ m.inbox = omega (
+        arith,
+        ap (λ (i : Seen). length i.objects) b.inbox,
+        length-take-le (m.inbox + 1) e.inbox.objects (omega (arith, h.inbox)),
+      ) in q)
+      (ap length b.starts ∙ length-take-le m.starts e.starts.items h.starts) ended_long
+
   has_room : IsSoundEngine e → m.is_open ≡ true → vec_len f.ended < vec_capacity f.ended
   has_room s is = elim (same_or_not m.groups (length e.ended.items)) [
-    | inl last ↦ omega (arith, f.ended.ok.0, e.ended.ok.0, ended_long, last, b.capacity, s.ended ((h.group is).present last))
+    | inl last ↦
+        omega (arith, f.ended.ok.0, e.ended.ok.0, ended_long, last, b.capacity, s.ended ((h.group is).present last))
     | inr other ↦
         omega (arith, f.ended.ok.0, e.ended.ok.0, e.ended.ok.1, ended_long, other, h.groups, b.capacity)
   ]
@@ -236,7 +267,8 @@ module _ (e f : Engine) (m : EngineMark) (h : IsHeld e m) (b : GoesBack e f m) w
   earlier-open : (k : EngineMark) → IsEarlier k m → k.is_open ≡ true → IsOpenAt e k → IsOpenAt f k
   earlier-open k early is at =
       let kept = keeps-group k early is at in
-      let far : (length e.journal.entries - m.journal) + (m.journal - k.journal) ≡ length e.journal.entries - k.journal =
+      let far : (length e.journal.entries - m.journal) + (m.journal - k.journal)
+      ≡ length e.journal.entries - k.journal =
       omega (arith, h.journal, early.journal) in
       record {
         present = λ s. b.is_open ∙ (early.same is (s ∙ ended_long)).1;
@@ -363,6 +395,7 @@ pub record Settles (e f : Engine) (first : ℕ) : Type 0 where
   }
   pub mark : f.mark ≡ 0
   pub inbox : f.inbox ≡ record e.inbox { objects = present e.inbox.objects ∷ [] }
+  pub starts : f.starts.items ≡ []
   pub ended : f.ended.items ≡ []
   pub capacity : vec_capacity f.ended ≡ vec_capacity e.ended
   pub parts : f.parts ≡ e.parts
@@ -375,6 +408,15 @@ records_take zero (e ∷ es) h = tt
 records_take (suc c) [] h = absurd h
 records_take (suc c) (Record u ∷ es) h = records_take c es h
 records_take (suc c) (Flipped d ∷ es) h = absurd h
+
+either-is : (b : Bool) (m n k : ℕ) → m ≡ k → (b ≡ false → n ≡ k) → (if b then m else n) ≡ k
+either-is true m n k is other = is
+either-is false m n k is other = other refl
+
+closed-by : (b : Bool) (rows : List Row) (es : List Entry) (mark : ℕ) (parts : List Part)
+    → group_of rows es b mark parts ≡ None → b ≡ false
+closed-by true rows es mark parts none = absurd (cc)
+closed-by false rows es mark parts none = refl
 
 module _ (e f : Engine) (first : ℕ) (s : IsSoundEngine e) (x : Settles e f first) where
   at_mark : e.is_open ≡ true → first ≡ e.mark
@@ -406,6 +448,49 @@ module _ (e f : Engine) (first : ℕ) (s : IsSoundEngine e) (x : Settles e f fir
 
   room_is : f.journal.room ≡ e.journal.room
   room_is = ap (λ (j : Journal). j.room) x.journal
+
+  closed_first : e.is_open ≡ false → first ≡ length e.journal.entries
+  closed_first o = x.is_first ∙ ap (λ b. if b then e.mark else length e.journal.entries) o
+
+  one_object : length f.inbox.objects ≡ 1
+  one_object = ap (λ (i : Seen). length i.objects) x.inbox
+
+  no_entries : f.is_open ≡ false → length f.journal.entries ≡ 0
+  no_entries o = omega (arith, entries_long, closed_first (sym x.is_open ∙ o))
+
+  pub settled_past : past_of f ≡ no_past
+  settled_past =
+      same-past _ 0 _ 0 _ 0 _ 0
+      (either-is f.is_open f.mark (length f.journal.entries) 0 x.mark no_entries)
+      (let q : length f.inbox.objects - 1 ≡ 0 = omega (arith, one_object) in q) (ap length x.starts) (ap length x.ended)
+
+  -- where no group is open, each mark that is held is the present one
+  is-closed : (state_of f).group ≡ None → f.is_open ≡ false
+  is-closed = closed-by f.is_open f.tree.rows f.journal.entries f.mark f.parts
+
+  mark-closed : (k : EngineMark) → f.is_open ≡ false → IsHeld f k → (b : Bool) → k.is_open ≡ b → k.is_open ≡ false
+  mark-closed k closed h true o =
+      let again : f.is_open ≡ true = (h.group o).present (omega (arith, h.groups, ap length x.ended)) in
+      absurd (cc)
+  mark-closed k closed h false o = o
+
+  present-again : (k : EngineMark) → (state_of f).group ≡ None → IsHeld f k → recalled f k ≡ whole_of f
+  present-again k closed h =
+      let off = is-closed closed in
+      let mark-off = mark-closed k off h k.is_open refl in
+      let objects : k.inbox + 1 ≡ length f.inbox.objects = omega (arith, h.inbox, one_object) in
+      let starts : k.starts ≡ length f.starts.items = omega (arith, h.starts, ap length x.starts) in
+      same-whole (tree_there f k.journal) (maps_of f.tree.rows) _ _ _ _ _ _ _ _
+      (at_end f.journal.entries f.tree.rows k.journal (omega (arith, h.journal, no_entries off)))
+      (ap present (ap (λ n. take n f.inbox.objects) objects ∙ take-length f.inbox.objects))
+      (ap (λ b. group_of f.tree.rows f.journal.entries b (group_at f k.groups).mark
+      (take k.parts (group_at f k.groups).parts)) mark-off ∙ sym closed)
+      (ap (λ n. get_or (starts_of f) n None) starts ∙ get_or-append_seam f.starts.items f.started [] None)
+      (ap (λ b. base_ids_of f.tree.rows f.journal.entries b (group_at f k.groups).mark) mark-off
+      ∙ sym (ap (λ b. base_ids_of f.tree.rows f.journal.entries b f.mark) off))
+
+  pub settled_gone : (state_of f).group ≡ None → (k : EngineMark) (w : Whole) → Recalls f k w → w ≡ whole_of f
+  settled_gone closed k w r = sym r.there ∙ present-again k closed r.held
 
   pub settled_sound : IsSoundEngine f
   settled_sound = record {

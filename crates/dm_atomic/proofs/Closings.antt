@@ -1,5 +1,6 @@
 -- How a group ends, and an Atomic in it.
-use Rattle.std.proofs.Common.{◌≡◌, ℕ, ◌≤◌, true, false, List, [], ◌∷◌, ◌++◌, drop, map, refl, sym, ◌∙◌, ap, subst, append_assoc, Option, None, Some}
+use Rattle.std.proofs.Common.{◌≡◌, ℕ, ◌≤◌, true, false, List, [], ◌∷◌, ◌++◌, drop, map, refl, sym, ◌∙◌, ap, subst}
+use Rattle.std.proofs.Common.{append_assoc, Option, None, Some}
 use Rattle.std.specs.Prelude.{Result, Ok, Err, OnOk, OnErr}
 use Rattle.std.proofs.lemmas.List.{append-nil}
 use Rattle.syncml_types.specs.declared.command.Command.{Command}
@@ -13,7 +14,9 @@ use Rattle.dm_atomic.specs.declared.reports.Part.{Part}
 use Rattle.dm_atomic.specs.declared.reports.Report.{Report}
 use Rattle.dm_atomic.specs.declared.engine.Engine.{Engine}
 use Rattle.dm_atomic.specs.Made.{Made, told, IsInFront}
-use Rattle.dm_atomic.specs.Run.{State, Group, Running, Next, Tried, break_group, undone, not_run, container, parts_done, parts_undone, tried, joins, left_object, opened, opens, stays_open, succeeds, fails, closes, in_group, join_or_break, atomically}
+use Rattle.dm_atomic.specs.Run.{State, Group, Running, Next, Tried, break_group, undone, not_run, container, parts_done}
+use Rattle.dm_atomic.specs.Run.{parts_undone, tried, joins, left_object, opened, opens, stays_open, succeeds, fails}
+use Rattle.dm_atomic.specs.Run.{closes, in_group, join_or_break, atomically}
 use Rattle.dm_atomic.specs.Engine.{state_of, running, FitsObject, IsSoundEngine, Gives, Tries}
 use Rattle.dm_atomic.proofs.OneStatus.{tried-tries}
 use Rattle.dm_atomic.proofs.Tried.{running_stays}
@@ -98,8 +101,10 @@ pub record SameBut (e f : Engine) : Type 0 where
 
 pub stay_same : {X Y : Type 0} (r : Result X Y) (e f : Engine) (parts : List Part)
     → OnOk r (f ≡ record e { parts = parts }) → OnErr r (f ≡ e) → SameBut e f
-stay_same (Ok x) e f parts h k = record { clock = ap (λ (g : Engine). g.tree.clock) h; max_obj = ap (λ (g : Engine). g.inbox.max_obj) h }
-stay_same (Err x) e f parts h k = record { clock = ap (λ (g : Engine). g.tree.clock) k; max_obj = ap (λ (g : Engine). g.inbox.max_obj) k }
+stay_same (Ok x) e f parts h k =
+    record { clock = ap (λ (g : Engine). g.tree.clock) h; max_obj = ap (λ (g : Engine). g.inbox.max_obj) h }
+stay_same (Err x) e f parts h k =
+    record { clock = ap (λ (g : Engine). g.tree.clock) k; max_obj = ap (λ (g : Engine). g.inbox.max_obj) k }
 
 -- ---- the close, where no step failed
 

@@ -17,7 +17,8 @@ use Rattle.dm_atomic.specs.declared.tasks.Origin.{Origin}
 use Rattle.dm_atomic.specs.declared.tasks.Task.{Task}
 use Rattle.dm_atomic.specs.Tasks.{item_tasks, plain_tasks, member_tasks, members_tasks}
 use Rattle.dm_atomic.specs.Marks.{Whole as AllOf}
-use Rattle.dm_atomic.specs.Stays.{item_covers, plain_covers, member_covers, seq_member_covers, covers, task_covers, tasks_cover, StayBut}
+use Rattle.dm_atomic.specs.Stays.{item_covers, plain_covers, member_covers, seq_member_covers, covers, task_covers}
+use Rattle.dm_atomic.specs.Stays.{tasks_cover, StayBut}
 use Rattle.dm_atomic.proofs.Staying.{stay_within}
 
 parts-false : (a b : Bool) → a || b ≡ false → (a ≡ false) × (b ≡ false)

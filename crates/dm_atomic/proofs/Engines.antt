@@ -1,7 +1,9 @@
 -- What noted steps leave of an engine's group, and of its soundness.
-use Rattle.std.proofs.Common.{◌≡◌, ℕ, ◌+◌, ◌-◌, ◌<◌, ◌≤◌, Bool, true, false, if◌then◌else◌, List, [], ◌∷◌, ◌++◌, length, refl, sym, ◌∙◌, ap, subst, arith, Option, None, Some}
+use Rattle.std.proofs.Common.{◌≡◌, ℕ, ◌+◌, ◌-◌, ◌<◌, ◌≤◌, Bool, true, false, if◌then◌else◌, List, [], ◌∷◌, ◌++◌, length}
+use Rattle.std.proofs.Common.{refl, sym, ◌∙◌, ap, subst, arith, Option, None, Some}
 use Rattle.std.specs.Prelude.{Result, Ok, Err, IfOk, OnOk, OnErr, vec_len, vec_capacity}
 use Rattle.std.specs.Global.{Vec}
+use Rattle.std.proofs.lemmas.List.{append-nil}
 use Rattle.syncml_types.specs.declared.command.Command.{Command}
 use Rattle.dm_tree.specs.declared.rows.Row.{Row}
 use Rattle.dm_tree.specs.declared.nodes.Stamp.{Stamp}
@@ -22,7 +24,7 @@ use Rattle.dm_objects.specs.declared.piece.Piece.{Piece}
 use Rattle.dm_objects.specs.declared.piece.What.{What}
 use Rattle.dm_objects.specs.declared.piece.What.TheVariants.{Whole, Buffered, Refused}
 use Rattle.dm_objects.specs.Gathering.{gather}
-use Rattle.dm_objects.specs.Seen.{Seen, present, holding}
+use Rattle.dm_objects.specs.Seen.{Seen, present, holding, Takes}
 use Rattle.syncml_types.specs.declared.command.Step.{Step}
 use Rattle.dm_commands.specs.declared.outcome.Outcome.{Outcome}
 use Rattle.dm_commands.specs.Outcomes.{Done, asked_by, Does}
@@ -37,7 +39,8 @@ use Rattle.dm_atomic.specs.declared.engine.EndedGroup.{EndedGroup}
 use Rattle.dm_atomic.specs.declared.reports.Report.{Report}
 use Rattle.dm_atomic.specs.Made.{told, notice}
 use Rattle.dm_atomic.specs.Run.{State, Group, Running, Ran, whole_step, started_by, by_what, one_piece, opened, opens}
-use Rattle.dm_atomic.specs.Engine.{group_of, state_of, running, CanRollBack, FitsObject, IsSoundEngine, Only, Acts, Comes, Runs}
+use Rattle.dm_atomic.specs.Engine.{group_of, state_of, running, CanRollBack, FitsObject, IsSoundEngine, Only, Acts}
+use Rattle.dm_atomic.specs.Engine.{Comes, Runs}
 use Rattle.dm_atomic.proofs.Gathers.{gather-fits, present-holding}
 
 -- ---- the group, while edits are noted
@@ -149,7 +152,8 @@ pub acted-sound : (e f : Engine) (caller : List ℕ) (step : Step) (outcome : Ou
     → f.inbox ≡ e.inbox → IsSoundEngine f
 acted-sound e f caller step outcome s o w d i =
     sound-after e f s o
-    (subst IsUpdateInOrder (sym d.tree) (step_keeps_update (asked_by caller e.tree.clock) (nodes e.tree.rows) step w s.update))
+    (subst IsUpdateInOrder (sym d.tree)
+    (step_keeps_update (asked_by caller e.tree.clock) (nodes e.tree.rows) step w s.update))
     (subst (λ (x : Seen). FitsObject x.max_obj (present x.objects)) (sym i) s.object)
 
 pub only-acted : (e : Engine) (tree : Tree) (journal : Journal)
@@ -376,8 +380,18 @@ pieced_ok (Ok report) e m caller post piece what s before after is w t c =
     pieced e m caller post piece what s report before after is w t c
 pieced_ok (Err x) e m caller post piece what s before after is w t c = c
 
+-- a piece that is a whole step as it stands is run as it stands
+pub passed_ok : {E : Type 0} (result : Result Report E) (e : Engine) (caller : List ℕ) (post : Post) (piece : Piece)
+    (s : State) (out : List Command) → Takes e.inbox e.inbox piece (record { broken = None; what = Whole piece.step })
+    → IfOk result (λ report. Comes (whole_step (running e caller) (state_of e) post None piece.step) s report)
+    → IfOk result (λ report. Runs (one_piece (running e caller) (state_of e) post piece) s report out out)
+passed_ok result e caller post piece s out t c =
+    pieced_ok result e e caller post piece (Whole piece.step) s out out (ap (λ i. record e { inbox = i }) t.now) t.what
+    (sym (append-nil out) ∙ ap (λ b. out ++ told (notice b)) t.broken) c
+
 -- the clock is no part of it
-pub clocked_sound : (e : Engine) (tree : Tree) (clock : Stamp) → IsSoundEngine e → tree ≡ record e.tree { clock = clock }
+pub clocked_sound : (e : Engine) (tree : Tree) (clock : Stamp) → IsSoundEngine e
+    → tree ≡ record e.tree { clock = clock }
     → IsSoundEngine (record e { tree = tree })
 clocked_sound e tree clock s is = subst (λ (t : Tree). IsSoundEngine (record e { tree = t })) (sym is) (record {
   journal = s.journal;

@@ -1,5 +1,6 @@
 -- What gathering leaves is no larger than the greatest object.
-use Rattle.std.proofs.Common.{◌≡◌, ℕ, ◌+◌, ◌≤◌, ◌==◌, ◌&&◌, Bool, true, false, not, if◌then◌else◌, List, [], ◌∷◌, ◌++◌, length, refl, sym, ◌∙◌, arith, Option, None, Some, nat_lt}
+use Rattle.std.proofs.Common.{◌≡◌, ℕ, ◌+◌, ◌≤◌, ◌==◌, ◌&&◌, Bool, true, false, not, if◌then◌else◌, List, [], ◌∷◌, ◌++◌}
+use Rattle.std.proofs.Common.{length, refl, sym, ◌∙◌, arith, Option, None, Some, nat_lt}
 use Rattle.std.specs.Prelude.{is_some, ⊤}
 use Rattle.std.proofs.lemmas.List.{length-append}
 use Rattle.std.proofs.lemmas.Bool.Decides.{nat_tests}
@@ -11,7 +12,8 @@ use Rattle.dm_objects.specs.declared.object.Object.TheVariants.{Nothing, Bufferi
 use Rattle.dm_objects.specs.declared.piece.Piece.{Piece}
 use Rattle.dm_objects.specs.declared.piece.What.{What}
 use Rattle.dm_objects.specs.declared.piece.What.TheVariants.{Whole, Buffered, Refused}
-use Rattle.dm_objects.specs.Gathering.{Came, came, is_write, skipped, first_of_several, single, write_piece, by_rules, gather, continues, begun_by, whole_step}
+use Rattle.dm_objects.specs.Gathering.{Came, came, is_write, skipped, first_of_several, single, write_piece, by_rules}
+use Rattle.dm_objects.specs.Gathering.{gather, continues, begun_by, whole_step}
 use Rattle.dm_objects.specs.Seen.{present, is_unfinished, now_holding}
 use Rattle.dm_commands.specs.Promises as promises
 use Rattle.dm_atomic.specs.Engine.{FitsObject, IsShortWhat}
@@ -43,7 +45,8 @@ sized-fits : (max : ℕ) (piece : Piece) (size : ℕ) (large : Bool) → nat_lt 
     else if nat_lt size (length piece.step.value) then skipped piece 424
     else came (Buffering (begun_by piece size)) Buffered)
 sized-fits max piece size true e = record { object_fits = tt; what_fits = tt }
-sized-fits max piece size false e = filled-fits max piece size (nat_lt size (length piece.step.value)) (within max size e)
+sized-fits max piece size false e =
+    filled-fits max piece size (nat_lt size (length piece.step.value)) (within max size e)
 
 first-fits : (max : ℕ) (piece : Piece) (size : Option ℕ) → CameFits max (first_of_several max piece size)
 first-fits max piece None = record { object_fits = tt; what_fits = tt }

@@ -1,5 +1,6 @@
 -- Commands that are run one after another.
-use Rattle.std.proofs.Common.{◌≡◌, ℕ, suc, ◌+◌, ◌<◌, ◌≤◌, List, [], ◌∷◌, ◌++◌, length, drop, get_or, refl, sym, ◌∙◌, ap, subst, append_assoc, add-one, drop-cons}
+use Rattle.std.proofs.Common.{◌≡◌, ℕ, suc, ◌+◌, ◌<◌, ◌≤◌, List, [], ◌∷◌, ◌++◌, length, drop, get_or, refl, sym, ◌∙◌, ap}
+use Rattle.std.proofs.Common.{subst, append_assoc, add-one, drop-cons}
 use Rattle.std.proofs.lemmas.List.{append-nil, drop_all}
 use Rattle.syncml_types.specs.declared.command.Command.{Command}
 use Rattle.syncml_types.specs.declared.command.SeqBlock.{SeqBlock}
@@ -11,7 +12,8 @@ use Rattle.dm_atomic.specs.declared.reports.Report.{Report}
 use Rattle.dm_atomic.specs.declared.engine.Engine.{Engine}
 use Rattle.dm_atomic.specs.Made.{Made, Status, reported, told, notice, IsInFront}
 use Rattle.dm_atomic.specs.Tasks.{container_post}
-use Rattle.dm_atomic.specs.Run.{State, Running, Next, quietly, one_step, breaks_first, one_alone, in_sequence, run_member, run_members, run_sequence}
+use Rattle.dm_atomic.specs.Run.{State, Running, Next, quietly, one_step, breaks_first, one_alone, in_sequence}
+use Rattle.dm_atomic.specs.Run.{run_member, run_members, run_sequence}
 use Rattle.dm_atomic.specs.Engine.{state_of, running, Gives, Runs}
 use Rattle.dm_atomic.proofs.Tried.{running_stays}
 use Rattle.dm_atomic.proofs.Telling.{told_both, some_more}

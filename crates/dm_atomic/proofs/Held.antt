@@ -1,5 +1,7 @@
 -- Marks, while an engine goes on.
-use Rattle.std.proofs.Common.{◌≡◌, ℕ, ◌+◌, ◌-◌, ◌<◌, ◌≤◌, Bool, true, false, not, ◌&&◌, if◌then◌else◌, List, [], ◌∷◌, ◌++◌, length, take, drop, get_or, refl, sym, ◌∙◌, ap, subst, arith, append_assoc, length-append, Option, None, Some, inl, inr}
+use Rattle.std.proofs.Common.{◌≡◌, ℕ, ◌+◌, ◌-◌, ◌<◌, ◌≤◌, Bool, true, false, not, ◌&&◌, if◌then◌else◌, List, [], ◌∷◌}
+use Rattle.std.proofs.Common.{◌++◌, length, take, drop, get_or, refl, sym, ◌∙◌, ap, subst, arith, append_assoc}
+use Rattle.std.proofs.Common.{length-append, Option, None, Some, inl, inr}
 use Rattle.std.specs.Global.{Vec}
 use Rattle.std.proofs.Math.ListN.{get_or-append}
 use Rattle.std.proofs.Math.Seq.{get_or-append_seam, drop-append_seam}
@@ -28,7 +30,8 @@ use Rattle.dm_atomic.specs.declared.engine.EndedGroup.{EndedGroup}
 use Rattle.dm_atomic.specs.declared.marks.EngineMark.{EngineMark}
 use Rattle.dm_atomic.specs.Run.{Group}
 use Rattle.dm_atomic.specs.Engine.{group_of, FitsObject, IsSoundEngine}
-use Rattle.dm_atomic.specs.Marks.{Whole, base_ids_of, no_group, groups, group_at, starts_of, tree_there, recalled, IsOpenAt, IsHeld, Holds, ObjectsGo}
+use Rattle.dm_atomic.specs.Marks.{Whole, base_ids_of, no_group, groups, group_at, starts_of, tree_there, recalled, Past}
+use Rattle.dm_atomic.specs.Marks.{past_at, IsOpenAt, IsHeld, Holds, ObjectsGo}
 
 -- ---- the journal goes on
 
@@ -55,7 +58,8 @@ journal-same old new before now e r f = record {
   room = r;
 }
 
-pub journal-noted : (old new : Journal) (before now : List Row) → Notes old before new now → length old.entries < old.room
+pub journal-noted : (old new : Journal) (before now : List Row) → Notes old before new now
+    → length old.entries < old.room
     → RecallsTrees (length old.entries) old.entries before new.entries now → JournalGoes old new before now
 journal-noted old new before now n spare trees = record {
   trees = trees;
@@ -138,7 +142,8 @@ pub record StartsGo (old new : Engine) : Type 0 where
   pub more : List (Option Started)
   pub starts : starts_of new ≡ starts_of old ++ more
 
-pub starts-same : (old new : Engine) → new.starts.items ≡ old.starts.items → new.started ≡ old.started → StartsGo old new
+pub starts-same : (old new : Engine) → new.starts.items ≡ old.starts.items → new.started ≡ old.started
+    → StartsGo old new
 starts-same old new e f = record {
   longer = omega (arith, ap length e);
   more = [];
@@ -224,7 +229,8 @@ groups-ended old new e =
       longer = omega (arith, long);
       each = λ n l h. goes-same old new n
           (ap (λ x. get_or (x ++ record { mark = new.mark; parts = new.parts } ∷ []) n no_group) e
-          ∙ get_or-append (groups old.ended.items old.mark old.parts) (record { mark = new.mark; parts = new.parts } ∷ []) no_group n
+          ∙ get_or-append (groups old.ended.items old.mark old.parts)
+          (record { mark = new.mark; parts = new.parts } ∷ []) no_group n
           (omega (arith, l, length-append old.ended.items (record { mark = old.mark; parts = old.parts } ∷ []))))
           (λ s. absurd (omega (arith, s, l, long)));
     }
@@ -249,7 +255,8 @@ open-holds old new m j g h o =
       present = g.present;
       parts = omega (arith, o.parts, ap length g.parts, length-append (group_at old m.groups).parts g.more);
       mark = omega (arith, g.mark, o.mark);
-      plain = subst (λ k. AreRecords (m.journal - k) (drop (length new.journal.entries - m.journal) new.journal.entries))
+      plain =
+          subst (λ k. AreRecords (m.journal - k) (drop (length new.journal.entries - m.journal) new.journal.entries))
           (sym g.mark)
           (records_alike (m.journal - (group_at old m.groups).mark)
           (drop (length old.journal.entries - m.journal) old.journal.entries)
@@ -272,7 +279,8 @@ held-holds old new m j o s g h = record {
   groups = omega (arith, h.groups, g.longer);
   update = subst (λ (x : Maps). IsUpdateInOrder x.nodes) (sym (j.trees m.journal h.journal).1) h.update;
   object = subst (λ n. FitsObject n (present (take (m.inbox + 1) new.inbox.objects))) (sym o.max_obj)
-      (subst (λ l. FitsObject old.inbox.max_obj (present l)) (sym (taken old.inbox new.inbox m.inbox o h.inbox)) h.object);
+      (subst (λ l. FitsObject old.inbox.max_obj (present l)) (sym (taken old.inbox new.inbox m.inbox o h.inbox))
+      h.object);
   group = λ is. let at = h.group is in
       open-holds old new m j (g.each m.groups h.groups at.present) h.journal at;
 }
@@ -337,6 +345,28 @@ recalled-holds old new m j o s g h =
         ap (take m.parts) (goes is).parts
         ∙ take-append-le m.parts (group_at old m.groups).parts (goes is).more (h.group is).parts
 
+-- ---- what was known where a mark was taken
+
+abbrev pub past : ℕ → ℕ → ℕ → ℕ → Past
+past entries objects starts groups =
+    record { entries = entries; objects = objects; starts = starts; groups = groups }
+
+pub same-past : (a a' b b' c c' d d' : ℕ) → a ≡ a' → b ≡ b' → c ≡ c' → d ≡ d' → past a b c d ≡ past a' b' c' d'
+same-past a a' b b' c c' d d' p q r s =
+    ap (λ x. past x b c d) p ∙ ap (λ x. past a' x c d) q ∙ ap (λ x. past a' b' x d) r ∙ ap (past a' b' c') s
+
+-- the entries before a group that is open, or all
+pub entries-before : (b : Bool) (m m' n n' : ℕ) → (b ≡ true → m ≡ m') → (b ≡ false → n ≡ n')
+    → (if b then m else n) ≡ (if b then m' else n')
+entries-before true m m' n n' h k = h refl
+entries-before false m m' n n' h k = k refl
+
+past-holds : (old new : Engine) (m : EngineMark) → GroupsGo old new → IsHeld old m → past_at new m ≡ past_at old m
+past-holds old new m g h =
+    ap (λ n. past n m.inbox m.starts m.groups)
+    (entries-before m.is_open (group_at new m.groups).mark (group_at old m.groups).mark m.journal m.journal
+    (λ is. (g.each m.groups h.groups (h.group is).present).mark) (λ is. refl))
+
 pub holds_by : (old new : Engine) → JournalGoes old.journal new.journal old.tree.rows new.tree.rows
     → ObjectsGo old.inbox new.inbox → StartsGo old new → GroupsGo old new → Holds old new
 holds_by old new j o s g = record {
@@ -344,15 +374,20 @@ holds_by old new j o s g = record {
     held = held-holds old new m j o s g r.held;
     there = recalled-holds old new m j o s g r.held ∙ r.there;
   };
+  pasts = λ m h. past-holds old new m g h;
 }
 
 -- ---- one step and another
 
 pub holds_self : (e : Engine) → Holds e e
-holds_self e = record { marks = λ m w r. r }
+holds_self e = record { marks = λ m w r. r; pasts = λ m h. refl }
 
 pub holds_then : (a b c : Engine) → Holds a b → Holds b c → Holds a c
-holds_then a b c g h = record { marks = λ m w r. h.marks m w (g.marks m w r) }
+holds_then a b c g h = record {
+  marks = λ m w r. h.marks m w (g.marks m w r);
+  pasts = λ m held.
+      h.pasts m (g.marks m (recalled a m) (record { held = held; there = refl })).held ∙ g.pasts m held;
+}
 
 -- ---- single steps
 

@@ -1,5 +1,6 @@
 -- In an Atomic nothing is started.
-use Rattle.std.proofs.Common.{◌≡◌, ℕ, suc, ◌+◌, length, Bool, true, false, cond, List, [], ◌∷◌, Option, None, Some, refl, ◌∙◌, ap, subst}
+use Rattle.std.proofs.Common.{◌≡◌, ℕ, suc, ◌+◌, length, Bool, true, false, cond, List, [], ◌∷◌, Option, None, Some}
+use Rattle.std.proofs.Common.{refl, ◌∙◌, ap, subst}
 use Rattle.std.specs.Prelude.{⊤, ◌&&◌, ◌==◌, not, nat_lt, is_some, All}
 use Rattle.std.proofs.lemmas.List.Elements.{All-nil, All-cons, All-head, All-tail, All-append}
 use Rattle.syncml_types.specs.declared.values.Item.{Item}
@@ -14,7 +15,8 @@ use Rattle.dm_objects.specs.declared.object.Object.TheVariants.{Nothing, Bufferi
 use Rattle.dm_objects.specs.declared.piece.Piece.{Piece}
 use Rattle.dm_objects.specs.declared.piece.What.{What}
 use Rattle.dm_objects.specs.declared.piece.What.TheVariants.{Whole, Buffered, Refused}
-use Rattle.dm_objects.specs.Gathering.{Came, is_write, first_of_several, next_piece, write_piece, by_rules, continues, gather}
+use Rattle.dm_objects.specs.Gathering.{Came, is_write, first_of_several, next_piece, write_piece, by_rules, continues}
+use Rattle.dm_objects.specs.Gathering.{gather}
 use Rattle.dm_commands.specs.Outcomes.{is_success}
 use Rattle.dm_commands.proofs.Refusals.{nothing_in_atomic}
 use Rattle.dm_atomic.specs.declared.tasks.Named.TheVariants as named
@@ -25,7 +27,9 @@ use Rattle.dm_atomic.specs.declared.tasks.Work.{Work}
 use Rattle.dm_atomic.specs.declared.tasks.Work.TheVariants as work
 use Rattle.dm_atomic.specs.declared.reports.Report.{Report}
 use Rattle.dm_atomic.specs.Tasks.{item_tasks, plain_tasks, alert_task, member_tasks, members_tasks, container_post}
-use Rattle.dm_atomic.specs.Run.{State, Group, Running, Ran, Tried, quietly, started_by, by_what, by_work, one_step, break_of, break_group, after_success, tried, joins, opened, opens, stays_open, succeeds, closes, in_group, join_or_break, atomically, run_atomic}
+use Rattle.dm_atomic.specs.Run.{State, Group, Running, Ran, Tried, quietly, started_by, by_what, by_work, one_step}
+use Rattle.dm_atomic.specs.Run.{break_of, break_group, after_success, tried, joins, opened, opens, stays_open, succeeds}
+use Rattle.dm_atomic.specs.Run.{closes, in_group, join_or_break, atomically, run_atomic}
 use Rattle.dm_objects.specs.Inside.{is_buffering_inside}
 use Rattle.dm_atomic.specs.Laws.{IsMarked}
 use Rattle.dm_atomic.proofs.OneStatus.{failed_at}
@@ -95,7 +99,8 @@ work-starts r s post (work.Piece piece) inside =
     (subst (λ b. Keeps b g.what) inside (gather-keeps r.max_obj s.object piece))
 work-starts r s post (work.Alert code) inside = refl
 
-pub step-starts : (r : Running) (s : State) (t : Task) → IsMarked true t.work → (one_step r s t).state.started ≡ s.started
+pub step-starts : (r : Running) (s : State) (t : Task) → IsMarked true t.work
+    → (one_step r s t).state.started ≡ s.started
 unfolding one_step
 step-starts r s t inside = work-starts r s t.post t.work inside
 

@@ -1,5 +1,6 @@
 -- What is made for the values, reports, tasks and parts that are left.
-use Rattle.std.proofs.Common.{◌≡◌, ℕ, suc, ◌+◌, ◌<◌, ◌≤◌, List, [], ◌∷◌, ◌++◌, length, map, drop, get_or, refl, sym, ◌∙◌, ap, append_assoc, add-one, drop-cons}
+use Rattle.std.proofs.Common.{◌≡◌, ℕ, suc, ◌+◌, ◌<◌, ◌≤◌, List, [], ◌∷◌, ◌++◌, length, map, drop, get_or, refl, sym}
+use Rattle.std.proofs.Common.{◌∙◌, ap, append_assoc, add-one, drop-cons}
 use Rattle.std.proofs.lemmas.List.{drop_all}
 use Rattle.dm_commands.specs.declared.outcome.Found.{Found}
 use Rattle.dm_atomic.specs.declared.tasks.Post.{Post}
@@ -51,4 +52,5 @@ next_part_undone = ahead parts_undone
 pub all_reported_append : (a b : List Report) → all_reported (a ++ b) ≡ all_reported a ++ all_reported b
 all_reported_append [] b = refl
 all_reported_append (r ∷ a) b =
-    ap (λ x. reported r ++ x) (all_reported_append a b) ∙ sym (append_assoc (reported r) (all_reported a) (all_reported b))
+    ap (λ x. reported r ++ x) (all_reported_append a b)
+    ∙ sym (append_assoc (reported r) (all_reported a) (all_reported b))

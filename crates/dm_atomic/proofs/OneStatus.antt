@@ -1,5 +1,6 @@
 -- Each step and each container has one Status, made at once or when its group closes.
-use Rattle.std.proofs.Common.{◌≡◌, ℕ, Bool, true, false, cond, List, [], ◌∷◌, ◌++◌, Option, None, Some, map, refl, sym, ◌∙◌, ap, arith, append_assoc}
+use Rattle.std.proofs.Common.{◌≡◌, ℕ, Bool, true, false, cond, List, [], ◌∷◌, ◌++◌, Option, None, Some, map, refl, sym}
+use Rattle.std.proofs.Common.{◌∙◌, ap, arith, append_assoc}
 use Rattle.std.specs.List.{sum_by}
 use Rattle.std.proofs.lemmas.List.{append-nil}
 use Rattle.std.proofs.lemmas.List.Sums.{sum_by-append}
@@ -20,10 +21,16 @@ use Rattle.dm_atomic.specs.declared.tasks.Task.{Task}
 use Rattle.dm_atomic.specs.declared.reports.Report.{Report}
 use Rattle.dm_atomic.specs.Tasks.{plain_tasks, alert_task, member_tasks, members_tasks, container_post}
 use Rattle.dm_atomic.specs.Made.{Made, Status, reported, notice}
-use Rattle.dm_atomic.specs.Run.{State, Group, Running, Next, Ran, Tried, quietly, by_what, by_work, one_step, undone, not_run, container, parts_done, parts_undone, broken_group, break_of, break_group, breaks_first, one_alone, in_sequence, after_success, tried, joins, opened, opens, with_part, stays_open, succeeds, fails, closes, in_group, join_or_break, atomically, run_member, run_members, run_command, run_all, still, still_of}
+use Rattle.dm_atomic.specs.Run.{State, Group, Running, Next, Ran, Tried, quietly, by_what, by_work, one_step, undone}
+use Rattle.dm_atomic.specs.Run.{not_run, container, parts_done, parts_undone, broken_group, break_of, break_group}
+use Rattle.dm_atomic.specs.Run.{breaks_first, one_alone, in_sequence, after_success, tried, joins, opened, opens}
+use Rattle.dm_atomic.specs.Run.{with_part, stays_open, succeeds, fails, closes, in_group, join_or_break, atomically}
+use Rattle.dm_atomic.specs.Run.{run_member, run_members, run_command, run_all, still, still_of}
 use Rattle.dm_objects.specs.Inside.{is_buffering_inside}
-use Rattle.dm_atomic.specs.Posts.{task_posts, member_posts, members_posts, asked_posts, all_asked, made_posts, report_posts, part_posts, waiting_posts, NoneLost}
-use Rattle.dm_atomic.proofs.Counts.{made-append, made-reported, made-notice, report-append, report-undone, report-not_run, made-container, made-parts_done, made-parts_undone, part-append}
+use Rattle.dm_atomic.specs.Posts.{task_posts, member_posts, members_posts, asked_posts, all_asked, made_posts}
+use Rattle.dm_atomic.specs.Posts.{report_posts, part_posts, waiting_posts, NoneLost}
+use Rattle.dm_atomic.proofs.Counts.{made-append, made-reported, made-notice, report-append, report-undone}
+use Rattle.dm_atomic.proofs.Counts.{report-not_run, made-container, made-parts_done, made-parts_undone, part-append}
 
 -- ---- one task
 

@@ -1,5 +1,6 @@
 -- A group is open exactly while an object that was begun in an Atomic is being buffered.
-use Rattle.std.proofs.Common.{◌≡◌, ℕ, ◌+◌, Bool, true, false, cond, List, [], ◌∷◌, length, Option, None, Some, refl, sym, ◌∙◌, ap, subst}
+use Rattle.std.proofs.Common.{◌≡◌, ℕ, ◌+◌, Bool, true, false, cond, List, [], ◌∷◌, length, Option, None, Some, refl}
+use Rattle.std.proofs.Common.{sym, ◌∙◌, ap, subst}
 use Rattle.std.specs.Prelude.{⊤, ◌&&◌, ◌==◌, not, nat_lt, is_some, All}
 use Rattle.std.proofs.lemmas.Bool.{and_parts}
 use Rattle.std.proofs.lemmas.List.Elements.{All-head, All-tail}
@@ -13,7 +14,8 @@ use Rattle.dm_objects.specs.declared.object.Object.TheVariants.{Nothing, Bufferi
 use Rattle.dm_objects.specs.declared.piece.Piece.{Piece}
 use Rattle.dm_objects.specs.declared.piece.What.{What}
 use Rattle.dm_objects.specs.declared.piece.What.TheVariants.{Whole, Buffered, Refused}
-use Rattle.dm_objects.specs.Gathering.{Came, key_of, verb_number, is_same_text, is_same_place, is_same_key, continues, is_write, first_of_several, next_piece, write_piece, by_rules, gather}
+use Rattle.dm_objects.specs.Gathering.{Came, key_of, verb_number, is_same_text, is_same_place, is_same_key, continues}
+use Rattle.dm_objects.specs.Gathering.{is_write, first_of_several, next_piece, write_piece, by_rules, gather}
 use Rattle.dm_atomic.specs.declared.tasks.Named.TheVariants as named
 use Rattle.dm_atomic.specs.declared.tasks.Origin.{Origin}
 use Rattle.dm_atomic.specs.declared.tasks.Post.{Post}
@@ -22,7 +24,10 @@ use Rattle.dm_atomic.specs.declared.tasks.Work.{Work}
 use Rattle.dm_atomic.specs.declared.tasks.Work.TheVariants as work
 use Rattle.dm_atomic.specs.declared.reports.Report.{Report}
 use Rattle.dm_atomic.specs.Tasks.{plain_tasks, alert_task, member_tasks, members_tasks, container_post}
-use Rattle.dm_atomic.specs.Run.{State, Group, Running, Tried, by_what, by_work, one_step, break_group, breaks_first, one_alone, in_sequence, tried, left_by, left_object, opened, opens, closes, in_group, join_or_break, atomically, run_member, run_members, run_command, still, still_of, abandoned}
+use Rattle.dm_atomic.specs.Run.{State, Group, Running, Tried, by_what, by_work, one_step, break_group, breaks_first}
+use Rattle.dm_atomic.specs.Run.{one_alone, in_sequence, tried, left_by, left_object, opened, opens, closes, in_group}
+use Rattle.dm_atomic.specs.Run.{join_or_break, atomically, run_member, run_members, run_command, still, still_of}
+use Rattle.dm_atomic.specs.Run.{abandoned}
 use Rattle.dm_objects.specs.Inside.{is_buffering_inside, stays}
 use Rattle.dm_atomic.specs.Laws.{IsMarked, IsOpenForObject, EndsBoth, CommandKeepsOpen, QuietEndsBoth}
 use Rattle.dm_atomic.proofs.Insides.{plain-marked, alert-marked, member-marked}

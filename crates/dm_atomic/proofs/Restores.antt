@@ -4,7 +4,8 @@ use Rattle.dm_tree.specs.Nodes.{Nodes}
 use Rattle.dm_atomic.specs.declared.tasks.Post.{Post}
 use Rattle.dm_atomic.specs.declared.tasks.Task.{Task}
 use Rattle.dm_atomic.specs.declared.reports.Report.{Report}
-use Rattle.dm_atomic.specs.Run.{State, Group, Running, Next, Tried, quietly, break_of, break_group, tried, joins, opened, opens, closes, in_group, join_or_break, atomically, committed, still, still_of}
+use Rattle.dm_atomic.specs.Run.{State, Group, Running, Next, Tried, quietly, break_of, break_group, tried, joins}
+use Rattle.dm_atomic.specs.Run.{opened, opens, closes, in_group, join_or_break, atomically, committed, still, still_of}
 use Rattle.dm_objects.specs.Inside.{is_buffering_inside}
 use Rattle.dm_atomic.specs.Laws.{Restores, BrokenGroupRestores, QuietRestores}
 

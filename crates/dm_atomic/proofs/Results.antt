@@ -1,5 +1,6 @@
 -- What an engine is where it begins, and after the result of its update.
-use Rattle.std.proofs.Common.{◌≡◌, ℕ, ◌+◌, ◌≤◌, Bool, true, false, List, [], ◌∷◌, ◌++◌, length, sym, ◌∙◌, ap, subst, arith, Option, None}
+use Rattle.std.proofs.Common.{◌≡◌, ℕ, ◌+◌, ◌-◌, ◌≤◌, Bool, true, false, List, [], ◌∷◌, ◌++◌, length, sym, ◌∙◌, ap}
+use Rattle.std.proofs.Common.{subst, arith, Option, None}
 use Rattle.std.specs.Global.{Vec}
 use Rattle.dm_tree.specs.declared.rows.Row.{Row}
 use Rattle.dm_tree.specs.Nodes.{Nodes}
@@ -18,10 +19,11 @@ use Rattle.dm_atomic.specs.declared.reports.Started.{Started}
 use Rattle.dm_atomic.specs.declared.engine.Engine.{Engine}
 use Rattle.dm_atomic.specs.Run.{State, Group}
 use Rattle.dm_atomic.specs.Engine.{group_of, state_of, FitsObject, IsSoundEngine}
-use Rattle.dm_atomic.specs.Marks.{Holds}
+use Rattle.dm_atomic.specs.Marks.{no_past, Holds}
 use Rattle.dm_atomic.specs.Updates.{clock_of, is_updating, update_of, begun, finished}
-use Rattle.dm_atomic.proofs.Engines.{group-stays, only-acted, sound-after, sound-as-before, notes-as-before, started_sound, room_sound}
-use Rattle.dm_atomic.proofs.Held.{holds_then, holds_room, holds_noted, holds_started}
+use Rattle.dm_atomic.proofs.Engines.{group-stays, only-acted, sound-after, sound-as-before, notes-as-before}
+use Rattle.dm_atomic.proofs.Engines.{started_sound, room_sound}
+use Rattle.dm_atomic.proofs.Held.{past, same-past, holds_then, holds_room, holds_noted, holds_started}
 use Rattle.dm_atomic.proofs.UpdateEnds.{ended_in_order}
 
 -- ---- a new engine
@@ -34,6 +36,13 @@ begun_state m i max started is told = ap (λ (x : Seen). over (present x.objects
   where
     over : Object → Option Started → State
     over o s = record { tree = m; object = o; group = None; started = s }
+
+pub begun_past : (es : List Entry) (i : Seen) (max starts groups : ℕ) → es ≡ []
+    → i ≡ record { max_obj = max; objects = Nothing ∷ [] } → starts ≡ 0 → groups ≡ 0
+    → past (length es) (length i.objects - 1) starts groups ≡ no_past
+begun_past es i max starts groups none is no_starts no_groups =
+    same-past _ 0 _ 0 _ 0 _ 0 (ap length none) (omega (arith, ap (λ (x : Seen). length x.objects) is)) no_starts
+    no_groups
 
 pub begun_sound : (f : Engine) (max : ℕ) → f.is_open ≡ false → IsSound f.journal.entries f.tree.rows
     → length f.journal.entries + 1 ≤ f.journal.room → IsUpdateInOrder (nodes f.tree.rows) → max ≤ 4194304
@@ -70,7 +79,8 @@ module _ (e : Engine) (tree : Tree) (journal : Journal) (ok : Bool) (s : IsSound
       let m = record e { tree = tree; journal = journal } in
       started_sound m f None
       (sound-after e m s (only-acted e tree journal n clock)
-      (subst IsUpdateInOrder (sym is) (ended_in_order e.tree.clock (nodes e.tree.rows) ok s.update running)) s.object) same
+      (subst IsUpdateInOrder (sym is) (ended_in_order e.tree.clock (nodes e.tree.rows) ok s.update running)) s.object)
+      same
 
   pub finished_holds : (f : Engine) (starts : Vec (Option Started)) → starts.items ≡ e.starts.items
       → f ≡ record e { tree = tree; journal = journal; started = None; starts = f.starts }

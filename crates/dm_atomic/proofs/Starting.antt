@@ -1,5 +1,6 @@
 -- After a step an update runs exactly where one ran before, or the step started it.
-use Rattle.std.proofs.Common.{◌≡◌, ◌<◌, ◌==◌, ℕ, Bool, true, false, not, cond, if◌then◌else◌, List, [], ◌∷◌, ◌++◌, length, Option, None, Some, refl, sym, ◌∙◌, ap, subst, inl, inr}
+use Rattle.std.proofs.Common.{◌≡◌, ◌<◌, ◌==◌, ℕ, Bool, true, false, not, cond, if◌then◌else◌, List, [], ◌∷◌, ◌++◌}
+use Rattle.std.proofs.Common.{length, Option, None, Some, refl, sym, ◌∙◌, ap, subst, inl, inr}
 use Rattle.std.specs.Prelude.{◌⊎◌, ◌&&◌, ◌||◌, Result, Ok, Err, is_some, codes, bytes_eq, unwrap_or}
 use Rattle.std.specs.Option.{option_map, option_map_or}
 use Rattle.std.specs.Fmt.{decimal, digits}
@@ -23,14 +24,16 @@ use Rattle.dm_tree.specs.declared.nodes.Role.TheVariants as role
 use Rattle.dm_tree.specs.Nodes.{Path, Nodes, changed, with_value}
 use Rattle.dm_tree.specs.Rows.{blank_node}
 use Rattle.dm_tree.specs.Edits.{pruned}
-use Rattle.dm_tree.specs.Devices.{is_role, is_of_update, is_update_state, value_at, HasUpdate, HasNoUpdate, IsUpdateInOrder, StaysForUpdate}
+use Rattle.dm_tree.specs.Devices.{is_role, is_of_update, is_update_state, value_at, HasUpdate, HasNoUpdate}
+use Rattle.dm_tree.specs.Devices.{IsUpdateInOrder, StaysForUpdate}
 use Rattle.dm_tree.proofs.Devices.{update_is_found}
-use Rattle.dm_tree.proofs.Keepings.{Keeps, still_insert, here_insert, keeps_changed, keeps_added}
+use Rattle.dm_tree.proofs.NodesKept.{Keeps, still_insert, here_insert, keeps_changed, keeps_added}
 use Rattle.dm_tree.proofs.Paths.{Ends, ends, none, last}
-use Rattle.dm_tree.proofs.Seen.{above-append, last_name-append}
+use Rattle.dm_tree.proofs.LiveRows.{above-append, last_name-append}
 use Rattle.dm_tree.proofs.UpdateParts.{stands, has_update, has_no_update, changed_keeps_update}
 use Rattle.dm_commands.specs.Finding.{found_by}
-use Rattle.dm_commands.specs.Outcomes.{Setting, Done, refused, changed_to, found_in, unless, first_refusal, no_node, node_at}
+use Rattle.dm_commands.specs.Outcomes.{Setting, Done, refused, changed_to, found_in, unless, first_refusal, no_node}
+use Rattle.dm_commands.specs.Outcomes.{node_at}
 use Rattle.dm_commands.specs.Updates.{state_of, state_after_write, rewritten, with_text, with_state}
 use Rattle.dm_commands.specs.Table as table
 use Rattle.dm_commands.specs.Table.{act}
@@ -39,7 +42,9 @@ use Rattle.dm_commands.proofs.Keeping.{none_holds, is_there}
 use Rattle.dm_commands.proofs.Updating.{at_update, at_package, small_back, progressing_back}
 use Rattle.dm_commands.proofs.UpdateParts.{data_not_state}
 use Rattle.dm_atomic.specs.Updates.{is_updating, IsAnchored, RunsWhereStarted}
-use Rattle.dm_atomic.proofs.Anchors.{Lasts, StayPermanent, lasts_itself, lasts_then, changed_lasts, changed_permanent, added_permanent, pruned_keeps, pruned_permanent, renamed_keeps, renamed_permanent, anchored_of}
+use Rattle.dm_atomic.proofs.Anchors.{Lasts, StayPermanent, lasts_itself, lasts_then, changed_lasts, changed_permanent}
+use Rattle.dm_atomic.proofs.Anchors.{added_permanent, pruned_keeps, pruned_permanent, renamed_keeps, renamed_permanent}
+use Rattle.dm_atomic.proofs.Anchors.{anchored_of}
 use Rattle.dm_atomic.proofs.UpdateEnds.{runs}
 
 -- ---- where State has the value that it had

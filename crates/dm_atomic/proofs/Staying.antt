@@ -1,5 +1,6 @@
 -- Nodes that keep their numbers, while an engine goes on.
-use Rattle.std.proofs.Common.{◌≡◌, ℕ, zero, suc, ◌+◌, ◌<◌, Bool, true, false, not, cond, List, [], ◌∷◌, length, get_or, refl, sym, ◌∙◌, ap, subst, arith, Option, None, Some}
+use Rattle.std.proofs.Common.{◌≡◌, ℕ, zero, suc, ◌+◌, ◌<◌, Bool, true, false, not, cond, List, [], ◌∷◌, length, get_or}
+use Rattle.std.proofs.Common.{refl, sym, ◌∙◌, ap, subst, arith, Option, None, Some}
 use Rattle.std.specs.Prelude.{◌&&◌, ◌||◌, ◌==◌, IfSome, OnOk, OnErr, Result, Ok, Err, is_some, nat_lt, unwrap_or}
 use Rattle.std.specs.Global.{Vec}
 use Rattle.std.specs.List.{list_any}
@@ -19,7 +20,8 @@ use Rattle.dm_objects.specs.declared.object.Object.TheVariants.{Nothing, Bufferi
 use Rattle.dm_objects.specs.declared.piece.Piece.{Piece}
 use Rattle.dm_objects.specs.declared.piece.What.{What}
 use Rattle.dm_objects.specs.declared.piece.What.TheVariants.{Whole, Refused}
-use Rattle.dm_objects.specs.Gathering.{Came, is_write, first_of_several, next_piece, write_piece, by_rules, continues, gather}
+use Rattle.dm_objects.specs.Gathering.{Came, is_write, first_of_several, next_piece, write_piece, by_rules, continues}
+use Rattle.dm_objects.specs.Gathering.{gather}
 use Rattle.dm_commands.specs.Promises.{KeepIdsBut, KeepsIds, is_moved, none_moved, StaysAsBefore}
 use Rattle.dm_atomic.specs.declared.tasks.Task.{Task}
 use Rattle.dm_atomic.specs.declared.reports.Part.{Part}
@@ -27,7 +29,8 @@ use Rattle.dm_atomic.specs.declared.engine.Engine.{Engine}
 use Rattle.dm_atomic.specs.declared.engine.EndedGroup.{EndedGroup}
 use Rattle.dm_atomic.specs.Engine.{state_of, CanRollBack, IsSoundEngine, Only}
 use Rattle.dm_atomic.specs.Marks.{Whole as AllOf, base_ids_of, whole_of}
-use Rattle.dm_atomic.specs.Stays.{work_covers, task_covers, tasks_cover, what_covers, seq_member_covers, HasId, StayBut, committed_ids}
+use Rattle.dm_atomic.specs.Stays.{work_covers, task_covers, tasks_cover, what_covers, seq_member_covers, HasId, StayBut}
+use Rattle.dm_atomic.specs.Stays.{committed_ids}
 use Rattle.dm_atomic.proofs.Closings.{group_now, group_is_open}
 
 -- ---- one step and another

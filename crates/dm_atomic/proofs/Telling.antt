@@ -6,7 +6,8 @@ use Rattle.syncml_types.specs.declared.command.Command.{Command}
 use Rattle.dm_atomic.specs.Made.{Made, entry_of, is_withheld, told, IsInFront}
 
 told_if : (m : Made) (a b : List Made) (w : Bool)
-    → (if w then told a else entry_of m ∷ told a) ++ told b ≡ if w then told a ++ told b else entry_of m ∷ (told a ++ told b)
+    → (if w then told a else entry_of m ∷ told a) ++ told b ≡ if w then told a ++ told b
+    else entry_of m ∷ (told a ++ told b)
 told_if m a b true = refl
 told_if m a b false = refl
 

@@ -1,5 +1,6 @@
 -- What was started is what the tree tells, whatever an engine does.
-use Rattle.std.proofs.Common.{◌≡◌, ◌==◌, ℕ, Bool, true, false, cond, List, [], ◌∷◌, Option, None, Some, refl, sym, ◌∙◌, ap, subst, inl, inr}
+use Rattle.std.proofs.Common.{◌≡◌, ◌==◌, ℕ, Bool, true, false, cond, List, [], ◌∷◌, Option, None, Some, refl, sym, ◌∙◌}
+use Rattle.std.proofs.Common.{ap, subst, inl, inr}
 use Rattle.std.specs.Prelude.{◌⊎◌, ◌||◌, All, IfSome, is_some}
 use Rattle.std.specs.Fmt.{decimal, digits}
 use Rattle.std.specs.Option.{option_map_or}
@@ -35,9 +36,13 @@ use Rattle.dm_atomic.specs.declared.tasks.Work.TheVariants as work
 use Rattle.dm_atomic.specs.declared.reports.Report.{Report}
 use Rattle.dm_atomic.specs.declared.reports.Started.{Started}
 use Rattle.dm_atomic.specs.Tasks.{plain_tasks, alert_task, member_tasks, members_tasks, container_post}
-use Rattle.dm_atomic.specs.Run.{State, Group, Running, Ran, Tried, quietly, started_by, by_what, by_work, one_step, break_of, break_group, breaks_first, one_alone, in_sequence, after_success, tried, joins, opened, opens, stays_open, succeeds, closes, in_group, join_or_break, atomically, run_member, run_members, run_command, still, still_of, committed, abandoned}
+use Rattle.dm_atomic.specs.Run.{State, Group, Running, Ran, Tried, quietly, started_by, by_what, by_work, one_step}
+use Rattle.dm_atomic.specs.Run.{break_of, break_group, breaks_first, one_alone, in_sequence, after_success, tried}
+use Rattle.dm_atomic.specs.Run.{joins, opened, opens, stays_open, succeeds, closes, in_group, join_or_break, atomically}
+use Rattle.dm_atomic.specs.Run.{run_member, run_members, run_command, still, still_of, committed, abandoned}
 use Rattle.dm_atomic.specs.Laws.{IsMarked}
-use Rattle.dm_atomic.specs.Updates.{is_updating, begun, HasFixedUpdate, TellsStarted, BeginsTelling, CommandKeepsTelling, QuietKeepsTelling, ResultKeepsTelling}
+use Rattle.dm_atomic.specs.Updates.{is_updating, begun, HasFixedUpdate, TellsStarted, BeginsTelling}
+use Rattle.dm_atomic.specs.Updates.{CommandKeepsTelling, QuietKeepsTelling, ResultKeepsTelling}
 use Rattle.dm_atomic.proofs.Anchors.{Lasts, anchored_of, fixed_then, lasts_itself, lasts_then, changed_lasts}
 use Rattle.dm_atomic.proofs.Insides.{step-starts, members-marked}
 use Rattle.dm_atomic.proofs.OneStatus.{failed_at, one_step-steps}

@@ -1,5 +1,6 @@
 -- Tasks that are run one after another, up to the first that fails.
-use Rattle.std.proofs.Common.{◌≡◌, ℕ, suc, ◌+◌, ◌<◌, ◌≤◌, true, false, List, [], ◌∷◌, ◌++◌, length, drop, get_or, refl, sym, ◌∙◌, ap, subst, arith, append_assoc, add-one, drop-cons, None, Some}
+use Rattle.std.proofs.Common.{◌≡◌, ℕ, suc, ◌+◌, ◌<◌, ◌≤◌, true, false, List, [], ◌∷◌, ◌++◌, length, drop, get_or, refl}
+use Rattle.std.proofs.Common.{sym, ◌∙◌, ap, subst, arith, append_assoc, add-one, drop-cons, None, Some}
 use Rattle.std.specs.Prelude.{if◌then◌else◌}
 use Rattle.std.proofs.lemmas.List.{append-nil, drop_all}
 use Rattle.syncml_types.specs.declared.command.Command.{Command}
@@ -10,7 +11,8 @@ use Rattle.dm_atomic.specs.declared.tasks.Task.{Task}
 use Rattle.dm_atomic.specs.declared.reports.Report.{Report}
 use Rattle.dm_atomic.specs.declared.engine.Engine.{Engine}
 use Rattle.dm_atomic.specs.Made.{Made, told, notice, IsInFront}
-use Rattle.dm_atomic.specs.Run.{State, Running, Ran, Tried, one_step, after_success, tried, continues_or, first_continues, left_by, left_object}
+use Rattle.dm_atomic.specs.Run.{State, Running, Ran, Tried, one_step, after_success, tried, continues_or}
+use Rattle.dm_atomic.specs.Run.{first_continues, left_by, left_object}
 use Rattle.dm_atomic.specs.Engine.{running, Only, Runs, Tries}
 use Rattle.dm_atomic.proofs.Telling.{told_both, some_more}
 

@@ -1,5 +1,6 @@
 -- Where an engine begins, and how an update ends.
-use Rattle.std.proofs.Common.{◌≡◌, ◌==◌, Bool, true, false, if◌then◌else◌, [], ◌∷◌, ◌++◌, refl, sym, ◌∙◌, ap, subst, arith, None, Some, inl, inr}
+use Rattle.std.proofs.Common.{◌≡◌, ◌==◌, Bool, true, false, if◌then◌else◌, [], ◌∷◌, ◌++◌, refl, sym, ◌∙◌, ap, subst}
+use Rattle.std.proofs.Common.{arith, None, Some, inl, inr}
 use Rattle.std.specs.Prelude.{◌⊎◌, codes, bytes_eq, is_some, unwrap_or, option_map}
 use Rattle.std.specs.Option.{option_map_or}
 use Rattle.std.specs.Fmt.{decimal, digits}
@@ -12,9 +13,10 @@ use Rattle.dm_tree.specs.declared.nodes.Role.TheVariants as role
 use Rattle.dm_tree.specs.declared.nodes.Stamp.{Stamp}
 use Rattle.dm_tree.specs.Nodes.{Path, Nodes}
 use Rattle.dm_tree.specs.Rows.{blank_node}
-use Rattle.dm_tree.specs.Devices.{update_node, pkg_data, state_node, value_at, is_update_state, HasUpdate, IsUpdateInOrder}
+use Rattle.dm_tree.specs.Devices.{update_node, pkg_data, state_node, value_at, is_update_state, HasUpdate}
+use Rattle.dm_tree.specs.Devices.{IsUpdateInOrder}
 use Rattle.dm_tree.proofs.Devices.{update_is_found}
-use Rattle.dm_tree.proofs.Keepings.{some_node, still_insert}
+use Rattle.dm_tree.proofs.NodesKept.{some_node, still_insert}
 use Rattle.dm_tree.proofs.UpdateParts.{changed_keeps_update}
 use Rattle.dm_commands.specs.Outcomes.{asked_by, node_at}
 use Rattle.dm_commands.specs.Updates.{state_of, rewritten, with_text, with_state, package_at, update_ended}
@@ -141,7 +143,8 @@ module _ (clock : Stamp) (m : Nodes) (p : Path) (has : HasUpdate m p) where
 
   state_keeps : (ok same : Bool) → IsUpdateInOrder (packed ok)
       → IsUpdateInOrder (if same then packed ok
-      else insert (packed ok) state_path (rewritten (asked_by [] clock) (node_at m state_path) (decimal (after_result ok))))
+      else insert (packed ok) state_path
+      (rewritten (asked_by [] clock) (node_at m state_path) (decimal (after_result ok))))
   state_keeps ok true order = order
   state_keeps ok false order =
       let is = node_of state_path has.state has.state_stands.there in
@@ -158,7 +161,8 @@ module _ (clock : Stamp) (m : Nodes) (p : Path) (has : HasUpdate m p) where
   ended ok =
       ap (λ o. with_state (asked_by [] clock) m (option_map_or (package_at clock m ok) o m) (after_result ok))
       (update_is_found m p has).1
-      ∙ ap (λ o. option_map_or (λ q. with_text (asked_by [] clock) m (packed ok) q (decimal (after_result ok))) o (packed ok))
+      ∙ ap (λ o. option_map_or (λ q. with_text (asked_by [] clock) m (packed ok) q (decimal (after_result ok))) o
+      (packed ok))
       (update_is_found m p has).2
 
   ended_there : (ok : Bool) → IsUpdateInOrder m → IsUpdateInOrder (update_ended clock m ok)

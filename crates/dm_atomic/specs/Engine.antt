@@ -1,5 +1,7 @@
 -- What an engine holds, and the state that it stands for.
-use Rattle.std.specs.Prelude.{◌≡◌, ◌≤◌, ◌<◌, ◌+◌, ◌-◌, ℕ, Bool, true, if◌then◌else◌, ⊤, List, ◌++◌, drop, length, Option, None, Some, MatchOption, vec_len, vec_capacity}
+use Rattle.std.specs.Prelude.{◌≡◌, ◌≤◌, ◌<◌, ◌+◌, ◌-◌, ℕ, Bool, true, if◌then◌else◌, ⊤, List, ◌++◌, drop, length}
+use Rattle.std.specs.Prelude.{Option, None, Some, MatchOption, vec_len, vec_capacity}
+use Rattle.dm_base.specs.Limits.{object_limit}
 use Rattle.syncml_types.specs.declared.command.Command.{Command}
 use Rattle.syncml_types.specs.declared.command.Step.{Step}
 use Rattle.dm_tree.specs.declared.rows.Row.{Row}
@@ -60,13 +62,13 @@ FitsObject max Nothing = ⊤
 FitsObject max (Buffering begun) = begun.size ≤ max
 FitsObject max (Skipping key code) = ⊤
 
--- the journal tells trees, the update part is in order, no step is too large for the tree, and there is room for a group
--- that ends
+-- the journal tells trees, the update part is in order, no step is too large for the tree, and there is room for a
+-- group that ends
 pub record IsSoundEngine (e : Engine) : Type 0 where
   pub journal : IsSound e.journal.entries e.tree.rows
   pub spare : length e.journal.entries < e.journal.room
   pub update : IsUpdateInOrder (nodes e.tree.rows)
-  pub max_obj : e.inbox.max_obj ≤ 4194304
+  pub max_obj : e.inbox.max_obj ≤ object_limit
   pub object : FitsObject e.inbox.max_obj (present e.inbox.objects)
   pub group : e.is_open ≡ true → CanRollBack e.tree.rows e.journal e.mark
   pub ended : e.is_open ≡ true → vec_len e.ended < vec_capacity e.ended
@@ -112,7 +114,8 @@ pub record Runs (ran : Ran) (s : State) (report : Report) (before after : List C
   pub told_is : after ≡ before ++ told (notice ran.broken)
 
 -- tasks were tried: what was done, and the first that failed with the number of those run
-pub record Tries (t : Tried) (s : State) (done : List Report) (ts : List Task) (failed : Option (Report × ℕ)) (before after : List Command) : Type 0 where
+pub record Tries (t : Tried) (s : State) (done : List Report) (ts : List Task) (failed : Option (Report × ℕ))
+    (before after : List Command) : Type 0 where
   pub state_is : s ≡ t.state
   pub done_is : done ≡ t.done
   pub told_is : after ≡ before ++ told t.notices

@@ -19,7 +19,8 @@ use Rattle.dm_atomic.specs.declared.tasks.Task.{Task}
 use Rattle.dm_atomic.specs.declared.tasks.Work.{Work}
 use Rattle.dm_atomic.specs.declared.tasks.Work.TheVariants as work
 use Rattle.dm_atomic.specs.declared.reports.Report.{Report}
-use Rattle.dm_atomic.specs.Run.{Group, State, Running, Ran, one_step, break_group, tried, opens, join_or_break, atomically, run_atomic, run_command, run_all, still, committed, abandoned}
+use Rattle.dm_atomic.specs.Run.{Group, State, Running, Ran, one_step, break_group, tried, opens, join_or_break}
+use Rattle.dm_atomic.specs.Run.{atomically, run_atomic, run_command, run_all, still, committed, abandoned}
 use Rattle.dm_objects.specs.Inside.{is_buffering_inside}
 use Rattle.dm_atomic.specs.Posts.{NoneLost, all_asked}
 

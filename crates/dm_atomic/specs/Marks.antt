@@ -1,5 +1,6 @@
 -- What the marks of an engine recall: all of it.
-use Rattle.std.specs.Prelude.{◌≡◌, ◌≤◌, ◌<◌, ◌+◌, ◌-◌, ℕ, Bool, true, if◌then◌else◌, List, [], ◌∷◌, ◌++◌, length, take, drop, get_or, Option, None, Some}
+use Rattle.std.specs.Prelude.{◌≡◌, ◌≤◌, ◌<◌, ◌+◌, ◌-◌, ℕ, Bool, true, if◌then◌else◌, List, [], ◌∷◌, ◌++◌, length, take}
+use Rattle.std.specs.Prelude.{drop, get_or, Option, None, Some}
 use Rattle.dm_tree.specs.declared.rows.Row.{Row}
 use Rattle.dm_tree.specs.Nodes.{Ids}
 use Rattle.dm_tree.specs.Rows.{ids}
@@ -49,6 +50,25 @@ group_at e n = get_or (groups e.ended.items e.mark e.parts) n no_group
 abbrev pub starts_of : Engine → List (Option Started)
 starts_of e = e.starts.items ++ e.started ∷ []
 
+-- how much is known of what stood there before, and before a group that is open: entries of the journal, objects, what
+-- was started, and groups that ended
+pub record Past : Type 0 where
+  pub entries : ℕ
+  pub objects : ℕ
+  pub starts : ℕ
+  pub groups : ℕ
+
+abbrev pub past_of : Engine → Past
+past_of e = record {
+  entries = if e.is_open then e.mark else length e.journal.entries;
+  objects = length e.inbox.objects - 1;
+  starts = length e.starts.items;
+  groups = length e.ended.items;
+}
+
+abbrev pub no_past : Past
+no_past = record { entries = 0; objects = 0; starts = 0; groups = 0 }
+
 -- ---- marks
 
 abbrev pub tree_there : Engine → ℕ → Maps
@@ -66,6 +86,15 @@ recalled e m = record {
   };
   ids = (tree_there e m.journal).ids;
   base_ids = base_ids_of e.tree.rows e.journal.entries m.is_open (group_at e m.groups).mark;
+}
+
+-- and what was known there of what stood before
+abbrev pub past_at : Engine → EngineMark → Past
+past_at e m = record {
+  entries = if m.is_open then (group_at e m.groups).mark else m.journal;
+  objects = m.inbox;
+  starts = m.starts;
+  groups = m.groups;
 }
 
 -- the group that was open there is known still, and could be rolled back from there
@@ -96,6 +125,7 @@ pub record Recalls (e : Engine) (m : EngineMark) (w : Whole) : Type 0 where
 -- each mark that could be gone back to can be still, and recalls what it did
 pub record Holds (old new : Engine) : Type 0 where
   pub marks : (m : EngineMark) (w : Whole) → Recalls old m w → Recalls new m w
+  pub pasts : (m : EngineMark) → IsHeld old m → past_at new m ≡ past_at old m
 
 -- objects were held, one behind the other
 pub record ObjectsGo (old new : Seen) : Type 0 where

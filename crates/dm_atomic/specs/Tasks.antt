@@ -1,5 +1,6 @@
 -- The tasks of a command, in document order, and what the Status of each answers.
-use Rattle.std.specs.Prelude.{◌||◌, ℕ, suc, Bool, if◌then◌else◌, nat_lt, List, [], ◌∷◌, ◌++◌, length, codes, Option, None, unwrap_or, option_map, option_and_then}
+use Rattle.std.specs.Prelude.{◌||◌, ℕ, suc, Bool, if◌then◌else◌, nat_lt, List, [], ◌∷◌, ◌++◌, length, codes, Option}
+use Rattle.std.specs.Prelude.{None, unwrap_or, option_map, option_and_then}
 use Rattle.std.specs.Option.{option_or}
 use Rattle.syncml_types.specs.declared.values.Loc.{Loc}
 use Rattle.syncml_types.specs.declared.values.Meta.{Meta}

@@ -1,5 +1,6 @@
 -- Where an engine begins, and how an update ends.
-use Rattle.std.specs.Prelude.{◌≡◌, ◌==◌, ◌||◌, ℕ, Bool, true, if◌then◌else◌, List, [], ◌∷◌, ◌++◌, Option, None, Some, IfSome, is_some, option_map}
+use Rattle.std.specs.Prelude.{◌≡◌, ◌==◌, ◌||◌, ℕ, Bool, true, if◌then◌else◌, List, [], ◌∷◌, ◌++◌, Option, None, Some}
+use Rattle.std.specs.Prelude.{IfSome, is_some, option_map}
 use Rattle.std.specs.FinMap.{get}
 use Rattle.syncml_types.specs.declared.command.Command.{Command}
 use Rattle.syncml_types.specs.declared.command.Step.{Step}
@@ -82,5 +83,6 @@ abbrev pub QuietKeepsTelling : Type 0
 QuietKeepsTelling = (s : State) → TellsStarted s → TellsStarted (still s).state × TellsStarted (abandoned s)
 
 abbrev pub ResultKeepsTelling : Type 0
-ResultKeepsTelling = (clock : Stamp) (s : State) (ok : Bool) → TellsStarted s → is_updating s.tree ≡ true → s.group ≡ None
+ResultKeepsTelling =
+    (clock : Stamp) (s : State) (ok : Bool) → TellsStarted s → is_updating s.tree ≡ true → s.group ≡ None
     → TellsStarted (finished clock s ok)

@@ -2,7 +2,8 @@
 ghost use Rattle.std.specs.Prelude.{◌≡◌, [], None, Some, IsSome, true, OnOk, OnErr};
 ghost use Rattle.dm_commands.specs.Promises.{none_moved};
 ghost use Rattle.dm_atomic.specs.Made.{IsInFront};
-ghost use Rattle.dm_atomic.specs.Run.{opened, stays_open, succeeds, fails, closes, tried, in_group, joins as joins_of, join_or_break as join_or_break_of, atomically};
+ghost use Rattle.dm_atomic.specs.Run.{opened, stays_open, succeeds, fails, closes, tried, in_group, joins as joins_of};
+ghost use Rattle.dm_atomic.specs.Run.{join_or_break as join_or_break_of, atomically};
 ghost use Rattle.dm_atomic.specs.Engine.{state_of, running, IsSoundEngine, Gives};
 ghost use Rattle.dm_atomic.specs.Laws.{attempt};
 ghost use Rattle.dm_atomic.specs.Marks.{whole_of, Holds};
@@ -160,7 +161,8 @@ impl Engine {
         ensures clock { self.new.tree.clock ≡ self.old.tree.clock }
         ensures max_obj { self.new.inbox.max_obj ≡ self.old.inbox.max_obj }
         ensures ids { StayBut (tasks_cover tasks.now) (whole_of self.old) (whole_of self.new) }
-        ensures committed { OnOk result (IsSome (tried (running self.old caller.now) (state_of self.old) tasks.now).failed
+        ensures committed { OnOk result
+            (IsSome (tried (running self.old caller.now) (state_of self.old) tasks.now).failed
             → (whole_of self.new).ids ≡ committed_ids (whole_of self.old)) }
         ensures marks { Holds self.old self.new }
         ensures sound { IsSoundEngine self.new }

@@ -3,13 +3,17 @@ ghost use Rattle.std.specs.Prelude.{◌≡◌, true, false, [], ◌∷◌, None,
 ghost use Rattle.std.specs.List.{list_any};
 ghost use Rattle.syncml_types.specs.declared.command.Command.TheVariants as commands;
 ghost use Rattle.dm_commands.specs.Promises.{none_moved, KeepIdsBut};
-ghost use Rattle.dm_atomic.specs.Tasks.{plain_tasks as plain_tasks_of, alert_task as alert_task_of, member_tasks as member_tasks_of, members_tasks as members_tasks_of};
+ghost use Rattle.dm_atomic.specs.Tasks.{plain_tasks as plain_tasks_of, alert_task as alert_task_of};
+ghost use Rattle.dm_atomic.specs.Tasks.{member_tasks as member_tasks_of, members_tasks as members_tasks_of};
 ghost use Rattle.dm_atomic.specs.Made.{IsInFront};
-ghost use Rattle.dm_atomic.specs.Run.{breaks_first, one_alone as alone_of, in_sequence as sequence_of, run_atomic as atomic_of, run_member as member_of, run_members as members_of, run_sequence as whole_sequence_of, run_command};
+ghost use Rattle.dm_atomic.specs.Run.{breaks_first, one_alone as alone_of, in_sequence as sequence_of};
+ghost use Rattle.dm_atomic.specs.Run.{run_atomic as atomic_of, run_member as member_of, run_members as members_of};
+ghost use Rattle.dm_atomic.specs.Run.{run_sequence as whole_sequence_of, run_command};
 ghost use Rattle.dm_atomic.specs.Engine.{state_of, running, IsSoundEngine, Gives};
 ghost use Rattle.dm_atomic.specs.Laws.{attempt, IfAtomic};
 ghost use Rattle.dm_atomic.specs.Marks.{whole_of, Holds};
-ghost use Rattle.dm_atomic.specs.Stays.{work_covers, tasks_cover, member_covers, seq_member_covers, covers, StayBut, committed_ids};
+ghost use Rattle.dm_atomic.specs.Stays.{work_covers, tasks_cover, member_covers, seq_member_covers, covers, StayBut};
+ghost use Rattle.dm_atomic.specs.Stays.{committed_ids};
 ghost use Rattle.dm_atomic.specs.Updates.{clock_of, max_obj_of};
 
 use crate::engine::Engine;

@@ -63,8 +63,8 @@ fn put_part_undone(alloc: Global, part: &Part, out: &mut List<Command>) -> Resul
     put_undone(alloc, &part.reports, out)
 }
 
-/// Tells the parts of a group that failed: 507 for each container, and 216 without Results for its steps. After `Memory`
-/// a part may be told.
+/// Tells the parts of a group that failed: 507 for each container, and 216 without Results for its steps. After
+/// `Memory` a part may be told.
 #[tactic(auto, using(crate::proofs::Telling::telling_starts))]
 pub(crate) fn put_parts_undone(
     alloc: Global,

@@ -3,7 +3,7 @@ ghost use Rattle.std.specs.Prelude.{◌≡◌, ◌≤◌, is_some};
 ghost use Rattle.dm_tree.specs.Rows.{nodes, ids};
 ghost use Rattle.dm_atomic.specs.Engine.{state_of, IsSoundEngine};
 ghost use Rattle.dm_atomic.specs.Updates.{clock_of, max_obj_of};
-ghost use Rattle.dm_atomic.specs.Marks.{whole_of, Holds};
+ghost use Rattle.dm_atomic.specs.Marks.{whole_of, past_of, Holds};
 
 use crate::reports::{Part, Started};
 use dm_base::List;
@@ -12,8 +12,8 @@ use dm_tree::{Stamp, Tree};
 use dm_undo::{Journal, Mark};
 use std::alloc::Global;
 
-/// What executes commands: the working tree with its journal, the unfinished object, the open group, and the update that was
-/// started.
+/// What executes commands: the working tree with its journal, the unfinished object, the open group, and the update
+/// that was started.
 #[derive(Drop)]
 pub struct Engine {
     pub(crate) alloc: Global,
@@ -68,6 +68,7 @@ impl Engine {
         ensures clock { clock_of self.new ≡ now }
         ensures max_obj { max_obj_of self.new ≡ max_obj_of self.old }
         ensures whole { whole_of self.new ≡ whole_of self.old }
+        ensures past { past_of self.new ≡ past_of self.old }
         ensures marks { Holds self.old self.new }
         ensures sound { IsSoundEngine self.new }
     {

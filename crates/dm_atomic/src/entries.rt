@@ -1,15 +1,16 @@
 // The entries that tell what was made.
 ghost use Rattle.std.specs.Prelude.{◌≡◌, [], ◌∷◌, ◌++◌, IfOk, OnOk, OnErr, Some, None, map};
 ghost use Rattle.syncml_types.specs.declared.command.Command.TheVariants as commands;
-ghost use Rattle.dm_atomic.specs.Made.{Status, Result as AResult, Broken, reported, all_reported, notice, found_meta, source_item, uri_in, entry_of, told, IsInFront};
+ghost use Rattle.dm_atomic.specs.Made.{Status, Result as AResult, Broken, reported, all_reported, notice, found_meta};
+ghost use Rattle.dm_atomic.specs.Made.{source_item, uri_in, entry_of, told, IsInFront};
 
-use crate::copies::copy_bytes;
 use crate::reports::Report;
 use crate::tasks::{Post, name_of};
 use dm_base::{Bytes, List, Memory};
 use dm_commands::Found;
 use dm_uri::is_uri;
 use std::alloc::Global;
+use syncml_types::copies::copy_bytes;
 use syncml_types::{AlertCmd, Command, Item, Loc, Meta, ResultsCmd, StatusCmd};
 
 fn uri_in(alloc: Global, text: &Option<Bytes>) -> Result<List<Bytes>, Memory>
@@ -84,12 +85,13 @@ fn source_item(uri: Bytes, meta: Option<Meta>, value: Option<Bytes>) -> Item
 }
 
 fn found_items(alloc: Global, found: &Found) -> Result<List<Item>, Memory>
-    ensures { IfOk result (λ items. items ≡ source_item found.now.uri (Some (found_meta found.now)) found.now.value ∷ []) }
+    ensures { IfOk result
+        (λ items. items ≡ source_item found.now.uri (Some (found_meta found.now)) found.now.value ∷ []) }
 {
+    let mut items = List::with_room(alloc, 1)?;
     let uri = found.uri.copy(alloc)?;
     let meta = found_meta(alloc, found)?;
     let value = copy_bytes(alloc, &found.value)?;
-    let mut items = List::new(alloc);
     items.push(source_item(uri, Some(meta), value))?;
     Ok(items)
 }

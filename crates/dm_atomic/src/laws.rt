@@ -1,6 +1,9 @@
 // What execution means, over its definition alone.
-ghost use Rattle.dm_atomic.specs.Updates.{BegunWithItsUpdate, RunsWhereStarted, BeginsTelling, CommandKeepsTelling, QuietKeepsTelling, ResultKeepsTelling};
-ghost use Rattle.dm_atomic.specs.Laws.{OneStatusEach, NoneLostInQuiet, FailedAtomicRestores, BrokenGroupRestores, QuietRestores, CommandKeepsOpen, QuietEndsBoth, TasksStartNothing, AtomicStartsNothing, FailedTaskLeavesTree, RefusedRightLeavesTree};
+ghost use Rattle.dm_atomic.specs.Updates.{BegunWithItsUpdate, RunsWhereStarted, BeginsTelling, CommandKeepsTelling};
+ghost use Rattle.dm_atomic.specs.Updates.{QuietKeepsTelling, ResultKeepsTelling};
+ghost use Rattle.dm_atomic.specs.Laws.{OneStatusEach, NoneLostInQuiet, FailedAtomicRestores, BrokenGroupRestores};
+ghost use Rattle.dm_atomic.specs.Laws.{QuietRestores, CommandKeepsOpen, QuietEndsBoth, TasksStartNothing};
+ghost use Rattle.dm_atomic.specs.Laws.{AtomicStartsNothing, FailedTaskLeavesTree, RefusedRightLeavesTree};
 
 /// Law: each step and each container of executed commands has exactly one Status made, suppressed or not: at once, or
 /// where its group closes or is broken.
@@ -46,8 +49,8 @@ pub fn runs_where_started()
     ensures { RunsWhereStarted }
 {}
 
-/// Law: an update was started and has no result yet exactly where State is 60, as an engine begins and whatever it does;
-/// and the same holds of the tree before an open group.
+/// Law: an update was started and has no result yet exactly where State is 60, as an engine begins and whatever it
+/// does; and the same holds of the tree before an open group.
 pub fn what_was_started_is_told()
     ensures begins { BeginsTelling }
     ensures command { CommandKeepsTelling }

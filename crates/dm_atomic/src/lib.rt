@@ -1,12 +1,11 @@
-//! Commands as tasks, what they came to, and the entries that tell it; and what execution means: sequences, atomics, and
-//! groups that stay open over messages.
+//! Commands as tasks, what they came to, and the entries that tell it; and what execution means: sequences, atomics,
+//! and groups that stay open over messages.
 #![tactic(auto)]
 
 mod atomics;
 mod attempts;
 mod commands;
 mod containers;
-mod copies;
 pub mod engine;
 mod entries;
 mod groups;

@@ -1,8 +1,9 @@
 // Marks, which recall all of an engine.
 ghost use Rattle.std.specs.Prelude.{◌≡◌, ◌≤◌, ◌∷◌, ◌++◌, [], if◌then◌else◌, None, take, length, get_or, vec_capacity};
-ghost use Rattle.dm_atomic.specs.Engine.{IsSoundEngine};
+ghost use Rattle.dm_atomic.specs.Engine.{state_of, IsSoundEngine};
 ghost use Rattle.dm_atomic.specs.Updates.{clock_of, max_obj_of};
-ghost use Rattle.dm_atomic.specs.Marks.{Whole, whole_of, groups, no_group, IsHeld, IsEarlier, Recalls};
+ghost use Rattle.dm_atomic.specs.Marks.{Whole, whole_of, past_of, past_at, no_past, groups, no_group, IsHeld};
+ghost use Rattle.dm_atomic.specs.Marks.{IsEarlier, Recalls};
 ghost use Rattle.dm_atomic.specs.declared.marks.EngineMark.{EngineMark as AMark};
 
 use crate::engine::{EndedGroup, Engine};
@@ -28,6 +29,7 @@ impl Engine {
     pub fn mark(&self) -> EngineMark
         requires sound { IsSoundEngine self.now }
         ensures recalls { Recalls self.now result (whole_of self.now) }
+        ensures past { past_at self.now result ≡ past_of self.now }
         ensures latest { (k : AMark) → IsHeld self.now k → IsEarlier k result }
     {
         EngineMark {
@@ -40,12 +42,14 @@ impl Engine {
         }
     }
 
-    /// All but the clock is as it was where the mark was taken, also a group that ended since then. The mark is one that was
-    /// taken since the engine was settled last, and no later than one that was gone back to. It takes no memory.
+    /// All but the clock is as it was where the mark was taken, also a group that ended since then. The mark is one
+    /// that was taken since the engine was settled last, and no later than one that was gone back to. It takes no
+    /// memory.
     pub fn back(&mut self, mark: EngineMark)
         requires sound { IsSoundEngine self.old }
         requires held { IsHeld self.old mark }
         ensures whole { (w : Whole) → Recalls self.old mark w → whole_of self.new ≡ w }
+        ensures past { past_of self.new ≡ past_at self.old mark }
         ensures earlier { (k : AMark) (w : Whole) → Recalls self.old k w → IsEarlier k mark → Recalls self.new k w }
         ensures clock { clock_of self.new ≡ clock_of self.old }
         ensures max_obj { max_obj_of self.new ≡ max_obj_of self.old }
@@ -75,11 +79,15 @@ impl Engine {
         }
     }
 
-    /// What stood here before can't be gone back to any more; the marks taken so far are at their end. All stays as it
-    /// is, also an open group. It takes no memory.
+    /// What stood here before is given up, with the memory that it took: entries of the journal, objects, what was
+    /// started, and groups that ended. It can't be gone back to any more; the marks taken so far are at their end. All
+    /// stays as it is, also an open group with what it takes to roll it back. It takes no memory.
     pub fn settle(&mut self)
         requires sound { IsSoundEngine self.old }
         ensures whole { whole_of self.new ≡ whole_of self.old }
+        ensures past { past_of self.new ≡ no_past }
+        ensures gone { (state_of self.new).group ≡ None
+            → (k : AMark) (w : Whole) → Recalls self.new k w → w ≡ whole_of self.new }
         ensures clock { clock_of self.new ≡ clock_of self.old }
         ensures max_obj { max_obj_of self.new ≡ max_obj_of self.old }
         ensures sound { IsSoundEngine self.new }

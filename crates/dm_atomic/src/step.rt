@@ -5,12 +5,13 @@ ghost use Rattle.dm_objects.specs.Gathering.{gather as gathered};
 ghost use Rattle.dm_objects.specs.Seen.{present, holding};
 ghost use Rattle.dm_commands.specs.Promises.{IsShortStep, is_moved, none_moved};
 ghost use Rattle.dm_atomic.specs.Made.{IsInFront, told, notice};
-ghost use Rattle.dm_atomic.specs.Run.{one_step as step_run, one_piece as piece_run, by_what as what_run, whole_step as whole_run, alert_code as code_of_alert, path_of as path_in, started_by as start_by};
+ghost use Rattle.dm_atomic.specs.Run.{one_step as step_run, one_piece as piece_run, by_what as what_run};
+ghost use Rattle.dm_atomic.specs.Run.{whole_step as whole_run, alert_code as code_of_alert, path_of as path_in};
+ghost use Rattle.dm_atomic.specs.Run.{started_by as start_by};
 ghost use Rattle.dm_atomic.specs.Engine.{state_of, running, IsSoundEngine, IsShortWhat, Only, Acts, Comes, Runs};
 ghost use Rattle.dm_atomic.specs.Marks.{whole_of, Holds};
 ghost use Rattle.dm_atomic.specs.Stays.{work_covers, what_covers, StayBut};
 
-use crate::copies::copy_bytes;
 use crate::engine::Engine;
 use crate::entries::put_notice;
 use crate::reports::{Report, Started};
@@ -20,6 +21,7 @@ use dm_commands::{Outcome, act};
 use dm_objects::{Piece, Taken, What};
 use dm_uri::{Path, UriError, parse};
 use std::alloc::Global;
+use syncml_types::copies::copy_bytes;
 use syncml_types::{Command, Step};
 
 pub(crate) fn copy_post(alloc: Global, post: &Post) -> Result<Post, Memory>
@@ -121,7 +123,8 @@ impl Engine {
         requires sound { IsSoundEngine self.old }
         requires short { IsShortStep step.now }
         ensures ok { IfOk result (λ report. Comes
-            (whole_run (running self.old caller.now) (state_of self.old) post.now None step.now) (state_of self.new) report) }
+            (whole_run (running self.old caller.now) (state_of self.old) post.now None step.now) (state_of self.new)
+            report) }
         ensures only { Only self.old self.new }
         ensures ids { StayBut (is_moved step.now) (whole_of self.old) (whole_of self.new) }
         ensures marks { Holds self.old self.new }
@@ -146,7 +149,8 @@ impl Engine {
         requires sound { IsSoundEngine self.old }
         requires short { IsShortWhat what }
         ensures ok { IfOk result (λ report. Comes
-            (what_run (running self.old caller.now) (state_of self.old) post.now None what) (state_of self.new) report) }
+            (what_run (running self.old caller.now) (state_of self.old) post.now None what) (state_of self.new)
+            report) }
         ensures only { Only self.old self.new }
         ensures ids { StayBut (what_covers what) (whole_of self.old) (whole_of self.new) }
         ensures marks { Holds self.old self.new }
@@ -159,7 +163,7 @@ impl Engine {
         }
     }
 
-    // A piece, gathered first.
+    // A piece, gathered first, unless it is a whole step as it stands.
     #[tactic(auto, using(crate::proofs::Held::holds_then, crate::proofs::Engines::only_then, crate::proofs::Telling::nothing_more, crate::proofs::Telling::some_more, crate::proofs::Staying::stay_self, crate::proofs::Staying::then_none, crate::proofs::Staying::stay_more))]
     fn one_piece(
         &mut self,
@@ -178,6 +182,9 @@ impl Engine {
         ensures marks { Holds self.old self.new }
         ensures sound { IsSoundEngine self.new }
     {
+        if self.inbox.passes(piece) {
+            return self.whole_step(caller, post, &piece.step);
+        }
         let what = self.gather(piece, out)?;
         self.by_what(caller, post, what)
     }

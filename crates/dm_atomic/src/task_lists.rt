@@ -1,13 +1,14 @@
 // A command as its tasks.
 ghost use Rattle.std.specs.Prelude.{◌≡◌, [], IfOk, unwrap_or, option_and_then};
 ghost use Rattle.syncml_types.specs.declared.values.Meta.{Meta as AMeta};
-ghost use Rattle.dm_atomic.specs.Tasks.{meta_child, target_text, piece_of, item_post, item_task, plain_tasks, alert_task, member_tasks, members_tasks, container_post};
+ghost use Rattle.dm_atomic.specs.Tasks.{meta_child, target_text, piece_of, item_post, item_task, plain_tasks};
+ghost use Rattle.dm_atomic.specs.Tasks.{alert_task, member_tasks, members_tasks, container_post};
 
-use crate::copies::copy_bytes;
 use crate::tasks::{Named, Origin, Post, Task, Work};
 use dm_base::{Bytes, List, Memory};
 use dm_objects::Piece;
 use std::alloc::Global;
+use syncml_types::copies::copy_bytes;
 use syncml_types::{AlertCmd, Item, Member, Meta, Plain, Step};
 
 fn format_in(alloc: Global, meta: &Option<Meta>) -> Result<Option<Bytes>, Memory>
@@ -158,7 +159,7 @@ pub(crate) fn plain_tasks(
 ) -> Result<List<Task>, Memory>
     ensures { IfOk result (λ tasks. tasks ≡ plain_tasks origin in_atomic command.now) }
 {
-    let mut tasks = List::new(alloc);
+    let mut tasks = List::with_room(alloc, command.items.len())?;
     for (place, item) in command.items.as_slice().iter().enumerate() {
         tasks.push(item_task(alloc, origin, in_atomic, command, place, item)?)?;
     }
@@ -194,7 +195,7 @@ pub(crate) fn member_tasks(
     match member {
         Member::One(command) => plain_tasks(alloc, origin, in_atomic, command),
         Member::Alert(alert) => {
-            let mut tasks = List::new(alloc);
+            let mut tasks = List::with_room(alloc, 1)?;
             tasks.push(alert_task(origin, alert))?;
             Ok(tasks)
         }
@@ -211,7 +212,7 @@ pub(crate) fn members_tasks(
 ) -> Result<List<Task>, Memory>
     ensures { IfOk result (λ tasks. tasks ≡ members_tasks origin in_atomic members.now) }
 {
-    let mut tasks = List::new(alloc);
+    let mut tasks = List::with_room(alloc, members.len())?;
     for member in members.as_slice() {
         tasks.append(member_tasks(alloc, origin, in_atomic, member)?)?;
     }

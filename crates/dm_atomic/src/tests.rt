@@ -138,7 +138,8 @@ fn lone(alloc: Global, header: bool, command: bool) -> Result<(usize, bool), Mem
     }
 }
 
-// An Add of three items and an Alert of three, in an Atomic: how many tasks there are, and the code and target of the last.
+// An Add of three items and an Alert of three, in an Atomic: how many tasks there are, and the code and target of the
+// last.
 fn members(alloc: Global) -> Result<(usize, u32, bool), Memory> {
     let mut members = List::new(alloc);
     members.push(Member::One(add(false, None, three_items(alloc)?)))?;
@@ -178,7 +179,8 @@ fn post(alloc: Global, target: &[u8], quiet: bool) -> Result<Post, Memory> {
     })
 }
 
-// An entry: the code of a Status or of an Alert, or 1 for Results; what it names; and Format, Type and value of Results.
+// An entry: the code of a Status or of an Alert, or 1 for Results; what it names; and Format, Type and value of
+// Results.
 struct Entry {
     code: u32,
     names: &'static [u8],

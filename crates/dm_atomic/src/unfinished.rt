@@ -15,8 +15,8 @@ use dm_base::{List, Memory};
 use syncml_types::Command;
 
 impl Engine {
-    /// All that is unfinished is given up: the object, and the open group, before which the tree stands again. It takes no
-    /// memory.
+    /// All that is unfinished is given up: the object, and the open group, before which the tree stands again. It takes
+    /// no memory.
     #[tactic(auto, using(crate::proofs::Held::holds_then, crate::proofs::Held::holds_self, crate::proofs::Held::holds_next, crate::proofs::Held::holds_inbox, crate::proofs::GivenUps::cleared_sound, crate::proofs::GivenUps::abandoned_open, crate::proofs::GivenUps::abandoned_closed))]
     pub fn abandon(&mut self)
         requires sound { IsSoundEngine self.old }
@@ -56,8 +56,8 @@ impl Engine {
         Ok(())
     }
 
-    /// An open group is broken: its object is lost, which an Alert tells, its steps are undone, and the tree before it stands
-    /// again. After `Memory` a part may be told.
+    /// An open group is broken: its object is lost, which an Alert tells, its steps are undone, and the tree before it
+    /// stands again. After `Memory` a part may be told.
     #[tactic(auto, using(crate::proofs::Held::holds_then, crate::proofs::Held::holds_self, crate::proofs::Held::holds_next, crate::proofs::Held::holds_inbox, crate::proofs::GivenUps::unbroken_gives, crate::proofs::Staying::stay_self))]
     pub(crate) fn break_group(&mut self, out: &mut List<Command>) -> Result<(), Memory>
         requires sound { IsSoundEngine self.old }
@@ -76,8 +76,8 @@ impl Engine {
         self.break_open(out)
     }
 
-    /// A message with Final that has no step of a verb breaks what is unfinished: the object, which an Alert tells, and the
-    /// open group. After `Memory` a part may be told, and a part given up: go back to a mark.
+    /// A message with Final that has no step of a verb breaks what is unfinished: the object, which an Alert tells, and
+    /// the open group. After `Memory` a part may be told, and a part given up: go back to a mark.
     #[tactic(auto, using(crate::proofs::Held::holds_then, crate::proofs::Held::holds_self, crate::proofs::Held::holds_next, crate::proofs::Held::holds_inbox, crate::proofs::GivenUps::cleared_sound, crate::proofs::GivenUps::still_open, crate::proofs::GivenUps::still_closed, crate::proofs::Telling::nothing_more, crate::proofs::Staying::stay_self))]
     pub fn still(&mut self, out: &mut List<Command>) -> Result<(), Memory>
         requires sound { IsSoundEngine self.old }

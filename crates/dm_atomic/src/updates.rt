@@ -1,11 +1,12 @@
 // Where an engine begins, and how an update ends.
-ghost use Rattle.std.specs.Prelude.{◌≡◌, ◌≤◌, ◌<◌, ◌∷◌, ◌++◌, [], List as ListOf, ℕ, None, Some, is_some, true, vec_len, vec_capacity, IfOk, IfSome, OnOk, OnErr};
+ghost use Rattle.std.specs.Prelude.{◌≡◌, ◌≤◌, ◌<◌, ◌∷◌, ◌++◌, [], List as ListOf, ℕ, None, Some, is_some, true};
+ghost use Rattle.std.specs.Prelude.{vec_len, vec_capacity, IfOk, IfSome, OnOk, OnErr};
 ghost use Rattle.dm_tree.specs.Rows.{nodes, ids, path_of, IsLive};
 ghost use Rattle.dm_tree.specs.Devices.{update_node, IsUpdateInOrder};
 ghost use Rattle.dm_commands.specs.Outcomes.{asked_by};
 ghost use Rattle.dm_atomic.specs.Engine.{state_of, running, IsSoundEngine};
 ghost use Rattle.dm_atomic.specs.Updates.{clock_of, max_obj_of, is_updating, update_of as update_in, begun, finished};
-ghost use Rattle.dm_atomic.specs.Marks.{whole_of, Holds};
+ghost use Rattle.dm_atomic.specs.Marks.{whole_of, Holds, past_of, no_past};
 
 use crate::engine::Engine;
 use crate::reports::Started;
@@ -49,14 +50,15 @@ fn update_of(tree: &Tree) -> Result<Option<Started>, Memory>
 }
 
 impl Engine {
-    /// An engine over a tree whose update part is in order, for objects of at most `max_obj` bytes. Nothing is unfinished
-    /// in it; an update that runs was started, without a Correlator. The only error is want of memory.
+    /// An engine over a tree whose update part is in order, for objects of at most `max_obj` bytes. Nothing is
+    /// unfinished in it; an update that runs was started, without a Correlator. The only error is want of memory.
     #[tactic(auto, using(crate::proofs::Results::begun_state, crate::proofs::Results::begun_sound))]
     pub fn new(alloc: Global, tree: Tree, max_obj: u32) -> Result<Engine, Memory>
         requires update { IsUpdateInOrder (nodes tree.rows) }
         requires max_obj { max_obj ≤ 4194304 }
         ensures state { IfOk result (λ engine. state_of engine ≡ begun (nodes tree.rows)) }
         ensures ids { IfOk result (λ engine. (whole_of engine).ids ≡ ids tree.rows) }
+        ensures past { IfOk result (λ engine. past_of engine ≡ no_past) }
         ensures running { IfOk result (λ engine. (caller : ListOf ℕ) → running engine caller
             ≡ record { setting = asked_by caller tree.clock; max_obj = max_obj }) }
         ensures sound { IfOk result IsSoundEngine }

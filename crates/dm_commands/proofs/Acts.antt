@@ -16,7 +16,8 @@ pub act-refused : (s : Setting) (m : Nodes) (step : Step) (code : ℕ) → Err c
 unfolding act
 act-refused s m step code e = ap (at_target s m step) e
 
-pub ended-ids : {E : Type 0} (r : Result Outcome E) (done : Done) (moved also : Path → Bool) (old : Journal) (before : Tree)
+pub ended-ids : {E : Type 0} (r : Result Outcome E) (done : Done) (moved also : Path → Bool) (old : Journal)
+    (before : Tree)
     (new : Journal) (now : Tree) → ((p : Path) → also p ≡ moved p)
     → IfOk r (Ends done moved old before new now) → OnOk r (KeepIdsBut also (ids before.rows) (ids now.rows))
 ended-ids r done moved also old before new now same ends =

@@ -1,5 +1,6 @@
 -- A node, the one above it, and those beside it.
-use Rattle.std.proofs.Common.{◌≡◌, ℕ, ◌<◌, true, false, not, nat_eq, List, [], ◌∷◌, ◌++◌, None, Some, refl, sym, ◌∙◌, ap, arith}
+use Rattle.std.proofs.Common.{◌≡◌, ℕ, ◌<◌, true, false, not, nat_eq, List, [], ◌∷◌, ◌++◌, None, Some, refl, sym, ◌∙◌}
+use Rattle.std.proofs.Common.{ap, arith}
 use Rattle.std.proofs.lemmas.List.{length-append}
 use Rattle.std.proofs.lemmas.Bool.Decides.{nat_tests}
 use Rattle.std.specs.Prelude.{◌==◌, length, bytes_eq, is_some, option_and_then, ◌&&◌}
@@ -9,10 +10,10 @@ use Rattle.std.proofs.lemmas.Slice.Eq.{bytes_eq-Decides}
 use Rattle.dm_tree.specs.declared.rows.Row.{Row}
 use Rattle.dm_tree.specs.Nodes.{Path, Nodes, above, last_name}
 use Rattle.dm_tree.specs.Rows.{row_at, nodes, ids, path_of, IsLive, IsTree}
-use Rattle.dm_tree.proofs.Climbs.{one_row, same_number}
-use Rattle.dm_tree.proofs.Maps.{id_of}
+use Rattle.dm_tree.proofs.RowPaths.{one_row, same_number}
+use Rattle.dm_tree.proofs.RowMaps.{id_of}
 use Rattle.dm_tree.proofs.Paths.{Ends, ends, none, last}
-use Rattle.dm_tree.proofs.Seen.{above-append, last_name-append, has_parent, root_path, node_there}
+use Rattle.dm_tree.proofs.LiveRows.{above-append, last_name-append, has_parent, root_path, node_there}
 use Rattle.dm_commands.specs.Table.{is_root, beside, is_own_name, is_taken_beside}
 
 -- ---- the node above
@@ -69,7 +70,8 @@ path-own p name e =
     ∙ (bytes_eq-Decides name name).1 refl
 
 -- no node has the name there
-pub taken-none : (m : Nodes) (p : Path) (name : List ℕ) → get m (beside p name) ≡ None → is_taken_beside m p name ≡ false
+pub taken-none : (m : Nodes) (p : Path) (name : List ℕ) → get m (beside p name) ≡ None
+    → is_taken_beside m p name ≡ false
 taken-none m p name e = ap (λ o. is_some o && not (is_own_name p name)) e
 
 -- one has, which may be the node itself
@@ -87,7 +89,8 @@ taken-other rows tree k other name live there e =
           elim (is_own_name p name) as (λ b. is_own_name p name ≡ b → b ≡ false) [
             | true ↦ λ own.
                 let same : other ≡ k =
-                one_row rows tree.shape _ _ 0 other k p (there ∙ ap (λ q. Some q) (e ∙ sym (own-path p name own))) live in
+                one_row rows tree.shape _ _ 0 other k p (there ∙ ap (λ q. Some q) (e ∙ sym (own-path p name own)))
+                live in
                 let yes : nat_eq other k ≡ true = ap (λ i. nat_eq i k) same ∙ Decides-eqb_itself k in
                 absurd (cc)
             | false ↦ λ own. refl

@@ -1,5 +1,6 @@
 -- How steps end: what they note, and what stays.
-use Rattle.std.proofs.Common.{◌≡◌, ◌≢◌, ℕ, suc, ◌+◌, ◌-◌, ◌≤◌, Bool, true, false, List, [], ◌∷◌, length, None, Some, refl, sym, ◌∙◌, ap, subst, arith}
+use Rattle.std.proofs.Common.{◌≡◌, ◌≢◌, ℕ, suc, ◌+◌, ◌-◌, ◌≤◌, Bool, true, false, List, [], ◌∷◌, length, None, Some}
+use Rattle.std.proofs.Common.{refl, sym, ◌∙◌, ap, subst, arith}
 use Rattle.dm_tree.specs.declared.rows.Row.{Row}
 use Rattle.dm_tree.specs.declared.rows.Change.{Change}
 use Rattle.std.proofs.lemmas.List.{get_or-set_other}
@@ -64,7 +65,8 @@ ends-refused moved journal tree code outcome e = record {
   clock = refl;
 }
 
-pub ends-changed : (m : Nodes) (moved : Path → Bool) (old : Journal) (before : Tree) (new : Journal) (now : Tree) (outcome : Outcome)
+pub ends-changed : (m : Nodes) (moved : Path → Bool) (old : Journal) (before : Tree) (new : Journal) (now : Tree)
+    (outcome : Outcome)
     → outcome ≡ record { code = 200; results = []; started = false }
     → nodes now.rows ≡ m → KeepIdsBut moved (ids before.rows) (ids now.rows)
     → Notes old before.rows new now.rows → now.clock ≡ before.clock
@@ -118,20 +120,25 @@ pub second-put : (before made : Tree) (k j : ℕ) (new : Node) (value : Value)
     ≡ insert (nodes made.rows) (path_of before.rows j) (changed before.clock (with_value (node_of before.rows j) value))
 second-put before made k j new value e other path =
     ap (λ p. insert (nodes made.rows) p (changed made.clock (with_value (node_of made.rows j) value))) path
-    ∙ ap (λ (t : Tree). insert (nodes made.rows) (path_of before.rows j) (changed t.clock (with_value (node_of t.rows j) value))) e
-    ∙ ap (λ (r : Row). insert (nodes made.rows) (path_of before.rows j) (changed before.clock (with_value r.node value)))
+    ∙ ap (λ (t : Tree).
+    insert (nodes made.rows) (path_of before.rows j) (changed t.clock (with_value (node_of t.rows j) value))) e
+    ∙ ap (λ (r : Row).
+    insert (nodes made.rows) (path_of before.rows j) (changed before.clock (with_value r.node value)))
     (get_or-set_other before.rows k j (record (row_at before.rows k) { node = new }) blank other)
 
 -- ---- by the refusals
 
-pub refused-ends : (rs : List (Bool × ℕ)) (effect : Done) (code : ℕ) (moved : Path → Bool) (journal : Journal) (tree : Tree)
+pub refused-ends : (rs : List (Bool × ℕ)) (effect : Done) (code : ℕ) (moved : Path → Bool) (journal : Journal)
+    (tree : Tree)
     (outcome : Outcome) → first_refusal rs ≡ Some code
     → Ends (refused (nodes tree.rows) code) moved journal tree journal tree outcome
     → Ends (first_of rs (nodes tree.rows) effect) moved journal tree journal tree outcome
 refused-ends rs effect code moved journal tree outcome e ends =
-    subst (λ d. Ends d moved journal tree journal tree outcome) (sym (one-refused rs (nodes tree.rows) effect code e)) ends
+    subst (λ d. Ends d moved journal tree journal tree outcome) (sym (one-refused rs (nodes tree.rows) effect code e))
+    ends
 
-pub passed-ends : (rs : List (Bool × ℕ)) (m : Nodes) (effect : Done) (moved : Path → Bool) (old : Journal) (before : Tree)
+pub passed-ends : (rs : List (Bool × ℕ)) (m : Nodes) (effect : Done) (moved : Path → Bool) (old : Journal)
+    (before : Tree)
     (new : Journal) (now : Tree) (outcome : Outcome) → first_refusal rs ≡ None
     → Ends effect moved old before new now outcome → Ends (first_of rs m effect) moved old before new now outcome
 passed-ends rs m effect moved old before new now outcome e ends =

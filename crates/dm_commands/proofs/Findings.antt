@@ -18,15 +18,18 @@ ends-same done moved journal tree outcome does = record {
 }
 
 -- with the first refusal that holds
-pub first-refused : (rs : List (Bool × ℕ)) (effect : Done) (code : ℕ) (moved : Path → Bool) (journal : Journal) (tree : Tree) (outcome : Outcome)
+pub first-refused : (rs : List (Bool × ℕ)) (effect : Done) (code : ℕ) (moved : Path → Bool) (journal : Journal)
+    (tree : Tree) (outcome : Outcome)
     → first_refusal rs ≡ Some code → Ends (refused (nodes tree.rows) code) moved journal tree journal tree outcome
     → Ends (first_of rs (nodes tree.rows) effect) moved journal tree journal tree outcome
 first-refused rs effect code moved journal tree outcome e ends =
     subst (λ o. Ends (unless o (nodes tree.rows) effect) moved journal tree journal tree outcome) (sym e) ends
 
 -- or with its effect
-pub none-refused : (rs : List (Bool × ℕ)) (effect : Done) (moved : Path → Bool) (journal : Journal) (tree : Tree) (outcome : Outcome)
+pub none-refused : (rs : List (Bool × ℕ)) (effect : Done) (moved : Path → Bool) (journal : Journal) (tree : Tree)
+    (outcome : Outcome)
     → first_refusal rs ≡ None → Does effect outcome (nodes tree.rows)
     → Ends (first_of rs (nodes tree.rows) effect) moved journal tree journal tree outcome
 none-refused rs effect moved journal tree outcome e does =
-    subst (λ o. Ends (unless o (nodes tree.rows) effect) moved journal tree journal tree outcome) (sym e) (ends-same effect moved journal tree outcome does)
+    subst (λ o. Ends (unless o (nodes tree.rows) effect) moved journal tree journal tree outcome) (sym e)
+    (ends-same effect moved journal tree outcome does)

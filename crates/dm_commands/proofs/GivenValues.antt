@@ -9,14 +9,16 @@ use Rattle.dm_tree.specs.declared.rows.Row.{Row}
 use Rattle.std.specs.Prelude.{List}
 use Rattle.dm_tree.specs.Nodes.{IsValue, IsWellFormed}
 use Rattle.dm_tree.specs.Rows.{blank_node, node_of, path_of, nodes, IsLive, IsTree}
-use Rattle.dm_tree.proofs.Seen.{node_there}
+use Rattle.dm_tree.proofs.LiveRows.{node_there}
 use Rattle.dm_commands.specs.Outcomes.{Setting, first_refusal, node_at}
 use Rattle.dm_commands.specs.Table.{value_refusals, replaced_value, kept_format, kept_media, has_bad_meta}
 use Rattle.dm_commands.proofs.Keeping.{none_holds}
 use Rattle.dm_commands.proofs.Updating.{replaced_is_value}
 
-pub given_value : (s : Setting) (rows : List Row) → IsWellFormed (nodes rows) → IsTree rows → (step : Step) (uri : Uri) (id : ℕ) → IsLive rows id
-    → path_of rows id ≡ uri.path → first_refusal (value_refusals s (nodes rows) step uri) ≡ None → length step.value ≤ 4194304
+pub given_value : (s : Setting) (rows : List Row) → IsWellFormed (nodes rows) → IsTree rows
+    → (step : Step) (uri : Uri) (id : ℕ) → IsLive rows id
+    → path_of rows id ≡ uri.path → first_refusal (value_refusals s (nodes rows) step uri) ≡ None
+    → length step.value ≤ 4194304
     → (value : Value) → value ≡ replaced_value (node_of rows id) step → IsValue false value
 given_value s rows formed tree step uri id live path judged small value is =
     let tests = none_holds (value_refusals s (nodes rows) step uri) judged in

@@ -5,9 +5,9 @@ use Rattle.dm_tree.specs.declared.rows.Row.{Row}
 use Rattle.dm_tree.specs.Nodes.{Path, Ids, is_below}
 use Rattle.dm_tree.specs.Rows.{ids, path_of, IsShaped, StayLive}
 use Rattle.dm_tree.specs.Edits.{pruned, rekeyed, StayRenamed}
-use Rattle.dm_tree.proofs.Maps.{found_live, id_of}
-use Rattle.dm_tree.proofs.Cuts.{get-pruned}
-use Rattle.dm_tree.proofs.Rekeyed.{rekeyed-apart}
+use Rattle.dm_tree.proofs.RowMaps.{found_live, id_of}
+use Rattle.dm_tree.proofs.SubtreeCuts.{get-pruned}
+use Rattle.dm_tree.proofs.RenamedRows.{rekeyed-apart}
 use Rattle.dm_commands.specs.Promises.{KeepIdsBut, none_moved}
 
 pub kept-same : (old new : Ids) → new ≡ old → KeepIdsBut none_moved old new

@@ -1,5 +1,6 @@
 -- What is refused changes nothing, whatever the verb is.
-use Rattle.std.proofs.Common.{◌≡◌, ℕ, Bool, true, false, cond, List, [], ◌∷◌, Option, None, Some, Ok, Err, refl, sym, ◌∙◌, ap, subst}
+use Rattle.std.proofs.Common.{◌≡◌, ℕ, Bool, true, false, cond, List, [], ◌∷◌, Option, None, Some, Ok, Err, refl, sym}
+use Rattle.std.proofs.Common.{◌∙◌, ap, subst}
 use Rattle.std.specs.Prelude.{◌&&◌, ◌||◌, not, Result}
 use Rattle.std.specs.List.{list_any, list_all}
 use Rattle.syncml_types.specs.declared.command.Step.{Step}
@@ -16,9 +17,14 @@ use Rattle.dm_uri.specs.Reading.{parse_of}
 use Rattle.dm_acl.specs.declared.values.Right.TheVariants as right
 use Rattle.dm_tree.specs.Nodes.{Nodes, above}
 use Rattle.dm_tree.specs.Rights.{allows}
-use Rattle.dm_commands.specs.Outcomes.{Setting, Done, refused, first_refusal, first_of, unless, no_node, node_at, is_success}
-use Rattle.dm_commands.specs.Table.{is_copy, is_exec, has_query, is_root, exec_refusals, get_refusals, add_refusals, value_refusals, acl_refusals, acl_decider, name_refusals, title_refusals, replace_other, replace_prop, replace, delete_refusals, uri_or_code, by_verb, target_in, target_unless, target_of, at_target, act}
-use Rattle.dm_commands.specs.Laws.{asked_place, asked_right, replace_place, ChangesNothing, RefusedRightChangesNothing, RefusedStepChangesNothing, NothingStartsInAtomic}
+use Rattle.dm_commands.specs.Outcomes.{Setting, Done, refused, first_refusal, first_of, unless, no_node, node_at}
+use Rattle.dm_commands.specs.Outcomes.{is_success}
+use Rattle.dm_commands.specs.Table.{is_copy, is_exec, has_query, is_root, exec_refusals, get_refusals, add_refusals}
+use Rattle.dm_commands.specs.Table.{value_refusals, acl_refusals, acl_decider, name_refusals, title_refusals}
+use Rattle.dm_commands.specs.Table.{replace_other, replace_prop, replace, delete_refusals, uri_or_code, by_verb}
+use Rattle.dm_commands.specs.Table.{target_in, target_unless, target_of, at_target, act}
+use Rattle.dm_commands.specs.Laws.{asked_place, asked_right, replace_place, ChangesNothing, RefusedRightChangesNothing}
+use Rattle.dm_commands.specs.Laws.{RefusedStepChangesNothing, NothingStartsInAtomic}
 
 -- the tree is as before, the code is no success, and there is nothing else
 pub record IsNothing (m : Nodes) (d : Done) : Type 0 where
@@ -44,7 +50,8 @@ both true false e = absurd (cc)
 both false b e = absurd (cc)
 
 -- one of the refusals holds
-refuses : (rs : List (Bool × ℕ)) (m : Nodes) (effect : Done) → fails rs ≡ true → list_any (λ r. r.0) rs ≡ true → IsNothing m (first_of rs m effect)
+refuses : (rs : List (Bool × ℕ)) (m : Nodes) (effect : Done) → fails rs ≡ true → list_any (λ r. r.0) rs ≡ true
+    → IsNothing m (first_of rs m effect)
 refuses [] m effect all any = absurd (cc)
 refuses (r ∷ rs) m effect all any =
     let parts = both (not (is_success r.1)) (fails rs) all in
@@ -76,37 +83,56 @@ module _ (s : Setting) (m : Nodes) (step : Step) (uri : Uri) where
     | false ↦ nothing m 405 refl
   ]
 
-  prop_refused : (p : Prop) → allows m (replace_place m uri.path (query.Prop p)) s.caller right.Replace ≡ false → IsNothing m (replace_prop s m step uri p)
-  prop_refused prop.Acl is_no = refuses (acl_refusals s m step uri) m _ refl (second (no_node m uri.path) (allows m (acl_decider m uri.path) s.caller right.Replace) _ is_no)
-  prop_refused prop.Name is_no = refuses (name_refusals s m step uri) m _ refl (second (no_node m uri.path) (allows m uri.path s.caller right.Replace) _ is_no)
-  prop_refused prop.Title is_no = refuses (title_refusals s m step uri) m _ refl (second (no_node m uri.path) (allows m uri.path s.caller right.Replace) _ is_no)
+  prop_refused : (p : Prop) → allows m (replace_place m uri.path (query.Prop p)) s.caller right.Replace ≡ false
+      → IsNothing m (replace_prop s m step uri p)
+  prop_refused prop.Acl is_no =
+      refuses (acl_refusals s m step uri) m _ refl
+      (second (no_node m uri.path) (allows m (acl_decider m uri.path) s.caller right.Replace) _ is_no)
+  prop_refused prop.Name is_no =
+      refuses (name_refusals s m step uri) m _ refl
+      (second (no_node m uri.path) (allows m uri.path s.caller right.Replace) _ is_no)
+  prop_refused prop.Title is_no =
+      refuses (title_refusals s m step uri) m _ refl
+      (second (no_node m uri.path) (allows m uri.path s.caller right.Replace) _ is_no)
   prop_refused prop.Format is_no = other_refused
   prop_refused prop.Size is_no = other_refused
   prop_refused prop.Media is_no = other_refused
   prop_refused prop.VerNo is_no = other_refused
   prop_refused prop.TStamp is_no = other_refused
 
-  replace_refused : (q : Query) → allows m (replace_place m uri.path q) s.caller right.Replace ≡ false → IsNothing m (replace s m step uri q)
-  replace_refused query.Plain is_no = refuses (value_refusals s m step uri) m _ refl (second (no_node m uri.path) (allows m uri.path s.caller right.Replace) _ is_no)
+  replace_refused : (q : Query) → allows m (replace_place m uri.path q) s.caller right.Replace ≡ false
+      → IsNothing m (replace s m step uri q)
+  replace_refused query.Plain is_no =
+      refuses (value_refusals s m step uri) m _ refl
+      (second (no_node m uri.path) (allows m uri.path s.caller right.Replace) _ is_no)
   replace_refused (query.Prop p) is_no = prop_refused p is_no
   replace_refused query.Struct is_no = other_refused
   replace_refused query.StructData is_no = other_refused
 
-  verb_refused : (v : Verb) → allows m (asked_place m uri.path uri.query v) s.caller (asked_right v) ≡ false → IsNothing m (by_verb s m step uri v)
+  verb_refused : (v : Verb) → allows m (asked_place m uri.path uri.query v) s.caller (asked_right v) ≡ false
+      → IsNothing m (by_verb s m step uri v)
   verb_refused verb.Copy is_no = nothing m 406 refl
-  verb_refused verb.Exec is_no = refuses (exec_refusals s m step uri) m _ refl (third (has_query uri.query) (no_node m uri.path) (allows m uri.path s.caller right.Exec) _ is_no)
-  verb_refused verb.Get is_no = refuses (get_refusals s m uri) m _ refl (second (no_node m uri.path) (allows m uri.path s.caller right.Get) _ is_no)
+  verb_refused verb.Exec is_no =
+      refuses (exec_refusals s m step uri) m _ refl
+      (third (has_query uri.query) (no_node m uri.path) (allows m uri.path s.caller right.Exec) _ is_no)
+  verb_refused verb.Get is_no =
+      refuses (get_refusals s m uri) m _ refl
+      (second (no_node m uri.path) (allows m uri.path s.caller right.Get) _ is_no)
   verb_refused verb.Add is_no =
       refuses (add_refusals s m step uri) m _ refl
-      (fifth (has_query uri.query) (is_root uri.path) (no_node m (above uri.path)) (not (node_at m (above uri.path)).interior) (allows m (above uri.path) s.caller right.Add) _ is_no)
+      (fifth (has_query uri.query) (is_root uri.path) (no_node m (above uri.path))
+      (not (node_at m (above uri.path)).interior) (allows m (above uri.path) s.caller right.Add) _ is_no)
   verb_refused verb.Replace is_no = replace_refused uri.query is_no
-  verb_refused verb.Delete is_no = refuses (delete_refusals s m uri) m _ refl (third (has_query uri.query) (no_node m uri.path) (allows m uri.path s.caller right.Delete) _ is_no)
+  verb_refused verb.Delete is_no =
+      refuses (delete_refusals s m uri) m _ refl
+      (third (has_query uri.query) (no_node m uri.path) (allows m uri.path s.caller right.Delete) _ is_no)
 
 -- ---- the whole step
 
 -- by whether the step is refused whatever its target is
 module _ (P : Done → Type 0) (s : Setting) (m : Nodes) (step : Step) where
-  by_target : ((a b : Bool) → is_copy step.verb ≡ a → is_exec step.verb && step.in_atomic ≡ b → P (at_target s m step (target_unless (cond a (Some 406) (cond b (Some 405) None)) step)))
+  by_target : ((a b : Bool) → is_copy step.verb ≡ a → is_exec step.verb && step.in_atomic ≡ b
+      → P (at_target s m step (target_unless (cond a (Some 406) (cond b (Some 405) None)) step)))
       → P (at_target s m step (target_of step))
   by_target all = all (is_copy step.verb) (is_exec step.verb && step.in_atomic) refl refl
 
@@ -115,14 +141,17 @@ nothing_changed s m step n = record { tree = n.tree; code = n.code; found = n.fo
 
 pub refused_right : RefusedRightChangesNothing
 unfolding act
-refused_right s m step text uri target reads is_no = nothing_changed s m step (by_target (IsNothing m) s m step by_place)
+refused_right s m step text uri target reads is_no =
+    nothing_changed s m step (by_target (IsNothing m) s m step by_place)
   where
     at_uri : IsNothing m (at_target s m step (target_in step.target))
     at_uri =
         subst (λ t. IsNothing m (at_target s m step (target_in t))) (sym target)
-        (subst (λ r. IsNothing m (at_target s m step (uri_or_code r))) (sym reads) (verb_refused s m step uri step.verb is_no))
+        (subst (λ r. IsNothing m (at_target s m step (uri_or_code r))) (sym reads)
+        (verb_refused s m step uri step.verb is_no))
 
-    by_place : (a b : Bool) → is_copy step.verb ≡ a → is_exec step.verb && step.in_atomic ≡ b → IsNothing m (at_target s m step (target_unless (cond a (Some 406) (cond b (Some 405) None)) step))
+    by_place : (a b : Bool) → is_copy step.verb ≡ a → is_exec step.verb && step.in_atomic ≡ b
+        → IsNothing m (at_target s m step (target_unless (cond a (Some 406) (cond b (Some 405) None)) step))
     by_place true b x y = nothing m 406 refl
     by_place false true x y = nothing m 405 refl
     by_place false false x y = at_uri
@@ -133,7 +162,8 @@ data Settled (m : Nodes) (d : Done) : Type 0 where
   succeeds : is_success d.code ≡ true → Settled m d
   comes_to_nothing : IsNothing m d → Settled m d
 
-settled_first : (rs : List (Bool × ℕ)) (m : Nodes) (effect : Done) → fails rs ≡ true → Settled m effect → Settled m (first_of rs m effect)
+settled_first : (rs : List (Bool × ℕ)) (m : Nodes) (effect : Done) → fails rs ≡ true → Settled m effect
+    → Settled m (first_of rs m effect)
 settled_first [] m effect all e = e
 settled_first (r ∷ rs) m effect all e =
     let parts = both (not (is_success r.1)) (fails rs) all in
@@ -167,14 +197,16 @@ module _ (s : Setting) (m : Nodes) (step : Step) (uri : Uri) where
   settled_verb verb.Replace = settled_replace uri.query
   settled_verb verb.Delete = settled_first (delete_refusals s m uri) m _ refl (succeeds refl)
 
-settled_uri : (s : Setting) (m : Nodes) (step : Step) (r : Result Uri UriError) → Settled m (at_target s m step (uri_or_code r))
+settled_uri : (s : Setting) (m : Nodes) (step : Step) (r : Result Uri UriError)
+    → Settled m (at_target s m step (uri_or_code r))
 settled_uri s m step (Ok uri) = settled_verb s m step uri step.verb
 settled_uri s m step (Err uri_error.Malformed) = comes_to_nothing (nothing m 400 refl)
 settled_uri s m step (Err uri_error.TooLong) = comes_to_nothing (nothing m 414 refl)
 settled_uri s m step (Err uri_error.UnknownQuery) = comes_to_nothing (nothing m 406 refl)
 settled_uri s m step (Err uri_error.Memory) = comes_to_nothing (nothing m 400 refl)
 
-settled_target : (s : Setting) (m : Nodes) (step : Step) (t : Option (List ℕ)) → Settled m (at_target s m step (target_in t))
+settled_target : (s : Setting) (m : Nodes) (step : Step) (t : Option (List ℕ))
+    → Settled m (at_target s m step (target_in t))
 settled_target s m step None = comes_to_nothing (nothing m 400 refl)
 settled_target s m step (Some text) = settled_uri s m step (parse_of text)
 
@@ -182,7 +214,8 @@ settled_act : (s : Setting) (m : Nodes) (step : Step) → Settled m (act s m ste
 unfolding act
 settled_act s m step = by_target (Settled m) s m step by_place
   where
-    by_place : (a b : Bool) → is_copy step.verb ≡ a → is_exec step.verb && step.in_atomic ≡ b → Settled m (at_target s m step (target_unless (cond a (Some 406) (cond b (Some 405) None)) step))
+    by_place : (a b : Bool) → is_copy step.verb ≡ a → is_exec step.verb && step.in_atomic ≡ b
+        → Settled m (at_target s m step (target_unless (cond a (Some 406) (cond b (Some 405) None)) step))
     by_place true b x y = comes_to_nothing (nothing m 406 refl)
     by_place false true x y = comes_to_nothing (nothing m 405 refl)
     by_place false false x y = settled_target s m step step.target
@@ -196,7 +229,8 @@ refused_step s m step is_no = by_end (settled_act s m step)
 
 -- ---- what starts the update
 
-starts_not : (rs : List (Bool × ℕ)) (m : Nodes) (effect : Done) → effect.started ≡ false → (first_of rs m effect).started ≡ false
+starts_not : (rs : List (Bool × ℕ)) (m : Nodes) (effect : Done) → effect.started ≡ false
+    → (first_of rs m effect).started ≡ false
 starts_not rs m effect is_no = by_first (first_refusal rs)
   where
     by_first : (o : Option ℕ) → (unless o m effect).started ≡ false
@@ -228,7 +262,8 @@ module _ (s : Setting) (m : Nodes) (step : Step) (uri : Uri) where
   verb_starts_not verb.Replace is_no = replace_starts_not uri.query
   verb_starts_not verb.Delete is_no = starts_not (delete_refusals s m uri) m _ refl
 
-target_starts_not : (s : Setting) (m : Nodes) (step : Step) → is_exec step.verb ≡ false → (t : Result Uri ℕ) → (at_target s m step t).started ≡ false
+target_starts_not : (s : Setting) (m : Nodes) (step : Step) → is_exec step.verb ≡ false → (t : Result Uri ℕ)
+    → (at_target s m step t).started ≡ false
 target_starts_not s m step is_no (Ok uri) = verb_starts_not s m step uri step.verb is_no
 target_starts_not s m step is_no (Err code) = refl
 
@@ -241,7 +276,9 @@ nothing_in_atomic s m step inside = by_target (λ d. d.started ≡ false) s m st
     no_exec true false i h = absurd (cc)
     no_exec false b i h = refl
 
-    by_place : (a b : Bool) → is_copy step.verb ≡ a → is_exec step.verb && step.in_atomic ≡ b → (at_target s m step (target_unless (cond a (Some 406) (cond b (Some 405) None)) step)).started ≡ false
+    by_place : (a b : Bool) → is_copy step.verb ≡ a → is_exec step.verb && step.in_atomic ≡ b
+        → (at_target s m step (target_unless (cond a (Some 406) (cond b (Some 405) None)) step)).started ≡ false
     by_place true b x y = refl
     by_place false true x y = refl
-    by_place false false x y = target_starts_not s m step (no_exec (is_exec step.verb) step.in_atomic inside y) (target_in step.target)
+    by_place false false x y =
+        target_starts_not s m step (no_exec (is_exec step.verb) step.in_atomic inside y) (target_in step.target)

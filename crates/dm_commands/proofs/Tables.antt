@@ -8,7 +8,8 @@ use Rattle.dm_tree.specs.Nodes.{Nodes}
 use Rattle.dm_commands.specs.Outcomes.{Done, refused, first_refusal, first_of, unless}
 use Rattle.dm_commands.specs.Table.{replace_other}
 
-pub none-refused : (rs : List (Bool × ℕ)) (m : Nodes) (effect : Done) → first_refusal rs ≡ None → first_of rs m effect ≡ effect
+pub none-refused : (rs : List (Bool × ℕ)) (m : Nodes) (effect : Done) → first_refusal rs ≡ None
+    → first_of rs m effect ≡ effect
 none-refused rs m effect e = ap (λ o. unless o m effect) e
 
 pub one-refused : (rs : List (Bool × ℕ)) (m : Nodes) (effect : Done) (code : ℕ) → first_refusal rs ≡ Some code

@@ -2,6 +2,7 @@
 use Rattle.std.specs.Prelude.{◌≡◌, ◌≤◌, ◌&&◌, ℕ, Bool, true, false, length, Some, Result, Ok, Err}
 use Rattle.std.specs.Option.{option_map_or}
 use Rattle.std.specs.FinMap.{get}
+use Rattle.dm_base.specs.Limits.{object_limit}
 use Rattle.syncml_types.specs.declared.command.Step.{Step}
 use Rattle.syncml_types.specs.declared.command.Verb.{Verb}
 use Rattle.syncml_types.specs.declared.command.Verb.TheVariants as verb
@@ -29,7 +30,7 @@ is_write verb.Get = false
 
 -- what goes into the tree has at most 4,194,304 bytes
 abbrev pub IsShortStep : Step → Type 0
-IsShortStep step = is_write step.verb ≡ true → length step.value ≤ 4194304
+IsShortStep step = is_write step.verb ≡ true → length step.value ≤ object_limit
 
 -- ---- the nodes that a step moves or takes away
 

@@ -1,7 +1,9 @@
 -- The step table: for each verb the refusals in order, each with its code, and the effect where none of them holds.
-use Rattle.std.specs.Prelude.{◌==◌, ◌&&◌, ◌||◌, ℕ, Bool, true, false, not, if◌then◌else◌, nat_lt, List, [], ◌∷◌, ◌++◌, length, codes, bytes_eq, is_some, unwrap_or, Option, Some, None, Result, Ok, Err}
+use Rattle.std.specs.Prelude.{◌==◌, ◌&&◌, ◌||◌, ℕ, Bool, true, false, not, if◌then◌else◌, nat_lt, List, [], ◌∷◌, ◌++◌}
+use Rattle.std.specs.Prelude.{length, codes, bytes_eq, is_some, unwrap_or, Option, Some, None, Result, Ok, Err}
 use Rattle.std.specs.Option.{option_map_or}
 use Rattle.std.specs.FinMap.{get, insert, len}
+use Rattle.dm_base.specs.Limits.{node_limit}
 use Rattle.syncml_types.specs.Canonical.{is_text}
 use Rattle.syncml_types.specs.declared.command.Step.{Step}
 use Rattle.syncml_types.specs.declared.command.Verb.{Verb}
@@ -24,11 +26,13 @@ use Rattle.dm_tree.specs.declared.nodes.Node.{Node}
 use Rattle.dm_tree.specs.declared.nodes.Role.TheVariants as role
 use Rattle.dm_tree.specs.declared.nodes.Stamp.{Stamp}
 use Rattle.dm_tree.specs.declared.nodes.Value.{Value}
-use Rattle.dm_tree.specs.Nodes.{Path, Nodes, is_format, is_node_format, changed, with_value, with_acl, with_title, above, last_name}
+use Rattle.dm_tree.specs.Nodes.{Path, Nodes, is_format, is_node_format, changed, with_value, with_acl, with_title}
+use Rattle.dm_tree.specs.Nodes.{above, last_name}
 use Rattle.dm_tree.specs.Rights.{allows}
 use Rattle.dm_tree.specs.Edits.{pruned, renamed, fits}
 use Rattle.dm_tree.specs.Devices.{is_role}
-use Rattle.dm_commands.specs.Outcomes.{Setting, Done, refused, changed_to, found_in, first_refusal, first_of, no_node, node_at}
+use Rattle.dm_commands.specs.Outcomes.{Setting, Done, refused, changed_to, found_in, first_refusal, first_of, no_node}
+use Rattle.dm_commands.specs.Outcomes.{node_at}
 use Rattle.dm_commands.specs.Updates.{state_of, state_after_write, with_state}
 use Rattle.dm_commands.specs.Finding.{found_by}
 
@@ -108,7 +112,7 @@ abbrev pub node_refusals : Nodes → Step → List (Bool × ℕ)
 node_refusals m step =
     (has_bad_meta (added_format step) (added_media step), 415)
     ∷ (is_node_format (added_format step) && not (length step.value == 0), 400)
-    ∷ (len m == 65536, 500)
+    ∷ (len m == node_limit, 500)
     ∷ []
 
 abbrev pub add_refusals : Setting → Nodes → Step → Uri → List (Bool × ℕ)

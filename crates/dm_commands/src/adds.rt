@@ -1,12 +1,14 @@
 // Add: a new node below an interior one.
-ghost use Rattle.std.specs.Prelude.{◌≡◌, ◌≤◌, ◌∷◌, ◌++◌, [], length, true, false, None, IfOk, OnErr, IsTrue, MatchOption};
+ghost use Rattle.std.specs.Prelude.{◌≡◌, ◌≤◌, ◌∷◌, ◌++◌, [], length, true, false, None, IfOk, OnErr, IsTrue};
+ghost use Rattle.std.specs.Prelude.{MatchOption};
 ghost use Rattle.std.specs.FinMap as map;
 ghost use Rattle.dm_uri.specs.Names.{is_within_limits};
 ghost use Rattle.dm_tree.specs.declared.nodes.Stamp.{Stamp as Time};
 ghost use Rattle.dm_tree.specs.Nodes.{above, made, tree_order};
 ghost use Rattle.dm_tree.specs.Rows.{nodes, node_of, path_of, IsLive};
 ghost use Rattle.dm_commands.specs.Outcomes.{asked_by, changed_to, first_refusal, Judges};
-ghost use Rattle.dm_commands.specs.Table.{add as added, is_root, add_refusals, node_refusals, added_format as format_of, added_media as media_of, added_node as node_for};
+ghost use Rattle.dm_commands.specs.Table.{add as added, is_root, add_refusals, node_refusals};
+ghost use Rattle.dm_commands.specs.Table.{added_format as format_of, added_media as media_of, added_node as node_for};
 ghost use Rattle.dm_commands.specs.Promises.{Ends, none_moved, StaysAsBefore};
 ghost use Rattle.dm_commands.specs.Places.{IsPlace};
 

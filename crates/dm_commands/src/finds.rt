@@ -6,7 +6,8 @@ ghost use Rattle.dm_tree.specs.Views.{shown};
 ghost use Rattle.dm_tree.specs.Rows.{nodes, path_of, IsLive};
 ghost use Rattle.dm_commands.specs.Outcomes.{asked_by, node_at, Judges};
 ghost use Rattle.dm_commands.specs.Table.{get_ as got, get_refusals, asks_size as is_size};
-ghost use Rattle.dm_commands.specs.Finding.{found_at as found_of, found_by, node_value as value_of_node, prop_format as format_of, prop_found as prop_of};
+ghost use Rattle.dm_commands.specs.Finding.{found_at as found_of, found_by, node_value as value_of_node};
+ghost use Rattle.dm_commands.specs.Finding.{prop_format as format_of, prop_found as prop_of};
 ghost use Rattle.dm_commands.specs.Places.{IsAt};
 ghost use Rattle.dm_commands.specs.Promises.{Ends, none_moved};
 

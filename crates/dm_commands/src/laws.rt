@@ -1,5 +1,6 @@
 // What the step table means, over its definition alone.
-ghost use Rattle.dm_commands.specs.Laws.{RefusedRightChangesNothing, RefusedStepChangesNothing, NothingStartsInAtomic, StepKeepsUpdate, StepKeepsDevice};
+ghost use Rattle.dm_commands.specs.Laws.{RefusedRightChangesNothing, RefusedStepChangesNothing, NothingStartsInAtomic};
+ghost use Rattle.dm_commands.specs.Laws.{StepKeepsUpdate, StepKeepsDevice};
 
 /// Law: where the right that a verb asks for is refused to the caller on the node that it asks it on, the step is no
 /// success and changes nothing.

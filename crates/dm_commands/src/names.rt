@@ -4,7 +4,8 @@ ghost use Rattle.std.specs.FinMap as map;
 ghost use Rattle.dm_tree.specs.Nodes.{is_below, tree_order};
 ghost use Rattle.dm_tree.specs.Rows.{nodes, ids, node_of, path_of, IsLive};
 ghost use Rattle.dm_commands.specs.Outcomes.{asked_by, Judges};
-ghost use Rattle.dm_commands.specs.Table.{replace_name as name_replaced, name_refusals, name_text_refusals, rename_refusals, beside, is_taken_beside};
+ghost use Rattle.dm_commands.specs.Table.{replace_name as name_replaced, name_refusals, name_text_refusals};
+ghost use Rattle.dm_commands.specs.Table.{rename_refusals, beside, is_taken_beside};
 ghost use Rattle.dm_commands.specs.Places.{IsAt, IsRenaming};
 ghost use Rattle.dm_commands.specs.Promises.{Ends, StaysAsBefore};
 

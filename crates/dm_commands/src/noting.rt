@@ -1,8 +1,10 @@
 // Edits of the tree that are noted at once. Room for the note is made first, so nothing can fail behind an edit.
-ghost use Rattle.std.specs.Prelude.{◌≡◌, ◌≢◌, ◌≤◌, ◌<◌, ◌+◌, ◌-◌, ◌^◌, ◌∷◌, ◌++◌, [], length, true, false, None, IsTrue, IsSome, IfSome, OnOk, OnErr};
+ghost use Rattle.std.specs.Prelude.{◌≡◌, ◌≢◌, ◌≤◌, ◌<◌, ◌+◌, ◌-◌, ◌^◌, ◌∷◌, ◌++◌, [], length, true, false, None};
+ghost use Rattle.std.specs.Prelude.{IsTrue, IsSome, IfSome, OnOk, OnErr};
 ghost use Rattle.std.specs.FinMap as map;
 ghost use Rattle.dm_uri.specs.Names.{is_within_limits};
-ghost use Rattle.dm_tree.specs.Nodes.{above, changed, made, with_value, with_acl, with_title, tree_order, is_below, IsValue, IsReadAgain, IsNewNode};
+ghost use Rattle.dm_tree.specs.Nodes.{above, changed, made, with_value, with_acl, with_title, tree_order, is_below};
+ghost use Rattle.dm_tree.specs.Nodes.{IsValue, IsReadAgain, IsNewNode};
 ghost use Rattle.dm_tree.specs.Rows.{nodes, ids, node_of, path_of, IsLive};
 ghost use Rattle.dm_tree.specs.Edits.{pruned, renamed, fits};
 ghost use Rattle.dm_undo.specs.Notes.{Notes};
@@ -176,7 +178,8 @@ pub(crate) fn put_values(
     requires two { first.0 ≢ second.0 }
     ensures nodes { OnOk result (nodes tree.new.rows ≡ map.insert (map.insert (nodes tree.old.rows)
         (path_of tree.old.rows first.0) (changed tree.old.clock (with_value (node_of tree.old.rows first.0) first.1)))
-        (path_of tree.old.rows second.0) (changed tree.old.clock (with_value (node_of tree.old.rows second.0) second.1))) }
+        (path_of tree.old.rows second.0)
+        (changed tree.old.clock (with_value (node_of tree.old.rows second.0) second.1))) }
     ensures ids { OnOk result (ids tree.new.rows ≡ ids tree.old.rows) }
     ensures clock { tree.new.clock ≡ tree.old.clock }
     ensures notes { OnOk result (Notes journal.old tree.old.rows journal.new tree.new.rows) }

@@ -4,7 +4,9 @@ ghost use Rattle.std.specs.Prelude.{◌≡◌, ◌≤◌, true, Some, IfOk, IfSo
 ghost use Rattle.dm_tree.specs.Nodes.{tree_order, IsReadAgain};
 ghost use Rattle.dm_tree.specs.Rows.{nodes, node_of, path_of, IsLive};
 ghost use Rattle.dm_commands.specs.Outcomes.{asked_by, Judges};
-ghost use Rattle.dm_commands.specs.Table.{replace_acl as acl_replaced, acl_refusals, acl_text_refusals, acl_given, acl_decider as decider, replace_title as title_replaced, title_refusals, replace_other as other_replaced};
+ghost use Rattle.dm_commands.specs.Table.{replace_acl as acl_replaced, acl_refusals, acl_text_refusals, acl_given};
+ghost use Rattle.dm_commands.specs.Table.{acl_decider as decider, replace_title as title_replaced, title_refusals};
+ghost use Rattle.dm_commands.specs.Table.{replace_other as other_replaced};
 ghost use Rattle.dm_commands.specs.Places.{IsAt, IsGiven};
 ghost use Rattle.dm_commands.specs.Promises.{Ends, none_moved, StaysAsBefore};
 
@@ -118,7 +120,8 @@ fn title_place(tree: &Tree, caller: &[u8], step: &Step, uri: &Uri) -> Result<Nod
     ensures judged { Judges
         (title_refusals (asked_by caller.now tree.now.clock) (nodes tree.now.rows) step.now uri.now) result }
     ensures place { IfOk result (λ id. IsAt tree.now.rows uri.now.path id
-        × (map.get (nodes tree.now.rows) uri.now.path ≡ Some (node_of tree.now.rows id)) × (length step.now.value ≤ 255)) }
+        × (map.get (nodes tree.now.rows) uri.now.path ≡ Some (node_of tree.now.rows id))
+        × (length step.now.value ≤ 255)) }
 {
     let Some(id) = tree.find(&uri.path) else {
         return Err(404);

@@ -10,7 +10,8 @@ ghost use Rattle.dm_tree.specs.Devices.{IsUpdateInOrder};
 ghost use Rattle.dm_undo.specs.Notes.{Notes};
 ghost use Rattle.dm_commands.specs.Outcomes.{asked_by, Judges};
 ghost use Rattle.dm_commands.specs.Updates.{state_of, state_after_write, with_state};
-ghost use Rattle.dm_commands.specs.Table.{replace_value as value_replaced, value_refusals, is_kept_from, replaced_value as value_with};
+ghost use Rattle.dm_commands.specs.Table.{replace_value as value_replaced, value_refusals, is_kept_from};
+ghost use Rattle.dm_commands.specs.Table.{replaced_value as value_with};
 ghost use Rattle.dm_commands.specs.Places.{IsAt};
 ghost use Rattle.dm_commands.specs.Promises.{Ends, none_moved, StaysAsBefore};
 

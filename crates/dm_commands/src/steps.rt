@@ -8,7 +8,8 @@ ghost use Rattle.dm_tree.specs.Rows.{nodes, ids};
 ghost use Rattle.dm_tree.specs.Devices.{IsUpdateInOrder};
 ghost use Rattle.dm_undo.specs.Notes.{Notes};
 ghost use Rattle.dm_commands.specs.Outcomes.{asked_by, Does};
-ghost use Rattle.dm_commands.specs.Table.{act as act_of, by_verb as verb_of, replace as replaced, replace_prop as prop_replaced};
+ghost use Rattle.dm_commands.specs.Table.{act as act_of, by_verb as verb_of, replace as replaced};
+ghost use Rattle.dm_commands.specs.Table.{replace_prop as prop_replaced};
 ghost use Rattle.dm_commands.specs.Promises.{IsShortStep, KeepsIds, Ends, is_name_query, is_moved_at, StaysAsBefore};
 
 use crate::adds::add;

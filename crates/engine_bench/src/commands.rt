@@ -1,6 +1,5 @@
 // The commands that the engine runs.
-ghost use Rattle.std.specs.Prelude.{◌≡◌, ◌+◌, ◌∷◌, [], Bool, ℕ, not, length, IfOk};
-ghost use Rattle.syncml_types.specs.declared.values.Item.{Item as AnItem};
+ghost use Rattle.std.specs.Prelude.{◌≡◌, ◌∷◌, [], length, IfOk};
 
 use crate::leaves::{LEAVES, leaf_uri};
 use dm_base::{Bytes, List, Memory};

@@ -86,8 +86,8 @@ fn run_parts(rt: &HostRuntime, device: &mut Device, parts: &[Command]) -> io::Re
     Ok(sums)
 }
 
-/// Tells how long the tenth part takes, the last that leaves the group open, and of the last, which closes it, each part
-/// whose answers waited.
+/// Tells how long the tenth part takes, the last that leaves the group open, and of the last, which closes it, each
+/// part whose answers waited.
 pub fn measure_group(rt: &HostRuntime, span: Span) -> io::Result<()> {
     let mut device = new_device(rt)?;
     let commands = parts(rt.alloc(), PARTS).map_err(of_memory)?;

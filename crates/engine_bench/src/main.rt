@@ -1,5 +1,5 @@
-//! Measures what a step costs in an Atomic that fails and in a group of many parts, beside an edit that a journal notes.
-//! Without words it does each once in small, and tells what came. The words WHAT SECONDS ask for nanoseconds.
+//! Measures what a step costs in an Atomic that fails and in a group of many parts, beside an edit that a journal
+//! notes. Without words it does each once in small, and tells what came. The words WHAT SECONDS ask for nanoseconds.
 #![tactic(auto)]
 
 mod atomics;

@@ -3,8 +3,9 @@
 use syncml_types::Verb;
 use syncml_types::Verb::{Add, Copy, Delete, Exec, Get, Replace};
 
-// A step: its verb, target, Format, Type and value, which is its Correlator too; each but the value is left out where it is
-// the empty text. Then its code, and what it finds as `uri|format|type|value;`, where `-` stands for what isn't there.
+// A step: its verb, target, Format, Type and value, which is its Correlator too; each but the value is left out where
+// it is the empty text. Then its code, and what it finds as `uri|format|type|value;`, where `-` stands for what isn't
+// there.
 pub(super) type Row = (
     Verb,
     &'static [u8],
@@ -128,7 +129,8 @@ pub(super) const LEAF_LISTS: [Row; 15] = [
     (Replace, b"./N/l?prop=ACL", b"", b"", b"", 425, b""),
 ];
 
-// Rights come from the nearest list upwards that names the command, for an Add from the parent, for a list of a leaf too.
+// Rights come from the nearest list upwards that names the command, for an Add from the parent, for a list of a leaf
+// too.
 #[rattlefmt::skip]
 pub(super) const RIGHTS: [Row; 34] = [
     (Add, b"./P", b"node", b"", b"", 200, b""),

@@ -18,7 +18,8 @@ loop-part-preserved c =
     (parts_undone (drop (c.loop-part.part-index + 1) c.args.parts.now))
     (parts_undone c.args.parts.now)
     c.loop-part.invariant
-    (next_part_undone c.args.parts.now c.as_slice-part-items.result.now c.loop-part.part-index c.part-item.result c.as_slice-part-items.ensures c.loop-part-test.true c.part-item.is)
+    (next_part_undone c.args.parts.now c.as_slice-part-items.result.now c.loop-part.part-index c.part-item.result
+    c.as_slice-part-items.ensures c.loop-part-test.true c.part-item.is)
     c.in_ok-put_part_undone.ensures.ok
 
 pub returns-clause-ok : goal.returns-clause-ok
@@ -26,4 +27,5 @@ returns-clause-ok c =
     telling_ends c.args.out.now c.loop-part.out
     (parts_undone (drop c.loop-part.part-index c.args.parts.now)) (parts_undone c.args.parts.now)
     c.loop-part.invariant
-    (none_ahead parts_undone c.args.parts.now c.as_slice-part-items.result.now c.loop-part.part-index c.as_slice-part-items.ensures c.loop-part-test.false refl)
+    (none_ahead parts_undone c.args.parts.now c.as_slice-part-items.result.now c.loop-part.part-index
+    c.as_slice-part-items.ensures c.loop-part-test.false refl)

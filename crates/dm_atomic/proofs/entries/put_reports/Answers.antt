@@ -18,7 +18,8 @@ loop-report-preserved c =
     (all_reported (drop (c.loop-report.report-index + 1) c.args.reports.now))
     (all_reported c.args.reports.now)
     c.loop-report.invariant
-    (next_report c.args.reports.now c.as_slice-report-items.result.now c.loop-report.report-index c.report-item.result c.as_slice-report-items.ensures c.loop-report-test.true c.report-item.is)
+    (next_report c.args.reports.now c.as_slice-report-items.result.now c.loop-report.report-index c.report-item.result
+    c.as_slice-report-items.ensures c.loop-report-test.true c.report-item.is)
     c.in_ok-put_report.ensures.ok
 
 pub returns-clause-ok : goal.returns-clause-ok
@@ -26,4 +27,5 @@ returns-clause-ok c =
     telling_ends c.args.out.now c.loop-report.out
     (all_reported (drop c.loop-report.report-index c.args.reports.now)) (all_reported c.args.reports.now)
     c.loop-report.invariant
-    (none_ahead all_reported c.args.reports.now c.as_slice-report-items.result.now c.loop-report.report-index c.as_slice-report-items.ensures c.loop-report-test.false refl)
+    (none_ahead all_reported c.args.reports.now c.as_slice-report-items.result.now c.loop-report.report-index
+    c.as_slice-report-items.ensures c.loop-report-test.false refl)

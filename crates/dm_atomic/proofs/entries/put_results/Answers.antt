@@ -7,7 +7,8 @@ use Rattle.dm_atomic.proofs.entries.put_results.Goals as goal
 pub returns-in_err-put_result-clause-err : goal.returns-in_err-put_result-clause-err
 returns-in_err-put_result-clause-err c =
     let stands = telling_stops c.args.out.now c.loop-found.out c.put_result.new.out
-    (map (Result c.args.post.now) (drop c.loop-found.found-index c.args.found.now)) (map (Result c.args.post.now) c.args.found.now)
+    (map (Result c.args.post.now) (drop c.loop-found.found-index c.args.found.now))
+    (map (Result c.args.post.now) c.args.found.now)
     c.loop-found.invariant c.in_err-put_result.ensures.err in search rules
 
 pub loop-found-preserved : goal.loop-found-preserved
@@ -18,12 +19,15 @@ loop-found-preserved c =
     (map (Result c.args.post.now) (drop (c.loop-found.found-index + 1) c.args.found.now))
     (map (Result c.args.post.now) c.args.found.now)
     c.loop-found.invariant
-    (next_found c.args.post.now c.args.found.now c.as_slice-found-items.result.now c.loop-found.found-index c.found-item.result c.as_slice-found-items.ensures c.loop-found-test.true c.found-item.is)
+    (next_found c.args.post.now c.args.found.now c.as_slice-found-items.result.now c.loop-found.found-index
+    c.found-item.result c.as_slice-found-items.ensures c.loop-found-test.true c.found-item.is)
     c.in_ok-put_result.ensures.ok
 
 pub returns-clause-ok : goal.returns-clause-ok
 returns-clause-ok c =
     telling_ends c.args.out.now c.loop-found.out
-    (map (Result c.args.post.now) (drop c.loop-found.found-index c.args.found.now)) (map (Result c.args.post.now) c.args.found.now)
+    (map (Result c.args.post.now) (drop c.loop-found.found-index c.args.found.now))
+    (map (Result c.args.post.now) c.args.found.now)
     c.loop-found.invariant
-    (none_ahead (map (Result c.args.post.now)) c.args.found.now c.as_slice-found-items.result.now c.loop-found.found-index c.as_slice-found-items.ensures c.loop-found-test.false refl)
+    (none_ahead (map (Result c.args.post.now)) c.args.found.now c.as_slice-found-items.result.now
+    c.loop-found.found-index c.as_slice-found-items.ensures c.loop-found-test.false refl)

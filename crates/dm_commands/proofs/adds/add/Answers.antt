@@ -12,4 +12,5 @@ returns-in-Err-clause-ok c =
     let step = c.args.step.now in
     refused-ends (add_refusals (asked_by c.args.caller.now before.clock) (nodes before.rows) step c.args.uri)
     (changed_to (insert (nodes before.rows) c.args.uri.path (added_node before.clock step)))
-    c.in-Err.code none_moved c.args.journal.now before c.refuse.result c.in-Err.ensures.judged (c.refuse.ensures none_moved)
+    c.in-Err.code none_moved c.args.journal.now before c.refuse.result c.in-Err.ensures.judged
+    (c.refuse.ensures none_moved)

@@ -11,13 +11,16 @@ pub returns-in-Err : goal.returns-in-Err
 returns-in-Err c =
     let m = nodes c.args.tree.now.rows in
     let s = asked_by c.args.caller.now c.args.tree.now.clock in
-    first-refused (get_refusals s m c.args.uri.now) (found_in m (found_by s m c.args.uri.now c.args.uri.now.query)) c.in-Err.code none_moved
+    first-refused (get_refusals s m c.args.uri.now) (found_in m (found_by s m c.args.uri.now c.args.uri.now.query))
+    c.in-Err.code none_moved
     c.args.journal.now c.args.tree.now c.refuse.result c.in-Err.ensures.judged (c.refuse.ensures none_moved)
 
 pub returns : goal.returns
 returns c =
     let m = nodes c.args.tree.now.rows in
     let s = asked_by c.args.caller.now c.args.tree.now.clock in
-    none-refused (get_refusals s m c.args.uri.now) (found_in m (found_by s m c.args.uri.now c.args.uri.now.query)) none_moved
-    c.args.journal.now c.args.tree.now (record { code = 200; results = c.in_ok-results.results; started = false }) c.in-Ok.ensures.judged
+    none-refused (get_refusals s m c.args.uri.now) (found_in m (found_by s m c.args.uri.now c.args.uri.now.query))
+    none_moved
+    c.args.journal.now c.args.tree.now (record { code = 200; results = c.in_ok-results.results; started = false })
+    c.in-Ok.ensures.judged
     (record { tree = refl; code = refl; found = c.in_ok-results.ensures; started = refl })

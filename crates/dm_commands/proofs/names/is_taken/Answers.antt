@@ -7,7 +7,8 @@ use Rattle.dm_commands.proofs.names.is_taken.Goals as goal
 pub returns-in-Some-clause-taken : goal.returns-in-Some-clause-taken
 returns-in-Some-clause-taken c =
     c.ne.ensures
-    ∙ sym (taken-other c.args.tree.now.rows c.node_above.ensures.sound c.args.id c.in-Some.other c.args.name.now c.requires
+    ∙ sym (taken-other c.args.tree.now.rows c.node_above.ensures.sound c.args.id c.in-Some.other c.args.name.now
+    c.requires
     c.in-Some.ensures.live.0
     (c.in-Some.ensures.live.1 ∙ ap (λ q. q ++ c.args.name.now ∷ []) c.node_above.ensures.at.path))
 

@@ -11,4 +11,5 @@ returns-clause-ids c =
 pub returns-clause-notes : goal.returns-clause-notes
 returns-clause-notes c =
     noted-one c.args.journal.now c.make_room.new.journal c.note.new.self c.args.tree.now.rows c.rename.new.self.rows
-    c.rename.result c.make_room.ensures.entries c.in_ok-make_room.ensures.room c.note.ensures.entries c.rename.ensures.edit
+    c.rename.result c.make_room.ensures.entries c.in_ok-make_room.ensures.room c.note.ensures.entries
+    c.rename.ensures.edit

@@ -17,7 +17,8 @@ returns-clause-nodes c =
     c.set_value-2.ensures.nodes
     ∙ second-put before c.set_value.new.self c.args.first.0 k _ c.args.second.1 c.set_value.ensures.rows
     (λ e. c.requires.two (sym e)) (c.set_value.ensures.stays k c.requires.live.1).1
-    ∙ ap (λ m. insert m (path_of before.rows k) (changed before.clock (with_value (node_of before.rows k) c.args.second.1)))
+    ∙ ap (λ m. insert m (path_of before.rows k)
+    (changed before.clock (with_value (node_of before.rows k) c.args.second.1)))
     c.set_value.ensures.nodes
 
 pub returns-clause-notes : goal.returns-clause-notes
@@ -25,5 +26,6 @@ returns-clause-notes c =
     noted-two c.args.journal.now c.make_room.new.journal c.note-2.new.self
     c.args.tree.now.rows c.set_value.new.self.rows c.set_value-2.new.self.rows c.set_value.result c.set_value-2.result
     c.make_room.ensures.entries c.in_ok-make_room.ensures.room
-    (c.note-2.ensures.entries ∙ ap (λ (j : Journal). record j { entries = Record c.set_value-2.result ∷ j.entries }) c.note.ensures.entries)
+    (c.note-2.ensures.entries
+    ∙ ap (λ (j : Journal). record j { entries = Record c.set_value-2.result ∷ j.entries }) c.note.ensures.entries)
     c.set_value.ensures.edit c.set_value-2.ensures.edit

@@ -7,5 +7,9 @@ use Rattle.dm_commands.proofs.props.given_acl.Goals as goal
 
 pub returns-in-Ok-clause-given : goal.returns-in-Ok-clause-given
 returns-in-Ok-clause-given c =
-    let some : (length c.args.text.now == 0) ≡ false = grind (arith, nat_tests) in
-    (refl, given-read c.args.text.now _ some c.in-Ok.ensures, what_is_read_is_read_again c.args.text.now _ c.in-Ok.ensures, λ h. refl)
+    let some : (length c.args.text.now == 0) ≡ false = grind (arith, nat_tests) in (
+      refl,
+      given-read c.args.text.now _ some c.in-Ok.ensures,
+      what_is_read_is_read_again c.args.text.now _ c.in-Ok.ensures,
+      λ h. refl,
+    )

@@ -11,6 +11,7 @@ pub returns-in-Copy-clause-ok : goal.returns-in-Copy-clause-ok
 returns-in-Copy-clause-ok c =
     let before = c.args.tree.now in
     let journal = c.args.journal.now in
-    subst (λ v. Ends (by_verb (asked_by c.args.caller.now before.clock) (nodes before.rows) c.args.step.now c.args.uri v)
+    subst (λ v.
+    Ends (by_verb (asked_by c.args.caller.now before.clock) (nodes before.rows) c.args.step.now c.args.uri v)
     (is_moved_at v (Ok c.args.uri)) journal before journal before c.refuse.result) (sym c.in-Copy.is)
     (c.refuse.ensures (is_moved_at verb.Copy (Ok c.args.uri)))

@@ -7,5 +7,7 @@ pub returns-in-None-clause-at : goal.returns-in-None-clause-at
 returns-in-None-clause-at c = record {
   live = c.root-root.ensures.live.0;
   path = c.root-root.ensures.live.1
-      ∙ sym (ap above (top_alone c.args.tree.now.rows c.root-root.ensures.sound c.args.id c.requires.live c.in-None.ensures.found));
+      ∙ sym
+      (ap above (top_alone c.args.tree.now.rows c.root-root.ensures.sound c.args.id c.requires.live
+      c.in-None.ensures.found));
 }

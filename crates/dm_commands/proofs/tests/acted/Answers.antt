@@ -8,4 +8,5 @@ use Rattle.dm_commands.proofs.tests.acted.Goals as goal
 pub returns-in-Ok : goal.returns-in-Ok
 returns-in-Ok c =
     subst IsUpdateInOrder (sym c.in-Ok.ensures.done.tree)
-    (c.steps_keep_the_device.ensures.update (asked_by (codes "s1") c.args.tree.now.clock) (nodes c.args.tree.now.rows) c.args.step.now c.root.ensures.well_formed c.requires.update)
+    (c.steps_keep_the_device.ensures.update (asked_by (codes "s1") c.args.tree.now.clock) (nodes c.args.tree.now.rows)
+    c.args.step.now c.root.ensures.well_formed c.requires.update)

@@ -13,7 +13,8 @@ returns-clause-gives c =
     atomic_gives e o c.args.caller.now (state_of e) (state_of b) (state_of o) (state_of c.run_open.new.self) c.args.post
     c.args.tasks.now c.args.out.now c.join_or_break.new.out c.run_open.new.out
     (c.open_group.ensures.clock ∙ c.join_or_break.ensures.clock)
-    (ap (λ (i : Seen). i.max_obj) c.open_group.ensures.inbox ∙ c.join_or_break.ensures.max_obj) c.in_ok-join_or_break.ensures.gives
+    (ap (λ (i : Seen). i.max_obj) c.open_group.ensures.inbox ∙ c.join_or_break.ensures.max_obj)
+    c.in_ok-join_or_break.ensures.gives
     c.in_ok-open_group.ensures.state c.in_ok-run_open.ensures.gives
 
 pub returns-clause-marks : goal.returns-clause-marks

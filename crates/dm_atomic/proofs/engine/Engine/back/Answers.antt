@@ -1,6 +1,6 @@
 use Rattle.std.proofs.Common.{◌∙◌, refl, ap, take}
 use Rattle.dm_atomic.specs.declared.engine.Engine.{Engine}
-use Rattle.dm_atomic.proofs.Backs.{GoesBack, back_whole, back_earlier, back_sound}
+use Rattle.dm_atomic.proofs.Backs.{GoesBack, back_whole, back_past, back_earlier, back_sound}
 use Rattle.dm_atomic.proofs.engine.Engine.back.Goals as goal
 
 gone_to : goal.After-self-1 → Engine
@@ -38,6 +38,10 @@ gone c = record {
 pub returns-clause-whole : goal.returns-clause-whole
 unfolding gone_to
 returns-clause-whole c = back_whole c.args.self.now (gone_to c) c.args.mark c.requires.held (gone c)
+
+pub returns-clause-past : goal.returns-clause-past
+unfolding gone_to
+returns-clause-past c = back_past c.args.self.now (gone_to c) c.args.mark c.requires.held (gone c)
 
 pub returns-clause-earlier : goal.returns-clause-earlier
 unfolding gone_to

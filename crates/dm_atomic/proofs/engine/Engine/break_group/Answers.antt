@@ -8,5 +8,6 @@ returns-then-not-self-clause-gives c = unbroken_gives c.args.self.now c.args.out
 
 pub returns-clause-committed : goal.returns-clause-committed
 returns-clause-committed c =
-    committed_ok c.break_open.result (whole_of c.args.self.now) (whole_of c.break_open.new.self) c.break_open.ensures.base
+    committed_ok c.break_open.result (whole_of c.args.self.now) (whole_of c.break_open.new.self)
+    c.break_open.ensures.base
     c.break_open.ensures.committed

@@ -43,7 +43,8 @@ returns-clause-gives c =
 
 pub returns-in_err-one_alone-clause-marks : goal.returns-in_err-one_alone-clause-marks
 returns-in_err-one_alone-clause-marks c =
-    holds_then c.args.self.now c.loop-task.self c.one_alone.new.self c.loop-task.invariant.marks c.one_alone.ensures.marks
+    holds_then c.args.self.now c.loop-task.self c.one_alone.new.self c.loop-task.invariant.marks
+    c.one_alone.ensures.marks
 
 pub returns-in_err-one_alone-clause-ids : goal.returns-in_err-one_alone-clause-ids
 returns-in_err-one_alone-clause-ids c =

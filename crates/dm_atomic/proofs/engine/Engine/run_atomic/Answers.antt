@@ -5,10 +5,12 @@ use Rattle.dm_atomic.proofs.engine.Engine.run_atomic.Goals as goal
 
 pub returns-in_err-atomic-clause-ids : goal.returns-in_err-atomic-clause-ids
 returns-in_err-atomic-clause-ids c =
-    atomic_stay c.args.origin true c.args.block.now c.as_slice.result.now (whole_of c.args.self.now) (whole_of c.atomic.new.self)
+    atomic_stay c.args.origin true c.args.block.now c.as_slice.result.now (whole_of c.args.self.now)
+    (whole_of c.atomic.new.self)
     (c.as_slice.ensures ∙ c.in_ok-tasks.ensures) c.atomic.ensures.ids
 
 pub returns-clause-ids : goal.returns-clause-ids
 returns-clause-ids c =
-    atomic_stay c.args.origin true c.args.block.now c.as_slice.result.now (whole_of c.args.self.now) (whole_of c.atomic.new.self)
+    atomic_stay c.args.origin true c.args.block.now c.as_slice.result.now (whole_of c.args.self.now)
+    (whole_of c.atomic.new.self)
     (c.as_slice.ensures ∙ c.in_ok-tasks.ensures) c.atomic.ensures.ids

@@ -24,7 +24,8 @@ loop-member-preserved c =
     let o = c.args.origin in
     let m = c.member-item.result in
     record {
-      giving = giving.members_go_on r o (state_of c.loop-member.self) (state_of c.run_member.new.self) c.args.members.now
+      giving =
+          giving.members_go_on r o (state_of c.loop-member.self) (state_of c.run_member.new.self) c.args.members.now
           c.as_slice-member-items.result.now c.loop-member.member-index m
           (run_members r o (state_of e) c.args.members.now) c.args.out.now c.loop-member.out c.run_member.new.out
           i.giving c.as_slice-member-items.ensures c.loop-member-test.true c.member-item.is
@@ -52,7 +53,8 @@ returns-clause-gives c =
 
 pub returns-in_err-run_member-clause-marks : goal.returns-in_err-run_member-clause-marks
 returns-in_err-run_member-clause-marks c =
-    holds_then c.args.self.now c.loop-member.self c.run_member.new.self c.loop-member.invariant.marks c.run_member.ensures.marks
+    holds_then c.args.self.now c.loop-member.self c.run_member.new.self c.loop-member.invariant.marks
+    c.run_member.ensures.marks
 
 pub returns-in_err-run_member-clause-ids : goal.returns-in_err-run_member-clause-ids
 returns-in_err-run_member-clause-ids c =

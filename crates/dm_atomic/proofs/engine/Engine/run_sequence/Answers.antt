@@ -4,8 +4,10 @@ use Rattle.dm_atomic.proofs.engine.Engine.run_sequence.Goals as goal
 
 pub returns-in_err-run_members-clause-ids : goal.returns-in_err-run_members-clause-ids
 returns-in_err-run_members-clause-ids c =
-    sequence_stay c.args.block.now (whole_of c.args.self.now) (whole_of c.run_members.new.self) c.run_members.ensures.ids
+    sequence_stay c.args.block.now (whole_of c.args.self.now) (whole_of c.run_members.new.self)
+    c.run_members.ensures.ids
 
 pub returns-clause-ids : goal.returns-clause-ids
 returns-clause-ids c =
-    sequence_stay c.args.block.now (whole_of c.args.self.now) (whole_of c.run_members.new.self) c.run_members.ensures.ids
+    sequence_stay c.args.block.now (whole_of c.args.self.now) (whole_of c.run_members.new.self)
+    c.run_members.ensures.ids

@@ -1,6 +1,7 @@
 use Rattle.std.proofs.Common.{refl}
 use Rattle.dm_atomic.specs.declared.engine.Engine.{Engine}
-use Rattle.dm_atomic.proofs.Backs.{Settles, first_held, first_within, settled_whole, settled_sound}
+use Rattle.dm_atomic.proofs.Backs.{Settles, first_held, first_within, settled_whole, settled_past, settled_gone}
+use Rattle.dm_atomic.proofs.Backs.{settled_sound}
 use Rattle.dm_atomic.proofs.engine.Engine.settle.Goals as goal
 
 pub settle-self-requires-clause-held : goal.settle-self-requires-clause-held
@@ -31,6 +32,7 @@ settled c = record {
   journal = c.settle-self.ensures.entries;
   mark = c.settle-self.ensures.mark;
   inbox = c.settle.ensures;
+  starts = c.clear.ensures.items;
   ended = c.clear-2.ensures.items;
   capacity = c.clear-2.ensures.capacity;
   parts = refl;
@@ -42,6 +44,16 @@ pub returns-clause-whole : goal.returns-clause-whole
 unfolding settled_to
 returns-clause-whole c =
     settled_whole c.args.self.now (settled_to c) c.first_place-first.result c.requires.sound (settled c)
+
+pub returns-clause-past : goal.returns-clause-past
+unfolding settled_to
+returns-clause-past c =
+    settled_past c.args.self.now (settled_to c) c.first_place-first.result c.requires.sound (settled c)
+
+pub returns-clause-gone : goal.returns-clause-gone
+unfolding settled_to
+returns-clause-gone c =
+    settled_gone c.args.self.now (settled_to c) c.first_place-first.result c.requires.sound (settled c)
 
 pub returns-clause-sound : goal.returns-clause-sound
 unfolding settled_to
