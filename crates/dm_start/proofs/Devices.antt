@@ -1,5 +1,6 @@
 -- The tree of a start section is a device's tree.
-use Rattle.std.proofs.Common.{◌≡◌, ◌<◌, ℕ, true, false, not, List, [], ◌∷◌, ◌++◌, Option, None, Some, Ok, Err, refl, sym, ◌∙◌, ap, subst, arith, inl, inr}
+use Rattle.std.proofs.Common.{◌≡◌, ◌<◌, ℕ, true, false, not, List, [], ◌∷◌, ◌++◌, Option, None, Some, Ok, Err, refl}
+use Rattle.std.proofs.Common.{sym, ◌∙◌, ap, subst, arith, inl, inr}
 use Rattle.std.proofs.lemmas.Bool.{and_parts}
 use Rattle.std.proofs.lemmas.Bool.Decides.{nat_tests}
 use Rattle.std.proofs.lemmas.Str.{IsUtf8-from_ascii}
@@ -18,15 +19,18 @@ use Rattle.dm_tree.specs.declared.nodes.Node.{Node}
 use Rattle.dm_tree.specs.declared.nodes.Role.TheVariants as role
 use Rattle.dm_tree.specs.declared.nodes.Stamp.{Stamp}
 use Rattle.dm_tree.specs.Nodes.{Path, Nodes, tree_order, made, root_node, counted}
-use Rattle.dm_tree.specs.Devices.{is_of_update, device_path, update_node, HasNoUpdate, HasUpdate, IsDeviceLeaf, IsDeviceTree, IsText, StaysAlike}
+use Rattle.dm_tree.specs.Devices.{is_of_update, device_path, update_node, HasNoUpdate, HasUpdate, IsDeviceLeaf}
+use Rattle.dm_tree.specs.Devices.{IsDeviceTree, IsText, StaysAlike}
 use Rattle.dm_tree.proofs.BareDevices.{no_type, plain_type}
 use Rattle.dm_tree.proofs.Devices.{update_is_found}
 use Rattle.dm_tree.proofs.DeviceTrees.{changed_keeps_device, added_keeps_device}
-use Rattle.dm_tree.proofs.Keepings.{at_insert, here_insert, still_insert}
+use Rattle.dm_tree.proofs.NodesKept.{at_insert, here_insert, still_insert}
 use Rattle.dm_tree.proofs.Paths.{tree_total}
 use Rattle.dm_start.specs.declared.heads.Device.{Device}
-use Rattle.dm_start.specs.Growing.{go_on, new_node, is_open, may_stand, with_one, with_all, device_leaf, interior_value, start_acl, start_nodes, update_leaf, update_part, with_update, changed_at}
-use Rattle.dm_start.proofs.Sections.{said, allowed, passed, same_ok, IsShortDevice}
+use Rattle.dm_start.specs.Growing.{go_on, new_node, is_open, may_stand, with_one, with_all, device_leaf, interior_value}
+use Rattle.dm_start.specs.Growing.{start_acl, start_nodes, update_leaf, update_part, with_update, changed_at}
+use Rattle.dm_start.specs.Soundness.{IsShortDevice}
+use Rattle.dm_start.proofs.Sections.{said, allowed, passed, same_ok}
 
 -- ---- texts
 

@@ -1,5 +1,6 @@
 -- What is laid in the tree, where a call lays it.
-use Rattle.std.proofs.Common.{◌≡◌, ◌≤◌, ℕ, Bool, true, false, not, cond, List, [], ◌∷◌, ◌++◌, length, Option, None, Some, Ok, Err, refl, sym, ◌∙◌, ap, subst, arith}
+use Rattle.std.proofs.Common.{◌≡◌, ◌≤◌, ℕ, Bool, true, false, not, cond, List, [], ◌∷◌, ◌++◌, length, Option, None}
+use Rattle.std.proofs.Common.{Some, Ok, Err, refl, sym, ◌∙◌, ap, subst, arith}
 use Rattle.std.proofs.lemmas.Bool.Decides.{nat_tests}
 use Rattle.std.specs.Prelude.{◌==◌, ◌&&◌, ◌||◌, Result, is_some, nat_le, codes, option_map, option_and_then}
 use Rattle.std.specs.Option.{option_map_or}
@@ -15,14 +16,15 @@ use Rattle.dm_tree.specs.declared.rows.Row.{Row}
 use Rattle.dm_tree.specs.Nodes.{Path, Nodes, above, last_name, with_mark}
 use Rattle.dm_tree.specs.Rows.{Tree, nodes, ids, node_of, path_of, IsLive}
 use Rattle.dm_tree.specs.Devices.{update_node}
-use Rattle.dm_tree.proofs.Maps.{get_nodes}
+use Rattle.dm_tree.proofs.RowMaps.{get_nodes}
 use Rattle.dm_tree.proofs.Paths.{Ends, ends, none, last}
-use Rattle.dm_tree.proofs.Seen.{last_name-append}
+use Rattle.dm_tree.proofs.LiveRows.{last_name-append}
 use Rattle.dm_start.specs.declared.errors.LineError.{LineError}
 use Rattle.dm_start.specs.declared.errors.LineError.TheVariants as line_error
 use Rattle.dm_start.specs.declared.node_lines.Leaf.{Leaf}
 use Rattle.dm_start.specs.Fields.{leaf_in}
-use Rattle.dm_start.specs.Growing.{or_fields, or_refused, new_node, takes_child, is_open, with_one, with_all, go_on, leaf_line, with_leaf, update_part, with_update, with_mark_at, changed_at}
+use Rattle.dm_start.specs.Growing.{or_fields, or_refused, new_node, takes_child, is_open, with_one, with_all, go_on}
+use Rattle.dm_start.specs.Growing.{leaf_line, with_leaf, update_part, with_update, with_mark_at, changed_at}
 use Rattle.dm_undo.specs.Journals.{Journal}
 use Rattle.dm_undo.specs.Sound.{IsSound}
 use Rattle.dm_undo.specs.Trees.{maps_of, tree_at}

@@ -1,8 +1,11 @@
 mod Counted
-mod Devices
+pub mod Devices
+mod Digits
 mod Laid
 mod Limits
-mod Sections
+mod NodePaths
+mod Putting
+pub mod Sections
 pub mod Sound
 mod Spots
 mod StartTrees

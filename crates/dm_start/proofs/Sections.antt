@@ -1,5 +1,6 @@
 -- What is kept from line to line of a start section.
-use Rattle.std.proofs.Common.{◌≡◌, ℕ, Bool, true, false, cond, List, [], ◌∷◌, ◌++◌, Option, None, Some, Ok, Err, refl, sym, ◌∙◌, ap, subst, inl, inr}
+use Rattle.std.proofs.Common.{◌≡◌, ℕ, Bool, true, false, cond, List, [], ◌∷◌, ◌++◌, Option, None, Some, Ok, Err, refl}
+use Rattle.std.proofs.Common.{sym, ◌∙◌, ap, subst, inl, inr}
 use Rattle.std.specs.Prelude.{◌&&◌, ◌||◌, ◌==◌, ◌⊎◌, Result, bytes_eq, IfSome, IfOk, IfErr, OnOk, OnErr, codes}
 use Rattle.std.specs.List.{AllByRecursion}
 use Rattle.dm_base.specs.Fields.{parts, is_short, is_id, num_of}
@@ -12,11 +13,14 @@ use Rattle.dm_start.specs.declared.errors.LineError.{LineError}
 use Rattle.dm_start.specs.declared.heads.Device.{Device}
 use Rattle.dm_start.specs.declared.heads.Head.{Head}
 use Rattle.dm_start.specs.declared.heads.Head.TheVariants as head
-use Rattle.dm_start.specs.Fields.{begins_with, opt_of, key_of, device_in, are_limits, limits_of, limits_in, clock_in, account_of, account_in}
+use Rattle.dm_start.specs.Fields.{begins_with, opt_of, key_of, device_in, are_limits, limits_of, limits_in, clock_in}
+use Rattle.dm_start.specs.Fields.{account_of, account_in}
 use Rattle.dm_start.specs.Growing.{or_refused}
-use Rattle.dm_start.specs.Start.{Section, opening, version_in, started, behind_limits, after_opening, after_line, is_begun, is_known, Reads}
+use Rattle.dm_start.specs.Start.{Section, opening, version_in, started, behind_limits, after_opening, after_line}
+use Rattle.dm_start.specs.Start.{is_begun, is_known, Reads}
 use Rattle.dm_start.specs.Laying.{Refuses}
 use Rattle.dm_start.specs.Laws.{IsAccount, AreApart}
+use Rattle.dm_start.specs.Soundness.{IsShortDevice}
 
 -- ---- what an answer tells of the tests before it
 
@@ -56,13 +60,6 @@ is_version line v e = by_first (bytes_eq line (codes "dm-trace 1")) (bytes_eq li
     by_first true b h = inl (cc)
     by_first false true h = inr (cc)
     by_first false false h = absurd (cc)
-
-pub record IsShortDevice (d : Device) : Type 0 where
-  pub dev_id : is_short d.dev_id ≡ true
-  pub man : is_short d.man ≡ true
-  pub model : is_short d.model ≡ true
-  pub dm_v : is_short d.dm_v ≡ true
-  pub lang : is_short d.lang ≡ true
 
 five : (a b c d e : Bool) → (a && b && c && d && e) ≡ true
     → (a ≡ true) × (b ≡ true) × (c ≡ true) × (d ≡ true) × (e ≡ true)

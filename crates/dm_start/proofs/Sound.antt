@@ -1,5 +1,6 @@
 -- A whole start section tells what a client may begin with.
-use Rattle.std.proofs.Common.{◌≡◌, ◌≤◌, ◌<◌, ◌+◌, ℕ, Bool, true, false, not, cond, List, [], ◌∷◌, length, Option, None, Some, Ok, Err, refl, subst, arith, inl, inr, length-append}
+use Rattle.std.proofs.Common.{◌≡◌, ◌≤◌, ◌<◌, ◌+◌, ℕ, Bool, true, false, not, cond, List, [], ◌∷◌, length, Option, None}
+use Rattle.std.proofs.Common.{Some, Ok, Err, refl, sym, subst, arith, inl, inr, length-append}
 use Rattle.std.proofs.lemmas.Bool.{and_parts}
 use Rattle.std.proofs.lemmas.Bool.Decides.{nat_tests}
 use Rattle.std.specs.Prelude.{◌&&◌, ◌==◌, ◌⊎◌, ⊤, Result, bytes_eq, nat_lt, nat_le, codes}
@@ -17,17 +18,25 @@ use Rattle.dm_tree.specs.declared.nodes.Stamp.{Stamp}
 use Rattle.dm_tree.specs.Nodes.{Path, Nodes, with_acl, with_mark, with_title, first_stamp}
 use Rattle.dm_tree.specs.Devices.{IsDeviceTree, IsText, StaysAlike}
 use Rattle.dm_tree.proofs.BareDevices.{no_type}
+use Rattle.dm_start.specs.declared.errors.LineError.{LineError}
 use Rattle.dm_start.specs.declared.heads.Device.{Device}
 use Rattle.dm_start.specs.declared.heads.Head.{Head}
 use Rattle.dm_start.specs.declared.heads.Head.TheVariants as head
 use Rattle.dm_start.specs.declared.node_lines.Leaf.{Leaf}
 use Rattle.dm_start.specs.declared.telling.Phase.{Phase}
 use Rattle.dm_start.specs.declared.telling.Phase.TheVariants as phase
-use Rattle.dm_start.specs.Fields.{begins_with, path_in, leaf_of, leaf_in, is_leaf_format, only_path, acl_in, title_in, device_in, limits_in, clock_in, account_in, are_limits}
-use Rattle.dm_start.specs.Growing.{new_node, interior_value, with_one, with_update, changed_at, with_acl_at, is_title, with_title_at, may_be_permanent, with_mark_at, interior_line, with_leaf, leaf_line, acl_line, title_line, permanent_line, update_line, nodes_after}
-use Rattle.dm_start.specs.Start.{Told, Section, opening, telling, version_in, started, behind_limits, after_opening, is_known, with_account, account_line, begin_line, with_nodes, later_line, after_telling, after_line, behind_line, lines_after}
-use Rattle.dm_start.specs.Laws.{IsAccount, AreApart, StartsAreSound}
-use Rattle.dm_start.proofs.Sections.{said, allowed, passed, same_ok, some_if, is_version, IsShortDevice, is_short_device, in_limits, is_account, all_push, apart_push}
+use Rattle.dm_start.specs.Fields.{begins_with, path_in, leaf_of, leaf_in, is_leaf_format, only_path, acl_in, title_in}
+use Rattle.dm_start.specs.Fields.{device_in, limits_in, clock_in, account_in, are_limits}
+use Rattle.dm_start.specs.Growing.{new_node, interior_value, with_one, with_update, changed_at, with_acl_at, is_title}
+use Rattle.dm_start.specs.Growing.{with_title_at, may_be_permanent, with_mark_at, interior_line, with_leaf, leaf_line}
+use Rattle.dm_start.specs.Growing.{acl_line, title_line, permanent_line, update_line, nodes_after}
+use Rattle.dm_start.specs.Start.{Told, Section, opening, telling, version_in, started, behind_limits, after_opening}
+use Rattle.dm_start.specs.Start.{is_known, with_account, account_line, begin_line, with_nodes, later_line}
+use Rattle.dm_start.specs.Start.{after_telling, after_line, behind_line, lines_after, Reads}
+use Rattle.dm_start.specs.Laws.{IsAccount, IsStart, StartsAreSound}
+use Rattle.dm_start.specs.Soundness.{IsKept, IsShortDevice, IsSoundHead, IsSoundPhase, IsSoundSection}
+use Rattle.dm_start.proofs.Sections.{said, allowed, passed, same_ok, some_if, is_version}
+use Rattle.dm_start.proofs.Sections.{is_short_device, in_limits, is_account, all_push, apart_push}
 use Rattle.dm_start.proofs.Devices.{word_is_text, added_device, changed_device, start_is_device, updated_device}
 
 -- ---- a line that tells of the tree
@@ -123,30 +132,6 @@ module _ (clock : Stamp) (m n : Nodes) (device : IsDeviceTree m) where
       (λ e6. absurd (cc)))))))
 
 -- ---- what is kept from line to line
-
--- what is told so far, where accounts may still come
-pub record IsKept (told : Told) : Type 0 where
-  pub version : (told.version ≡ 1) ⊎ (told.version ≡ 2)
-  pub limits : are_limits told.limits.max_msg told.limits.max_obj ≡ true
-  pub few : length told.accounts ≤ 16
-  pub accounts : AllByRecursion IsAccount told.accounts
-  pub apart : AreApart told.accounts
-  pub device : IsDeviceTree told.nodes
-
-abbrev IsSoundHead : Head → Type 0
-IsSoundHead head.First = ⊤
-IsSoundHead (head.Device v) = (v ≡ 1) ⊎ (v ≡ 2)
-IsSoundHead (head.Limits v d) = ((v ≡ 1) ⊎ (v ≡ 2)) × IsShortDevice d
-IsSoundHead (head.Clock d l) = IsShortDevice d × (are_limits l.max_msg l.max_obj ≡ true)
-
-abbrev IsSoundPhase : Phase → Told → Type 0
-IsSoundPhase phase.Accounts told = IsKept told
-IsSoundPhase phase.Nodes told = IsKept told × (0 < length told.accounts)
-IsSoundPhase phase.Begun told = IsKept told × (0 < length told.accounts)
-
-abbrev pub IsSoundSection : Section → Type 0
-IsSoundSection (opening h) = IsSoundHead h
-IsSoundSection (telling p told) = IsSoundPhase p told
 
 sound_start : (version : ℕ) (d : Device) (l : Limits) (clock : Stamp) → (version ≡ 1) ⊎ (version ≡ 2) → IsShortDevice d
     → are_limits l.max_msg l.max_obj ≡ true → IsSoundSection (started version d l clock)
@@ -268,6 +253,12 @@ unfolding after_line
 sound_line (opening h) line t sound e = sound_opening h line t sound e
 sound_line (telling p told) line t sound e = sound_telling p told line t sound e
 
+-- whatever a line is answered, the section stays sound
+pub sound_read : (s : Section) (line : List ℕ) (t : Section) (r : Result Bool LineError) → IsSoundSection s
+    → Reads (after_line s line) s t r → IsSoundSection t
+sound_read s line t (Ok last) sound h = sound_line s line t sound h.0
+sound_read s line t (Err e) sound h = subst IsSoundSection (sym h.1) sound
+
 -- ---- all lines
 
 by_line : (lines : List (List ℕ)) (n : ℕ) (s t : Section) (line : List ℕ) (r : Result Section LineReason)
@@ -288,15 +279,18 @@ sound_lines (line ∷ lines) n s t sound e =
     by_line lines n s t line (after_line s line) sound refl e
     (λ next sound_next h. sound_lines lines (n + 1) next t sound_next h)
 
+-- a whole section tells what a client may begin with
+pub sound_told : (told : Told) → IsSoundSection (telling phase.Begun told) → IsStart told
+sound_told told sound = record {
+  version = sound.0.version;
+  limits = sound.0.limits;
+  some = sound.1;
+  few = sound.0.few;
+  accounts = sound.0.accounts;
+  apart = sound.0.apart;
+  device = sound.0.device;
+}
+
 pub starts_are_sound : StartsAreSound
 starts_are_sound lines told e =
-    let sound = sound_lines lines 1 (opening head.First) (telling phase.Begun told) tt e in
-    record {
-      version = sound.0.version;
-      limits = sound.0.limits;
-      some = sound.1;
-      few = sound.0.few;
-      accounts = sound.0.accounts;
-      apart = sound.0.apart;
-      device = sound.0.device;
-    }
+    sound_told told (sound_lines lines 1 (opening head.First) (telling phase.Begun told) tt e)

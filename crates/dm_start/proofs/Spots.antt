@@ -8,7 +8,7 @@ use Rattle.dm_tree.specs.declared.nodes.NewNode.{NewNode}
 use Rattle.dm_tree.specs.declared.nodes.Node.{Node}
 use Rattle.dm_tree.specs.declared.nodes.Stamp.{Stamp}
 use Rattle.dm_tree.specs.Nodes.{Path, Nodes, made}
-use Rattle.dm_tree.proofs.Seen.{above-append}
+use Rattle.dm_tree.proofs.LiveRows.{above-append}
 use Rattle.dm_start.specs.Growing.{takes_child, is_open, with_one}
 
 and_false : (b : Bool) → (b && false) ≡ false

@@ -1,5 +1,6 @@
 -- The tree text so far, and the nodes whose lines are left.
-use Rattle.std.proofs.Common.{ℕ, ◌≡◌, ◌<◌, false, List, [], ◌∷◌, ◌++◌, length, Option, None, Some, refl, sym, ap, ◌∙◌, arith, append_assoc, append-nil}
+use Rattle.std.proofs.Common.{ℕ, ◌≡◌, ◌<◌, false, List, [], ◌∷◌, ◌++◌, length, Option, None, Some, refl, sym, ap, ◌∙◌}
+use Rattle.std.proofs.Common.{arith, append_assoc, append-nil}
 use Rattle.std.specs.Prelude.{IsTrue, IfSome, filter}
 use Rattle.std.specs.List.{flat_map}
 use Rattle.std.specs.Option.{option_map_or}
@@ -9,7 +10,7 @@ use Rattle.dm_tree.specs.declared.rows.Row.{Row}
 use Rattle.dm_tree.specs.Nodes.{Path, is_below}
 use Rattle.dm_tree.specs.Rows.{nodes, path_of, IsLive}
 use Rattle.dm_tree.specs.Order.{behind, below}
-use Rattle.dm_tree.proofs.Behinds.{below-is}
+use Rattle.dm_tree.proofs.NodesBehind.{below-is}
 use Rattle.dm_tree.proofs.Paths.{below_self}
 use Rattle.dm_start.specs.TreeText.{line_at, tree_text}
 
@@ -59,12 +60,17 @@ all_below : (ps : List Path) → filter (λ q. is_below [] q) ps ≡ ps
 all_below [] = refl
 all_below (p ∷ ps) = ap (λ qs. p ∷ qs) (all_below ps)
 
+-- below the root stand all nodes
+pub all_lines : (rows : List Row) (version : ℕ) (t : Path) → t ≡ []
+    → lines_of rows version (below (nodes rows) t) ≡ tree_text version (nodes rows)
+unfolding tree_text
+all_lines rows version t top =
+    ap (λ p. lines_of rows version (below (nodes rows) p)) top
+    ∙ ap (lines_of rows version) (all_below (keys (nodes rows)))
+
 pub text-ends : (rows : List Row) (version : ℕ) (t : Path) (out : List ℕ) → t ≡ [] → IsTextSoFar rows version t out None
     → out ≡ tree_text version (nodes rows)
-unfolding tree_text
-text-ends rows version t out top h =
-    sym (append-nil out) ∙ h.text ∙ ap (λ p. lines_of rows version (below (nodes rows) p)) top
-    ∙ ap (lines_of rows version) (all_below (keys (nodes rows)))
+text-ends rows version t out top h = sym (append-nil out) ∙ h.text ∙ all_lines rows version t top
 
 pub on_next : (rows : List Row) (t : Path) (q : ℕ → Type 0) (next : Option ℕ) → IfSome next (λ k. IsLive rows k × q k)
     → IfSome next (λ k. IsTrue (is_below t (path_of rows k))) → IfSome next (IsOn rows t)

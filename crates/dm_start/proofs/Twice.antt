@@ -11,8 +11,8 @@ use Rattle.dm_tree.specs.declared.nodes.Stamp.{Stamp}
 use Rattle.dm_tree.specs.declared.rows.Row.{Row}
 use Rattle.dm_tree.specs.Nodes.{Path, Nodes, tree_order, root_node, counted}
 use Rattle.dm_tree.specs.Rows.{nodes, ids, node_of, path_of}
-use Rattle.dm_tree.proofs.Keepings.{here_insert, some_node}
-use Rattle.dm_tree.proofs.Maps.{get_nodes}
+use Rattle.dm_tree.proofs.NodesKept.{here_insert, some_node}
+use Rattle.dm_tree.proofs.RowMaps.{get_nodes}
 use Rattle.dm_tree.proofs.Paths.{tree_total, tree_exact}
 use Rattle.dm_start.specs.Growing.{start_acl, bare_tree}
 

@@ -1,7 +1,9 @@
 -- What the fields of a start section say.
-use Rattle.std.specs.Prelude.{◌==◌, ◌&&◌, ℕ, Bool, not, if◌then◌else◌, nat_le, List, [], ◌∷◌, length, take, drop, slice_index, bytes_eq, codes, Option, Some, None, unwrap_or, Result, Ok, Err}
+use Rattle.std.specs.Prelude.{◌==◌, ◌&&◌, ℕ, Bool, not, if◌then◌else◌, nat_le, List, [], ◌∷◌, length, take, drop}
+use Rattle.std.specs.Prelude.{slice_index, bytes_eq, codes, Option, Some, None, unwrap_or, Result, Ok, Err}
 use Rattle.std.specs.Char.{is_ascii_digit}
 use Rattle.std.specs.List.{list_all}
+use Rattle.dm_base.specs.Limits.{least_room, message_limit, object_limit}
 use Rattle.dm_base.specs.Fields.{field_of, is_short, is_id, is_key, is_word, hex_of, num_of}
 use Rattle.dm_base.specs.declared.values.Limits.{Limits}
 use Rattle.dm_uri.specs.declared.uri.Query.{Query}
@@ -69,7 +71,8 @@ device_in (word ∷ dev_id ∷ man ∷ model ∷ dm_v ∷ lang ∷ []) =
 device_in other = None
 
 abbrev pub are_limits : ℕ → ℕ → Bool
-are_limits max_msg max_obj = nat_le 2048 max_msg && nat_le max_msg 65536 && nat_le 1 max_obj && nat_le max_obj 4194304
+are_limits max_msg max_obj =
+    nat_le least_room max_msg && nat_le max_msg message_limit && nat_le 1 max_obj && nat_le max_obj object_limit
 
 abbrev pub limits_of : Option ℕ → Option ℕ → Option Limits
 limits_of None max_obj = None

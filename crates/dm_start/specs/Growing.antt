@@ -1,7 +1,9 @@
 -- What the lines of a start section make of its tree.
-use Rattle.std.specs.Prelude.{◌==◌, ◌&&◌, ◌||◌, ℕ, Bool, true, false, not, if◌then◌else◌, nat_le, List, [], ◌∷◌, ◌++◌, length, codes, Option, Some, None, is_some, Result, Ok, Err}
+use Rattle.std.specs.Prelude.{◌==◌, ◌&&◌, ◌||◌, ℕ, Bool, true, false, not, if◌then◌else◌, nat_le, List, [], ◌∷◌, ◌++◌}
+use Rattle.std.specs.Prelude.{length, codes, Option, Some, None, is_some, Result, Ok, Err}
 use Rattle.std.specs.Option.{option_map_or}
 use Rattle.std.specs.FinMap.{get, insert, len, empty}
+use Rattle.dm_base.specs.Limits.{node_limit, object_limit}
 use Rattle.dm_base.specs.declared.lines.LineReason.{LineReason}
 use Rattle.dm_base.specs.declared.lines.LineReason.TheVariants as reason
 use Rattle.dm_base.specs.Fields.{parts}
@@ -59,7 +61,7 @@ is_open m p permanent = not (is_some (get m p)) && option_map_or (takes_child pe
 
 -- a node may come to stand at p: the path is within the limits too, and there is room
 abbrev pub may_stand : Nodes → Path → Bool → Bool
-may_stand m p permanent = is_open m p permanent && is_within_limits p && not (len m == 65536)
+may_stand m p permanent = is_open m p permanent && is_within_limits p && not (len m == node_limit)
 
 -- with a new node at p, whose stamp is the clock
 abbrev pub with_one : Stamp → Nodes → Path → NewNode → Result Nodes LineReason
@@ -152,11 +154,13 @@ with_mark_at m p = if may_be_permanent m p then changed_at m p with_mark else Er
 
 abbrev pub interior_line : Stamp → Nodes → List (List ℕ) → Result Nodes LineReason
 interior_line clock m fields =
-    or_refused reason.Fields (only_path fields) (λ p. with_one clock m p (new_node true interior_value false role.Plain))
+    or_refused reason.Fields (only_path fields)
+    (λ p. with_one clock m p (new_node true interior_value false role.Plain))
 
 abbrev pub with_leaf : Stamp → Nodes → Leaf → Result Nodes LineReason
 with_leaf clock m leaf =
-    if nat_le (length leaf.value.bytes) 4194304 then with_one clock m leaf.path (new_node false leaf.value false role.Plain)
+    if nat_le (length leaf.value.bytes) object_limit
+    then with_one clock m leaf.path (new_node false leaf.value false role.Plain)
     else Err reason.Tree
 
 abbrev pub leaf_line : Stamp → Nodes → List (List ℕ) → Result Nodes LineReason

@@ -32,4 +32,5 @@ pub record IsStart (told : Told) : Type 0 where
 
 -- whatever the lines of a whole section are, it tells such a start
 abbrev pub StartsAreSound : Type 0
-StartsAreSound = (lines : List (List ℕ)) (told : Told) → section_of_lines lines ≡ Ok (telling phase.Begun told) → IsStart told
+StartsAreSound =
+    (lines : List (List ℕ)) (told : Told) → section_of_lines lines ≡ Ok (telling phase.Begun told) → IsStart told

@@ -1,5 +1,6 @@
 -- The start section of a trace: what each line tells where it stands, or why it is refused there.
-use Rattle.std.specs.Prelude.{◌≡◌, ◌==◌, ◌+◌, ◌&&◌, ℕ, Bool, true, false, not, if◌then◌else◌, nat_lt, List, [], ◌∷◌, ◌++◌, length, bytes_eq, codes, Option, Some, None, Result, Ok, Err}
+use Rattle.std.specs.Prelude.{◌≡◌, ◌==◌, ◌+◌, ◌&&◌, ℕ, Bool, true, false, not, if◌then◌else◌, nat_lt, List, [], ◌∷◌}
+use Rattle.std.specs.Prelude.{◌++◌, length, bytes_eq, codes, Option, Some, None, Result, Ok, Err}
 use Rattle.std.specs.List.{list_any}
 use Rattle.dm_base.specs.declared.lines.LineReason.{LineReason}
 use Rattle.dm_base.specs.declared.lines.LineReason.TheVariants as reason
@@ -18,12 +19,12 @@ use Rattle.dm_start.specs.declared.telling.Phase.TheVariants as phase
 use Rattle.dm_start.specs.declared.telling.Start.{Start}
 use Rattle.dm_start.specs.declared.reader.Place.{Place}
 use Rattle.dm_start.specs.declared.reader.Place.TheVariants as place
-use Rattle.dm_start.specs.declared.reader.StartReader.{StartReader}
 use Rattle.dm_start.specs.Fields.{begins_with, device_in, limits_in, clock_in, account_in}
 use Rattle.dm_start.specs.Growing.{or_refused, start_nodes, nodes_after}
 use Rattle.dm_start.specs.Laying.{Refuses}
 
--- what the lines told: the version, what the client takes, whom it talks to, and the tree and the clock that it begins with
+-- what the lines told: the version, what the client takes, whom it talks to, and the tree and the clock that it begins
+-- with
 pub record Told : Type 0 where
   pub version : ℕ
   pub limits : Limits
@@ -69,9 +70,11 @@ after_opening head.First line = or_refused reason.Word (version_in line) (λ v. 
 after_opening (head.Device v) line =
     only (codes "device") line (or_refused reason.Fields (device_in (parts line)) (λ d. Ok (opening (head.Limits v d))))
 after_opening (head.Limits v d) line =
-    only (codes "limits") line (or_refused reason.Fields (limits_in (parts line)) (λ limits. Ok (behind_limits v d limits)))
+    only (codes "limits") line
+    (or_refused reason.Fields (limits_in (parts line)) (λ limits. Ok (behind_limits v d limits)))
 after_opening (head.Clock d limits) line =
-    only (codes "clock") line (or_refused reason.Fields (clock_in (parts line)) (λ clock. Ok (started 2 d limits clock)))
+    only (codes "clock") line
+    (or_refused reason.Fields (clock_in (parts line)) (λ clock. Ok (started 2 d limits clock)))
 
 -- ---- the lines behind them
 
@@ -118,7 +121,8 @@ after_line (opening h) line = after_opening h line
 after_line (telling p told) line = after_telling p told line
 
 -- line n was read, and others follow
-abbrev pub behind_line : ℕ → Result Section LineReason → (Section → Result Section (ℕ × LineReason)) → Result Section (ℕ × LineReason)
+abbrev pub behind_line : ℕ → Result Section LineReason → (Section → Result Section (ℕ × LineReason))
+    → Result Section (ℕ × LineReason)
 behind_line n (Ok next) rest = rest next
 behind_line n (Err why) rest = Err (n, why)
 
@@ -144,9 +148,6 @@ told_of start = record {
 abbrev pub section_at : Place → Section
 section_at (place.Opening h) = opening h
 section_at (place.Telling p start) = telling p (told_of start)
-
-abbrev pub section_of : StartReader → Section
-section_of reader = section_at reader.place
 
 -- `begin` came
 abbrev pub is_begun : Section → Bool

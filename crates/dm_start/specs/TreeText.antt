@@ -1,10 +1,13 @@
 -- The tree text: one line for each node, parents first, siblings by their bytes, each node's subtree before its next
 -- sibling.
-use Rattle.std.specs.Prelude.{◌==◌, ℕ, Bool, if◌then◌else◌, List, [], ◌∷◌, ◌++◌, codes, Option}
+use Rattle.std.specs.Prelude.{◌≡◌, ◌==◌, ◌<◌, ℕ, Bool, if◌then◌else◌, List, [], ◌∷◌, ◌++◌, codes, length, take}
+use Rattle.std.specs.Prelude.{Option, Result, Ok, Err}
 use Rattle.std.specs.List.{flat_map}
 use Rattle.std.specs.Option.{option_map_or}
 use Rattle.std.specs.Fmt.{decimal}
 use Rattle.std.specs.FinMap.{get, keys}
+use Rattle.std.specs.Io.KnownBytes.{Appends}
+use Rattle.dm_base.specs.declared.outside.Fault.{Fault}
 use Rattle.dm_base.specs.Fields.{hex_text}
 use Rattle.dm_uri.specs.Names.{printed_path}
 use Rattle.dm_acl.specs.declared.values.Entries.{Entries}
@@ -52,3 +55,8 @@ line_at version m p = option_map_or (node_line version p) (get m p) []
 
 unfoldable pub tree_text : ℕ → Nodes → List ℕ
 tree_text version m = flat_map (line_at version m) (keys m)
+
+-- a front of what waits was put, and the rest waits on; or a proper prefix of it was put
+abbrev pub PutsOn : Option (List ℕ) → Option (List ℕ) → List ℕ → List ℕ → Result (Unit {0}) Fault → Type 0
+PutsOn old new text rest (Ok u) = (done : List ℕ) × Appends old new done × (text ≡ done ++ rest)
+PutsOn old new text rest (Err e) = (n : ℕ) × (n < length text) × Appends old new (take n text)

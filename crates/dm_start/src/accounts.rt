@@ -21,7 +21,7 @@ fn are_names(server: &[u8], password: &[u8], user: &[u8], user_password: &[u8]) 
 }
 
 /// What the fields of an `account` line say.
-pub(crate) fn account_in(alloc: Global, line: &[u8]) -> Result<Option<Account>, Memory>
+pub fn account_in(alloc: Global, line: &[u8]) -> Result<Option<Account>, Memory>
     ensures { IfOk result (λ account. account ≡ Spec.account_in (parts line.now)) }
 {
     let Some((_, server, password, nonce, user, user_password, user_nonce)) = seven_fields(line)

@@ -37,7 +37,7 @@ pub(crate) fn path_in(alloc: Global, text: &[u8]) -> Result<Option<Path>, Memory
 }
 
 /// The text of a field, or None for `-`.
-pub(crate) fn opt_of(alloc: Global, text: &[u8]) -> Result<Option<Bytes>, Memory>
+pub fn opt_of(alloc: Global, text: &[u8]) -> Result<Option<Bytes>, Memory>
     ensures { IfOk result (λ value. value ≡ Spec.opt_of text.now) }
 {
     if text == b"-".as_slice() {

@@ -77,7 +77,7 @@ pub(crate) fn device_in(alloc: Global, line: &[u8]) -> Result<Option<Device>, Me
 }
 
 /// What the fields of a `limits` line say.
-pub(crate) fn limits_in(line: &[u8]) -> Option<Limits>
+pub fn limits_in(line: &[u8]) -> Option<Limits>
     ensures { result ≡ Spec.limits_in (parts line.now) }
 {
     let (_, max_msg, max_obj) = three_fields(line)?;

@@ -1,10 +1,10 @@
 //! The start section of a trace, read line by line, and the text of a tree.
 #![tactic(auto)]
 
-mod accounts;
+pub mod accounts;
 mod errors;
 pub mod fields;
-mod forms;
+pub mod forms;
 pub mod heads;
 pub mod laws;
 mod new_nodes;
@@ -21,4 +21,4 @@ mod updates;
 pub use errors::LineError;
 pub use reader::StartReader;
 pub use telling::Start;
-pub use texts::tree_text;
+pub use texts::{put_tree, tree_text};

@@ -5,7 +5,8 @@ ghost use Rattle.dm_start.specs.declared.heads.Head.TheVariants as head;
 ghost use Rattle.dm_start.specs.declared.telling.Phase.TheVariants as phase;
 ghost use Rattle.dm_start.specs.Laying.{Refuses, SaysAs};
 ghost use Rattle.dm_start.specs.Start as Spec;
-ghost use Rattle.dm_start.specs.Start.{after_line as section_after, section_at, section_of, told_of, is_begun, Reads};
+ghost use Rattle.dm_start.specs.Start.{after_line as section_after, section_at, told_of, is_begun, Reads};
+ghost use Rattle.dm_start.specs.Laws.{IsStart};
 
 use crate::errors::{BAD_FIELDS, BAD_WORD, LineError};
 use crate::fields::begins_with;
@@ -15,6 +16,7 @@ use crate::telling::{Phase, Start, after_telling};
 use dm_base::{Limits, List};
 use dm_tree::Stamp;
 use std::alloc::Global;
+use std::marker::Model;
 
 /// Which line comes next, with what those before it told.
 #[derive(Drop)]
@@ -23,11 +25,23 @@ pub enum Place {
     Telling(Phase, Start),
 }
 
-/// Reads the start section of a trace, line by line.
+/// Reads the start section of a trace, line by line. It is seen as the place that it has come to.
 #[derive(Drop)]
 pub struct StartReader {
-    pub(crate) alloc: Global,
-    pub(crate) place: Place,
+    alloc: Global,
+    place: Place,
+}
+
+impl Model for StartReader {
+    ghost use Rattle.dm_start.specs.declared.reader.Place.{Place};
+    ghost use Rattle.dm_start.specs.Start.{section_at};
+    ghost use Rattle.dm_start.specs.Soundness.{IsSoundSection};
+
+    ghost Value = { Place };
+
+    ghost view = { λ r. r.place };
+
+    ghost invariant = { λ r. IsSoundSection (section_at r.place) };
 }
 
 const FIRST_STAMP: Stamp = Stamp {
@@ -157,7 +171,7 @@ fn after_line(alloc: Global, place: &mut Place, line: &[u8]) -> Result<bool, Lin
 impl StartReader {
     /// A reader of a section of which no line came.
     pub fn new(alloc: Global) -> StartReader
-        ensures { section_of result ≡ Spec.opening head.First }
+        ensures { section_at result ≡ Spec.opening head.First }
     {
         StartReader {
             alloc,
@@ -165,26 +179,27 @@ impl StartReader {
         }
     }
 
-    /// Takes the next line, without its line feed, and answers whether it was `begin`, the last one. It goes through the
-    /// line a few times; a node is found by going down from the root.
+    /// Takes the next line, without its line feed, and answers whether it was `begin`, the last one. It goes through
+    /// the line a few times; a node is found by going down from the root.
     ///
     /// `Bad` tells the first reason that holds: `Word` for a first word that may not stand there, `Fields` for their
-    /// number or form, `Account` for a server that repeats or a 17th account, `Tree` for what the tree forbids. After it,
-    /// and after `Memory`, all is as before the line.
+    /// number or form, `Account` for a server that repeats or a 17th account, `Tree` for what the tree forbids. After
+    /// it, and after `Memory`, all is as before the line.
     pub fn line(&mut self, text: &[u8]) -> Result<bool, LineError>
-        requires { is_begun (section_of self.old) ≡ false }
-        ensures read { OnOk result (section_after (section_of self.old) text.now ≡ Ok (section_of self.new)) }
-        ensures last { IfOk result (λ last. last ≡ is_begun (section_of self.new)) }
-        ensures bad { IfErr result (Refuses (section_after (section_of self.old) text.now)) }
-        ensures err { OnErr result (section_of self.new ≡ section_of self.old) }
+        requires { is_begun (section_at self.old) ≡ false }
+        ensures read { OnOk result (section_after (section_at self.old) text.now ≡ Ok (section_at self.new)) }
+        ensures last { IfOk result (λ last. last ≡ is_begun (section_at self.new)) }
+        ensures bad { IfErr result (Refuses (section_after (section_at self.old) text.now)) }
+        ensures err { OnErr result (section_at self.new ≡ section_at self.old) }
     {
         after_line(self.alloc, &mut self.place, text)
     }
 
-    /// What the section told. It takes no memory.
+    /// What the section told, which is what a client may begin with, whatever its lines were. It takes no memory.
     pub fn finish(self) -> Start
-        requires { is_begun (section_of self) ≡ true }
-        ensures { section_of self ≡ Spec.telling phase.Begun (told_of result) }
+        requires { is_begun (section_at self) ≡ true }
+        ensures told { section_at self ≡ Spec.telling phase.Begun (told_of result) }
+        ensures sound { IsStart (told_of result) }
     {
         match self.place {
             Place::Telling(_, start) => start,

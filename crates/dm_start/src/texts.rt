@@ -2,31 +2,44 @@
 ghost use Rattle.std.specs.Prelude.{◌≡◌, ◌++◌, IfOk, OnOk};
 ghost use Rattle.std.specs.Fmt.{decimal};
 ghost use Rattle.std.specs.Option.{option_copied};
+ghost use Rattle.hex.specs.Hex.{encode_lower};
 ghost use Rattle.dm_base.specs.Fields.{hex_text};
+ghost use Rattle.dm_base.specs.Outside.{PutsAll, PutCounts};
 ghost use Rattle.dm_uri.specs.Names.{printed_path};
 ghost use Rattle.dm_tree.specs.Rows.{nodes, path_of, IsLive};
 ghost use Rattle.dm_tree.specs.Views.{shown};
 ghost use Rattle.dm_start.specs.TreeText as Spec;
+ghost use Rattle.dm_start.specs.TreeText.{PutsOn};
 
 use dm_acl::Acl;
-use dm_base::{Bytes, Memory, hex_into};
+use dm_base::{Bytes, Fault, Memory, Sink, put_all};
 use dm_tree::{NodeId, Stamp, Tree, View};
-use dm_uri::{Query, Uri, print};
+use hex::encode_to_slice;
 use itoa::Buffer;
 use std::alloc::Global;
 
-fn put_path(alloc: Global, out: &mut Bytes, tree: &Tree, id: NodeId) -> Result<(), Memory>
+// So much of the text is put at a time: enough that a put costs little beside what is put.
+const PIECE: usize = 65_536;
+
+// How many bytes are made digits at a time, on the stack.
+const CHUNK: usize = 64;
+
+// Goes down from the root.
+fn put_path(out: &mut Bytes, tree: &Tree, id: NodeId) -> Result<(), Memory>
     requires { IsLive tree.now.rows id }
     ensures { OnOk result (out.new ≡ out.old ++ printed_path (path_of tree.now.rows id)) }
 {
-    let uri = Uri {
-        path: tree.path(id)?,
-        query: Query::Plain,
+    // Its contract says that each node but the root has a parent.
+    let _ = tree.root();
+    let Some(name) = tree.view(id).name else {
+        return out.push(b'.');
     };
-    match print(alloc, &uri) {
-        Ok(text) => out.extend(text.as_slice()),
-        Err(_) => Err(Memory),
+    match tree.parent(id) {
+        Some(parent) => put_path(out, tree, parent)?,
+        None => unreachable!(),
     }
+    out.push(b'/')?;
+    out.extend(name.as_slice())
 }
 
 fn put_number(out: &mut Bytes, number: u16) -> Result<(), Memory>
@@ -62,12 +75,33 @@ fn put_acl(alloc: Global, out: &mut Bytes, acl: Option<&Acl>) -> Result<(), Memo
     }
 }
 
-fn put_hex(alloc: Global, out: &mut Bytes, bytes: &[u8]) -> Result<(), Memory>
+// Two digits for each byte, into room that is taken once.
+fn put_digits(out: &mut Bytes, bytes: &[u8]) -> Result<(), Memory>
+    ensures { OnOk result (out.new ≡ out.old ++ encode_lower bytes.now) }
+{
+    out.reserve(bytes.len().saturating_mul(2))?;
+    let mut digits = [0u8; 2 * CHUNK];
+    let mut rest = bytes;
+    while !rest.is_empty() {
+        let (chunk, behind) = rest.split_at(rest.len().min(CHUNK));
+        let room = &mut digits[..2 * chunk.len()];
+        match encode_to_slice(chunk, room) {
+            Ok(()) => out.extend(room)?,
+            Err(_) => unreachable!(),
+        }
+        rest = behind;
+    }
+    Ok(())
+}
+
+fn put_hex(out: &mut Bytes, bytes: &[u8]) -> Result<(), Memory>
     ensures { OnOk result (out.new ≡ out.old ++ Spec.spaced (hex_text bytes.now)) }
 {
+    if bytes.is_empty() {
+        return out.extend(b" -");
+    }
     out.push(b' ')?;
-    hex_into(alloc, out, bytes)?;
-    Ok(())
+    put_digits(out, bytes)
 }
 
 fn put_common(alloc: Global, out: &mut Bytes, version: u8, view: View) -> Result<(), Memory>
@@ -77,20 +111,20 @@ fn put_common(alloc: Global, out: &mut Bytes, version: u8, view: View) -> Result
     put_stamp(out, version, view.stamp)?;
     out.extend(if view.permanent { b" p" } else { b" -" })?;
     put_acl(alloc, out, view.acl)?;
-    put_hex(alloc, out, view.title.as_slice())?;
+    put_hex(out, view.title.as_slice())?;
     Ok(())
 }
 
-fn put_value(alloc: Global, out: &mut Bytes, view: View) -> Result<(), Memory>
+fn put_value(out: &mut Bytes, view: View) -> Result<(), Memory>
     ensures { OnOk result (out.new ≡ out.old ++ Spec.value_text (shown view.entry)) }
 {
     if !view.interior {
         out.push(b' ')?;
         out.extend(view.value.format.as_slice())?;
     }
-    put_hex(alloc, out, view.value.media.as_slice())?;
+    put_hex(out, view.value.media.as_slice())?;
     if !view.interior {
-        put_hex(alloc, out, view.value.bytes.as_slice())?;
+        put_hex(out, view.value.bytes.as_slice())?;
     }
     Ok(())
 }
@@ -109,9 +143,9 @@ fn put_node(
 {
     let view = tree.view(id);
     out.extend(if view.interior { b"node " } else { b"leaf " })?;
-    put_path(alloc, out, tree, id)?;
+    put_path(out, tree, id)?;
     put_common(alloc, out, version, view)?;
-    put_value(alloc, out, view)?;
+    put_value(out, view)?;
     out.push(b'\n')?;
     Ok(())
 }
@@ -131,4 +165,47 @@ pub fn tree_text(alloc: Global, tree: &Tree, version: u8) -> Result<Bytes, Memor
         at = tree.next_below(root, here, false);
     }
     Ok(out)
+}
+
+// Puts the text where it is a piece, and empties it.
+fn put_piece<K: Sink>(out: &mut K, text: &mut Bytes) -> Result<(), Fault>
+    ensures bytes { PutsOn (K.got out.old) (K.got out.new) text.old text.new result }
+    ensures count { PutCounts (K.faults out.old) (K.faults out.new) result }
+    ensures source { K.as_source out.new ≡ K.as_source out.old }
+{
+    if text.len() < PIECE {
+        return Ok(());
+    }
+    match put_all(out, text.as_slice()) {
+        Ok(()) => {}
+        Err(fault) => return Err(fault),
+    }
+    text.cut_to(0);
+    Ok(())
+}
+
+/// Puts the tree text, a piece at a time. Beside the tree it holds one piece of 64 KB and one line. After an error a
+/// proper prefix of the text was put: `Failed` where the sink failed, and `Memory` at any place.
+pub fn put_tree<K: Sink>(alloc: Global, out: &mut K, tree: &Tree, version: u8) -> Result<(), Fault>
+    ensures bytes { PutsAll (K.got out.old) (K.got out.new) result (Spec.tree_text version (nodes tree.now.rows)) }
+    ensures count { PutCounts (K.faults out.old) (K.faults out.new) result }
+    ensures source { K.as_source out.new ≡ K.as_source out.old }
+{
+    let root = tree.root();
+    // Its contract says that the root is there.
+    let _ = tree.view(root);
+    let mut text = Bytes::new(alloc);
+    let mut at = Some(root);
+    while let Some(id) = at {
+        match put_node(alloc, &mut text, tree, version, id) {
+            Ok(()) => {}
+            Err(_) => return Err(Fault::Memory),
+        }
+        match put_piece(out, &mut text) {
+            Ok(()) => {}
+            Err(fault) => return Err(fault),
+        }
+        at = tree.next_below(root, id, false);
+    }
+    put_all(out, text.as_slice())
 }

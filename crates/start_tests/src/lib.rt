@@ -4,6 +4,8 @@
 #[cfg(test)]
 mod outcomes;
 #[cfg(test)]
+mod pieces;
+#[cfg(test)]
 mod refusals;
 #[cfg(test)]
 mod starts;
