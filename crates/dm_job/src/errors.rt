@@ -1,0 +1,18 @@
+// Why a text isn't a job.
+use dm_base::LineReason;
+use dm_start::LineError;
+use thiserror::Error;
+
+/// Why a text isn't a job.
+#[derive(Clone, Copy, Debug, PartialEq, Eq, Error)]
+pub enum JobError {
+    /// The first line that is refused, counted from 1, and the first reason that holds.
+    #[error("a bad line")]
+    Bad { line: u64, reason: LineReason },
+    #[error("out of memory")]
+    Memory,
+}
+
+pub(crate) const BAD_FIELDS: LineError = LineError::Bad(LineReason::Fields);
+
+pub(crate) const BAD_WORD: LineError = LineError::Bad(LineReason::Word);

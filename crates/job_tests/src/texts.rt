@@ -1,0 +1,143 @@
+// What a job says, as a text.
+use dm_auth::Account;
+use dm_base::{Bytes, List, Memory, hex_into};
+use dm_job::{Job, JobEntry};
+use itoa::Buffer;
+use std::alloc::Global;
+use syncml_types::{Command, Item, Member, Meta, Plain, SeqMember, Verb};
+
+fn put_number(out: &mut Bytes, number: u64) -> Result<(), Memory> {
+    let mut buffer = Buffer::new();
+    out.extend(buffer.format(number).as_bytes())
+}
+
+fn put_field(out: &mut Bytes, text: &Option<Bytes>) -> Result<(), Memory> {
+    out.push(b' ')?;
+    match text {
+        Some(text) => out.extend(text.as_slice()),
+        None => out.push(b'-'),
+    }
+}
+
+fn put_hex(alloc: Global, out: &mut Bytes, bytes: &[u8]) -> Result<(), Memory> {
+    out.push(b' ')?;
+    hex_into(alloc, out, bytes)
+}
+
+fn put_meta(out: &mut Bytes, meta: &Option<Meta>) -> Result<(), Memory> {
+    match meta {
+        Some(meta) => {
+            put_field(out, &meta.format)?;
+            put_field(out, &meta.media)?;
+        }
+        None => out.extend(b" bare")?,
+    }
+    Ok(())
+}
+
+fn put_item(alloc: Global, out: &mut Bytes, item: &Item) -> Result<(), Memory> {
+    if let Some(target) = &item.target {
+        out.push(b' ')?;
+        out.extend(target.uri.as_slice())?;
+    }
+    put_meta(out, &item.meta)?;
+    if let Some(value) = &item.value {
+        put_hex(alloc, out, value.as_slice())?;
+    }
+    if item.more {
+        out.extend(b" more")?;
+    }
+    Ok(())
+}
+
+fn verb_word(verb: Verb) -> &'static [u8] {
+    match verb {
+        Verb::Add => b"Add",
+        Verb::Copy => b"Copy",
+        Verb::Delete => b"Delete",
+        Verb::Exec => b"Exec",
+        Verb::Get => b"Get",
+        Verb::Replace => b"Replace",
+    }
+}
+
+fn put_plain(alloc: Global, out: &mut Bytes, plain: &Plain) -> Result<(), Memory> {
+    out.extend(verb_word(plain.verb))?;
+    for item in plain.items.as_slice() {
+        put_item(alloc, out, item)?;
+    }
+    if let Some(correlator) = &plain.correlator {
+        out.extend(b" ~")?;
+        out.extend(correlator.as_slice())?;
+    }
+    out.push(b'\n')
+}
+
+fn put_member(alloc: Global, out: &mut Bytes, member: &Member) -> Result<(), Memory> {
+    out.extend(b"  ")?;
+    match member {
+        Member::One(plain) => put_plain(alloc, out, plain),
+        Member::Alert(_) => out.extend(b"Alert\n"),
+    }
+}
+
+fn put_seq_member(alloc: Global, out: &mut Bytes, member: &SeqMember) -> Result<(), Memory> {
+    match member {
+        SeqMember::Single(member) => put_member(alloc, out, member),
+        SeqMember::Atomic(_) => out.extend(b"  Atomic\n"),
+    }
+}
+
+fn put_command(alloc: Global, out: &mut Bytes, command: &Command) -> Result<(), Memory> {
+    match command {
+        Command::Plain(plain) => put_plain(alloc, out, plain)?,
+        Command::Atomic(block) => {
+            out.extend(b"Atomic\n")?;
+            for member in block.members.as_slice() {
+                put_member(alloc, out, member)?;
+            }
+        }
+        Command::Sequence(block) => {
+            out.extend(b"Sequence\n")?;
+            for member in block.members.as_slice() {
+                put_seq_member(alloc, out, member)?;
+            }
+        }
+        Command::Alert(_) | Command::Status(_) | Command::Results(_) => out.extend(b"other\n")?,
+    }
+    Ok(())
+}
+
+fn put_package(alloc: Global, out: &mut Bytes, package: &List<JobEntry>) -> Result<(), Memory> {
+    out.extend(b"package\n")?;
+    for entry in package.as_slice() {
+        put_number(out, entry.number)?;
+        out.push(b' ')?;
+        put_command(alloc, out, &entry.command)?;
+    }
+    Ok(())
+}
+
+fn put_account(alloc: Global, out: &mut Bytes, account: &Account) -> Result<(), Memory> {
+    out.extend(account.server.as_slice())?;
+    put_field(out, &account.server_password)?;
+    put_hex(alloc, out, account.server_nonce.as_slice())?;
+    put_field(out, &account.user)?;
+    put_field(out, &account.user_password)?;
+    put_hex(alloc, out, account.user_nonce.as_slice())
+}
+
+/// The account and the limits, and each package with its commands and their numbers.
+pub fn job_text(alloc: Global, job: &Job) -> Result<Bytes, Memory> {
+    let mut out = Bytes::new(alloc);
+    put_account(alloc, &mut out, &job.account)?;
+    out.push(b' ')?;
+    put_number(&mut out, job.limits.max_msg as u64)?;
+    out.push(b' ')?;
+    put_number(&mut out, job.limits.max_obj as u64)?;
+    out.push(b'\n')?;
+    for package in job.packages.as_slice() {
+        put_package(alloc, &mut out, package)?;
+    }
+    Ok(out)
+}
