@@ -12,11 +12,14 @@ use Rattle.dm_headers.specs.declared.checks.Side.TheVariants.{Server}
 use Rattle.dm_headers.specs.Standings.{Heard, hears}
 use Rattle.dm_pack.specs.Entries.{Entry}
 use Rattle.dm_atomic.specs.declared.tasks.Origin.{Origin}
-use Rattle.dm_atomic.specs.Run.{State, Group, Running, quietly, run_command, run_all, still_of, still, committed, abandoned}
+use Rattle.dm_atomic.specs.Run.{State, Group, Running, quietly, run_command, run_all, still_of, still, committed}
+use Rattle.dm_atomic.specs.Run.{abandoned}
 use Rattle.dm_machine.specs.declared.kinds.End.TheVariants.{Aborted}
 use Rattle.dm_machine.specs.declared.progress.Progress.{Progress}
 use Rattle.dm_machine.specs.Machine.{Machine}
-use Rattle.dm_machine.specs.Messages.{Outcome, ends, Waits, waits_after, account_at, closed, denied, is_abort, is_report, origin_of, running_for, is_quiet, execute, run_of, is_over, answered, by_header, is_last_own, accepts}
+use Rattle.dm_machine.specs.Messages.{Outcome, ends, Waits, waits_after, account_at, closed, denied, is_abort}
+use Rattle.dm_machine.specs.Messages.{is_report, origin_of, running_for, is_quiet, execute, run_of, is_over, answered}
+use Rattle.dm_machine.specs.Messages.{by_header, is_last_own, accepts}
 use Rattle.dm_machine.specs.Laws.{Leaves}
 
 first : (b c : Bool) → (b && c) ≡ true → b ≡ true

@@ -1,5 +1,6 @@
 -- A tree in which a node bears another name is well-formed.
-use Rattle.std.proofs.Common.{◌≡◌, ◌≤◌, ◌+◌, ℕ, Bool, true, false, cond, List, [], ◌∷◌, ◌++◌, length, drop, None, Some, refl, sym, ◌∙◌, ap, subst, arith, inl, inr, length-append}
+use Rattle.std.proofs.Common.{◌≡◌, ◌≤◌, ◌+◌, ℕ, Bool, true, false, cond, List, [], ◌∷◌, ◌++◌, length, drop, None, Some}
+use Rattle.std.proofs.Common.{refl, sym, ◌∙◌, ap, subst, arith, inl, inr, length-append}
 use Rattle.std.specs.Prelude.{is_some, nat_le, ◌⊎◌, ◌&&◌}
 use Rattle.std.specs.List.{list_all}
 use Rattle.std.specs.Ordering.{eq_by_cmp}
@@ -14,11 +15,11 @@ use Rattle.dm_tree.specs.Nodes.{Path, Nodes, tree_order, above, is_below, IsNode
 use Rattle.dm_tree.specs.Edits.{rekeyed, renamed, fits}
 use Rattle.dm_tree.proofs.Paths.{Ends, ends, none, last, same_path, other_path, same_ends, not_empty, below_none}
 use Rattle.dm_tree.proofs.Paths.{tree_total}
-use Rattle.dm_tree.proofs.Keys.{moved, moved_from, moved_to, keys_all}
-use Rattle.dm_tree.proofs.Seen.{above-append}
-use Rattle.dm_tree.proofs.Forks.{rest_below, below_append, not_below_shorter}
-use Rattle.dm_tree.proofs.Rekeyed.{rekeyed-apart, rekeyed-below, rekeyed-itself, rekeyed-longer}
-use Rattle.dm_tree.proofs.Keepings.{some_node, at_insert, still_insert, top_there}
+use Rattle.dm_tree.proofs.MapKeys.{moved, moved_from, moved_to, keys_all}
+use Rattle.dm_tree.proofs.LiveRows.{above-append}
+use Rattle.dm_tree.proofs.PathOrder.{rest_below, below_append, not_below_shorter}
+use Rattle.dm_tree.proofs.RenamedRows.{rekeyed-apart, rekeyed-below, rekeyed-itself, rekeyed-longer}
+use Rattle.dm_tree.proofs.NodesKept.{some_node, at_insert, still_insert, top_there}
 use Rattle.dm_machine.proofs.FormedTrees.{no_root, made_of}
 
 -- ---- paths

@@ -1,6 +1,8 @@
 -- A step, and the end of an update, keep a tree well-formed.
-use Rattle.std.proofs.Common.{◌≡◌, ◌≤◌, ◌<◌, ℕ, Bool, true, false, cond, List, [], ◌∷◌, ◌++◌, length, Option, None, Some, Ok, Err, refl, sym, ◌∙◌, ap, subst, arith, inl, inr}
-use Rattle.std.specs.Prelude.{◌&&◌, ◌||◌, ◌⊎◌, ◌==◌, Result, not, nat_lt, codes, is_some, bytes_eq, unwrap_or, IfSome, IsSome, option_and_then}
+use Rattle.std.proofs.Common.{◌≡◌, ◌≤◌, ◌<◌, ℕ, Bool, true, false, cond, List, [], ◌∷◌, ◌++◌, length, Option, None}
+use Rattle.std.proofs.Common.{Some, Ok, Err, refl, sym, ◌∙◌, ap, subst, arith, inl, inr}
+use Rattle.std.specs.Prelude.{◌&&◌, ◌||◌, ◌⊎◌, ◌==◌, Result, not, nat_lt, codes, is_some, bytes_eq, unwrap_or, IfSome}
+use Rattle.std.specs.Prelude.{IsSome, option_and_then}
 use Rattle.std.specs.List.{find}
 use Rattle.std.specs.Option.{option_map_or}
 use Rattle.std.specs.Fmt.{decimal}
@@ -30,18 +32,21 @@ use Rattle.dm_tree.specs.declared.nodes.Node.{Node}
 use Rattle.dm_tree.specs.declared.nodes.Role.{Role}
 use Rattle.dm_tree.specs.declared.nodes.Role.TheVariants as role
 use Rattle.dm_tree.specs.declared.nodes.Stamp.{Stamp}
-use Rattle.dm_tree.specs.Nodes.{Path, Nodes, above, changed, is_format, is_node_format, with_value, with_acl, with_title, IsReadAgain, IsRoot, IsStamp, IsValue, IsWellFormed}
+use Rattle.dm_tree.specs.Nodes.{Path, Nodes, above, changed, is_format, is_node_format, with_value, with_acl}
+use Rattle.dm_tree.specs.Nodes.{with_title, IsReadAgain, IsRoot, IsStamp, IsValue, IsWellFormed}
 use Rattle.dm_tree.specs.Rows.{blank_node}
 use Rattle.dm_tree.specs.Edits.{pruned, fits}
 use Rattle.dm_tree.specs.Order.{children}
-use Rattle.dm_tree.specs.Devices.{is_of_update, is_role, update_node, has_role, child_of_role, pkg_data, state_node, value_at, IsUpdateInOrder}
-use Rattle.dm_tree.proofs.Contents.{held_changed}
+use Rattle.dm_tree.specs.Devices.{is_of_update, is_role, update_node, has_role, child_of_role, pkg_data, state_node}
+use Rattle.dm_tree.specs.Devices.{value_at, IsUpdateInOrder}
+use Rattle.dm_tree.proofs.NodeContents.{held_changed}
 use Rattle.dm_tree.proofs.Devices.{update_is_found}
-use Rattle.dm_tree.proofs.Keepings.{some_node, still_insert}
+use Rattle.dm_tree.proofs.NodesKept.{some_node, still_insert}
 use Rattle.dm_tree.proofs.Paths.{Ends, ends, none, last}
-use Rattle.dm_tree.proofs.Seen.{above-append, last_name-append}
+use Rattle.dm_tree.proofs.LiveRows.{above-append, last_name-append}
 use Rattle.dm_commands.specs.Outcomes.{Setting, Done, asked_by, refused, unless, first_refusal, no_node, node_at}
-use Rattle.dm_commands.specs.Updates.{state_of, state_after_write, rewritten, with_text, with_state, package_at, update_ended}
+use Rattle.dm_commands.specs.Updates.{state_of, state_after_write, rewritten, with_text, with_state, package_at}
+use Rattle.dm_commands.specs.Updates.{update_ended}
 use Rattle.dm_commands.specs.Promises.{is_write, IsShortStep}
 use Rattle.dm_commands.specs.Table as table
 use Rattle.dm_commands.specs.Table.{act}

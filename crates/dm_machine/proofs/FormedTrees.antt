@@ -1,8 +1,11 @@
 -- Edits of the map keep a tree well-formed.
-use Rattle.std.proofs.Common.{◌≡◌, ◌≤◌, ◌+◌, ◌-◌, ℕ, zero, suc, Bool, true, false, cond, List, [], ◌∷◌, ◌++◌, length, None, Some, refl, sym, ◌∙◌, ap, subst, arith, inl, inr}
+use Rattle.std.proofs.Common.{◌≡◌, ◌≤◌, ◌+◌, ◌-◌, ℕ, zero, suc, Bool, true, false, cond, List, [], ◌∷◌, ◌++◌, length}
+use Rattle.std.proofs.Common.{None, Some, refl, sym, ◌∙◌, ap, subst, arith, inl, inr}
 use Rattle.std.specs.Prelude.{not, is_some}
 use Rattle.std.specs.Ordering.{eq_by_cmp, is_lt}
-use Rattle.std.specs.FinMap.{get, insert, remove, len, contains_key, entries, entries_sorted, is_sorted, find, from_entries, len-empty, len-insert, len-remove, len-entries, empty_of_len, get-empty, get-remove, get-entries}
+use Rattle.std.specs.FinMap.{get, insert, remove, len, contains_key, entries, entries_sorted, is_sorted, find}
+use Rattle.std.specs.FinMap.{from_entries, len-empty, len-insert, len-remove, len-entries, empty_of_len, get-empty}
+use Rattle.std.specs.FinMap.{get-remove, get-entries}
 use Rattle.std.specs.FinMap.Entries.{below_all}
 use Rattle.std.proofs.lemmas.Bool.{and_parts}
 use Rattle.dm_uri.specs.Names.{is_within_limits, IsPath}
@@ -11,12 +14,12 @@ use Rattle.dm_tree.specs.Nodes.{Path, Nodes, tree_order, above, is_below, IsNode
 use Rattle.dm_tree.specs.Order.{is_before}
 use Rattle.dm_tree.specs.Edits.{pruned}
 use Rattle.dm_tree.proofs.Paths.{tree_total, same_path, below_longer, below_none}
-use Rattle.dm_tree.proofs.Keys.{tied}
-use Rattle.dm_tree.proofs.Seen.{above-append}
-use Rattle.dm_tree.proofs.Cuts.{get-pruned}
-use Rattle.dm_tree.proofs.Forks.{not_before_itself}
-use Rattle.dm_tree.proofs.Firsts.{is_true}
-use Rattle.dm_tree.proofs.Keepings.{some_node, at_insert, still_insert, was_there}
+use Rattle.dm_tree.proofs.MapKeys.{tied}
+use Rattle.dm_tree.proofs.LiveRows.{above-append}
+use Rattle.dm_tree.proofs.SubtreeCuts.{get-pruned}
+use Rattle.dm_tree.proofs.PathOrder.{not_before_itself}
+use Rattle.dm_tree.proofs.FirstKeys.{is_true}
+use Rattle.dm_tree.proofs.NodesKept.{some_node, at_insert, still_insert, was_there}
 
 -- ---- how many nodes there are
 

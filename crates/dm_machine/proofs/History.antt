@@ -1,10 +1,13 @@
 -- The answers by the history are those of a machine that keeps one message.
-use Rattle.std.proofs.Common.{None, Some, ◌≡◌, ◌<◌, ◌≤◌, ◌==◌, ◌&&◌, ◌⊎◌, ℕ, Bool, true, false, cond, inl, inr, List, [], ◌∷◌, ◌++◌, refl, sym, ap, subst, ◌∙◌, arith, nat_lt}
+use Rattle.std.proofs.Common.{None, Some, ◌≡◌, ◌<◌, ◌≤◌, ◌==◌, ◌&&◌, ◌⊎◌, ℕ, Bool, true, false, cond, inl, inr, List}
+use Rattle.std.proofs.Common.{[], ◌∷◌, ◌++◌, refl, sym, ap, subst, ◌∙◌, arith, nat_lt}
 use Rattle.std.specs.Prelude.{Option, Ok, Err}
 use Rattle.syncml_types.specs.Message.{Parts}
 use Rattle.dm_machine.specs.Machine.{Session, Machine}
-use Rattle.dm_machine.specs.Events.{Event, clock, opened, message, loss, act, session_of, is_number, last_of, takes, after, taken_answer}
-use Rattle.dm_machine.specs.History.{fresh, reached, message_sent, is_message, first_reply, reply_in, first_to, answer_after, answers_after, kept_in, answer_now, next, answers_from, state_from}
+use Rattle.dm_machine.specs.Events.{Event, clock, opened, message, loss, act, session_of, is_number, last_of, takes}
+use Rattle.dm_machine.specs.Events.{after, taken_answer}
+use Rattle.dm_machine.specs.History.{fresh, reached, message_sent, is_message, first_reply, reply_in, first_to}
+use Rattle.dm_machine.specs.History.{answer_after, answers_after, kept_in, answer_now, next, answers_from, state_from}
 use Rattle.dm_machine.specs.Laws.{IsUnused, StateIsEnough}
 use Rattle.dm_machine.proofs.Steps.{Left, Starts, Steps, steps, IsLastOf, AskedFor, refusal_same}
 

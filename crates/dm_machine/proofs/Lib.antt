@@ -1,7 +1,10 @@
 pub mod Steps
 pub mod History
 pub mod Rising
+pub mod Accounts
+pub mod Steady
 pub mod Statuses
+pub mod StatusesInRuns
 pub mod Ends
 pub mod FormedTrees
 pub mod FormedNames
@@ -13,12 +16,9 @@ pub mod ToldActs
 pub mod ToldSteps
 pub mod ToldGroups
 pub mod ToldMessages
-pub mod OwnTexts
 pub mod OwnHeaders
 pub mod OwnPackages
-pub mod OwnAnswers
 pub mod OwnFarewells
 pub mod StaysSending
-pub mod StaysHearing
 pub mod StaysWaiting
 pub mod StaysReady

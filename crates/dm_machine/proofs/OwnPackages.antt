@@ -1,23 +1,28 @@
 -- The first package of a session can be sent.
-use Rattle.std.proofs.Common.{◌≡◌, ◌<◌, ◌≤◌, ◌+◌, ◌^◌, ℕ, Bool, true, false, List, [], ◌∷◌, ◌++◌, length, codes, map, Option, Some, None, IfSome, refl, arith, if◌then◌else◌}
+use Rattle.std.proofs.Common.{◌≡◌, ◌<◌, ◌≤◌, ◌+◌, ◌^◌, ℕ, Bool, true, false, List, [], ◌∷◌, ◌++◌, length, codes, map}
+use Rattle.std.proofs.Common.{Option, Some, None, IfSome, refl, arith, if◌then◌else◌}
 use Rattle.std.specs.List.{list_all, find, AllByRecursion}
 use Rattle.std.specs.Option.{option_map, option_map_or}
 use Rattle.std.specs.FinMap.{entries}
 use Rattle.std.proofs.lemmas.Bool.{and_from}
-use Rattle.wbxml_tables.specs.declared.Element.TheVariants.{EAlert, ECmdID, ECorrelator, EData, EFormat, EItem, ELocURI, EMeta, EReplace, ESource, EType}
+use Rattle.wbxml_tables.specs.declared.Element.TheVariants.{EAlert, ECmdID, ECorrelator, EData, EFormat, EItem, ELocURI}
+use Rattle.wbxml_tables.specs.declared.Element.TheVariants.{EMeta, EReplace, ESource, EType}
 use Rattle.syncml_types.specs.declared.values.Item.{Item}
 use Rattle.syncml_types.specs.declared.command.Verb.TheVariants.{Replace}
 use Rattle.syncml_types.specs.declared.command.Command.{Command}
 use Rattle.syncml_types.specs.declared.command.Command.TheVariants as command
-use Rattle.syncml_types.specs.Canonical.{is_text, optional, text_tokens, flag_tokens, loc_tokens, meta_tokens, item_tokens, items_tokens, plain_tokens, alert_tokens, command_tokens}
-use Rattle.syncml_types.specs.Fitness.{all_of, is_short, loc_texts, meta_texts, item_texts, item_data, plain_texts, alert_texts, command_texts, command_data, command_numbers, command_filled, command_correlates, plain_filled, plain_correlates}
+use Rattle.syncml_types.specs.Canonical.{is_text, optional, text_tokens, flag_tokens, loc_tokens, meta_tokens}
+use Rattle.syncml_types.specs.Canonical.{item_tokens, items_tokens, plain_tokens, alert_tokens, command_tokens}
+use Rattle.syncml_types.specs.Fitness.{all_of, is_short, loc_texts, meta_texts, item_texts, item_data, plain_texts}
+use Rattle.syncml_types.specs.Fitness.{alert_texts, command_texts, command_data, command_numbers, command_filled}
+use Rattle.syncml_types.specs.Fitness.{command_correlates, plain_filled, plain_correlates}
 use Rattle.syncml_types.specs.Numbering.{with_numbers}
 use Rattle.dm_uri.specs.Names.{printed_path}
 use Rattle.dm_uri.proofs.Limits.{all_forms}
 use Rattle.dm_tree.specs.declared.nodes.Node.{Node}
 use Rattle.dm_tree.specs.Nodes.{Path, Nodes, IsWellFormed}
 use Rattle.dm_tree.specs.Devices.{device_path, value_at, is_update_node, IsDeviceLeaf}
-use Rattle.dm_tree.proofs.Firsts.{entry_there}
+use Rattle.dm_tree.proofs.FirstKeys.{entry_there}
 use Rattle.dm_atomic.specs.Made.{source_item}
 use Rattle.dm_pack.specs.Entries.{IsReady, fresh, bare_length}
 use Rattle.dm_pack.proofs.Most.{Most, none, most_append, most_parent, most_element, most_text, most_number}
@@ -26,11 +31,13 @@ use Rattle.dm_machine.specs.declared.kinds.Kind.{Kind}
 use Rattle.dm_machine.specs.declared.kinds.Kind.TheVariants.{ByServer, ByClient}
 use Rattle.dm_machine.specs.declared.progress.UpdateResult.{UpdateResult}
 use Rattle.dm_machine.specs.Machine.{Machine}
-use Rattle.dm_machine.specs.Opening.{alert, kind_code, meta_of, result_alert, update_uri, device_item, device_told, first_package}
+use Rattle.dm_machine.specs.Opening.{alert, kind_code, meta_of, result_alert, update_uri, device_item, device_told}
+use Rattle.dm_machine.specs.Opening.{first_package}
 use Rattle.dm_machine.specs.Ready.{IsCorrelator, AreReadyResults, IsDevice}
-use Rattle.dm_machine.proofs.ToldTexts.{printed_path_text}
-use Rattle.dm_machine.proofs.OwnTexts.{is_low, literal, pass_text}
-use Rattle.dm_machine.proofs.OwnHeaders.{most_data, leaf_text}
+use Rattle.dm_ends.proofs.Uris.{printed_path_text}
+use Rattle.dm_ends.proofs.Texts.{is_low, literal, pass_text}
+use Rattle.dm_machine.proofs.OwnHeaders.{leaf_text}
+use Rattle.dm_ends.proofs.Headers.{most_data}
 
 -- ---- the path of the update node
 

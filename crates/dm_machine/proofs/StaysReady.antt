@@ -1,5 +1,6 @@
 -- A machine stays one that has nothing else to send than what can be sent.
-use Rattle.std.proofs.Common.{◌≡◌, ◌<◌, ◌≤◌, ◌+◌, ◌^◌, ◌&&◌, ℕ, Bool, true, false, cond, List, [], ◌∷◌, length, set, None, Some, refl, sym, subst, arith}
+use Rattle.std.proofs.Common.{◌≡◌, ◌<◌, ◌≤◌, ◌+◌, ◌^◌, ◌&&◌, ℕ, Bool, true, false, cond, List, [], ◌∷◌, length, set}
+use Rattle.std.proofs.Common.{None, Some, refl, sym, subst, arith}
 use Rattle.std.specs.Prelude.{Option, Ok, Err, IfSome}
 use Rattle.std.specs.Option.{option_or}
 use Rattle.std.specs.List.{list_any}
@@ -17,21 +18,26 @@ use Rattle.dm_machine.specs.declared.kinds.End.TheVariants.{Aborted}
 use Rattle.dm_machine.specs.declared.progress.Progress.{Progress}
 use Rattle.dm_machine.specs.declared.progress.UpdateResult.{UpdateResult}
 use Rattle.dm_machine.specs.Machine.{Session, Machine}
-use Rattle.dm_machine.specs.Messages.{Outcome, ends, Waits, waits_after, account_at, closed, finished, denied, is_over, is_abort, answered, run_of, by_header, is_last_own, accepts, acts, begins, first_progress, correlator_of}
+use Rattle.dm_machine.specs.Messages.{Outcome, ends, Waits, waits_after, account_at, closed, finished, denied, is_over}
+use Rattle.dm_machine.specs.Messages.{is_abort, answered, run_of, by_header, is_last_own, accepts, acts, begins}
+use Rattle.dm_machine.specs.Messages.{first_progress, correlator_of}
 use Rattle.dm_machine.specs.Opening.{first_package}
 use Rattle.dm_machine.specs.Sending.{header_from, sends}
 use Rattle.dm_machine.specs.Events.{Event, clock, opened, message, loss, act, takes, message_outcome, machine_of, after}
 use Rattle.dm_machine.specs.History.{next}
-use Rattle.dm_machine.specs.Ready.{IsCorrelator, IsReadyAccount, IsReadyProgress, IsReadyMachine, IsReadyMessage, IsReadyEvent}
+use Rattle.dm_machine.specs.Ready.{IsCorrelator, IsReadyAccount, IsReadyProgress, IsReadyMachine, IsReadyMessage}
+use Rattle.dm_machine.specs.Ready.{IsReadyEvent}
 use Rattle.dm_machine.specs.Laws.{StaysReady, IsShort, SendsWithinRoom}
 use Rattle.dm_machine.proofs.ToldGroups.{IsReadyNext, all_append}
 use Rattle.dm_machine.proofs.ToldMessages.{finished_update_ready, started_correlator_ready}
-use Rattle.dm_machine.proofs.OwnAnswers.{nonce_is}
+use Rattle.dm_ends.proofs.Answers.{nonce_is}
 use Rattle.dm_machine.proofs.OwnFarewells.{farewell_short}
 use Rattle.dm_machine.proofs.OwnHeaders.{header_ready as own_ready}
 use Rattle.dm_machine.proofs.StaysSending.{IsReadyApart, apart}
-use Rattle.dm_machine.proofs.StaysHearing.{IsReadyHeard, hears_ready}
-use Rattle.dm_machine.proofs.StaysWaiting.{all_set, set_long, account_ready, IsToSend, to_send_ready, waits_after_ready, run_ready, answering, behind_answer, answer_to_send, closed_apart, IsReadyWaits, header_to_send, beginning, begins_to_send, begins_ready}
+use Rattle.dm_ends.proofs.Hearing.{IsReadyHeard, hears_ready}
+use Rattle.dm_machine.proofs.StaysWaiting.{all_set, set_long, account_ready, IsToSend, to_send_ready, waits_after_ready}
+use Rattle.dm_machine.proofs.StaysWaiting.{run_ready, answering, behind_answer, answer_to_send, closed_apart}
+use Rattle.dm_machine.proofs.StaysWaiting.{IsReadyWaits, header_to_send, beginning, begins_to_send, begins_ready}
 
 -- ---- what is heard
 
@@ -280,10 +286,13 @@ short_either : (b : Bool) (x y : Outcome) → IsShortOutcome x → IsShortOutcom
 short_either true x y a b = a
 short_either false x y a b = b
 
-sends_short : (c : Machine) (p : Progress) (a : Account) → IsToSend c p a → IsShortFarewell c.farewell → IsShort (sends c p a)
+sends_short : (c : Machine) (p : Progress) (a : Account) → IsToSend c p a → IsShortFarewell c.farewell
+    → IsShort (sends c p a)
 unfolding sends
 sends_short c p a is farewell = record {
-  sent = fill_within (header_from c p a) c.queue p.standing.room p.standing.heard (header_to_send c p a is) is.progress.room.0;
+  sent =
+      fill_within (header_from c p a) c.queue p.standing.room p.standing.heard (header_to_send c p a is)
+      is.progress.room.0;
   farewell = farewell;
 }
 
@@ -342,7 +351,8 @@ after_short : (c : Machine) (e : Event) → IsReadyMachine c → IsReadyEvent c 
 unfolding after begins acts
 after_short c (clock stamp) ready is short = record { sent = short.sent; farewell = short.farewell }
 after_short c (opened account kind number) ready is short =
-    sends_short (beginning c kind number) (first_progress account kind number (first_package (closed c) kind)) (account_at (closed c) account)
+    sends_short (beginning c kind number) (first_progress account kind number (first_package (closed c) kind))
+    (account_at (closed c) account)
     (begins_to_send c account kind number (apart c ready) is.0 is.1) tt
 after_short c (message (Ok m) nonce) ready is short = message_short c c.session m nonce ready short ready.session is
 after_short c (message (Err place) nonce) ready is short = short

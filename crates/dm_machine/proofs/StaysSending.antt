@@ -1,5 +1,6 @@
 -- A machine that sends its next message stays one whose messages can be sent.
-use Rattle.std.proofs.Common.{◌≡◌, ◌<◌, ◌+◌, ◌-◌, ◌^◌, ℕ, zero, suc, Bool, List, [], ◌∷◌, length, take, drop, refl, arith}
+use Rattle.std.proofs.Common.{◌≡◌, ◌<◌, ◌+◌, ◌-◌, ◌^◌, ℕ, zero, suc, Bool, List, [], ◌∷◌, length, take, drop, refl}
+use Rattle.std.proofs.Common.{arith}
 use Rattle.std.specs.List.{AllByRecursion}
 use Rattle.std.proofs.lemmas.List.{length-drop}
 use Rattle.syncml_types.specs.declared.values.Header.{Header}
@@ -11,7 +12,8 @@ use Rattle.dm_pack.proofs.Left.{what_is_left_is_ready}
 use Rattle.dm_machine.specs.declared.progress.Progress.{Progress}
 use Rattle.dm_machine.specs.Machine.{Machine}
 use Rattle.dm_machine.specs.Sending.{header_from, sends}
-use Rattle.dm_machine.specs.Ready.{AreReadyResults, IsReadyState, IsReadyAccount, IsReadyLimits, IsReadyProgress, IsReadyMachine}
+use Rattle.dm_machine.specs.Ready.{AreReadyResults, IsReadyState, IsReadyAccount, IsReadyLimits, IsReadyProgress}
+use Rattle.dm_machine.specs.Ready.{IsReadyMachine}
 
 -- all of a machine but its session
 pub record IsReadyApart (c : Machine) : Type 0 where

@@ -1,5 +1,6 @@
 -- What waits once a message was heard and executed can be sent, and so is what a session begins with.
-use Rattle.std.proofs.Common.{◌≡◌, ◌<◌, ◌+◌, ◌^◌, ℕ, zero, suc, Bool, true, false, List, [], ◌∷◌, ◌++◌, length, length-append, take, drop, map, set, get_or, None, refl, ap, arith, if◌then◌else◌}
+use Rattle.std.proofs.Common.{◌≡◌, ◌<◌, ◌+◌, ◌^◌, ℕ, zero, suc, Bool, true, false, List, [], ◌∷◌, ◌++◌, length}
+use Rattle.std.proofs.Common.{length-append, take, drop, map, set, get_or, None, refl, ap, arith, if◌then◌else◌}
 use Rattle.std.specs.List.{AllByRecursion}
 use Rattle.syncml_types.specs.declared.values.Header.{Header}
 use Rattle.syncml_types.specs.Message.{Parts}
@@ -17,16 +18,18 @@ use Rattle.dm_machine.specs.declared.progress.Progress.{Progress}
 use Rattle.dm_machine.specs.Machine.{Machine}
 use Rattle.dm_machine.specs.Opening.{first_package}
 use Rattle.dm_machine.specs.Sending.{header_from, sends}
-use Rattle.dm_machine.specs.Messages.{Waits, queued_again, waits_after, account_at, no_account, closed, first_progress, begins, run_of, execute}
-use Rattle.dm_machine.specs.Ready.{IsDevice, IsReadyAccount, AreReadyResults, IsReadyProgress, IsReadyMachine, IsReadyMessage}
+use Rattle.dm_machine.specs.Messages.{Waits, queued_again, waits_after, account_at, no_account, closed, first_progress}
+use Rattle.dm_machine.specs.Messages.{begins, run_of, execute}
+use Rattle.dm_machine.specs.Ready.{IsDevice, IsReadyAccount, AreReadyResults, IsReadyProgress, IsReadyMachine}
+use Rattle.dm_machine.specs.Ready.{IsReadyMessage}
 use Rattle.dm_machine.proofs.ToldGroups.{AreReadyMade, IsReadyNext, all_append, quiet_ready, abandoned_ready}
 use Rattle.dm_machine.proofs.ToldMessages.{execute_ready, told_ready}
 use Rattle.dm_machine.proofs.OwnHeaders.{header_ready}
 use Rattle.dm_machine.proofs.OwnPackages.{package_ready}
-use Rattle.dm_machine.proofs.OwnAnswers.{IsNonce, nonce_is, answer_ready}
-use Rattle.dm_machine.proofs.OwnTexts.{known_number}
+use Rattle.dm_ends.proofs.Answers.{IsNonce, nonce_is, answer_ready}
+use Rattle.dm_ends.proofs.Texts.{known_number}
 use Rattle.dm_machine.proofs.StaysSending.{IsReadyApart, sends_ready}
-use Rattle.dm_machine.proofs.StaysHearing.{IsReadyHeard}
+use Rattle.dm_ends.proofs.Hearing.{IsReadyHeard}
 
 -- ---- accounts
 
@@ -175,7 +178,8 @@ answer_to_send c s w m h nonce run ready waits heard message ran own =
         limits = ready.limits;
         clock = ready.clock;
         engine = ran.state;
-        queue = queue_ready m.header h.code nonce w.queue run.made (known_number m message.fit) message.numbers.header.msg
+        queue =
+            queue_ready m.header h.code nonce w.queue run.made (known_number m message.fit) message.numbers.header.msg
             heard.code (nonce_is nonce message.nonce_long message.nonce_bytes) waits.queue ran.made;
         accounts = ready.accounts;
         results = ready.results;

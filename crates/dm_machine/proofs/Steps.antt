@@ -1,6 +1,7 @@
 -- What an event that is taken does to the number begun last and to the open session, and when the answer to one that
 -- isn't taken depends on the message kept. The laws on runs use these facts alone, and not the machine's definitions.
-use Rattle.std.proofs.Common.{None, Some, ◌≡◌, ◌<◌, ◌==◌, ◌&&◌, not, ℕ, Bool, true, false, cond, List, refl, ◌∙◌, ap, arith, nat_lt}
+use Rattle.std.proofs.Common.{None, Some, ◌≡◌, ◌<◌, ◌==◌, ◌&&◌, not, ℕ, Bool, true, false, cond, List, refl, ◌∙◌, ap}
+use Rattle.std.proofs.Common.{arith, nat_lt}
 use Rattle.std.specs.Prelude.{Option, Result, Ok, Err, set}
 use Rattle.std.specs.Option.{option_or}
 use Rattle.std.specs.List.{list_any}
@@ -16,8 +17,12 @@ use Rattle.dm_machine.specs.declared.kinds.End.TheVariants.{Aborted}
 use Rattle.dm_machine.specs.declared.progress.Progress.{Progress}
 use Rattle.dm_machine.specs.Machine.{Session, Machine}
 use Rattle.dm_machine.specs.Sending.{sends}
-use Rattle.dm_machine.specs.Messages.{Outcome, goes_on, ends, begins, Waits, queued_again, waits_after, is_over, is_abort, account_at, closed, denied, run_of, answered, by_header, is_last_own, accepts, acts}
-use Rattle.dm_machine.specs.Events.{Event, clock, opened, message, loss, act, stale, stranger, session_of, is_number, is_of, last_of, takes, takes_message, message_outcome, outcome_answer, machine_of, after, taken_answer, sent_in, repeat_answer, message_refusal, refusal}
+use Rattle.dm_machine.specs.Messages.{Outcome, goes_on, ends, begins, Waits, queued_again, waits_after, is_over}
+use Rattle.dm_machine.specs.Messages.{is_abort, account_at, closed, denied, run_of, answered, by_header, is_last_own}
+use Rattle.dm_machine.specs.Messages.{accepts, acts}
+use Rattle.dm_machine.specs.Events.{Event, clock, opened, message, loss, act, stale, stranger, session_of, is_number}
+use Rattle.dm_machine.specs.Events.{is_of, last_of, takes, takes_message, message_outcome, outcome_answer, machine_of}
+use Rattle.dm_machine.specs.Events.{after, taken_answer, sent_in, repeat_answer, message_refusal, refusal}
 use Rattle.dm_machine.specs.History.{message_sent}
 
 -- a session of a number, at a MsgID, with what was answered there

@@ -1,6 +1,7 @@
 -- What one step comes to can be sent: its code is a number of 32 bits, what it found is ready, and where it started the
 -- update its Correlator is short.
-use Rattle.std.proofs.Common.{◌≡◌, ◌<◌, ◌≤◌, ◌^◌, ℕ, Bool, true, false, cond, List, [], ◌∷◌, length, Option, Some, None, Ok, Err, refl, arith}
+use Rattle.std.proofs.Common.{◌≡◌, ◌<◌, ◌≤◌, ◌^◌, ℕ, Bool, true, false, cond, List, [], ◌∷◌, length, Option, Some, None}
+use Rattle.std.proofs.Common.{Ok, Err, refl, arith}
 use Rattle.std.specs.Prelude.{Result, IfSome, nat_lt}
 use Rattle.std.specs.List.{AllByRecursion}
 use Rattle.std.specs.Option.{option_map_or}
@@ -18,7 +19,11 @@ use Rattle.dm_uri.specs.declared.uri.UriError.TheVariants as uri_error
 use Rattle.dm_uri.specs.Reading.{parse_of}
 use Rattle.dm_tree.specs.Nodes.{Nodes}
 use Rattle.dm_commands.specs.Outcomes.{Setting, Done, refused, unless, first_refusal, no_node}
-use Rattle.dm_commands.specs.Table.{started, exec, exec_refusals, get_, get_refusals, add, node_refusals, add_refusals, replace_value, value_refusals, replace_acl, acl_refusals, replace_name, name_refusals, replace_title, title_refusals, replace_other, replace_prop, replace, delete, delete_refusals, uri_code, uri_or_code, by_verb, step_refusals, target_in, target_unless, target_of, at_target, act}
+use Rattle.dm_commands.specs.Table.{started, exec, exec_refusals, get_, get_refusals, add, node_refusals, add_refusals}
+use Rattle.dm_commands.specs.Table.{replace_value, value_refusals, replace_acl, acl_refusals, replace_name}
+use Rattle.dm_commands.specs.Table.{name_refusals, replace_title, title_refusals, replace_other, replace_prop, replace}
+use Rattle.dm_commands.specs.Table.{delete, delete_refusals, uri_code, uri_or_code, by_verb, step_refusals, target_in}
+use Rattle.dm_commands.specs.Table.{target_unless, target_of, at_target, act}
 use Rattle.dm_commands.proofs.Keeping.{none_holds}
 use Rattle.dm_machine.specs.Ready.{IsDevice}
 use Rattle.dm_machine.proofs.ToldFound.{IsReadyFound, found_ready}

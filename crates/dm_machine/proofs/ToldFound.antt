@@ -1,5 +1,6 @@
 -- What a tree of a device gives to be found, and that Statuses and Results of it can be sent.
-use Rattle.std.proofs.Common.{◌≡◌, ◌<◌, ◌≤◌, ◌*◌, ◌^◌, ◌&&◌, ℕ, Bool, true, false, cond, not, List, [], ◌∷◌, length, map, Option, Some, None, Ok, Err, refl, ap, subst, arith, length-append}
+use Rattle.std.proofs.Common.{◌≡◌, ◌<◌, ◌≤◌, ◌*◌, ◌^◌, ◌&&◌, ℕ, Bool, true, false, cond, not, List, [], ◌∷◌, length}
+use Rattle.std.proofs.Common.{map, Option, Some, None, Ok, Err, refl, ap, subst, arith, length-append}
 use Rattle.std.specs.Prelude.{codes, IfSome, unwrap_or, filter, nat_lt}
 use Rattle.std.specs.List.{list_all, AllByRecursion}
 use Rattle.std.specs.Option.{option_map_or}
@@ -8,12 +9,16 @@ use Rattle.std.specs.FinMap.{get, keys, entries, len-entries}
 use Rattle.std.proofs.lemmas.Bool.{and_parts, le-leb, leb-true, ltb-false, ne_eqb}
 use Rattle.std.proofs.lemmas.Fmt.{length-decimal-le}
 use Rattle.std.proofs.lemmas.List.{length-map}
-use Rattle.wbxml_tables.specs.declared.Element.TheVariants.{ECmdID, ECmdRef, EFormat, EItem, ELocURI, EMeta, EMsgRef, EResults, ESource, EType}
+use Rattle.wbxml_tables.specs.declared.Element.TheVariants.{ECmdID, ECmdRef, EFormat, EItem, ELocURI, EMeta, EMsgRef}
+use Rattle.wbxml_tables.specs.declared.Element.TheVariants.{EResults, ESource, EType}
 use Rattle.syncml_types.specs.declared.values.Item.{Item}
 use Rattle.syncml_types.specs.declared.command.Command.{Command}
 use Rattle.syncml_types.specs.declared.command.Command.TheVariants as command
-use Rattle.syncml_types.specs.Canonical.{is_text, optional, text_tokens, flag_tokens, loc_tokens, meta_tokens, item_tokens, items_tokens, results_tokens, command_tokens}
-use Rattle.syncml_types.specs.Fitness.{all_of, is_short, is_number, loc_texts, meta_texts, item_texts, item_data, results_texts, command_texts, command_data, command_numbers, command_filled, command_correlates}
+use Rattle.syncml_types.specs.Canonical.{is_text, optional, text_tokens, flag_tokens, loc_tokens, meta_tokens}
+use Rattle.syncml_types.specs.Canonical.{item_tokens, items_tokens, results_tokens, command_tokens}
+use Rattle.syncml_types.specs.Fitness.{all_of, is_short, is_number, loc_texts, meta_texts, item_texts, item_data}
+use Rattle.syncml_types.specs.Fitness.{results_texts, command_texts, command_data, command_numbers, command_filled}
+use Rattle.syncml_types.specs.Fitness.{command_correlates}
 use Rattle.syncml_types.specs.Numbering.{with_numbers}
 use Rattle.dm_uri.specs.declared.uri.Uri.{Uri}
 use Rattle.dm_uri.specs.declared.uri.Prop.{Prop}
@@ -33,10 +38,11 @@ use Rattle.dm_tree.specs.declared.nodes.Node.{Node}
 use Rattle.dm_tree.specs.Nodes.{Path, Nodes, formats, last_name, is_below, IsReadAgain, IsWellFormed}
 use Rattle.dm_tree.specs.Rows.{blank_node}
 use Rattle.dm_tree.specs.Order.{below, is_child_of, children, child_names, names_of}
-use Rattle.dm_tree.proofs.Keys.{all_keys}
+use Rattle.dm_tree.proofs.MapKeys.{all_keys}
 use Rattle.dm_commands.specs.declared.outcome.Found.{Found}
 use Rattle.dm_commands.specs.Outcomes.{Setting, node_at}
-use Rattle.dm_commands.specs.Finding.{found_at, node_value, prop_format, prop_value, is_shown, shown_below, listed, found_by}
+use Rattle.dm_commands.specs.Finding.{found_at, node_value, prop_format, prop_value, is_shown, shown_below, listed}
+use Rattle.dm_commands.specs.Finding.{found_by}
 use Rattle.dm_atomic.specs.declared.tasks.Named.{Named}
 use Rattle.dm_atomic.specs.declared.tasks.Named.TheVariants as named
 use Rattle.syncml_types.specs.declared.command.Verb.TheVariants as verb
@@ -47,9 +53,12 @@ use Rattle.dm_atomic.specs.Made as made
 use Rattle.dm_pack.specs.Entries.{IsReady, fresh}
 use Rattle.dm_pack.proofs.Fit.{both}
 use Rattle.dm_pack.proofs.Most.{Most, none, most_append, most_parent, most_element, most_text, most_number}
-use Rattle.dm_pack.proofs.Ready.{IsText, IsOptional, Passes, texts_pass, short_passes, found_item, results, named_items, status_ready, alert_ready}
+use Rattle.dm_pack.proofs.Ready.{IsText, IsOptional, Passes, texts_pass, short_passes, found_item, results, named_items}
+use Rattle.dm_pack.proofs.Ready.{status_ready, alert_ready}
+use Rattle.dm_ends.proofs.Statuses.{IsReadyPost}
 use Rattle.dm_machine.specs.Ready.{IsReadyMade, IsDevice}
-use Rattle.dm_machine.proofs.ToldTexts.{visible_text, one_of, parsed_printed, parsed_within, printed_path_text, text_of_device, uri_in_text}
+use Rattle.dm_ends.proofs.Uris.{visible_text, one_of, parsed_printed, parsed_within, printed_path_text, uri_in_text}
+use Rattle.dm_machine.proofs.ToldTexts.{text_of_device}
 
 -- ---- Results of one item, whose URI is printed
 
@@ -127,11 +136,6 @@ result_ready msg ref uri format media value some m r u f t few =
 -- ---- what is made
 
 -- what a Status answers: a command of a message
-pub record IsReadyPost (p : Post) : Type 0 where
-  pub some : 0 < p.msg
-  pub msg : p.msg < 2 ^ 32
-  pub command : p.command < 2 ^ 32
-
 pub record IsReadyFound (f : Found) : Type 0 where
   pub uri : IsText 271 f.uri
   pub format : IsText 20 f.format
@@ -140,22 +144,6 @@ pub record IsReadyFound (f : Found) : Type 0 where
 
 word : (t : List ℕ) → is_text t ≡ true → length t ≤ 20 → IsText 20 t
 word t text few = record { text = text; few = few }
-
-named_word : (n : Named) → IsText 20 (named_text n)
-named_word (named.Verb verb.Add) = word _ (visible_text _ refl) (omega arith)
-named_word (named.Verb verb.Copy) = word _ (visible_text _ refl) (omega arith)
-named_word (named.Verb verb.Delete) = word _ (visible_text _ refl) (omega arith)
-named_word (named.Verb verb.Exec) = word _ (visible_text _ refl) (omega arith)
-named_word (named.Verb verb.Get) = word _ (visible_text _ refl) (omega arith)
-named_word (named.Verb verb.Replace) = word _ (visible_text _ refl) (omega arith)
-named_word named.Alert = word _ (visible_text _ refl) (omega arith)
-named_word named.Atomic = word _ (visible_text _ refl) (omega arith)
-named_word named.Sequence = word _ (visible_text _ refl) (omega arith)
-
-pub status_is_ready : (p : Post) → IsReadyPost p → (code : ℕ) → code < 2 ^ 32 → IsReadyMade (made.Status p code)
-status_is_ready p is code low =
-    status_ready p.msg p.command (named_text p.name) (uri_in p.target) None code is.some is.msg is.command
-    (named_word p.name) (uri_in_text p.target) tt low
 
 pub result_is_ready : (p : Post) (f : Found) → IsReadyPost p → IsReadyFound f → IsReadyMade (made.Result p f)
 result_is_ready p f is found =

@@ -18,9 +18,15 @@ use Rattle.dm_atomic.specs.declared.reports.Part.{Part}
 use Rattle.dm_atomic.specs.Engine.{FitsObject}
 use Rattle.dm_atomic.specs.Made.{Made, reported, all_reported, notice}
 use Rattle.dm_atomic.specs.Made as made
-use Rattle.dm_atomic.specs.Run.{Group, State, Running, Next, quietly, one_step, undone, not_run, container, parts_done, parts_undone, broken_group, break_of, break_group, breaks_first, one_alone, in_sequence, Tried, after_success, tried, joins, left_by, left_object, opened, opens, with_part, stays_open, succeeds, fails, closes, in_group, join_or_break, atomically, still_of, still, abandoned}
-use Rattle.dm_machine.specs.Ready.{IsReadyMade, IsReadyReport, IsReadyPart, IsReadyGroup, IsDevice, IsReadyObject, IsReadyState}
-use Rattle.dm_machine.proofs.ToldFound.{IsReadyPost, status_is_ready, broken_is_ready}
+use Rattle.dm_atomic.specs.Run.{Group, State, Running, Next, quietly, one_step, undone, not_run, container, parts_done}
+use Rattle.dm_atomic.specs.Run.{parts_undone, broken_group, break_of, break_group, breaks_first, one_alone, in_sequence}
+use Rattle.dm_atomic.specs.Run.{Tried, after_success, tried, joins, left_by, left_object, opened, opens, with_part}
+use Rattle.dm_atomic.specs.Run.{stays_open, succeeds, fails, closes, in_group, join_or_break, atomically, still_of}
+use Rattle.dm_atomic.specs.Run.{still, abandoned}
+use Rattle.dm_machine.specs.Ready.{IsReadyMade, IsReadyReport, IsReadyPart, IsReadyGroup, IsDevice, IsReadyObject}
+use Rattle.dm_machine.specs.Ready.{IsReadyState}
+use Rattle.dm_machine.proofs.ToldFound.{broken_is_ready}
+use Rattle.dm_ends.proofs.Statuses.{IsReadyPost, status_is_ready}
 use Rattle.dm_machine.proofs.ToldActs.{IsLow}
 use Rattle.dm_machine.proofs.ToldSteps.{IsReadyTask, IsReadyRunning, step_ready}
 

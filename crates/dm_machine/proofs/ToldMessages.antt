@@ -1,5 +1,6 @@
 -- A message that is executed on a ready state leaves a ready state, and all that it makes can be told and sent.
-use Rattle.std.proofs.Common.{◌≡◌, ◌<◌, ◌≤◌, ◌^◌, ℕ, suc, Bool, true, false, cond, List, [], ◌∷◌, ◌++◌, map, Option, Some, None, arith}
+use Rattle.std.proofs.Common.{◌≡◌, ◌<◌, ◌≤◌, ◌^◌, ℕ, suc, Bool, true, false, cond, List, [], ◌∷◌, ◌++◌, map, Option}
+use Rattle.std.proofs.Common.{Some, None, arith}
 use Rattle.std.specs.Prelude.{IfSome, option_and_then}
 use Rattle.std.specs.Option.{option_or}
 use Rattle.std.specs.List.{list_all, AllByRecursion}
@@ -19,8 +20,10 @@ use Rattle.syncml_types.specs.declared.command.Command.{Command}
 use Rattle.syncml_types.specs.declared.command.Command.TheVariants as command
 use Rattle.syncml_types.specs.Message.{Parts}
 use Rattle.syncml_types.specs.Canonical.{is_text}
-use Rattle.syncml_types.specs.Fitness.{all_of, is_number, meta_texts, item_texts, plain_texts, member_texts, atomic_texts, seq_member_texts, sequence_texts, command_texts, IsFit}
-use Rattle.syncml_codec.specs.Ranges.{PlainRange, AlertRange, MemberRange, AtomicRange, SeqMemberRange, SequenceRange, CommandRange, AreNumbers}
+use Rattle.syncml_types.specs.Fitness.{all_of, is_number, meta_texts, item_texts, plain_texts, member_texts}
+use Rattle.syncml_types.specs.Fitness.{atomic_texts, seq_member_texts, sequence_texts, command_texts, IsFit}
+use Rattle.syncml_codec.specs.Ranges.{PlainRange, AlertRange, MemberRange, AtomicRange, SeqMemberRange, SequenceRange}
+use Rattle.syncml_codec.specs.Ranges.{CommandRange, AreNumbers}
 use Rattle.dm_tree.specs.declared.nodes.Stamp.{Stamp}
 use Rattle.dm_tree.specs.Nodes.{IsStamp}
 use Rattle.dm_tree.specs.Devices.{IsText}
@@ -30,20 +33,23 @@ use Rattle.dm_atomic.specs.declared.tasks.Named.{Named}
 use Rattle.dm_atomic.specs.declared.tasks.Named.TheVariants as named
 use Rattle.dm_atomic.specs.declared.tasks.Task.{Task}
 use Rattle.dm_atomic.specs.declared.reports.Started.{Started}
-use Rattle.dm_atomic.specs.Tasks.{item_task, item_tasks, plain_tasks, alert_task, member_tasks, members_tasks, container_post}
+use Rattle.dm_atomic.specs.Tasks.{item_task, item_tasks, plain_tasks, alert_task, member_tasks, members_tasks}
+use Rattle.dm_atomic.specs.Tasks.{container_post}
 use Rattle.dm_atomic.specs.Made.{Made, told, is_withheld, entry_of}
 use Rattle.dm_atomic.specs.Made as made
 use Rattle.dm_atomic.specs.Updates.{finished as finished_update}
-use Rattle.dm_atomic.specs.Run.{State, Running, Next, quietly, run_atomic, run_member, run_members, run_sequence, run_command, run_all, still}
+use Rattle.dm_atomic.specs.Run.{State, Running, Next, quietly, run_atomic, run_member, run_members, run_sequence}
+use Rattle.dm_atomic.specs.Run.{run_command, run_all, still}
 use Rattle.dm_pack.specs.Entries.{IsReady, fresh}
 use Rattle.dm_machine.specs.Machine.{Machine}
 use Rattle.dm_machine.specs.Messages.{is_quiet, origin_of, running_for, quiet_after, execute, correlator_of}
 use Rattle.dm_machine.specs.Ready.{IsReadyMade, IsCorrelator, IsReadyState}
 use Rattle.dm_machine.proofs.FormedDevices.{update_device}
 use Rattle.dm_machine.proofs.ToldTexts.{device_text}
-use Rattle.dm_machine.proofs.ToldFound.{IsReadyPost, status_is_ready}
+use Rattle.dm_ends.proofs.Statuses.{IsReadyPost, status_is_ready}
 use Rattle.dm_machine.proofs.ToldSteps.{IsReadyTask, IsReadyRunning}
-use Rattle.dm_machine.proofs.ToldGroups.{AreReadyMade, IsReadyNext, all_append, quiet_ready, sequence_ready, atomic_ready, still_ready}
+use Rattle.dm_machine.proofs.ToldGroups.{AreReadyMade, IsReadyNext, all_append, quiet_ready, sequence_ready}
+use Rattle.dm_machine.proofs.ToldGroups.{atomic_ready, still_ready}
 
 -- ---- the tasks of a command
 

@@ -1,5 +1,6 @@
 -- One task on a ready state leaves a ready state, and a report that can be told.
-use Rattle.std.proofs.Common.{◌≡◌, ◌≤◌, ◌+◌, ◌==◌, ◌&&◌, ◌||◌, ℕ, Bool, true, false, cond, not, List, [], ◌∷◌, length, Option, Some, None, refl, arith}
+use Rattle.std.proofs.Common.{◌≡◌, ◌≤◌, ◌+◌, ◌==◌, ◌&&◌, ◌||◌, ℕ, Bool, true, false, cond, not, List, [], ◌∷◌, length}
+use Rattle.std.proofs.Common.{Option, Some, None, refl, arith}
 use Rattle.std.specs.Prelude.{IfSome, is_some, nat_lt, ⊤}
 use Rattle.std.specs.List.{AllByRecursion}
 use Rattle.syncml_types.specs.declared.command.Step.{Step}
@@ -12,7 +13,8 @@ use Rattle.dm_objects.specs.declared.object.Object.TheVariants.{Nothing, Bufferi
 use Rattle.dm_objects.specs.declared.piece.Piece.{Piece}
 use Rattle.dm_objects.specs.declared.piece.What.{What}
 use Rattle.dm_objects.specs.declared.piece.What.TheVariants.{Whole, Buffered, Refused}
-use Rattle.dm_objects.specs.Gathering.{Came, came, is_write, skipped, first_of_several, single, next_piece, write_piece, by_rules, gather, continues}
+use Rattle.dm_objects.specs.Gathering.{Came, came, is_write, skipped, first_of_several, single, next_piece, write_piece}
+use Rattle.dm_objects.specs.Gathering.{by_rules, gather, continues}
 use Rattle.dm_commands.specs.Promises.{IsShortStep}
 use Rattle.dm_commands.specs.Table.{act}
 use Rattle.dm_commands.specs.declared.outcome.Found.{Found}
@@ -23,11 +25,13 @@ use Rattle.dm_atomic.specs.declared.tasks.Task.{Task}
 use Rattle.dm_atomic.specs.declared.reports.Started.{Started}
 use Rattle.dm_atomic.specs.Engine.{IsShortWhat}
 use Rattle.dm_atomic.specs.Made as made
-use Rattle.dm_atomic.specs.Run.{State, Running, Ran, ran, alert_code, started_by, whole_step, by_what, one_piece, by_work, one_step}
+use Rattle.dm_atomic.specs.Run.{State, Running, Ran, ran, alert_code, started_by, whole_step, by_what, one_piece}
+use Rattle.dm_atomic.specs.Run.{by_work, one_step}
 use Rattle.dm_atomic.proofs.Gathers.{gather-fits, gather-short}
 use Rattle.dm_machine.specs.Ready.{IsReadyMade, IsReadyReport, IsReadyObject, IsCorrelator, IsReadyState}
 use Rattle.dm_machine.proofs.FormedDevices.{act_device}
-use Rattle.dm_machine.proofs.ToldFound.{IsReadyPost, IsReadyFound, status_is_ready, result_is_ready}
+use Rattle.dm_machine.proofs.ToldFound.{IsReadyFound, result_is_ready}
+use Rattle.dm_ends.proofs.Statuses.{IsReadyPost, status_is_ready}
 use Rattle.dm_machine.proofs.ToldActs.{IsLow, act_ready}
 
 -- ---- tasks

@@ -1,10 +1,11 @@
 -- What may happen to the machine, which of it acts, and what is answered.
-use Rattle.std.specs.Prelude.{◌==◌, ◌&&◌, ℕ, Bool, true, false, not, if◌then◌else◌, nat_lt, List, Option, None, Some, is_some, Result, Ok, Err}
-use Rattle.dm_base.specs.Fields.{num_of}
+use Rattle.std.specs.Prelude.{◌==◌, ◌&&◌, ℕ, Bool, true, false, not, if◌then◌else◌, nat_lt, List, Option, None, Some}
+use Rattle.std.specs.Prelude.{is_some, Result, Ok, Err}
 use Rattle.syncml_types.specs.Message.{Parts}
 use Rattle.wbxml_tokens.specs.declared.reason.Refusal.{Refusal}
 use Rattle.dm_tree.specs.declared.nodes.Stamp.{Stamp}
 use Rattle.dm_atomic.specs.Updates.{is_updating}
+pub use Rattle.dm_ends.specs.Commands.{session_of, is_number}
 use Rattle.dm_machine.specs.declared.kinds.Kind.{Kind}
 use Rattle.dm_machine.specs.declared.kinds.End.{End}
 use Rattle.dm_machine.specs.Machine.{Session, Machine}
@@ -35,14 +36,6 @@ pub data Answer : Type 0 where
   not_now : Answer
 
 -- ---- which events are taken
-
--- the number that a message's SessionID is in decimal
-abbrev pub session_of : Parts → Option ℕ
-session_of m = num_of m.header.session
-
-abbrev pub is_number : Option ℕ → ℕ → Bool
-is_number None n = false
-is_number (Some k) n = k == n
 
 -- a message of the open session
 abbrev pub is_of : Session → Parts → Bool

@@ -1,9 +1,11 @@
 -- Runs of the machine: the events that act, the state that they lead to, and the answers to all events.
-use Rattle.std.specs.Prelude.{◌==◌, ◌&&◌, ℕ, Bool, false, if◌then◌else◌, nat_lt, List, [], ◌∷◌, ◌++◌, Option, Some, None, Result, Ok, Err}
+use Rattle.std.specs.Prelude.{◌==◌, ◌&&◌, ℕ, Bool, false, if◌then◌else◌, nat_lt, List, [], ◌∷◌, ◌++◌, Option, Some}
+use Rattle.std.specs.Prelude.{None, Result, Ok, Err}
 use Rattle.syncml_types.specs.Message.{Parts}
 use Rattle.wbxml_tokens.specs.declared.reason.Refusal.{Refusal}
 use Rattle.dm_machine.specs.Machine.{Session, Machine}
-use Rattle.dm_machine.specs.Events.{Event, message, Answer, sent, session_of, is_number, last_of, takes, after, taken_answer, refusal}
+use Rattle.dm_machine.specs.Events.{Event, message, Answer, sent, session_of, is_number, last_of, takes, after}
+use Rattle.dm_machine.specs.Events.{taken_answer, refusal}
 
 -- ---- by the history
 

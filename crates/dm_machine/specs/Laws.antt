@@ -1,5 +1,7 @@
 -- What holds of the machine's runs and of its messages, over the definitions alone.
-use Rattle.std.specs.Prelude.{◌≡◌, ◌<◌, ◌≤◌, length, IfSome, ◌⊎◌, ℕ, false, List, [], ◌∷◌, Option, Some, None, Result, Ok, Err, ⊤}
+use Rattle.std.specs.Prelude.{◌≡◌, ◌<◌, ◌≤◌, length, IfSome, ◌⊎◌, ℕ, false, List, [], ◌∷◌, Option, Some, None, Result}
+use Rattle.std.specs.Prelude.{Ok, Err, ⊤}
+use Rattle.dm_base.specs.Limits.{least_room}
 use Rattle.syncml_types.specs.Message.{Parts}
 use Rattle.syncml_types.specs.Canonical.{canonical}
 use Rattle.wbxml_tokens.specs.declared.reason.Refusal.{Refusal}
@@ -8,6 +10,7 @@ use Rattle.dm_headers.specs.Checks.{passes}
 use Rattle.dm_objects.specs.declared.object.Object.TheVariants.{Nothing}
 use Rattle.dm_atomic.specs.Posts.{NoneLost, all_asked}
 use Rattle.dm_atomic.specs.Run.{State, committed}
+use Rattle.dm_atomic.specs.Updates.{TellsStarted}
 use Rattle.dm_machine.specs.declared.progress.Progress.{Progress}
 use Rattle.dm_machine.specs.Machine.{Machine, Session}
 use Rattle.dm_machine.specs.Messages.{Outcome, goes_on, ends, origin_of, execute, run_of, accepts}
@@ -66,6 +69,19 @@ Rise p (e ∷ es) = Follows p (position_of e) × Rise (or_last p (position_of e)
 abbrev pub AcceptedNumbersRise : Type 0
 AcceptedNumbersRise = (c : Machine) (es : List Event) → IsUnused c → Rise (record { session = 0; msg = 0 }) (fresh c es)
 
+-- no event makes accounts more or fewer
+abbrev pub AccountsStay : Type 0
+AccountsStay = (c : Machine) (e : Event) → length (next c e).accounts ≡ length c.accounts
+
+-- an update was started and has no result yet exactly where one runs, and no group is open where no session is
+pub record IsSteady (c : Machine) : Type 0 where
+  pub started : TellsStarted c.engine
+  pub closed : c.session ≡ None → c.engine.group ≡ None
+
+-- so it is whatever happens, where it was so before
+abbrev pub StaysSteady : Type 0
+StaysSteady = (c : Machine) (e : Event) → IsSteady c → IsSteady (next c e)
+
 -- ---- messages
 
 -- each step and each container of a message that is executed has exactly one Status made, now or at its group's close
@@ -95,15 +111,15 @@ EndsGiveUp = (c : Machine) (p : Progress) (m : Parts) (nonce : List ℕ) → Lea
 
 -- ---- what can be sent
 
--- what the first package tells can be sent, what is executed leaves a state as it has to be, and what it tells can be sent;
--- so a machine stays one that has nothing else to send
+-- what the first package tells can be sent, what is executed leaves a state as it has to be, and what it tells can be
+-- sent; so a machine stays one that has nothing else to send
 abbrev pub StaysReady : Type 0
 StaysReady = (c : Machine) (e : Event) → IsReadyMachine c → IsReadyEvent c e → IsReadyMachine (next c e)
 
 -- the message sent last is no longer than the room that the server told last before it, and a farewell than any room
 pub record IsShort (c : Machine) : Type 0 where
   pub sent : IfSome c.session (λ (s : Session). length (canonical s.sent) ≤ s.progress.standing.room)
-  pub farewell : IfSome c.farewell (λ m. length (canonical m) ≤ 2048)
+  pub farewell : IfSome c.farewell (λ m. length (canonical m) ≤ least_room)
 
 abbrev pub SendsWithinRoom : Type 0
 SendsWithinRoom = (c : Machine) (e : Event) → IsReadyMachine c → IsReadyEvent c e → IsShort c → IsShort (next c e)

@@ -6,3 +6,4 @@ pub mod Events
 pub mod History
 pub mod Ready
 pub mod Laws
+pub mod Statuses

@@ -1,5 +1,6 @@
 -- What beginning a session, a message that is accepted, and the end of an update do.
-use Rattle.std.specs.Prelude.{◌==◌, ◌&&◌, ◌+◌, ℕ, Bool, true, false, not, if◌then◌else◌, List, [], ◌∷◌, ◌++◌, take, drop, set, length, map, Option, None, Some, get_or, option_and_then}
+use Rattle.std.specs.Prelude.{◌==◌, ◌&&◌, ◌+◌, ℕ, Bool, true, false, not, if◌then◌else◌, List, [], ◌∷◌, ◌++◌, take}
+use Rattle.std.specs.Prelude.{drop, set, length, map, Option, None, Some, get_or, option_and_then}
 use Rattle.std.specs.Option.{option_or}
 use Rattle.std.specs.List.{list_any, list_all}
 use Rattle.syncml_types.specs.declared.command.Plain.{Plain}
@@ -23,13 +24,15 @@ use Rattle.dm_atomic.specs.Made.{told}
 use Rattle.dm_atomic.specs.Updates.{finished as finished_update}
 use Rattle.dm_atomic.specs.Run.{Running, Next, quietly, run_all, still, abandoned}
 use Rattle.dm_pack.specs.Entries.{Entry, fresh}
-use Rattle.dm_pack.specs.Filling.{numbered}
+pub use Rattle.dm_ends.specs.Commands.{is_abort, is_report}
+use Rattle.dm_ends.specs.Beginning.{first_standing as begun_standing}
+use Rattle.dm_ends.specs.Farewells.{farewell}
 use Rattle.dm_machine.specs.declared.kinds.Kind.{Kind}
 use Rattle.dm_machine.specs.declared.kinds.End.{End}
 use Rattle.dm_machine.specs.declared.kinds.End.TheVariants.{Finished, Aborted, Denied}
 use Rattle.dm_machine.specs.declared.progress.Progress.{Progress}
 use Rattle.dm_machine.specs.Machine.{Machine}
-use Rattle.dm_machine.specs.Opening.{alert, first_package}
+use Rattle.dm_machine.specs.Opening.{first_package}
 use Rattle.dm_machine.specs.Sending.{header_from, sends}
 
 -- the session goes on, or has ended
@@ -64,16 +67,7 @@ account_at c at = get_or c.accounts at no_account
 
 -- nobody is accepted yet, and the first package, which is the client's, ends with its first Final
 abbrev pub first_standing : Standing
-first_standing = record {
-  last = 0;
-  own = 0;
-  heard = true;
-  room = 16384;
-  they_failed = false;
-  we_failed = false;
-  accepted = false;
-  welcomed = false;
-}
+first_standing = begun_standing true false
 
 -- the whole first package waits
 abbrev pub first_progress : ℕ → Kind → ℕ → List Entry → Progress
@@ -119,16 +113,6 @@ waits_after c p h =
 
 -- ---- a message: its commands
 
--- Alert 1223, which ends the session
-abbrev pub is_abort : Command → Bool
-is_abort (command.Alert a) = a.code == 1223
-is_abort other = false
-
-abbrev pub is_report : Command → Bool
-is_report (command.Status c) = true
-is_report (command.Results c) = true
-is_report other = false
-
 -- a step of a verb
 abbrev pub has_items : Plain → Bool
 has_items c = not (length c.items == 0)
@@ -173,11 +157,7 @@ execute c a m = quiet_after m (run_all (running_for c a) (origin_of m) c.engine 
 
 -- Denied, with a farewell
 abbrev pub farewell_of : Machine → Progress → Account → Parts → ℕ → List ℕ → Parts
-farewell_of c p a m code nonce = record {
-  header = header_from c p a;
-  body = numbered 1 (header_answer m.header code nonce ++ alert 1223 None [] ∷ []);
-  last = true;
-}
+farewell_of c p a m code nonce = farewell (header_from c p a) m code nonce
 
 abbrev pub denied : Machine → Waits → Parts → Heard → List ℕ → Outcome
 denied c w m h nonce =

@@ -11,6 +11,7 @@ use Rattle.dm_tree.specs.Nodes.{Nodes}
 use Rattle.dm_tree.specs.Devices.{device_leaves, device_path, value_at, update_node}
 use Rattle.dm_atomic.specs.Made.{source_item}
 use Rattle.dm_pack.specs.Entries.{Entry, fresh, no_meta}
+pub use Rattle.dm_ends.specs.Commands.{alert}
 use Rattle.dm_machine.specs.declared.kinds.Kind.{Kind}
 use Rattle.dm_machine.specs.declared.kinds.Kind.TheVariants.{ByServer, ByClient}
 use Rattle.dm_machine.specs.declared.progress.UpdateResult.{UpdateResult}
@@ -19,10 +20,6 @@ use Rattle.dm_machine.specs.Machine.{Machine}
 abbrev pub kind_code : Kind → ℕ
 kind_code ByServer = 1200
 kind_code ByClient = 1201
-
-abbrev pub alert : ℕ → Option (List ℕ) → List Item → Command
-alert code correlator items =
-    command.Alert (record { id = 0; no_resp = false; code = code; correlator = correlator; items = items })
 
 abbrev pub meta_of : List ℕ → List ℕ → Meta
 meta_of format media = record no_meta { format = Some format; media = Some media }

@@ -1,6 +1,8 @@
 -- What can be sent: the machines, and the events, with which all that is made fits into messages.
-use Rattle.std.specs.Prelude.{◌≡◌, ◌<◌, ◌≤◌, ◌+◌, ◌^◌, ℕ, true, List, length, get_or, ⊤, IsTrue, IfSome, Result, Ok, Err}
+use Rattle.std.specs.Prelude.{◌≡◌, ◌<◌, ◌≤◌, ◌+◌, ◌^◌, ℕ, true, List, length, get_or, ⊤, IsTrue, IfSome, Result, Ok}
+use Rattle.std.specs.Prelude.{Err}
 use Rattle.std.specs.List.{AllByRecursion}
+use Rattle.dm_base.specs.Limits.{least_room, message_limit, object_limit}
 use Rattle.dm_base.specs.Fields.{is_short}
 use Rattle.dm_base.specs.declared.values.Limits.{Limits}
 use Rattle.syncml_types.specs.Message.{Parts}
@@ -21,6 +23,7 @@ use Rattle.dm_atomic.specs.Made.{Made, entry_of}
 use Rattle.dm_atomic.specs.Made as made
 use Rattle.dm_atomic.specs.Run.{Group, State}
 use Rattle.dm_pack.specs.Entries.{IsReady, fresh}
+pub use Rattle.dm_ends.specs.Ready.{IsReadyAccount, IsReadyLimits, IsReadyMessage, IsReadyRead}
 use Rattle.dm_machine.specs.declared.progress.Progress.{Progress}
 use Rattle.dm_machine.specs.declared.progress.UpdateResult.{UpdateResult}
 use Rattle.dm_machine.specs.Machine.{Session, Machine}
@@ -72,22 +75,13 @@ pub record IsReadyState (max_obj : ℕ) (s : State) : Type 0 where
 
 -- ---- a machine
 
--- names of at most 64 bytes
-pub record IsReadyAccount (a : Account) : Type 0 where
-  pub server : IsTrue (is_short a.server)
-  pub user : IfSome a.user (λ name. IsTrue (is_short name))
-
-pub record IsReadyLimits (limits : Limits) : Type 0 where
-  pub max_msg : limits.max_msg < 2 ^ 32
-  pub max_obj : limits.max_obj ≤ 4194304
-
 -- the numbers are those of their types, and the first package's entries that wait are in the queue
 pub record IsReadyProgress (c : Machine) (p : Progress) : Type 0 where
   pub number : p.number < 2 ^ 32
   pub account : p.account < length c.accounts
   pub last : p.standing.last < 2 ^ 32
   pub own : p.standing.own < 2 ^ 32
-  pub room : (2048 ≤ p.standing.room) × (p.standing.room ≤ 65536)
+  pub room : (least_room ≤ p.standing.room) × (p.standing.room ≤ message_limit)
   pub opening : p.opening_at + p.opening_left ≤ length c.queue
 
 abbrev pub AreReadyResults : List UpdateResult → Type 0
@@ -103,17 +97,6 @@ pub record IsReadyMachine (c : Machine) : Type 0 where
   pub session : IfSome c.session (λ (s : Session). IsReadyProgress c s.progress)
 
 -- ---- an event
-
--- a message that can be held, and a nonce of sixteen bytes
-pub record IsReadyMessage (m : Parts) (nonce : List ℕ) : Type 0 where
-  pub fit : IsFit m.header m.body
-  pub numbers : AreNumbers m
-  pub nonce_long : length nonce ≡ 16
-  pub nonce_bytes : (k : ℕ) → k < 16 → get_or nonce k 0 < 256
-
-abbrev pub IsReadyRead : Result Parts Refusal → List ℕ → Type 0
-IsReadyRead (Ok m) nonce = IsReadyMessage m nonce
-IsReadyRead (Err refusal) nonce = ⊤
 
 -- one that a client may meet: of its accounts, and in the ranges of its types
 abbrev pub IsReadyEvent : Machine → Event → Type 0

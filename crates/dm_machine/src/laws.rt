@@ -1,5 +1,7 @@
 // What holds of the machine, over its definition alone.
-ghost use Rattle.dm_machine.specs.Laws.{StateIsEnough, AcceptedNumbersRise, OneStatusEach, ExecutesNothing, EndsGiveUp, StaysReady, SendsWithinRoom};
+ghost use Rattle.dm_machine.specs.Laws.{StateIsEnough, AcceptedNumbersRise, OneStatusEach, ExecutesNothing, EndsGiveUp};
+ghost use Rattle.dm_machine.specs.Laws.{AccountsStay, StaysSteady, StaysReady, SendsWithinRoom};
+ghost use Rattle.dm_machine.specs.Statuses.{OneStatusEachInRuns};
 
 /// Law: a client that keeps the message which it sent last answers every list of events as its whole history says.
 pub fn state_is_enough()
@@ -12,10 +14,27 @@ pub fn accepted_numbers_rise()
     ensures { AcceptedNumbersRise }
 {}
 
+/// Law: no event makes accounts more or fewer.
+pub fn accounts_stay()
+    ensures { AccountsStay }
+{}
+
+/// Law: where State is 60 exactly while an update was started and has no result yet, and no group is open without a
+/// session, so it is after each event.
+pub fn machines_stay_steady()
+    ensures { StaysSteady }
+{}
+
 /// Law: each step and each container of a message that is executed has exactly one Status made, suppressed or not: with
-/// that message, or where its group closes or is broken. Where the session ends before, it has none.
+/// that message, or where its group closes or is broken.
 pub fn one_status_each()
     ensures { OneStatusEach }
+{}
+
+/// Law: over all events that act, each step and each container that is executed has exactly one Status made, in its
+/// message or later, unless it still waits for its group's close, or waited for it where its session ended.
+pub fn one_status_each_in_runs()
+    ensures { OneStatusEachInRuns }
 {}
 
 /// Law: of a message that doesn't pass the checks of its header nothing is executed, and nothing is made.
@@ -35,9 +54,9 @@ pub fn machines_stay_ready()
     ensures { StaysReady }
 {}
 
-/// Law: at each event that a client may meet, its next message is no longer than the room that the server told last, which
-/// is 16,384 bytes before it told one; and the message with which a session is denied has at most 2,048 bytes, the least
-/// room.
+/// Law: at each event that a client may meet, its next message is no longer than the room that the server told last,
+/// which is 16,384 bytes before it told one; and the message with which a session is denied has at most 2,048 bytes,
+/// the least room.
 pub fn messages_keep_to_the_room()
     ensures { SendsWithinRoom }
 {}

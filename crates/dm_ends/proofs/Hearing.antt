@@ -1,5 +1,6 @@
 -- What a message's header comes to: a code of 32 bits, an account of the same names, and a room in its range.
-use Rattle.std.proofs.Common.{◌≡◌, ◌<◌, ◌≤◌, ◌^◌, ℕ, Bool, true, false, List, Option, Some, None, IfSome, refl, arith, if◌then◌else◌}
+use Rattle.std.proofs.Common.{◌≡◌, ◌<◌, ◌≤◌, ◌^◌, ℕ, Bool, true, false, List, Option, Some, None, IfSome, refl, arith}
+use Rattle.std.proofs.Common.{if◌then◌else◌}
 use Rattle.std.specs.Prelude.{nat_lt, unwrap_or, option_and_then}
 use Rattle.std.specs.Option.{option_map_or}
 use Rattle.std.proofs.lemmas.Bool.{ltb-false}
@@ -13,9 +14,10 @@ use Rattle.dm_auth.specs.Digests.{verdict}
 use Rattle.dm_headers.specs.declared.checks.Side.{Side}
 use Rattle.dm_headers.specs.declared.checks.Side.TheVariants.{Server, User}
 use Rattle.dm_headers.specs.declared.standings.Standing.{Standing}
-use Rattle.dm_headers.specs.Checks.{Login, login_of, other, renewed, with_both, fault_of, verdict_code, judged, judged_by, header_code}
+use Rattle.dm_headers.specs.Checks.{Login, login_of, other, renewed, with_both, fault_of, verdict_code, judged}
+use Rattle.dm_headers.specs.Checks.{judged_by, header_code}
 use Rattle.dm_headers.specs.Standings.{room_told, Heard, hears}
-use Rattle.dm_machine.specs.Ready.{IsReadyAccount}
+use Rattle.dm_ends.specs.Ready.{IsReadyAccount}
 
 -- ---- the code
 

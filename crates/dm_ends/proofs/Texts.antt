@@ -1,5 +1,7 @@
--- Texts that a client makes itself: names, decimals, base64 and digests.
-use Rattle.std.proofs.Common.{◌≡◌, ◌<◌, ◌≤◌, ◌+◌, ◌&&◌, ◌^◌, ◌==◌, ◌/◌, ◌%◌, ◌*◌, ℕ, zero, suc, Bool, true, not, IsTrue, List, [], ◌∷◌, ◌++◌, length, length-append, replicate, slice_index, nat_lt, nat_le, refl, ap, ◌∙◌, arith}
+-- Texts that an end makes itself: names, decimals, base64 and digests.
+use Rattle.std.proofs.Common.{◌≡◌, ◌<◌, ◌≤◌, ◌+◌, ◌&&◌, ◌^◌, ◌==◌, ◌/◌, ◌%◌, ◌*◌, ℕ, zero, suc, Bool, true, not, IsTrue}
+use Rattle.std.proofs.Common.{List, [], ◌∷◌, ◌++◌, length, length-append, replicate, slice_index, nat_lt, nat_le, refl}
+use Rattle.std.proofs.Common.{ap, ◌∙◌, arith}
 use Rattle.std.specs.List.{list_all, AllByRecursion}
 use Rattle.std.specs.Str.{IsAscii, all_ascii_digits}
 use Rattle.std.specs.Fmt.{decimal}
@@ -29,6 +31,9 @@ use Rattle.dm_pack.proofs.Ready.{IsText, Passes}
 pub pass_text : (test : List ℕ → Bool) (most : ℕ) (t : List ℕ) → Passes test → most ≤ 1000 → IsText most t
     → test t ≡ true
 pass_text test most t passes within is = let few = is.few in passes.pass t is.text (omega (arith, few, within))
+
+pub longer : (few most : ℕ) (t : List ℕ) → few ≤ most → IsText few t → IsText most t
+longer few most t more is = record { text = is.text; few = let short = is.few in omega (arith, more, short) }
 
 pub some_number : (n : ℕ) → 0 < n → is_number n ≡ true
 some_number n some = ap not (ne_eqb n 0 (λ e. omega (arith, e, some)))

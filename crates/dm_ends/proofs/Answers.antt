@@ -1,10 +1,13 @@
--- The Status of a server's header can be sent, and is short.
-use Rattle.std.proofs.Common.{◌≡◌, ◌<◌, ◌^◌, ℕ, zero, suc, Bool, true, false, List, [], ◌∷◌, length, codes, get_or, map, Option, Some, None, refl, arith, if◌then◌else◌}
+-- The Status of a header can be sent, and is short.
+use Rattle.std.proofs.Common.{◌≡◌, ◌<◌, ◌^◌, ℕ, zero, suc, Bool, true, false, List, [], ◌∷◌, length, codes, get_or, map}
+use Rattle.std.proofs.Common.{Option, Some, None, refl, arith, if◌then◌else◌}
 use Rattle.std.specs.List.{AllByRecursion}
-use Rattle.wbxml_tables.specs.declared.Element.TheVariants.{EChal, ECmd, ECmdID, ECmdRef, EData, EFormat, EMeta, EMsgRef, ENextNonce, EStatus, EType}
+use Rattle.wbxml_tables.specs.declared.Element.TheVariants.{EChal, ECmd, ECmdID, ECmdRef, EData, EFormat, EMeta}
+use Rattle.wbxml_tables.specs.declared.Element.TheVariants.{EMsgRef, ENextNonce, EStatus, EType}
 use Rattle.syncml_types.specs.declared.values.Meta.{Meta}
 use Rattle.syncml_types.specs.declared.values.Header.{Header}
-use Rattle.syncml_types.specs.Canonical.{optional, meta_tokens, chal_tokens, items_tokens, texts_tokens, status_tokens, command_tokens}
+use Rattle.syncml_types.specs.Canonical.{optional, meta_tokens, chal_tokens, items_tokens, texts_tokens, status_tokens}
+use Rattle.syncml_types.specs.Canonical.{command_tokens}
 use Rattle.syncml_types.specs.Numbering.{with_numbers}
 use Rattle.dm_auth.specs.Digests.{base64_of, challenge}
 use Rattle.dm_headers.specs.Checks.{is_challenged}
@@ -13,7 +16,7 @@ use Rattle.dm_pack.specs.Entries.{IsReady, fresh}
 use Rattle.dm_pack.specs.Laws.{IsShort}
 use Rattle.dm_pack.proofs.Most.{Most, none, most_append, most_parent, most_element, most_text, most_number}
 use Rattle.dm_pack.proofs.Ready.{IsChal, status_ready}
-use Rattle.dm_machine.proofs.OwnTexts.{AreBytes, base64_text, literal}
+use Rattle.dm_ends.proofs.Texts.{AreBytes, base64_text, literal}
 
 -- ---- a nonce
 
