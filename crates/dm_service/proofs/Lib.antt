@@ -1,0 +1,14 @@
+pub mod Steps
+pub mod History
+pub mod Once
+pub mod Gone
+pub mod Runs
+pub mod Unaccepted
+pub mod Headers
+pub mod Stays
+pub mod Codes
+pub mod Faultless
+pub mod First
+pub mod Idle
+pub mod Values
+pub mod Order

@@ -1,0 +1,11 @@
+pub mod Service
+pub mod Sending
+pub mod Matching
+pub mod Packages
+pub mod Answers
+pub mod Messages
+pub mod Events
+pub mod History
+pub mod Report
+pub mod Ready
+pub mod Laws
