@@ -1,5 +1,6 @@
 -- No group is open where a session has ended.
-use Rattle.std.proofs.Common.{◌≡◌, ◌&&◌, ◌+◌, ◌++◌, ℕ, Bool, true, false, cond, List, length, map, refl, sym, subst, set, Option, None, Some}
+use Rattle.std.proofs.Common.{◌≡◌, ◌&&◌, ◌+◌, ◌++◌, ℕ, Bool, true, false, cond, List, length, map, refl, sym, subst}
+use Rattle.std.proofs.Common.{set, Option, None, Some}
 use Rattle.std.specs.List.{list_any}
 use Rattle.std.specs.Option.{option_or}
 use Rattle.std.specs.Prelude.{⊤}
@@ -17,7 +18,8 @@ use Rattle.dm_machine.specs.Machine.{Machine}
 use Rattle.dm_atomic.specs.Made.{told}
 use Rattle.dm_machine.specs.declared.kinds.End.TheVariants.{Finished, Aborted}
 use Rattle.dm_machine.specs.Sending.{sends}
-use Rattle.dm_machine.specs.Messages.{Outcome, goes_on, ends, Waits, waits_after, account_at, closed, finished, denied, is_abort, is_last_own, is_over, run_of, answered, by_header, accepts}
+use Rattle.dm_machine.specs.Messages.{Outcome, goes_on, ends, Waits, waits_after, account_at, closed, finished, denied}
+use Rattle.dm_machine.specs.Messages.{is_abort, is_last_own, is_over, run_of, answered, by_header, accepts}
 use Rattle.dm_session.specs.declared.drafts.Next.{Next}
 use Rattle.dm_session.specs.declared.drafts.Next.TheVariants as drafts
 use Rattle.dm_session.specs.declared.rest.Rest.{Rest}

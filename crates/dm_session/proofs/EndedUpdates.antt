@@ -1,5 +1,6 @@
 -- A client whose update ends.
-use Rattle.std.proofs.Common.{◌≡◌, ℕ, Bool, true, false, cond, List, [], ◌∷◌, ◌++◌, length, take, refl, sym, ◌∙◌, ap, subst, arith, length-append, Option, None, Some}
+use Rattle.std.proofs.Common.{◌≡◌, ℕ, Bool, true, false, cond, List, [], ◌∷◌, ◌++◌, length, take, refl, sym, ◌∙◌, ap}
+use Rattle.std.proofs.Common.{subst, arith, length-append, Option, None, Some}
 use Rattle.std.specs.Prelude.{MatchOption}
 use Rattle.std.proofs.Math.Seq.{take-append_seam}
 use Rattle.dm_pack.specs.Entries.{Entry}
@@ -7,8 +8,8 @@ use Rattle.dm_tree.specs.declared.nodes.Stamp.{Stamp}
 use Rattle.dm_atomic.specs.declared.engine.Engine.{Engine}
 use Rattle.dm_atomic.specs.Run.{State}
 use Rattle.dm_atomic.specs.Engine.{state_of, IsSoundEngine}
-use Rattle.dm_atomic.specs.Marks.{Whole, whole_of}
-use Rattle.dm_atomic.specs.Updates.{clock_of, max_obj_of, finished}
+use Rattle.dm_atomic.specs.Marks.{Whole, whole_of, past_of, no_past}
+use Rattle.dm_atomic.specs.Updates.{clock_of, max_obj_of, finished, TellsStarted}
 use Rattle.dm_machine.specs.declared.progress.UpdateResult.{UpdateResult}
 use Rattle.dm_machine.specs.Machine.{Machine}
 use Rattle.dm_machine.specs.Messages.{acts, correlator_of}
@@ -16,10 +17,11 @@ use Rattle.dm_machine.specs.Events.{act, takes, after}
 use Rattle.dm_machine.specs.History.{next}
 use Rattle.dm_machine.specs.Ready.{IsReadyMachine}
 use Rattle.dm_machine.proofs.StaysReady.{stays_ready}
+use Rattle.dm_machine.proofs.Steady.{stays_steady}
 use Rattle.dm_session.specs.declared.rest.Rest.{Rest}
 use Rattle.dm_session.specs.Inside.{machine_of, whole_client, IsSound}
 use Rattle.dm_session.specs.View.{Whole as Seen}
-use Rattle.dm_session.proofs.Clients.{same_client}
+use Rattle.dm_session.proofs.Clients.{same_client, steady_of}
 
 -- ---- nothing has changed
 
@@ -53,8 +55,8 @@ module _ (e f : Engine) (q : List Entry) (r : Rest) (results : List UpdateResult
       ∙ ap (λ x. whole_client (record { engine = e; queue = q; rest = with_results r x })) is
 
   pub still_sound : IsSound (record { engine = e; queue = q; rest = r }) → max_obj_of f ≡ max_obj_of e → IsSoundEngine f
-      → IsSound (record { engine = f; queue = q; rest = with_results r results })
-  still_sound s m sound = record {
+      → past_of f ≡ past_of e → IsSound (record { engine = f; queue = q; rest = with_results r results })
+  still_sound s m sound past = record {
     goes_on = record {
       engine = sound;
       max_obj = m ∙ s.goes_on.max_obj;
@@ -62,6 +64,8 @@ module _ (e f : Engine) (q : List Entry) (r : Rest) (results : List UpdateResult
     };
     sent = s.sent;
     farewell = s.farewell;
+    settled = past ∙ s.settled;
+    told = subst (λ (x : Whole). TellsStarted x.state) (sym w) s.told;
     closed = λ h. ap (λ (x : Whole). x.state.group) w ∙ s.closed h;
   }
 
@@ -92,8 +96,8 @@ module _ (e f : Engine) (q : List Entry) (r : Rest) (results : List UpdateResult
   ended_next = acts_so ∙ next_if _ (machine_of e q r) (after (machine_of e q r) (act ok)) takes_it
 
   pub ended_sound : IsSound (record { engine = e; queue = q; rest = r }) → max_obj_of f ≡ max_obj_of e → IsSoundEngine f
-      → IsSound (record { engine = f; queue = q; rest = with_results r results })
-  ended_sound s m sound = record {
+      → past_of f ≡ no_past → IsSound (record { engine = f; queue = q; rest = with_results r results })
+  ended_sound s m sound settled = record {
     goes_on = record {
       engine = sound;
       max_obj = m ∙ s.goes_on.max_obj;
@@ -101,5 +105,8 @@ module _ (e f : Engine) (q : List Entry) (r : Rest) (results : List UpdateResult
     };
     sent = s.sent;
     farewell = s.farewell;
+    settled = settled;
+    told = subst (λ (x : Machine). TellsStarted x.engine) (sym ended_next)
+        (stays_steady (machine_of e q r) (act ok) (steady_of (record { engine = e; queue = q; rest = r }) s)).started;
     closed = λ h. ap (λ (x : State). x.group) state ∙ s.closed h;
   }

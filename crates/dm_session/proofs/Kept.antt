@@ -1,17 +1,19 @@
 -- Nodes that keep their numbers while a client works.
-use Rattle.std.proofs.Common.{◌≡◌, ◌&&◌, ℕ, ◌<◌, Bool, true, not, List, length, get_or, refl, sym, ◌∙◌, subst, Option, None, Some}
+use Rattle.std.proofs.Common.{◌≡◌, ◌&&◌, ℕ, ◌<◌, Bool, true, not, List, length, get_or, refl, sym, ◌∙◌, subst, Option}
+use Rattle.std.proofs.Common.{None, Some}
 use Rattle.std.specs.Prelude.{Result, Ok, is_some, option_map}
 use Rattle.wbxml_tokens.specs.declared.reason.Refusal.{Refusal}
 use Rattle.syncml_types.specs.declared.command.Command.{Command}
 use Rattle.syncml_types.specs.Message.{Parts}
-use Rattle.dm_tree.specs.Nodes.{Path}
+use Rattle.dm_tree.specs.Nodes.{Path, Ids}
+use Rattle.dm_commands.specs.Promises.{KeepIdsBut}
 use Rattle.dm_pack.specs.Entries.{Entry}
 use Rattle.dm_atomic.specs.declared.engine.Engine.{Engine}
 use Rattle.dm_atomic.specs.Engine.{state_of}
 use Rattle.dm_atomic.specs.Marks.{Whole as AllOf, whole_of}
 use Rattle.dm_atomic.specs.Stays.{covers, StayBut}
 use Rattle.dm_atomic.specs.Updates.{is_updating}
-use Rattle.dm_atomic.proofs.Staying.{stay_self, stay_then, stay_within, none_at, base_closed}
+use Rattle.dm_atomic.proofs.Staying.{stay_self, stay_then, stay_within, stay_closed, none_at, base_closed}
 use Rattle.dm_machine.specs.Events.{act, takes}
 use Rattle.dm_session.specs.declared.client.Client.TheInside.{Inside}
 use Rattle.dm_session.specs.declared.rest.Rest.{Rest}
@@ -51,6 +53,21 @@ seen_stay c i old w e = subst (λ (x : Whole). StayBut c (engine_in x) w) e
 pub read_stay : (read : Result Parts Refusal) (m : Parts) (v w : AllOf) → read ≡ Ok m → StayBut (body_covers m.body) v w
     → StayBut (read_covers read) v w
 read_stay read m v w e = subst (λ x. StayBut (read_covers x) v w) (sym e)
+
+pub kept_self : (c : Path → Bool) (i : Ids) → KeepIdsBut c i i
+kept_self c i p id there u = there
+
+-- where no group was open, a node keeps its number in the tree
+pub kept_seen : (c : Path → Bool) (i : Inside) (old : Whole) (w : AllOf) → whole_client i ≡ old
+    → StayBut c (engine_in old) w → old.machine.engine.group ≡ None → KeepIdsBut c old.ids w.ids
+kept_seen c i old w e stay closed =
+    stay_closed c (engine_in old) w
+    (subst (λ (x : Whole). x.machine.engine.group ≡ None → x.base_ids ≡ None) e (base_closed i.engine) closed) stay
+
+pub kept_read : (read : Result Parts Refusal) (m : Parts) (old new : Ids) → read ≡ Ok m
+    → KeepIdsBut (body_covers m.body) old new
+    → KeepIdsBut (read_covers read) old new
+kept_read read m old new e = subst (λ x. KeepIdsBut (read_covers x) old new) (sym e)
 
 -- an update ends where no session is open
 pub not_open : (e : Engine) (q : List Entry) (r : Rest) (ok : Bool) → takes (machine_of e q r) (act ok) ≡ true

@@ -1,5 +1,6 @@
 -- A client's machine while a message is worked.
-use Rattle.std.proofs.Common.{◌≡◌, ◌&&◌, ◌==◌, ◌<◌, ◌+◌, ◌^◌, ℕ, Bool, true, false, cond, List, [], ◌∷◌, ◌++◌, length, map, zero, suc, refl, sym, ◌∙◌, ap, subst, arith}
+use Rattle.std.proofs.Common.{◌≡◌, ◌&&◌, ◌==◌, ◌<◌, ◌+◌, ◌^◌, ℕ, Bool, true, false, cond, List, [], ◌∷◌, ◌++◌, length}
+use Rattle.std.proofs.Common.{map, zero, suc, refl, sym, ◌∙◌, ap, subst, arith}
 use Rattle.std.specs.Prelude.{Option, None, Some, set, get_or, unwrap_or}
 use Rattle.std.specs.Option.{option_to_list, option_or}
 use Rattle.syncml_types.specs.declared.command.Command.{Command}
@@ -22,7 +23,8 @@ use Rattle.dm_machine.specs.declared.kinds.End.TheVariants.{Finished, Aborted}
 use Rattle.dm_machine.specs.declared.progress.Progress.{Progress}
 use Rattle.dm_machine.specs.Machine.{Machine}
 use Rattle.dm_machine.specs.Sending.{header_from, moved_on, sends}
-use Rattle.dm_machine.specs.Messages.{Outcome, goes_on, ends, Waits, waits_after, queued_again, first_standing, first_progress, closed, finished, is_over, answered, run_of, execute}
+use Rattle.dm_machine.specs.Messages.{Outcome, goes_on, ends, Waits, waits_after, queued_again, first_standing}
+use Rattle.dm_machine.specs.Messages.{first_progress, closed, finished, is_over, answered, run_of, execute}
 use Rattle.dm_session.specs.declared.rest.Rest.{Rest}
 use Rattle.dm_session.specs.declared.rest.Session.{Session as Held}
 use Rattle.dm_session.specs.Inside.{machine_of}
@@ -47,34 +49,47 @@ abbrev pub moved_by : Progress → ℕ → Progress
 moved_by p n = record p { opening_at = p.opening_at + n }
 
 abbrev sent_by : Machine → Waits → Account → State → List Command → List Command → ℕ → Outcome
-sent_by c w a s front made n = goes_on (sends (record c { engine = s; queue = map fresh front ++ (w.queue ++ map fresh made) }) (moved_by w.progress n) a)
+sent_by c w a s front made n =
+    goes_on (sends (record c { engine = s; queue = map fresh front ++ (w.queue ++ map fresh made) })
+    (moved_by w.progress n) a)
 
-pub answered_goes_on : (c : Machine) (w : Waits) (m : Parts) (h : Heard) (nonce : List ℕ) (run : Next) (front made : List Command)
-    → front ≡ header_answer m.header h.code nonce → made ≡ told run.made → is_over m h.code (w.queue ++ map fresh made) ≡ false
+pub answered_goes_on : (c : Machine) (w : Waits) (m : Parts) (h : Heard) (nonce : List ℕ) (run : Next)
+    (front made : List Command)
+    → front ≡ header_answer m.header h.code nonce → made ≡ told run.made
+    → is_over m h.code (w.queue ++ map fresh made) ≡ false
     → sent_by c w h.account run.state front made (length front) ≡ answered c w m h nonce run
 answered_goes_on c w m h nonce run front made f t o =
     ap (sent_by c w h.account run.state front made) (sym (length_fresh front))
     ∙ ap (λ x. sent_by c w h.account run.state x made (length (map fresh x))) f
     ∙ ap (λ x. sent_by c w h.account run.state answer x (length (map fresh answer))) t
-    ∙ sym (not_over (is_over m h.code (w.queue ++ map fresh (told run.made))) (sym (ap (λ x. is_over m h.code (w.queue ++ map fresh x)) t) ∙ o))
+    ∙ sym (not_over (is_over m h.code (w.queue ++ map fresh (told run.made)))
+    (sym (ap (λ x. is_over m h.code (w.queue ++ map fresh x)) t) ∙ o))
   where
     answer : List Command
     answer = header_answer m.header h.code nonce
 
-    not_over : (b : Bool) → b ≡ false → cond b (ends (finished (record c { engine = run.state })) Finished) (sent_by c w h.account run.state answer (told run.made) (length (map fresh answer))) ≡ sent_by c w h.account run.state answer (told run.made) (length (map fresh answer))
+    not_over : (b : Bool) → b ≡ false
+        → cond b (ends (finished (record c { engine = run.state })) Finished)
+        (sent_by c w h.account run.state answer (told run.made) (length (map fresh answer)))
+        ≡ sent_by c w h.account run.state answer (told run.made) (length (map fresh answer))
     not_over true e = absurd (cc)
     not_over false e = refl
 
-pub answered_ends : (c : Machine) (w : Waits) (m : Parts) (h : Heard) (nonce : List ℕ) (run : Next) (made : List Command)
+pub answered_ends : (c : Machine) (w : Waits) (m : Parts) (h : Heard) (nonce : List ℕ) (run : Next)
+    (made : List Command)
     → made ≡ told run.made → is_over m h.code (w.queue ++ map fresh made) ≡ true
     → ends (finished (record c { engine = run.state })) Finished ≡ answered c w m h nonce run
 answered_ends c w m h nonce run made t o =
-    sym (over (is_over m h.code (w.queue ++ map fresh (told run.made))) (sym (ap (λ x. is_over m h.code (w.queue ++ map fresh x)) t) ∙ o))
+    sym (over (is_over m h.code (w.queue ++ map fresh (told run.made)))
+    (sym (ap (λ x. is_over m h.code (w.queue ++ map fresh x)) t) ∙ o))
   where
     answer : List Command
     answer = header_answer m.header h.code nonce
 
-    over : (b : Bool) → b ≡ true → cond b (ends (finished (record c { engine = run.state })) Finished) (sent_by c w h.account run.state answer (told run.made) (length (map fresh answer))) ≡ ends (finished (record c { engine = run.state })) Finished
+    over : (b : Bool) → b ≡ true
+        → cond b (ends (finished (record c { engine = run.state })) Finished)
+        (sent_by c w h.account run.state answer (told run.made) (length (map fresh answer)))
+        ≡ ends (finished (record c { engine = run.state })) Finished
     over true e = refl
     over false e = absurd (cc)
 
@@ -94,13 +109,17 @@ sent_machine e q waiting r p a h s is left progress message =
     let c = machine_of e waiting r in
     ap (λ x. with_sent c x s.progress s.sent.message) left
     ∙ ap (λ x. with_sent c (fill waiting h p.standing.room p.standing.heard).left x s.sent.message) progress
-    ∙ ap (λ x. with_sent c (fill waiting h p.standing.room p.standing.heard).left (moved_on p (fill waiting h p.standing.room p.standing.heard)) x) message
-    ∙ ap (λ x. with_sent c (fill waiting x p.standing.room p.standing.heard).left (moved_on p (fill waiting x p.standing.room p.standing.heard)) (fill waiting x p.standing.room p.standing.heard).message) is
+    ∙ ap (λ x. with_sent c (fill waiting h p.standing.room p.standing.heard).left
+    (moved_on p (fill waiting h p.standing.room p.standing.heard)) x) message
+    ∙ ap (λ x. with_sent c (fill waiting x p.standing.room p.standing.heard).left
+    (moved_on p (fill waiting x p.standing.room p.standing.heard))
+    (fill waiting x p.standing.room p.standing.heard).message) is
 
 -- ---- the account
 
 -- the account that was read at a place
-pub account_is : (accounts shown : List Account) (at : ℕ) (account d : Account) → shown ≡ accounts → account ≡ get_or shown at account
+pub account_is : (accounts shown : List Account) (at : ℕ) (account d : Account) → shown ≡ accounts
+    → account ≡ get_or shown at account
     → at < length accounts → account ≡ get_or accounts at d
 account_is accounts shown at account d same is low =
     is ∙ ap (λ xs. get_or xs at account) same ∙ other accounts at account low
@@ -139,7 +158,8 @@ begun_by c q account kind number n a =
 
 pub begun_machine : (c : Machine) (account : ℕ) (kind : Kind) (number n : ℕ) (a b : Account) (q first : List Entry)
     → q ≡ first → n ≡ length q → a ≡ b
-    → begun_by c q account kind number n a ≡ sends (record c { queue = first }) (first_progress account kind number first) b
+    → begun_by c q account kind number n a
+    ≡ sends (record c { queue = first }) (first_progress account kind number first) b
 begun_machine c account kind number n a b q first is long same =
     ap (λ x. begun_by c q account kind number x a) long
     ∙ ap (λ x. begun_by c x account kind number (length x) a) is
@@ -147,7 +167,8 @@ begun_machine c account kind number n a b q first is long same =
 
 -- ---- a session that ends
 
-pub closed_machine : (e f : Engine) (q r : List Entry) (x : Rest) → state_of f ≡ abandoned (state_of e) → clock_of f ≡ clock_of e
+pub closed_machine : (e f : Engine) (q r : List Entry) (x : Rest) → state_of f ≡ abandoned (state_of e)
+    → clock_of f ≡ clock_of e
     → r ≡ [] → machine_of f r (record x { session = None }) ≡ closed (machine_of e q x)
 closed_machine e f q r x s k n =
     ap (λ t. with_state c (clock_of f) t r) s ∙ ap (λ t. with_state c t (abandoned (state_of e)) r) k

@@ -1,5 +1,6 @@
 -- A client that is new.
-use Rattle.std.proofs.Common.{Global, ◌≡◌, ℕ, Bool, true, false, cond, List, [], refl, sym, ◌∙◌, ap, subst, Option, None, Some, IfSome}
+use Rattle.std.proofs.Common.{Global, ◌≡◌, ℕ, Bool, true, false, cond, List, [], refl, sym, ◌∙◌, ap, subst, Option}
+use Rattle.std.proofs.Common.{None, Some, IfSome}
 use Rattle.std.specs.List.{AllByRecursion}
 use Rattle.std.specs.Option.{option_map}
 use Rattle.dm_base.specs.declared.values.Limits.{Limits}
@@ -12,7 +13,10 @@ use Rattle.dm_atomic.specs.declared.reports.Started.{Started}
 use Rattle.dm_atomic.specs.declared.engine.Engine.{Engine}
 use Rattle.dm_atomic.specs.Run.{State, Running}
 use Rattle.dm_atomic.specs.Engine.{state_of, running, IsSoundEngine}
-use Rattle.dm_atomic.specs.Updates.{clock_of, is_updating, begun}
+use Rattle.dm_atomic.specs.Marks.{whole_of, past_of, no_past}
+use Rattle.dm_atomic.specs.Updates.{clock_of, is_updating, begun, TellsStarted}
+use Rattle.dm_atomic.proofs.Staying.{base_closed}
+use Rattle.dm_atomic.proofs.Tellings.{begins_telling}
 use Rattle.dm_commands.specs.Outcomes.{asked_by}
 use Rattle.dm_machine.specs.declared.progress.UpdateResult.{UpdateResult}
 use Rattle.dm_machine.specs.Machine.{Machine}
@@ -80,10 +84,13 @@ module _ (e : Engine) (q : List Entry) (alloc : Global) (limits : Limits) (accou
       ∙ ap (λ x. new_machine limits clock (begun m) x accounts results) queue
       ∙ ap (λ x. new_machine limits clock (begun m) [] accounts x) untold
 
-  pub new_sound : IsSoundEngine e → IsReadyLimits limits → IsStamp clock → IsDevice m
+  pub new_base : (whole_of e).base_ids ≡ None
+  new_base = base_closed e (ap (λ (s : State). s.group) state ∙ no_group m)
+
+  pub new_sound : IsSoundEngine e → past_of e ≡ no_past → IsReadyLimits limits → IsStamp clock → IsDevice m
       → AllByRecursion IsReadyAccount accounts
       → IsSound (record { engine = e; queue = q; rest = new_rest alloc limits accounts results })
-  new_sound sound ready stamp device accounts_ready = record {
+  new_sound sound settled ready stamp device accounts_ready = record {
     goes_on = record {
       engine = sound;
       max_obj = ap (λ (r : Running). r.max_obj) (runs []);
@@ -99,5 +106,7 @@ module _ (e : Engine) (q : List Entry) (alloc : Global) (limits : Limits) (accou
     };
     sent = tt;
     farewell = tt;
+    settled = settled;
+    told = subst TellsStarted (sym state) (begins_telling m device.formed device.device.update);
     closed = λ h. ap (λ (s : State). s.group) state ∙ no_group m;
   }

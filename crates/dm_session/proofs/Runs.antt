@@ -1,5 +1,6 @@
 -- Commands of a body that are run one after another.
-use Rattle.std.proofs.Common.{◌≡◌, ℕ, suc, ◌+◌, ◌<◌, ◌≤◌, List, [], ◌∷◌, ◌++◌, length, drop, get_or, Bool, true, false, cond, refl, sym, ◌∙◌, ap, subst, append_assoc, add-one, drop-cons}
+use Rattle.std.proofs.Common.{◌≡◌, ℕ, suc, ◌+◌, ◌<◌, ◌≤◌, List, [], ◌∷◌, ◌++◌, length, drop, get_or, Bool, true, false}
+use Rattle.std.proofs.Common.{cond, refl, sym, ◌∙◌, ap, subst, append_assoc, add-one, drop-cons}
 use Rattle.std.proofs.lemmas.List.{append-nil, drop_all}
 use Rattle.syncml_types.specs.declared.command.Command.{Command}
 use Rattle.syncml_types.specs.Message.{Parts}
@@ -30,15 +31,19 @@ giving-on rest first left whole before now after i e t = record {
       ∙ i.goes_on;
 }
 
-pub run_goes_on : (r : Running) (o : Origin) (s next : State) (cs shown : List Command) (k : ℕ) (c : Command) (whole : Next)
-    (before now after : List Command) → IsGiving (run_all r o s (drop k cs)) whole before now → shown ≡ cs → k < length shown
+pub run_goes_on : (r : Running) (o : Origin) (s next : State) (cs shown : List Command) (k : ℕ) (c : Command)
+    (whole : Next)
+    (before now after : List Command) → IsGiving (run_all r o s (drop k cs)) whole before now → shown ≡ cs
+    → k < length shown
     → c ≡ get_or shown k c → Gives (run_command r o s c) next now after
     → IsGiving (run_all r o next (drop (k + 1) cs)) whole before after
 run_goes_on r o s next cs shown k c whole before now after i e l is h =
     subst (λ xs. IsGiving (run_all r o next (drop (k + 1) xs)) whole before after) e
-    (giving-on (run_all r o s (drop k shown)) (run_command r o s c) (run_all r o next (drop (k + 1) shown)) whole before now after
+    (giving-on (run_all r o s (drop k shown)) (run_command r o s c) (run_all r o next (drop (k + 1) shown)) whole before
+    now after
     (subst (λ xs. IsGiving (run_all r o s (drop k xs)) whole before now) (sym e) i)
-    (ap (run_all r o s) behind ∙ ap (λ y. then_gives (run_command r o s c) (run_all r o y (drop (k + 1) shown))) (sym h.state_is))
+    (ap (run_all r o s) behind
+    ∙ ap (λ y. then_gives (run_command r o s c) (run_all r o y (drop (k + 1) shown))) (sym h.state_is))
     h.told_is)
   where
     behind : drop k shown ≡ c ∷ drop (k + 1) shown
@@ -48,15 +53,18 @@ pub run_over : (r : Running) (o : Origin) (s : State) (cs shown : List Command) 
     → run_all r o s (drop k cs) ≡ quietly s
 run_over r o s cs shown k e l = rw (sym e) (ap (run_all r o s) (drop_all k shown l))
 
-pub run_still : (e f : Engine) (caller : List ℕ) (o : Origin) (s next : State) (c : Command) (before after : List Command)
-    → clock_of f ≡ clock_of e → max_obj_of f ≡ max_obj_of e → Gives (run_command (running f caller) o s c) next before after
+pub run_still : (e f : Engine) (caller : List ℕ) (o : Origin) (s next : State) (c : Command)
+    (before after : List Command)
+    → clock_of f ≡ clock_of e → max_obj_of f ≡ max_obj_of e
+    → Gives (run_command (running f caller) o s c) next before after
     → Gives (run_command (running e caller) o s c) next before after
 run_still e f caller o s next c before after k m =
     subst (λ (r : Running). Gives (run_command r o s c) next before after) (running_stays e f caller k m)
 
 -- ---- the whole message
 
-pub noisy_gives : (m : Parts) (run : Next) (s : State) (out after : List Command) → is_quiet m ≡ false → Gives run s out after
+pub noisy_gives : (m : Parts) (run : Next) (s : State) (out after : List Command) → is_quiet m ≡ false
+    → Gives run s out after
     → Gives (quiet_after m run) s out after
 noisy_gives m run s out after q g = record {
   state_is = g.state_is ∙ ap (λ (n : Next). n.state) (sym (kept (is_quiet m) q));
@@ -64,23 +72,29 @@ noisy_gives m run s out after q g = record {
 }
   where
     broken : Bool → Next
-    broken b = let s = cond b (still run.state) (quietly run.state) in record { state = s.state; made = run.made ++ s.made }
+    broken b = let s = cond b (still run.state) (quietly run.state) in
+        record { state = s.state; made = run.made ++ s.made }
 
     kept : (b : Bool) → b ≡ false → broken b ≡ run
     kept true e = absurd (cc)
     kept false e = ap (λ x. record run { made = x }) (append-nil run.made)
 
-pub quiet_gives : (m : Parts) (run : Next) (s next : State) (out first second : List Command) → is_quiet m ≡ true → Gives run s out first
+pub quiet_gives : (m : Parts) (run : Next) (s next : State) (out first second : List Command) → is_quiet m ≡ true
+    → Gives run s out first
     → Gives (still s) next first second → Gives (quiet_after m run) next out second
 quiet_gives m run s next out first second q g h = record {
-  state_is = h.state_is ∙ ap (λ x. (still x).state) g.state_is ∙ ap (λ (n : Next). n.state) (sym (broke (is_quiet m) q));
+  state_is =
+      h.state_is ∙ ap (λ x. (still x).state) g.state_is ∙ ap (λ (n : Next). n.state) (sym (broke (is_quiet m) q));
   told_is = told_both out first second run.made (still s).made g.told_is h.told_is
-      ∙ ap (λ x. out ++ told (run.made ++ (still x).made)) g.state_is ∙ ap (λ (n : Next). out ++ told n.made) (sym (broke (is_quiet m) q));
+      ∙ ap (λ x. out ++ told (run.made ++ (still x).made)) g.state_is
+      ∙ ap (λ (n : Next). out ++ told n.made) (sym (broke (is_quiet m) q));
 }
   where
     broken : Bool → Next
-    broken b = let s = cond b (still run.state) (quietly run.state) in record { state = s.state; made = run.made ++ s.made }
+    broken b = let s = cond b (still run.state) (quietly run.state) in
+        record { state = s.state; made = run.made ++ s.made }
 
-    broke : (b : Bool) → b ≡ true → broken b ≡ record { state = (still run.state).state; made = run.made ++ (still run.state).made }
+    broke : (b : Bool) → b ≡ true
+        → broken b ≡ record { state = (still run.state).state; made = run.made ++ (still run.state).made }
     broke true e = refl
     broke false e = absurd (cc)

@@ -1,5 +1,6 @@
 -- What is about to be sent can be sent.
-use Rattle.std.proofs.Common.{◌≡◌, ◌<◌, ◌≤◌, ◌+◌, ◌^◌, ◌∙◌, ℕ, Bool, true, false, cond, List, [], ◌∷◌, ◌++◌, length, map, refl, sym, ap, subst, None, Some}
+use Rattle.std.proofs.Common.{◌≡◌, ◌<◌, ◌≤◌, ◌+◌, ◌^◌, ◌∙◌, ℕ, Bool, true, false, cond, List, [], ◌∷◌, ◌++◌, length}
+use Rattle.std.proofs.Common.{map, refl, sym, ap, subst, None, Some}
 use Rattle.std.specs.List.{AllByRecursion}
 use Rattle.std.specs.Prelude.{Option, IfSome}
 use Rattle.std.specs.Option.{option_to_list}
@@ -25,21 +26,23 @@ use Rattle.dm_machine.specs.Messages.{Waits, queued_again, run_of}
 use Rattle.dm_machine.specs.declared.kinds.Kind.{Kind}
 use Rattle.dm_machine.specs.Opening.{alert, opening, first_package}
 use Rattle.dm_machine.specs.Sending.{header_from}
-use Rattle.dm_machine.specs.Ready.{IsDevice, IsReadyAccount, IsReadyLimits, IsReadyMachine, IsReadyMessage, IsReadyProgress, AreReadyResults}
+use Rattle.dm_machine.specs.Ready.{IsDevice, IsReadyAccount, IsReadyLimits, IsReadyMachine, IsReadyMessage}
+use Rattle.dm_machine.specs.Ready.{IsReadyProgress, AreReadyResults}
 use Rattle.dm_machine.proofs.ToldGroups.{all_append}
 use Rattle.dm_machine.proofs.ToldMessages.{told_ready}
-use Rattle.dm_machine.proofs.OwnAnswers.{nonce_is, answer_ready}
-use Rattle.dm_machine.proofs.OwnFarewells.{last_words_fit}
+use Rattle.dm_ends.proofs.Answers.{nonce_is, answer_ready}
+use Rattle.dm_ends.proofs.Farewells.{last_words_fit}
 use Rattle.dm_machine.proofs.OwnHeaders.{header_ready}
 use Rattle.dm_machine.proofs.OwnPackages.{package_ready}
-use Rattle.dm_machine.proofs.OwnTexts.{known_number}
+use Rattle.dm_ends.proofs.Texts.{known_number}
 use Rattle.dm_machine.proofs.StaysSending.{apart}
 use Rattle.dm_machine.proofs.StaysWaiting.{IsReadyWaits, again_ready, run_ready}
 use Rattle.dm_session.specs.declared.rest.Rest.{Rest}
 use Rattle.dm_session.specs.Inside.{machine_of}
 
 -- a header's Status, what waits, and what was made
-pub answer_waits : (c : Machine) (a : Account) (m : Parts) (nonce : List ℕ) (code : ℕ) (q : List Entry) (front made : List Command)
+pub answer_waits : (c : Machine) (a : Account) (m : Parts) (nonce : List ℕ) (code : ℕ) (q : List Entry)
+    (front made : List Command)
     → IsReadyMachine c → IsReadyMessage m nonce → code < 2 ^ 32 → AllByRecursion IsReady q
     → front ≡ header_answer m.header code nonce → made ≡ told (run_of c a m code).made
     → AllByRecursion IsReady (map fresh front ++ (q ++ map fresh made))
@@ -71,7 +74,8 @@ pub own_header : (e : Engine) (q : List Entry) (r : Rest) (m : Nodes) (p : Progr
     → m ≡ (state_of e).tree → h ≡ header_over r m p a → h ≡ header_from (machine_of e q r) p a
 own_header e q r m p a h t is = is ∙ ap (λ x. header_over r x p a) t
 
-pub own_header_ready : (e : Engine) (r : Rest) (m : Nodes) (p : Progress) (a : Account) (h : Header) → m ≡ (state_of e).tree
+pub own_header_ready : (e : Engine) (r : Rest) (m : Nodes) (p : Progress) (a : Account) (h : Header)
+    → m ≡ (state_of e).tree
     → h ≡ header_over r m p a → IsReadyLimits r.limits → IsDevice (state_of e).tree → IsReadyAccount a
     → p.number < 2 ^ 32 → p.standing.own + 1 < 2 ^ 32 → IsReadyHeader h
 own_header_ready e r m p a h t is limits device account number own =
@@ -81,7 +85,8 @@ own_header_ready e r m p a h t is limits device account number own =
 -- ---- a farewell
 
 -- a header's Status is one command
-pub status_alone : (status : Option Command) (h : Header) (code : ℕ) (nonce : List ℕ) → option_to_list status ≡ header_answer h code nonce
+pub status_alone : (status : Option Command) (h : Header) (code : ℕ) (nonce : List ℕ)
+    → option_to_list status ≡ header_answer h code nonce
     → IfSome status (λ s. ids_in s ≡ 1)
 unfolding header_answer ids_in
 status_alone None h code nonce is = tt

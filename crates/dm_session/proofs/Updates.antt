@@ -7,9 +7,10 @@ use Rattle.std.specs.FinMap.{entries}
 use Rattle.dm_uri.specs.Names.{printed_path}
 use Rattle.dm_tree.specs.declared.nodes.Node.{Node}
 use Rattle.dm_tree.specs.Nodes.{Path, Nodes}
-use Rattle.dm_tree.specs.Devices.{is_update_node, is_of_update, pkg_data, state_node, HasNoUpdate, HasUpdate, IsUpdateInOrder}
+use Rattle.dm_tree.specs.Devices.{is_update_node, is_of_update, pkg_data, state_node, HasNoUpdate, HasUpdate}
+use Rattle.dm_tree.specs.Devices.{IsUpdateInOrder}
 use Rattle.dm_tree.proofs.Devices.{role_is, update_is_found}
-use Rattle.dm_tree.proofs.Firsts.{entry_there}
+use Rattle.dm_tree.proofs.FirstKeys.{entry_there}
 use Rattle.dm_machine.specs.Opening.{update_uri}
 
 no_role : (m : Nodes) → HasNoUpdate m → update_uri m ≡ []

@@ -6,8 +6,8 @@ use Rattle.dm_tree.specs.Nodes.{Ids}
 use Rattle.dm_pack.specs.Entries.{Entry}
 use Rattle.dm_atomic.specs.declared.engine.Engine.{Engine}
 use Rattle.dm_atomic.specs.Engine.{state_of, IsSoundEngine}
-use Rattle.dm_atomic.specs.Marks.{whole_of}
-use Rattle.dm_atomic.specs.Updates.{clock_of, max_obj_of}
+use Rattle.dm_atomic.specs.Marks.{whole_of, past_of, no_past}
+use Rattle.dm_atomic.specs.Updates.{clock_of, max_obj_of, TellsStarted}
 use Rattle.dm_machine.specs.Machine.{Machine, Session}
 use Rattle.dm_machine.specs.Ready.{IsReadyMachine}
 use Rattle.dm_session.specs.declared.rest.Sent.{Sent}
@@ -58,5 +58,9 @@ pub record IsSound (c : Inside) : Type 0 where
   pub goes_on : CanGoOn c.engine c.queue c.rest
   pub sent : IfSome c.rest.session (λ (s : Held). IsSpelled s.sent)
   pub farewell : IfSome c.rest.farewell IsSpelled
+  -- nothing is known of what stood before, so nothing piles up
+  pub settled : past_of c.engine ≡ no_past
+  -- what was started is what the tree tells
+  pub told : TellsStarted (state_of c.engine)
   -- a group is open only while a session is
   pub closed : c.rest.session ≡ None → (state_of c.engine).group ≡ None

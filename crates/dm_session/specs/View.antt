@@ -1,12 +1,14 @@
 -- A client as it is seen, and what its calls tell.
-use Rattle.std.specs.Prelude.{◌≡◌, ◌==◌, ◌&&◌, ℕ, Bool, if◌then◌else◌, List, Option, Result, Ok, Err, ⊤, IsSomeAnd, is_some, option_map, option_and_then, Some, None, not}
+use Rattle.std.specs.Prelude.{◌≡◌, ◌==◌, ◌&&◌, ℕ, Bool, if◌then◌else◌, List, Option, Result, Ok, Err, ⊤, IsSomeAnd}
+use Rattle.std.specs.Prelude.{is_some, option_map, option_and_then, Some, None, not}
 use Rattle.syncml_types.specs.Canonical.{canonical}
 use Rattle.syncml_types.specs.Message.{Parts}
 use Rattle.dm_tree.specs.Nodes.{Nodes, Ids}
 use Rattle.dm_tree.specs.Devices.{pkg_data, value_at}
 use Rattle.dm_atomic.specs.Updates.{is_updating}
 use Rattle.dm_machine.specs.Machine.{Session, Machine}
-use Rattle.dm_machine.specs.Events.{Answer as Answered, sent, kept, stale, stranger, no_session, refused, exhausted, ended, acted, not_now}
+use Rattle.dm_machine.specs.Events.{Answer as Answered, sent, kept, stale, stranger, no_session, refused, exhausted}
+use Rattle.dm_machine.specs.Events.{ended, acted, not_now}
 use Rattle.dm_session.specs.declared.answers.Answer.{Answer}
 use Rattle.dm_session.specs.declared.answers.Answer.TheVariants as answers
 use Rattle.dm_session.specs.declared.answers.BeginError.{BeginError}

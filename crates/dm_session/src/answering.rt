@@ -1,5 +1,6 @@
 // What a message that is accepted is answered.
-ghost use Rattle.std.specs.Prelude.{◌≡◌, ◌≤◌, ◌<◌, ◌+◌, ◌^◌, ◌++◌, List as ListOf, ℕ, Option as OptionOf, Some, if◌then◌else◌, length, map, IfOk, OnErr};
+ghost use Rattle.std.specs.Prelude.{◌≡◌, ◌≤◌, ◌<◌, ◌+◌, ◌^◌, ◌++◌, List as ListOf, ℕ, Option as OptionOf, Some};
+ghost use Rattle.std.specs.Prelude.{[], if◌then◌else◌, length, map, IfOk, OnErr};
 ghost use Rattle.std.specs.List.{AllByRecursion};
 ghost use Rattle.std.specs.Option.{option_to_list};
 ghost use Rattle.dm_auth.specs.declared.accounts.Account.{Account as AnAccount};
@@ -90,12 +91,12 @@ fn answer(
     let behind = pushed_back(progress, count_of(&status))?;
     let header = header_from(rest.alloc, rest.limits, engine.tree(), progress, account)?;
     let standing = &progress.standing;
-    let filled = send(queue, status, made, &header, standing.room, standing.heard)?;
+    let filled = send(queue, status, made, header, standing.room, standing.heard)?;
     Ok(session_after(&behind, filled))
 }
 
-// The queue with the whole first package behind all else, in place of what waits of it; and how far the session has come
-// then. The copy is made at most once in a session, since a second failure ends it.
+// The queue with the whole first package behind all else, in place of what waits of it; and how far the session has
+// come then. The copy is made at most once in a session, since a second failure ends it.
 fn queued_again(
     engine: &Engine,
     queue: &Queue,
@@ -143,17 +144,18 @@ fn run(
 ) -> Result<List<Command>, Memory>
     requires sound { IsSoundEngine engine.old }
     ensures ran { IfOk result (λ made. (c : AMachine) → c.engine ≡ state_of engine.old → c.clock ≡ clock_of engine.old
-        → c.limits.max_obj ≡ max_obj_of engine.old → Ran (Spec.run_of c account.now message.now code) (state_of engine.new) made) }
+        → c.limits.max_obj ≡ max_obj_of engine.old
+        → Ran (Spec.run_of c account.now message.now code) (state_of engine.new) made) }
     ensures clock { clock_of engine.new ≡ clock_of engine.old }
     ensures max_obj { max_obj_of engine.new ≡ max_obj_of engine.old }
     ensures ids { StayBut (body_covers message.now.body) (whole_of engine.old) (whole_of engine.new) }
     ensures marks { Holds engine.old engine.new }
     ensures sound { IsSoundEngine engine.new }
 {
-    let mut made = List::new(alloc);
     if !passes(code) {
-        return Ok(made);
+        return Ok(List::new(alloc));
     }
+    let mut made = List::with_room(alloc, message.body().len().saturating_add(1))?;
     execute(engine, account.server.as_slice(), message, &mut made)?;
     Ok(made)
 }

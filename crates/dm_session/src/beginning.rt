@@ -67,6 +67,6 @@ pub(crate) fn open(
         &rest.accounts.as_slice()[account],
     )?;
     let mut queue = Queue::new(rest.alloc);
-    let filled = send(&mut queue, None, first, &header, FIRST.room, FIRST.heard)?;
+    let filled = send(&mut queue, None, first, header, FIRST.room, FIRST.heard)?;
     Ok((queue, session_after(&progress, filled)))
 }

@@ -1,17 +1,21 @@
 // The client, which is seen as its machine.
-ghost use Rattle.std.specs.Prelude.{◌≡◌, ◌≤◌, ◌<◌, ◌^◌, [], true, None, ℕ, get_or, length, option_map, IfOk, IsErrOf, OnOk, OnErr, Ok as Good};
+ghost use Rattle.std.specs.Prelude.{◌≡◌, ◌≤◌, ◌<◌, ◌^◌, [], true, false, None, ℕ, get_or, length, option_map, IfOk};
+ghost use Rattle.std.specs.Prelude.{IsErrOf};
+ghost use Rattle.std.specs.Prelude.{OnOk, OnErr, Ok as Good};
 ghost use Rattle.std.specs.List.{AllByRecursion};
 ghost use Rattle.std.specs.Option.{option_copied};
 ghost use Rattle.syncml_types.specs.Message.{Parts};
 ghost use Rattle.syncml_types.specs.Canonical.{canonical};
 ghost use Rattle.syncml_codec.specs.Decoding.{read_of};
 ghost use Rattle.dm_tree.specs.Rows.{nodes, ids};
+ghost use Rattle.dm_tree.specs.Nodes.{IsStamp};
 ghost use Rattle.dm_tree.specs.Devices.{IsDeviceTree};
-ghost use Rattle.dm_commands.specs.Promises.{none_moved};
+ghost use Rattle.dm_commands.specs.Promises.{KeepIdsBut, none_moved};
 ghost use Rattle.dm_atomic.specs.Stays.{StayBut};
-ghost use Rattle.dm_atomic.specs.Updates.{begun as begun_state};
+ghost use Rattle.dm_atomic.specs.Updates.{begun as begun_state, is_updating};
 ghost use Rattle.dm_machine.specs.Events.{clock, opened, message as came, act, takes};
 ghost use Rattle.dm_machine.specs.History.{answer_now, next};
+ghost use Rattle.dm_machine.specs.Machine.{Session};
 ghost use Rattle.dm_machine.specs.Messages.{correlator_of as correlator_in};
 ghost use Rattle.dm_machine.specs.Ready.{IsReadyAccount, IsReadyLimits, IsReadyMessage};
 ghost use Rattle.dm_session.specs.Stays.{body_covers, read_covers, engine_in};
@@ -20,7 +24,6 @@ ghost use Rattle.dm_session.specs.declared.answers.BeginError.TheVariants as err
 
 use crate::answers::{Acted, Answer, BeginError};
 use crate::beginning::open;
-use crate::headers::copy_text;
 use crate::hearing::answer_to_old;
 use crate::rest::Rest;
 use crate::working::accept;
@@ -34,11 +37,12 @@ use std::alloc::Global;
 use std::marker::Model;
 use syncml_codec::{DecodeError, decode};
 use syncml_types::Message;
+use syncml_types::copies::copy_bytes;
 
 /// A device's end of the protocol: its tree, its accounts, and at most one open session.
 ///
-/// A message costs what it holds, what it names in the tree, and what is sent for it. What waits to be sent is copied where
-/// the server asks for the client's credential again, which it may once in a session.
+/// A message costs what it holds, what it names in the tree, and what is sent for it. What waits to be sent is copied
+/// where the server asks for the client's credential again, which it may once in a session.
 #[derive(Drop)]
 pub struct Client {
     engine: Engine,
@@ -69,7 +73,7 @@ fn correlator_of(alloc: Global, started: &Option<Started>) -> Result<Option<Byte
 {
     match started {
         None => Ok(None),
-        Some(started) => Ok(copy_text(alloc, &started.correlator)?),
+        Some(started) => Ok(copy_bytes(alloc, &started.correlator)?),
     }
 }
 
@@ -79,10 +83,15 @@ fn whole(nonce: Nonce)
     ensures bytes { (k : ℕ) → k < 16 → get_or nonce.bytes k 0 < 256 }
 {}
 
+// What is known of each stamp.
+fn stamped(now: Stamp)
+    ensures { IsStamp now }
+{}
+
 #[tactic(auto, unfolding(dm_machine::specs::History::next, dm_machine::specs::History::answer_now, dm_machine::specs::Events::takes, dm_machine::specs::Events::after, dm_machine::specs::Events::taken_answer, dm_machine::specs::Events::refusal))]
 impl Client {
-    /// A client with a device's tree, and accounts whose names are SHORT. No session was begun on it. An update that runs
-    /// was started, without a Correlator. The only error is want of memory.
+    /// A client with a device's tree, and accounts whose names are SHORT. No session was begun on it. An update that
+    /// runs was started, without a Correlator. The only error is want of memory.
     pub fn new(
         alloc: Global,
         accounts: List<Account>,
@@ -105,6 +114,7 @@ impl Client {
           farewell = None;
         }) }
         ensures ids { IfOk result (λ client. client.ids ≡ ids tree.rows) }
+        ensures base { IfOk result (λ client. client.base_ids ≡ None) }
     {
         // It tells that the stamp is one.
         let _ = tree.clock();
@@ -127,8 +137,8 @@ impl Client {
     }
 
     /// Begins a session with the account at a place. A session that is open is over then: what waits in it and what is
-    /// unfinished is given up. `Exhausted` comes exactly where the number isn't above the last one begun, which is told,
-    /// and takes no memory. After any error all is as before.
+    /// unfinished is given up. `Exhausted` comes exactly where the number isn't above the last one begun, which is
+    /// told, and takes no memory. After any error all is as before.
     pub fn begin(&mut self, account: usize, kind: Kind, session: u32) -> Result<(), BeginError>
         requires { account < length self.old.machine.accounts }
         ensures answer { Begins result self.new.machine (answer_now self.old.machine (opened account kind session)) }
@@ -136,6 +146,7 @@ impl Client {
         ensures ok { OnOk result (self.new.machine ≡ next self.old.machine (opened account kind session)) }
         ensures err { OnErr result (self.new ≡ self.old) }
         ensures ids { StayBut none_moved (engine_in self.old) (engine_in self.new) }
+        ensures kept { self.old.machine.engine.group ≡ None → KeepIdsBut none_moved self.old.ids self.new.ids }
     {
         if session <= self.rest.begun {
             return Err(BeginError::Exhausted {
@@ -192,8 +203,11 @@ impl Client {
         }
     }
 
+    // A message, which is answered and no more where it isn't new.
     fn take(&mut self, message: &Message, nonce: &Nonce) -> Result<Answer, Memory>
         requires message { IsReadyMessage message.now nonce.now.bytes }
+        ensures untaken { takes self.old.machine (came (Good message.now) nonce.now.bytes) ≡ false
+            → self.new ≡ self.old }
         ensures answer { IfOk result (λ a. Tells a self.new.machine
             (answer_now self.old.machine (came (Good message.now) nonce.now.bytes))) }
         ensures ok { OnOk result (self.new.machine ≡ next self.old.machine (came (Good message.now) nonce.now.bytes)) }
@@ -206,14 +220,20 @@ impl Client {
         }
     }
 
-    /// Delivers the bytes of a message, which a challenge tells `nonce`. After `Memory` nothing has changed, so the same
-    /// bytes may be delivered again.
+    /// Delivers the bytes of a message, which a challenge tells `nonce`. After `Memory` nothing has changed, so the
+    /// same bytes may be delivered again.
+    ///
+    /// Bytes that aren't taken change nothing: those of no message, of no new one, or of none of the open session.
+    /// Where no group was open, a node that no Delete and no rename of the message covers keeps its number.
     pub fn deliver(&mut self, bytes: &[u8], nonce: Nonce) -> Result<Answer, Memory>
+        ensures untaken { takes self.old.machine (came (read_of bytes.now) nonce.bytes) ≡ false → self.new ≡ self.old }
         ensures answer { IfOk result (λ a. Tells a self.new.machine
             (answer_now self.old.machine (came (read_of bytes.now) nonce.bytes))) }
         ensures ok { OnOk result (self.new.machine ≡ next self.old.machine (came (read_of bytes.now) nonce.bytes)) }
         ensures err { OnErr result (self.new ≡ self.old) }
         ensures ids { StayBut (read_covers (read_of bytes.now)) (engine_in self.old) (engine_in self.new) }
+        ensures kept { self.old.machine.engine.group ≡ None
+            → KeepIdsBut (read_covers (read_of bytes.now)) self.old.ids self.new.ids }
     {
         match decode(self.rest.alloc, bytes) {
             Err(DecodeError::Memory) => Err(Memory),
@@ -227,6 +247,13 @@ impl Client {
                 answer
             }
         }
+    }
+
+    // Whether an update runs, as the engine remembers it: the tree isn't gone through.
+    fn is_updating(&self) -> bool
+        ensures { result ≡ is_updating self.now.machine.engine.tree }
+    {
+        self.engine.started().is_some()
     }
 
     fn end_update(&mut self, ok: bool) -> Result<(), Memory>
@@ -251,15 +278,15 @@ impl Client {
         }
     }
 
-    /// The update that runs has ended, which a later first package tells. `NotNow` comes exactly where a session is open or
-    /// no update runs: State isn't 60. After `Memory` nothing has changed.
+    /// The update that runs has ended, which a later first package tells. `NotNow` comes exactly where a session is
+    /// open or no update runs: State isn't 60. After `Memory` nothing has changed.
     pub fn acted(&mut self, ok: bool) -> Result<Acted, Memory>
         ensures answer { IfOk result (λ a. TellsActed a (answer_now self.old.machine (act ok))) }
         ensures ok { OnOk result (self.new.machine ≡ next self.old.machine (act ok)) }
         ensures err { OnErr result (self.new ≡ self.old) }
         ensures ids { (self.new.ids ≡ self.old.ids) × (self.new.base_ids ≡ self.old.base_ids) }
     {
-        if self.rest.session.is_some() || !self.engine.is_updating() {
+        if self.rest.session.is_some() || !self.is_updating() {
             return Ok(Acted::NotNow);
         }
         self.end_update(ok)?;
@@ -271,6 +298,8 @@ impl Client {
         ensures machine { self.new.machine ≡ next self.old.machine (clock now) }
         ensures ids { (self.new.ids ≡ self.old.ids) × (self.new.base_ids ≡ self.old.base_ids) }
     {
+        // It tells that the stamp is one.
+        stamped(now);
         self.engine.set_clock(now);
     }
 
@@ -284,9 +313,20 @@ impl Client {
         }
     }
 
+    /// The message sent last. None comes exactly where no session is open.
+    pub fn sent(&self) -> Option<&Message>
+        ensures { option_map (λ m. m.now) result ≡ option_map (λ (s : Session). s.sent) self.now.machine.session }
+    {
+        match &self.rest.session {
+            None => None,
+            Some(session) => Some(&session.sent.message),
+        }
+    }
+
     /// The message with which the session begun last was denied, in its bytes. None comes exactly where it wasn't.
     pub fn farewell(&self) -> Option<&[u8]>
-        ensures { option_map (λ bytes. bytes.now) result ≡ option_map (λ (m : Parts). canonical m) self.now.machine.farewell }
+        ensures { option_map (λ bytes. bytes.now) result
+            ≡ option_map (λ (m : Parts). canonical m) self.now.machine.farewell }
     {
         match &self.rest.farewell {
             None => None,
@@ -298,7 +338,7 @@ impl Client {
     pub fn started(&self) -> Option<&[u8]>
         ensures { option_map (λ bytes. bytes.now) result ≡ package_started self.now.machine.engine.tree }
     {
-        if !self.engine.is_updating() {
+        if !self.is_updating() {
             return None;
         }
         let tree = self.engine.tree();

@@ -3,7 +3,8 @@ ghost use Rattle.std.specs.Prelude.{◌≡◌, ◌<◌, ◌++◌, ◌∷◌, [],
 ghost use Rattle.dm_uri.specs.Names.{printed_path};
 ghost use Rattle.dm_uri.specs.Reading.{parse_name_of};
 ghost use Rattle.dm_tree.specs.Rows.{nodes};
-ghost use Rattle.dm_tree.specs.Devices.{IsUpdateInOrder, device_path as path_of_leaf, device_id as id_of, value_at as value_in};
+ghost use Rattle.dm_tree.specs.Devices.{IsUpdateInOrder, device_path as path_of_leaf, device_id as id_of};
+ghost use Rattle.dm_tree.specs.Devices.{value_at as value_in};
 ghost use Rattle.dm_machine.specs.Opening.{update_uri as uri_of_update};
 
 use dm_base::{Bytes, Memory};

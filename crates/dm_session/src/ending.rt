@@ -68,8 +68,8 @@ fn last_words(alloc: Global, status: Option<Command>) -> Result<List<Command>, M
     Ok(body)
 }
 
-/// The message with which a session is denied: the Status of the header that it answers, where that isn't suppressed, an
-/// Alert 1223, and Final.
+/// The message with which a session is denied: the Status of the header that it answers, where that isn't suppressed,
+/// an Alert 1223, and Final.
 pub(crate) fn farewell(
     alloc: Global,
     header: Header,

@@ -38,8 +38,8 @@ fn run_all(
     Ok(())
 }
 
-/// Executes a message's commands in document order, and breaks what it leaves unfinished where it is quiet. What they come
-/// to is put behind `out`. After `Memory` the engine may be anywhere on the way: go back to a mark.
+/// Executes a message's commands in document order, and breaks what it leaves unfinished where it is quiet. What they
+/// come to is put behind `out`. After `Memory` the engine may be anywhere on the way: go back to a mark.
 #[tactic(auto, using(crate::proofs::Runs::noisy_gives, dm_atomic::proofs::Held::holds_then, dm_atomic::proofs::Staying::then_none))]
 pub(crate) fn execute(
     engine: &mut Engine,

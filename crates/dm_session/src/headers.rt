@@ -13,17 +13,8 @@ use dm_headers::{Side, next_header};
 use dm_machine::Progress;
 use dm_tree::Tree;
 use std::alloc::Global;
+use syncml_types::copies::copy_bytes;
 use syncml_types::{Header, Loc};
-
-/// A copy of what may be left out.
-pub(crate) fn copy_text(alloc: Global, text: &Option<Bytes>) -> Result<Option<Bytes>, Memory>
-    ensures { IfOk result (λ copy. copy ≡ text.now) }
-{
-    match text {
-        Some(text) => Ok(Some(text.copy(alloc)?)),
-        None => Ok(None),
-    }
-}
 
 /// The header of the next message of a session, to the account's server, from the device and its user.
 pub(crate) fn header_from(
@@ -45,7 +36,7 @@ pub(crate) fn header_from(
     };
     let source = Loc {
         uri: device_id(alloc, tree)?,
-        name: copy_text(alloc, &account.user)?,
+        name: copy_bytes(alloc, &account.user)?,
     };
     next_header(
         alloc,

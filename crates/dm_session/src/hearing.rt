@@ -26,7 +26,8 @@ fn is_of(message: &Message, number: u32) -> bool
 pub(crate) fn answer_to_old(session: &Option<Session>, message: &Message) -> Option<Answer>
     ensures new { IfNone result ((c : AMachine) → (nonce : ListOf ℕ) → c.session ≡ option_map session_of session.now
         → takes c (came (Good message.now) nonce) ≡ true) }
-    ensures old { IfSome result (λ answer. (c : AMachine) → (nonce : ListOf ℕ) → c.session ≡ option_map session_of session.now
+    ensures old { IfSome result
+        (λ answer. (c : AMachine) → (nonce : ListOf ℕ) → c.session ≡ option_map session_of session.now
         → (takes c (came (Good message.now) nonce) ≡ false)
         × Tells answer c (refusal c (came (Good message.now) nonce) (kept_in c.session))) }
 {

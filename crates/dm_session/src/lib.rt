@@ -1,5 +1,5 @@
-//! The device's end of a session: what a server's messages come to, and what is answered, exactly as the client's machine
-//! says.
+//! The device's end of a session: what a server's messages come to, and what is answered, exactly as the client's
+//! machine says.
 #![tactic(auto)]
 
 mod answering;

@@ -7,11 +7,11 @@ ghost use Rattle.dm_atomic.specs.Made.{source_item as source_of};
 ghost use Rattle.dm_machine.specs.Opening as Spec;
 
 use crate::device::{device_path, printed, update_uri, value_at};
-use crate::headers::copy_text;
 use dm_base::{Bytes, List, Memory};
 use dm_machine::{Kind, UpdateResult};
 use dm_tree::Tree;
 use std::alloc::Global;
+use syncml_types::copies::copy_bytes;
 use syncml_types::{AlertCmd, Command, Item, Loc, Meta, Plain, Verb};
 
 fn kind_code(kind: Kind) -> u32
@@ -80,12 +80,11 @@ fn result_alert(alloc: Global, node: &Bytes, update: &UpdateResult) -> Result<Co
 {
     let mut items = List::new(alloc);
     items.push(result_item(alloc, node, update.ok)?)?;
-    let correlator = copy_text(alloc, &update.correlator)?;
+    let correlator = copy_bytes(alloc, &update.correlator)?;
     Ok(alert(1226, correlator, items))
 }
 
-// The results of updates that weren't told yet.
-fn put_results(
+fn put_each(
     alloc: Global,
     node: &Bytes,
     results: &[UpdateResult],
@@ -96,6 +95,26 @@ fn put_results(
     for update in results {
         out.push(result_alert(alloc, node, update)?)?;
     }
+    Ok(())
+}
+
+// The results of updates that weren't told yet. Only where there is one is the update's node looked for, through the
+// tree.
+fn put_results(
+    alloc: Global,
+    tree: &Tree,
+    results: &List<UpdateResult>,
+    out: &mut List<Command>,
+) -> Result<(), Memory>
+    requires { IsUpdateInOrder (nodes tree.now.rows) }
+    ensures { OnOk result
+        (out.new ≡ out.old ++ map (Spec.result_alert (Spec.update_uri (nodes tree.now.rows))) results.now) }
+{
+    if results.is_empty() {
+        return Ok(());
+    }
+    let node = update_uri(alloc, tree)?;
+    put_each(alloc, &node, results.as_slice(), out)?;
     Ok(())
 }
 
@@ -153,10 +172,9 @@ pub(crate) fn opening(
     requires { IsUpdateInOrder (nodes tree.now.rows) }
     ensures { IfOk result (λ commands. commands ≡ Spec.opening kind results.now (nodes tree.now.rows)) }
 {
-    let node = update_uri(alloc, tree)?;
     let mut commands = List::new(alloc);
     commands.push(alert(kind_code(kind), None, List::new(alloc)))?;
-    put_results(alloc, &node, results.as_slice(), &mut commands)?;
+    put_results(alloc, tree, results, &mut commands)?;
     commands.push(device_told(alloc, tree)?)?;
     Ok(commands)
 }

@@ -45,19 +45,21 @@ pub(crate) fn push_all(queue: &mut Queue, entries: List<Command>) -> Result<(), 
 fn send_behind(
     queue: &mut Queue,
     entries: List<Command>,
-    header: &Header,
+    header: Header,
     room: u64,
     heard: bool,
 ) -> Result<Filled, Memory>
     requires ready { AllByRecursion IsReady (queue.old ++ map fresh entries) }
-    requires header { IsReadyHeader header.now }
+    requires header { IsReadyHeader header }
     requires room { (2048 ≤ room) × (room ≤ 65536) }
-    ensures message { IfOk result (λ f. f.message ≡ (fill_of (queue.old ++ map fresh entries) header.now room heard).message) }
+    ensures message { IfOk result
+        (λ f. f.message ≡ (fill_of (queue.old ++ map fresh entries) header room heard).message) }
     ensures bytes { IfOk result (λ f. f.bytes ≡ canonical f.message) }
-    ensures whole { IfOk result (λ f. f.whole ≡ (fill_of (queue.old ++ map fresh entries) header.now room heard).whole) }
-    ensures tail { IfOk result (λ f. f.tail ≡ (fill_of (queue.old ++ map fresh entries) header.now room heard).tail) }
+    ensures whole { IfOk result
+        (λ f. f.whole ≡ (fill_of (queue.old ++ map fresh entries) header room heard).whole) }
+    ensures tail { IfOk result (λ f. f.tail ≡ (fill_of (queue.old ++ map fresh entries) header room heard).tail) }
     ensures within { IfOk result (λ f. length f.bytes ≤ room) }
-    ensures ok { OnOk result (queue.new ≡ (fill_of (queue.old ++ map fresh entries) header.now room heard).left) }
+    ensures ok { OnOk result (queue.new ≡ (fill_of (queue.old ++ map fresh entries) header room heard).left) }
     ensures err { OnErr result (take (length queue.old) queue.new ≡ queue.old) }
 {
     push_all(queue, entries)?;
@@ -73,23 +75,25 @@ pub(crate) fn send(
     queue: &mut Queue,
     front: Option<Command>,
     entries: List<Command>,
-    header: &Header,
+    header: Header,
     room: u64,
     heard: bool,
 ) -> Result<Filled, Memory>
     requires ready { AllByRecursion IsReady (map fresh (option_to_list front) ++ (queue.old ++ map fresh entries)) }
-    requires header { IsReadyHeader header.now }
+    requires header { IsReadyHeader header }
     requires room { (2048 ≤ room) × (room ≤ 65536) }
     ensures message { IfOk result (λ f. f.message
-        ≡ (fill_of (map fresh (option_to_list front) ++ (queue.old ++ map fresh entries)) header.now room heard).message) }
+        ≡ (fill_of (map fresh (option_to_list front) ++ (queue.old ++ map fresh entries)) header room
+        heard).message) }
     ensures bytes { IfOk result (λ f. f.bytes ≡ canonical f.message) }
     ensures whole { IfOk result (λ f. f.whole
-        ≡ (fill_of (map fresh (option_to_list front) ++ (queue.old ++ map fresh entries)) header.now room heard).whole) }
+        ≡ (fill_of (map fresh (option_to_list front) ++ (queue.old ++ map fresh entries)) header room
+        heard).whole) }
     ensures tail { IfOk result (λ f. f.tail
-        ≡ (fill_of (map fresh (option_to_list front) ++ (queue.old ++ map fresh entries)) header.now room heard).tail) }
+        ≡ (fill_of (map fresh (option_to_list front) ++ (queue.old ++ map fresh entries)) header room heard).tail) }
     ensures within { IfOk result (λ f. length f.bytes ≤ room) }
     ensures ok { OnOk result (queue.new
-        ≡ (fill_of (map fresh (option_to_list front) ++ (queue.old ++ map fresh entries)) header.now room heard).left) }
+        ≡ (fill_of (map fresh (option_to_list front) ++ (queue.old ++ map fresh entries)) header room heard).left) }
     ensures err { OnErr result (queue.new ≡ queue.old) }
 {
     let fronts = push_front(queue, front)?;
@@ -104,8 +108,8 @@ pub(crate) fn send(
     }
 }
 
-/// How far the session has come once a message is sent: what it takes leaves the queue, entries of the first package too, and
-/// with Final it is the server's turn.
+/// How far the session has come once a message is sent: what it takes leaves the queue, entries of the first package
+/// too, and with Final it is the server's turn.
 pub(crate) fn moved_on(progress: &Progress, filled: &Filled) -> Progress
     requires own { progress.now.standing.own + 1 < 2 ^ 32 }
     ensures { (f : Filling) → filled.now.whole ≡ f.whole → filled.now.tail ≡ f.tail → result ≡ moved progress.now f }
@@ -124,7 +128,8 @@ pub(crate) fn moved_on(progress: &Progress, filled: &Filled) -> Progress
 /// The session once the message is sent.
 pub(crate) fn session_after(progress: &Progress, filled: Filled) -> Session
     requires own { progress.now.standing.own + 1 < 2 ^ 32 }
-    ensures progress { (f : Filling) → filled.whole ≡ f.whole → filled.tail ≡ f.tail → result.progress ≡ moved progress.now f }
+    ensures progress { (f : Filling) → filled.whole ≡ f.whole → filled.tail ≡ f.tail
+        → result.progress ≡ moved progress.now f }
     ensures message { result.sent.message ≡ filled.message }
     ensures bytes { result.sent.bytes ≡ filled.bytes }
 {

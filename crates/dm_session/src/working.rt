@@ -1,5 +1,6 @@
 // What a message that is accepted does.
-ghost use Rattle.std.specs.Prelude.{◌≡◌, ◌<◌, ◌+◌, ◌^◌, List as ListOf, ℕ, Option as OptionOf, Some, set, unwrap_or, IfOk, OnErr};
+ghost use Rattle.std.specs.Prelude.{◌≡◌, ◌<◌, ◌+◌, ◌^◌, List as ListOf, ℕ, Option as OptionOf, Some, set, unwrap_or};
+ghost use Rattle.std.specs.Prelude.{IfOk, OnErr};
 ghost use Rattle.dm_auth.specs.declared.accounts.Account.{Account as AnAccount};
 ghost use Rattle.dm_headers.specs.Standings as Standings;
 ghost use Rattle.dm_atomic.specs.Engine.{state_of, IsSoundEngine};
@@ -19,7 +20,7 @@ use crate::answering::answered;
 use crate::bodies::has_abort;
 use crate::drafts::{Draft, Next};
 use crate::ending::{close, farewell};
-use crate::headers::{copy_text, header_from};
+use crate::headers::header_from;
 use crate::rest::{Rest, Sent};
 use dm_atomic::Engine;
 use dm_auth::Account;
@@ -28,6 +29,7 @@ use dm_headers::{Heard, Side, header_status, hear, passes};
 use dm_machine::{End, Progress};
 use dm_pack::Queue;
 use syncml_types::Message;
+use syncml_types::copies::copy_bytes;
 
 // The message with which the session is denied.
 fn denial(
@@ -45,7 +47,8 @@ fn denial(
     requires number { progress.now.number < 2 ^ 32 }
     requires own { progress.now.standing.own + 1 < 2 ^ 32 }
     requires message { IsReadyMessage message.now nonce.now.bytes }
-    ensures message { IfOk result (λ sent. (c : AMachine) → c.limits ≡ rest.now.limits → c.engine.tree ≡ (state_of engine.now).tree
+    ensures message { IfOk result
+        (λ sent. (c : AMachine) → c.limits ≡ rest.now.limits → c.engine.tree ≡ (state_of engine.now).tree
         → sent.message ≡ Spec.farewell_of c progress.now account.now message.now code nonce.now.bytes) }
     ensures spelled { IfOk result IsSpelled }
 {
@@ -74,8 +77,10 @@ fn by_header(
     requires message { IsReadyMessage message.now nonce.now.bytes }
     ensures state { IfOk result (λ next. (accounts : ListOf AnAccount) (uri : OptionOf (ListOf ℕ)) (p : AProgress)
         (h : Standings.Heard) → HeardAs heard.now account.now h → record p { standing = h.standing } ≡ progress.now
-        → outcome (machine_of engine.new queue.new (rest_behind (told rest.now (set accounts p.account account.now) uri) next)) next
-        ≡ Spec.by_header (machine_of engine.old queue.old (told rest.now accounts uri)) p message.now nonce.now.bytes h) }
+        → outcome (machine_of engine.new queue.new
+        (rest_behind (told rest.now (set accounts p.account account.now) uri) next)) next
+        ≡ Spec.by_header (machine_of engine.old queue.old (told rest.now accounts uri)) p message.now nonce.now.bytes
+        h) }
     ensures spelled { IfOk result IsNextSpelled }
     ensures err { OnErr result (queue.new ≡ queue.old) }
     ensures clock { clock_of engine.new ≡ clock_of engine.old }
@@ -108,8 +113,8 @@ fn renewed_by<'a>(heard: &'a Heard, account: &'a Account) -> &'a Account
     }
 }
 
-/// A message that is new to the session at its open progress. After `Memory` the queue is as before, and the engine may be
-/// anywhere on the way: go back to a mark.
+/// A message that is new to the session at its open progress. After `Memory` the queue is as before, and the engine may
+/// be anywhere on the way: go back to a mark.
 #[tactic(auto, using(dm_atomic::proofs::Staying::stay_self, dm_atomic::proofs::Staying::stay_more))]
 pub(crate) fn accept(
     engine: &mut Engine,
@@ -122,7 +127,8 @@ pub(crate) fn accept(
     requires goes_on { CanGoOn engine.old queue.old rest.now }
     requires progress { IsReadyProgress (machine_of engine.old queue.old rest.now) progress.now }
     requires message { IsReadyMessage message.now nonce.now.bytes }
-    ensures state { IfOk result (λ draft. outcome (machine_of engine.new queue.new (drafted rest.now progress.now.account draft)) draft.next
+    ensures state { IfOk result
+        (λ draft. outcome (machine_of engine.new queue.new (drafted rest.now progress.now.account draft)) draft.next
         ≡ Spec.accepts (machine_of engine.old queue.old rest.now) progress.now message.now nonce.now.bytes) }
     ensures spelled { IfOk result (λ draft. IsNextSpelled draft.next) }
     ensures err { OnErr result (queue.new ≡ queue.old) }
@@ -132,7 +138,7 @@ pub(crate) fn accept(
     ensures marks { Holds engine.old engine.new }
     ensures sound { IsSoundEngine engine.new }
 {
-    let resp_uri = copy_text(rest.alloc, &message.header().resp_uri)?;
+    let resp_uri = copy_bytes(rest.alloc, &message.header().resp_uri)?;
     if progress.standing.own == u32::MAX {
         close(engine, queue);
         return Ok(Draft {

@@ -6,7 +6,7 @@ use dm_machine::Kind;
 use dm_session::{Acted, Answer, BeginError, Client};
 use dm_tree::Stamp;
 
-#[tactic(auto, using(crate::proofs::Accounts::accounts_stay))]
+#[tactic(auto, using(dm_machine::proofs::Accounts::accounts_stay))]
 fn begin_once(client: &mut Client, kind: Kind, session: u32) -> Result<(), BeginError>
     requires { 0 < length client.old.machine.accounts }
     ensures { length client.new.machine.accounts ≡ length client.old.machine.accounts }
@@ -26,7 +26,7 @@ pub(crate) fn begin(client: &mut Client, kind: Kind, session: u32) -> Result<(),
     }
 }
 
-#[tactic(auto, using(crate::proofs::Accounts::accounts_stay))]
+#[tactic(auto, using(dm_machine::proofs::Accounts::accounts_stay))]
 fn deliver_once(client: &mut Client, bytes: &[u8], nonce: Nonce) -> Result<Answer, Memory>
     ensures { length client.new.machine.accounts ≡ length client.old.machine.accounts }
 {
@@ -44,7 +44,7 @@ pub(crate) fn deliver(client: &mut Client, bytes: &[u8], nonce: Nonce) -> Result
     }
 }
 
-#[tactic(auto, using(crate::proofs::Accounts::accounts_stay))]
+#[tactic(auto, using(dm_machine::proofs::Accounts::accounts_stay))]
 fn acted_once(client: &mut Client, ok: bool) -> Result<Acted, Memory>
     ensures { length client.new.machine.accounts ≡ length client.old.machine.accounts }
 {
@@ -63,7 +63,7 @@ pub(crate) fn acted(client: &mut Client, ok: bool) -> Result<Acted, Memory>
 }
 
 /// Sets the clock.
-#[tactic(auto, using(crate::proofs::Accounts::accounts_stay))]
+#[tactic(auto, using(dm_machine::proofs::Accounts::accounts_stay))]
 pub(crate) fn set_clock(client: &mut Client, now: Stamp)
     ensures { length client.new.machine.accounts ≡ length client.old.machine.accounts }
 {

@@ -5,7 +5,6 @@ ghost use Rattle.session_tests.specs.Starts.{MayBegin};
 use crate::rows::Row;
 use dm_base::{Bytes, Memory};
 use dm_session::Client;
-use dm_start::laws::starts_are_sound;
 use dm_start::{LineError, Start, StartReader};
 use std::alloc::Global;
 
@@ -38,11 +37,10 @@ fn text_of(alloc: Global, row: &Row) -> Result<Bytes, Memory> {
     Ok(text)
 }
 
-#[tactic(auto, using(crate::proofs::ReadLines::may_begin, crate::proofs::ReadLines::read_first, crate::proofs::ReadLines::read_more))]
+#[tactic(auto, using(crate::proofs::Beginning::may_begin))]
 fn start_of(alloc: Global, text: &[u8]) -> Result<Option<Start>, Memory>
     ensures { IfOk result (λ found. IfSome found MayBegin) }
 {
-    starts_are_sound();
     let mut reader = StartReader::new(alloc);
     for line in text.split(|b| *b == b'\n') {
         match reader.line(line) {

@@ -30,10 +30,12 @@ answer_again-requires-clause-ready c =
     let w : Waits = record { progress = c.in_ok-again.again.1; queue = c.in_ok-again.again.0 } in
     let waits = again_waits before c.args.progress.now w c.requires.goes_on.ready c.requires.progress
     (c.in_ok-again.ensures.again before refl refl) in
-    answer_waits before c.args.account.now c.args.message.now c.args.nonce.now.bytes c.args.heard.now.code c.in_ok-again.again.0
+    answer_waits before c.args.account.now c.args.message.now c.args.nonce.now.bytes c.args.heard.now.code
+    c.in_ok-again.again.0
     (option_to_list c.in_ok-status.status) c.in_ok-made.made c.requires.goes_on.ready c.requires.message c.requires.code
     waits.queue
-    (c.in_ok-status.ensures ∙ ap (λ h. header_answer h c.args.heard.now.code c.args.nonce.now.bytes) c.header.ensures.value)
+    (c.in_ok-status.ensures
+    ∙ ap (λ h. header_answer h c.args.heard.now.code c.args.nonce.now.bytes) c.header.ensures.value)
     ran.made_is
 
 pub answer_again-requires-clause-own : goal.answer_again-requires-clause-own
@@ -71,13 +73,16 @@ returns-then-is_denied-clause-state c accounts uri p h is at =
     let run = run_of before h.account m h.code in
     let same = heard_run before c.args.heard.now c.args.account.now h m is in
     let front = option_to_list c.in_ok-status.status in
-    let told_front = heard_front front c.header.result.now c.args.heard.now c.args.account.now h m c.args.nonce.now.bytes is
+    let told_front =
+    heard_front front c.header.result.now c.args.heard.now c.args.account.now h m c.args.nonce.now.bytes is
     c.in_ok-status.ensures c.header.ensures.value in
     let w : Waits = record { progress = c.in_ok-again.again.1; queue = c.in_ok-again.again.0 } in
     c.in_ok-next.ensures.state accounts uri
-    ∙ again_answered e c.run.new.engine q r p w m h c.args.nonce.now.bytes c.args.account.now run front c.in_ok-made.made
+    ∙ again_answered e c.run.new.engine q r p w m h c.args.nonce.now.bytes c.args.account.now run front
+    c.in_ok-made.made
     (ap is_denied is.status ∙ sym c.is_denied.ensures ∙ c.if-is_denied.true)
-    (c.in_ok-again.ensures.again before refl refl ∙ ap (λ x. queued_again before (record { progress = x; queue = q })) (sym at))
+    (c.in_ok-again.ensures.again before refl refl
+    ∙ ap (λ x. queued_again before (record { progress = x; queue = q })) (sym at))
     (ran.state_is ∙ ap (λ (n : Next). n.state) same) c.run.ensures.clock (sym is.account_is) told_front
     (ran.made_is ∙ ap (λ (n : Next). told n.made) same)
 
@@ -93,10 +98,13 @@ pub answer_or_end-requires-clause-ready : goal.answer_or_end-requires-clause-rea
 answer_or_end-requires-clause-ready c =
     let before = machine_of c.args.engine.now c.args.queue.now c.args.rest.now in
     let ran = c.in_ok-made-2.ensures.ran before refl refl (sym c.requires.goes_on.max_obj) in
-    answer_waits before c.args.account.now c.args.message.now c.args.nonce.now.bytes c.args.heard.now.code c.args.queue.now
-    (option_to_list c.in_ok-status.status) c.in_ok-made-2.made c.requires.goes_on.ready c.requires.message c.requires.code
+    answer_waits before c.args.account.now c.args.message.now c.args.nonce.now.bytes c.args.heard.now.code
+    c.args.queue.now
+    (option_to_list c.in_ok-status.status) c.in_ok-made-2.made c.requires.goes_on.ready c.requires.message
+    c.requires.code
     c.requires.goes_on.ready.queue
-    (c.in_ok-status.ensures ∙ ap (λ h. header_answer h c.args.heard.now.code c.args.nonce.now.bytes) c.header.ensures.value)
+    (c.in_ok-status.ensures
+    ∙ ap (λ h. header_answer h c.args.heard.now.code c.args.nonce.now.bytes) c.header.ensures.value)
     ran.made_is
 
 pub returns-clause-state : goal.returns-clause-state
@@ -110,19 +118,24 @@ returns-clause-state c accounts uri p h is at =
     let run = run_of before h.account m h.code in
     let same = heard_run before c.args.heard.now c.args.account.now h m is in
     let front = option_to_list c.in_ok-status.status in
-    let told_front = heard_front front c.header.result.now c.args.heard.now c.args.account.now h m c.args.nonce.now.bytes is
+    let told_front =
+    heard_front front c.header.result.now c.args.heard.now c.args.account.now h m c.args.nonce.now.bytes is
     c.in_ok-status.ensures c.header.ensures.value in
     c.in_ok-next-2.ensures.state accounts uri
-    ∙ or_ends_heard c.run-2.new.engine q r m c.args.heard.now c.args.account.now h p c.args.progress.now front c.in_ok-made-2.made is at
-    ∙ answered_or_ended e c.run-2.new.engine q r p m h c.args.nonce.now.bytes c.args.account.now run front c.in_ok-made-2.made
+    ∙ or_ends_heard c.run-2.new.engine q r m c.args.heard.now c.args.account.now h p c.args.progress.now front
+    c.in_ok-made-2.made is at
+    ∙ answered_or_ended e c.run-2.new.engine q r p m h c.args.nonce.now.bytes c.args.account.now run front
+    c.in_ok-made-2.made
     (ap is_denied is.status ∙ sym c.is_denied.ensures ∙ c.if-is_denied.false)
     (ran.state_is ∙ ap (λ (n : Next). n.state) same) c.run-2.ensures.clock (sym is.account_is) told_front
     (ran.made_is ∙ ap (λ (n : Next). told n.made) same)
 
 pub returns-clause-marks : goal.returns-clause-marks
 returns-clause-marks c =
-    holds_then c.args.engine.now c.run-2.new.engine c.answer_or_end.new.engine c.run-2.ensures.marks c.answer_or_end.ensures.marks
+    holds_then c.args.engine.now c.run-2.new.engine c.answer_or_end.new.engine c.run-2.ensures.marks
+    c.answer_or_end.ensures.marks
 
 pub returns-in_err-next-2-clause-marks : goal.returns-in_err-next-2-clause-marks
 returns-in_err-next-2-clause-marks c =
-    holds_then c.args.engine.now c.run-2.new.engine c.answer_or_end.new.engine c.run-2.ensures.marks c.answer_or_end.ensures.marks
+    holds_then c.args.engine.now c.run-2.new.engine c.answer_or_end.new.engine c.run-2.ensures.marks
+    c.answer_or_end.ensures.marks

@@ -7,7 +7,7 @@ use Rattle.dm_headers.specs.declared.standings.Standing.{Standing}
 use Rattle.dm_headers.specs.Standings.{hears}
 use Rattle.dm_machine.specs.Messages.{no_account}
 use Rattle.dm_machine.specs.Ready.{IsReadyAccount}
-use Rattle.dm_machine.proofs.StaysHearing.{hears_ready}
+use Rattle.dm_ends.proofs.Hearing.{hears_ready}
 use Rattle.dm_machine.proofs.StaysWaiting.{account_ready}
 use Rattle.dm_session.specs.Inside.{machine_of}
 use Rattle.dm_session.proofs.Machines.{account_is}
@@ -16,7 +16,8 @@ use Rattle.dm_session.proofs.working.accept.Goals as goal
 
 pub returns-then-progress-clause-state : goal.returns-then-progress-clause-state
 returns-then-progress-clause-state c =
-    accepted_last c.args.engine.now c.close.new.engine c.args.queue.now c.close.new.queue c.args.rest.now c.args.progress.now
+    accepted_last c.args.engine.now c.close.new.engine c.args.queue.now c.close.new.queue c.args.rest.now
+    c.args.progress.now
     c.args.message.now c.args.nonce.now.bytes c.in_ok-resp_uri.resp_uri
     (eq-eqb c.args.progress.now.standing.own 4294967295 c.if-progress.true) c.close.ensures.state c.close.ensures.clock
     c.close.ensures.queue (c.in_ok-resp_uri.ensures ∙ ap (λ (h : Header). h.resp_uri) c.header.ensures.value)
@@ -44,7 +45,8 @@ by_header-requires-clause-account c =
     c.requires.progress.account in
     let ready = subst IsReadyAccount (sym is)
     (account_ready before p.account c.requires.goes_on.ready.accounts c.requires.progress.account) in
-    let heard = hears_ready Server account p.standing c.args.message.now c.args.nonce.now.bytes ready c.requires.progress.room in
+    let heard =
+    hears_ready Server account p.standing c.args.message.now c.args.nonce.now.bytes ready c.requires.progress.room in
     subst IsReadyAccount (sym (c.renewed_by-renewed.ensures ∙ c.in_ok-heard.ensures.account_is)) heard.account
 
 pub by_header-requires-clause-own : goal.by_header-requires-clause-own
@@ -56,7 +58,8 @@ by_header-requires-clause-own c =
     c.requires.progress.account in
     let ready = subst IsReadyAccount (sym is)
     (account_ready before p.account c.requires.goes_on.ready.accounts c.requires.progress.account) in
-    let heard = hears_ready Server account p.standing c.args.message.now c.args.nonce.now.bytes ready c.requires.progress.room in
+    let heard =
+    hears_ready Server account p.standing c.args.message.now c.args.nonce.now.bytes ready c.requires.progress.room in
     let stands = ap (λ (x : Standing). x.own) c.in_ok-heard.ensures.standing ∙ heard.own in
     let low = c.requires.progress.own in
     let last = c.if-progress.false in
@@ -71,7 +74,8 @@ by_header-requires-clause-code c =
     c.requires.progress.account in
     let ready = subst IsReadyAccount (sym is)
     (account_ready before p.account c.requires.goes_on.ready.accounts c.requires.progress.account) in
-    let heard = hears_ready Server account p.standing c.args.message.now c.args.nonce.now.bytes ready c.requires.progress.room in
+    let heard =
+    hears_ready Server account p.standing c.args.message.now c.args.nonce.now.bytes ready c.requires.progress.room in
     subst (λ n. n < 2 ^ 32) (sym c.in_ok-heard.ensures.code) heard.code
 
 pub returns-clause-state : goal.returns-clause-state
@@ -86,7 +90,8 @@ returns-clause-state c =
     let h = hears Server account p.standing m nonce in
     let heard = c.in_ok-heard.ensures in
     let renewed = c.renewed_by-renewed.result.now in
-    accepted_by_header c.args.engine.now c.by_header.new.engine c.args.queue.now c.by_header.new.queue c.args.rest.now p m nonce
+    accepted_by_header c.args.engine.now c.by_header.new.engine c.args.queue.now c.by_header.new.queue c.args.rest.now p
+    m nonce
     c.in_ok-heard.heard.account account renewed c.in_ok-resp_uri.resp_uri c.in_ok-next.next
     (ne_eqb p.standing.own 4294967295 c.if-progress.false) is c.requires.progress.account c.renewed_by-renewed.ensures
     (c.in_ok-resp_uri.ensures ∙ ap (λ (x : Header). x.resp_uri) c.header.ensures.value)

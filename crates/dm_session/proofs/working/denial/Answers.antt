@@ -9,7 +9,8 @@ farewell-requires-clause-one c =
 
 pub farewell-requires-clause-fit : goal.farewell-requires-clause-fit
 farewell-requires-clause-fit c =
-    let own = own_header_ready c.args.engine.now c.args.rest.now _ c.args.progress.now c.args.account.now c.in_ok-header.header
+    let own =
+    own_header_ready c.args.engine.now c.args.rest.now _ c.args.progress.now c.args.account.now c.in_ok-header.header
     c.tree.ensures.nodes c.in_ok-header.ensures c.requires.limits c.requires.device c.requires.account c.requires.number
     c.requires.own in
     denial_fit c.in_ok-header.header c.args.code c.args.nonce.now.bytes c.args.message.now c.in_ok-status.status own

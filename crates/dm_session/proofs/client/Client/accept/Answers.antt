@@ -2,12 +2,13 @@ use Rattle.std.proofs.Common.{◌≡◌, ◌∙◌, ap, subst, sym, refl, Ok, tr
 use Rattle.std.specs.Prelude.{option_map}
 use Rattle.dm_atomic.specs.Marks as Marks
 use Rattle.dm_atomic.specs.Marks.{whole_of}
+use Rattle.dm_atomic.specs.Updates.{TellsStarted}
 use Rattle.dm_machine.specs.Events.{message}
 use Rattle.dm_machine.specs.Machine.{Machine}
 use Rattle.dm_machine.specs.Events.{takes}
 use Rattle.dm_session.specs.Inside.{machine_of, session_of}
 use Rattle.dm_session.specs.View.{Whole}
-use Rattle.dm_session.proofs.Clients.{back_goes_on, same_client, drafted_lives}
+use Rattle.dm_session.proofs.Clients.{back_goes_on, same_client, drafted_lives, steady_of}
 use Rattle.dm_session.specs.Stays.{body_covers}
 use Rattle.dm_session.proofs.Kept.{stay_is, stay_settled, seen_stay}
 use Rattle.dm_session.proofs.client.Client.accept.Goals as goal
@@ -22,11 +23,18 @@ invariant_of-self c =
     let recalled = c.accept.ensures.marks.marks c.mark-mark.result (whole_of e) c.mark-mark.ensures.recalls in
     record {
       goes_on = back_goes_on e c.back.new.self c.self.inside.queue c.accept.new.queue c.self.inside.rest
-          c.self.invariant.goes_on (c.back.ensures.whole (whole_of e) recalled) (c.back.ensures.clock ∙ c.accept.ensures.clock)
+          c.self.invariant.goes_on (c.back.ensures.whole (whole_of e) recalled)
+          (c.back.ensures.clock ∙ c.accept.ensures.clock)
           (c.back.ensures.max_obj ∙ c.accept.ensures.max_obj) c.back.ensures.sound c.in-Err.ensures.err;
       sent = c.self.invariant.sent;
       farewell = c.self.invariant.farewell;
-      closed = λ h. ap (λ (w : Marks.Whole). w.state.group) (c.back.ensures.whole (whole_of e) recalled) ∙ c.self.invariant.closed h;
+      settled = c.back.ensures.past ∙ c.accept.ensures.marks.pasts c.mark-mark.result c.mark-mark.ensures.recalls.held
+          ∙ c.mark-mark.ensures.past ∙ c.self.invariant.settled;
+      told = subst (λ (w : Marks.Whole). TellsStarted w.state) (sym (c.back.ensures.whole (whole_of e) recalled))
+          c.self.invariant.told;
+      closed =
+          λ h. ap (λ (w : Marks.Whole). w.state.group) (c.back.ensures.whole (whole_of e) recalled)
+          ∙ c.self.invariant.closed h;
     }
 
 pub invariant_of-self-in-Ok : goal.invariant_of-self-in-Ok
@@ -38,10 +46,13 @@ invariant_of-self-in-Ok c =
     drafted_lives c.accept.new.engine c.settle.new.self c.accept.new.queue r c.take_up.new.self
     c.in-Some.session.progress.account c.in-Ok.draft (machine_of e c.self.inside.queue r) (session_of c.in-Some.session)
     c.args.message.now c.args.nonce.now.bytes c.take_up.ensures.rest
-    (subst (λ x. takes x came ≡ true) (sym old) c.requires.takes) (ap (option_map session_of) c.in-Some.is) c.in-Ok.ensures.state
+    (subst (λ x. takes x came ≡ true) (sym old) c.requires.takes) (ap (option_map session_of) c.in-Some.is)
+    c.in-Ok.ensures.state
     c.settle.ensures.whole c.settle.ensures.clock c.settle.ensures.sound
-    (c.settle.ensures.max_obj ∙ c.accept.ensures.max_obj ∙ c.self.invariant.goes_on.max_obj) c.self.invariant.goes_on.ready
+    (c.settle.ensures.max_obj ∙ c.accept.ensures.max_obj ∙ c.self.invariant.goes_on.max_obj)
+    c.self.invariant.goes_on.ready
     c.requires.message c.in-Ok.ensures.spelled c.self.invariant.sent c.self.invariant.farewell
+    c.settle.ensures.past (steady_of c.self.inside c.self.invariant)
 
 pub returns-in-Err-clause-err : goal.returns-in-Err-clause-err
 returns-in-Err-clause-err c =

@@ -23,6 +23,8 @@ invariant_of-self-in-Err c =
     (popped c.self.inside.rest.results c.push.new.self c.pop.new.self _ c.pop.result c.in_ok-push.ensures.ok
     c.pop.ensures)
     c.self.invariant (c.back.ensures.max_obj ∙ c.finish_update.ensures.max_obj) c.back.ensures.sound
+    (c.back.ensures.past ∙ c.finish_update.ensures.marks.pasts c.mark-mark.result c.mark-mark.ensures.recalls.held
+    ∙ c.mark-mark.ensures.past)
 
 pub returns-in-Err-clause-err : goal.returns-in-Err-clause-err
 returns-in-Err-clause-err c =
@@ -43,7 +45,7 @@ invariant_of-self-in-Ok c =
     (ap (λ w. w.state) c.settle.ensures.whole ∙ c.in-Ok.ensures.ok)
     (c.settle.ensures.clock ∙ c.finish_update.ensures.clock)
     (c.in_ok-correlator.ensures ∙ ap correlator_of c.started.ensures) c.in_ok-push.ensures.ok c.self.invariant
-    (c.settle.ensures.max_obj ∙ c.finish_update.ensures.max_obj) c.settle.ensures.sound
+    (c.settle.ensures.max_obj ∙ c.finish_update.ensures.max_obj) c.settle.ensures.sound c.settle.ensures.past
 
 pub returns-in-Ok-clause-ok : goal.returns-in-Ok-clause-ok
 returns-in-Ok-clause-ok c =

@@ -8,13 +8,15 @@ use Rattle.dm_session.proofs.client.Client.take.Goals as goal
 
 pub accept-requires-clause-takes : goal.accept-requires-clause-takes
 accept-requires-clause-takes c =
-    c.in-None.ensures.new c.args.self.now.machine c.args.nonce.now.bytes (ap (λ (w : Whole). w.machine.session) (sym c.self.view_is))
+    c.in-None.ensures.new c.args.self.now.machine c.args.nonce.now.bytes
+    (ap (λ (w : Whole). w.machine.session) (sym c.self.view_is))
 
 pub returns-in-Some-clause-answer : goal.returns-in-Some-clause-answer
 returns-in-Some-clause-answer c =
     let old = c.in-Some.ensures.old c.args.self.now.machine c.args.nonce.now.bytes
     (ap (λ (w : Whole). w.machine.session) (sym c.self.view_is)) in
-    old_answer c.args.self.now.machine (message (Ok c.args.message.now) c.args.nonce.now.bytes) c.in-Some.answer old.0 old.1
+    old_answer c.args.self.now.machine (message (Ok c.args.message.now) c.args.nonce.now.bytes) c.in-Some.answer old.0
+    old.1
 
 pub returns-in-Some-clause-ok : goal.returns-in-Some-clause-ok
 returns-in-Some-clause-ok c =
@@ -24,3 +26,9 @@ returns-in-Some-clause-ok c =
 
 pub returns-in-Some-clause-ids : goal.returns-in-Some-clause-ids
 returns-in-Some-clause-ids c = stay_self (body_covers c.args.message.now.body) (engine_in c.args.self.now)
+
+pub returns-in-None-clause-untaken : goal.returns-in-None-clause-untaken
+returns-in-None-clause-untaken c old =
+    let new = c.in-None.ensures.new c.args.self.now.machine c.args.nonce.now.bytes
+    (ap (λ (w : Whole). w.machine.session) (sym c.self.view_is)) in
+    absurd (cc)
