@@ -21,12 +21,15 @@ use Rattle.dm_check.specs.Kept.{read_in, checked_in}
 
 -- ---- a text and its answer
 
-full : (text : List ℕ) (r : Result Parts Refusal) (old new : Option (List ℕ)) → Appends old new text → Ends text (exit_of r) old new (exit_of r)
+full : (text : List ℕ) (r : Result Parts Refusal) (old new : Option (List ℕ)) → Appends old new text
+    → Ends text (exit_of r) old new (exit_of r)
 full text (Ok message) old new h = (h, refl)
 full text (Err refusal) old new h = (h, refl)
 
-ends_by : (text : List ℕ) (r : Result Parts Refusal) (good : Exit) (old new : Option (List ℕ)) (e : Exit) → good ≡ exit_of r → PutsEnd text good old new e → Ends text (exit_of r) old new e
-ends_by text r good old new e is h = ends_put text (exit_of r) old new e (full text r old new) (subst (λ g. PutsEnd text g old new e) is h)
+ends_by : (text : List ℕ) (r : Result Parts Refusal) (good : Exit) (old new : Option (List ℕ)) (e : Exit)
+    → good ≡ exit_of r → PutsEnd text good old new e → Ends text (exit_of r) old new e
+ends_by text r good old new e is h =
+    ends_put text (exit_of r) old new e (full text r old new) (subst (λ g. PutsEnd text g old new e) is h)
 
 read_received : (bytes : List ℕ) (r : Received) → Receives (Ok r) bytes → read_of bytes ≡ read_in r
 read_received bytes (received.Message message kept) h = h.1
@@ -34,20 +37,25 @@ read_received bytes (received.Refused refusal) h = h
 
 -- ---- the listing
 
-shown_by : (bytes : List ℕ) (r : Result Parts Refusal) (old new : Option (List ℕ)) (e : Exit) → read_of bytes ≡ r → Ends (shown r) (exit_of r) old new e
+shown_by : (bytes : List ℕ) (r : Result Parts Refusal) (old new : Option (List ℕ)) (e : Exit) → read_of bytes ≡ r
+    → Ends (shown r) (exit_of r) old new e
     → Ends (show_text bytes) (message_exit bytes) old new e
 unfolding show_text message_exit
 shown_by bytes r old new e is h = subst (λ x. Ends (shown x) (exit_of x) old new e) (sym is) h
 
-pub all_shown : (left : Option (List ℕ)) (r : Received) (text : List ℕ) (good : Exit) (old new : Option (List ℕ)) (e : Exit) → OfKnown left (Receives (Ok r)) → text ≡ shown (read_in r)
-    → good ≡ exit_of (read_in r) → PutsEnd text good old new e → OfKnown left (λ bytes. Ends (show_text bytes) (message_exit bytes) old new e)
+pub all_shown : (left : Option (List ℕ)) (r : Received) (text : List ℕ) (good : Exit) (old new : Option (List ℕ))
+    (e : Exit) → OfKnown left (Receives (Ok r)) → text ≡ shown (read_in r)
+    → good ≡ exit_of (read_in r) → PutsEnd text good old new e
+    → OfKnown left (λ bytes. Ends (show_text bytes) (message_exit bytes) old new e)
 all_shown None r text good old new e h same is p = tt
 all_shown (Some bytes) r text good old new e h same is p =
-    shown_by bytes (read_in r) old new e (read_received bytes r h) (subst (λ t. Ends t (exit_of (read_in r)) old new e) same (ends_by text (read_in r) good old new e is p))
+    shown_by bytes (read_in r) old new e (read_received bytes r h)
+    (subst (λ t. Ends t (exit_of (read_in r)) old new e) same (ends_by text (read_in r) good old new e is p))
 
 -- ---- the line of `check`
 
-checked_by : (bytes : List ℕ) (r : Result Parts Refusal) (old new : Option (List ℕ)) (e : Exit) → read_of bytes ≡ r → Ends (checked bytes r) (exit_of r) old new e
+checked_by : (bytes : List ℕ) (r : Result Parts Refusal) (old new : Option (List ℕ)) (e : Exit) → read_of bytes ≡ r
+    → Ends (checked bytes r) (exit_of r) old new e
     → Ends (check_text bytes) (message_exit bytes) old new e
 unfolding check_text message_exit
 checked_by bytes r old new e is h = subst (λ x. Ends (checked bytes x) (exit_of x) old new e) (sym is) h
@@ -56,12 +64,15 @@ line_of : (bytes : List ℕ) (r : Received) → Receives (Ok r) bytes → checke
 line_of bytes (received.Message message kept) h = ap (λ b. checked b (Ok message)) h.0
 line_of bytes (received.Refused refusal) h = refl
 
-pub all_checked : (left : Option (List ℕ)) (r : Received) (text : List ℕ) (good : Exit) (old new : Option (List ℕ)) (e : Exit) → OfKnown left (Receives (Ok r)) → text ≡ checked_in r
-    → good ≡ exit_of (read_in r) → PutsEnd text good old new e → OfKnown left (λ bytes. Ends (check_text bytes) (message_exit bytes) old new e)
+pub all_checked : (left : Option (List ℕ)) (r : Received) (text : List ℕ) (good : Exit) (old new : Option (List ℕ))
+    (e : Exit) → OfKnown left (Receives (Ok r)) → text ≡ checked_in r
+    → good ≡ exit_of (read_in r) → PutsEnd text good old new e
+    → OfKnown left (λ bytes. Ends (check_text bytes) (message_exit bytes) old new e)
 all_checked None r text good old new e h same is p = tt
 all_checked (Some bytes) r text good old new e h same is p =
     checked_by bytes (read_in r) old new e (read_received bytes r h)
-    (subst (λ t. Ends t (exit_of (read_in r)) old new e) (same ∙ line_of bytes r h) (ends_by text (read_in r) good old new e is p))
+    (subst (λ t. Ends t (exit_of (read_in r)) old new e) (same ∙ line_of bytes r h)
+    (ends_by text (read_in r) good old new e is p))
 
 -- ---- nothing is put
 
@@ -69,11 +80,13 @@ keeps_all : (old : Option (List ℕ)) (text : List ℕ) → PutsPrefix old old t
 keeps_all None text = prefix_none None None text tt
 keeps_all (Some xs) text = prefix_none (Some xs) (Some xs) text refl
 
-pub unread : (left : Option (List ℕ)) (text : List ℕ → List ℕ) (good : List ℕ → Exit) (old : Option (List ℕ)) → OfKnown left (λ bytes. Ends (text bytes) (good bytes) old old exit.ReadFault)
+pub unread : (left : Option (List ℕ)) (text : List ℕ → List ℕ) (good : List ℕ → Exit) (old : Option (List ℕ))
+    → OfKnown left (λ bytes. Ends (text bytes) (good bytes) old old exit.ReadFault)
 unread None text good old = tt
 unread (Some bytes) text good old = keeps_all old (text bytes)
 
-pub lacking : (left : Option (List ℕ)) (text : List ℕ → List ℕ) (good : List ℕ → Exit) (old : Option (List ℕ)) → OfKnown left (λ bytes. Ends (text bytes) (good bytes) old old exit.NoMemory)
+pub lacking : (left : Option (List ℕ)) (text : List ℕ → List ℕ) (good : List ℕ → Exit) (old : Option (List ℕ))
+    → OfKnown left (λ bytes. Ends (text bytes) (good bytes) old old exit.NoMemory)
 lacking None text good old = tt
 lacking (Some bytes) text good old = keeps_all old (text bytes)
 
@@ -99,7 +112,8 @@ cause_by exit.WriteFault before now other h = h
 cause_by exit.NoMemory before now other h = h
 cause_by exit.TooLong before now other h = h
 
-pub source_cause : (r : Received) (text : List ℕ) (good : Exit) (old new : Option (List ℕ)) (e : Exit) (before now : ℕ) → good ≡ exit_of (read_in r) → PutsEnd text good old new e
+pub source_cause : (r : Received) (text : List ℕ) (good : Exit) (old new : Option (List ℕ)) (e : Exit) (before now : ℕ)
+    → good ≡ exit_of (read_in r) → PutsEnd text good old new e
     → now ≡ before → SourceCause before now e
 source_cause r text good old new e before now is h same =
     cause_by e before now (λ fault. elim h [
@@ -107,5 +121,7 @@ source_cause r text good old new e before now is h same =
       | inr part ↦ part_no_read text old new e part fault
     ]) same
 
-pub usage_never : (r : Received) (text : List ℕ) (good : Exit) (old new : Option (List ℕ)) (e : Exit) → good ≡ exit_of (read_in r) → PutsEnd text good old new e → e ≢ exit.Usage
-usage_never r text good old new e is h = end_is_no_usage text good old new e (λ usage. no_usage (read_in r) (sym is ∙ usage)) h
+pub usage_never : (r : Received) (text : List ℕ) (good : Exit) (old new : Option (List ℕ)) (e : Exit)
+    → good ≡ exit_of (read_in r) → PutsEnd text good old new e → e ≢ exit.Usage
+usage_never r text good old new e is h =
+    end_is_no_usage text good old new e (λ usage. no_usage (read_in r) (sym is ∙ usage)) h

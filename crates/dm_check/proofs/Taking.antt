@@ -34,44 +34,55 @@ unsettled_within bytes h = sound_within bytes (sound_by (built bytes) (reading b
 
 -- ---- what all of the bytes are
 
-pub all_received : (old new : Option (List ℕ)) (bytes : List ℕ) (r : Result Received Fault) → Consumes old new bytes → IsAtEnd new → Receives r bytes → OfKnown old (Receives r)
+pub all_received : (old new : Option (List ℕ)) (bytes : List ℕ) (r : Result Received Fault) → Consumes old new bytes
+    → IsAtEnd new → Receives r bytes → OfKnown old (Receives r)
 all_received None new bytes r taken end h = tt
 all_received (Some xs) None bytes r taken end h = absurd taken
-all_received (Some xs) (Some ys) bytes r taken end h = subst (Receives r) (sym (taken ∙ ap (λ l. bytes ++ l) end ∙ append-nil bytes)) h
+all_received (Some xs) (Some ys) bytes r taken end h =
+    subst (Receives r) (sym (taken ∙ ap (λ l. bytes ++ l) end ∙ append-nil bytes)) h
 
-refused_received : (old new : Option (List ℕ)) (bytes : List ℕ) (f : Refusal) → Consumes old new bytes → settled bytes ≡ Some f → OfKnown old (λ all. read_of all ≡ Err f)
+refused_received : (old new : Option (List ℕ)) (bytes : List ℕ) (f : Refusal) → Consumes old new bytes
+    → settled bytes ≡ Some f → OfKnown old (λ all. read_of all ≡ Err f)
 refused_received None new bytes f taken h = tt
 refused_received (Some xs) None bytes f taken h = absurd taken
-refused_received (Some xs) (Some ys) bytes f taken h = ap read_of taken ∙ settled_read (bytes ++ ys) f (settled_more bytes ys f h)
+refused_received (Some xs) (Some ys) bytes f taken h =
+    ap read_of taken ∙ settled_read (bytes ++ ys) f (settled_more bytes ys f h)
 
 -- what a decoder answers to some of the bytes holds of all
-pub stopped_received : (old new : Option (List ℕ)) (bytes : List ℕ) (e : DecodeError) (r : Result Received Fault) → Consumes old new bytes → TellsSettled (Err e) (settled bytes)
+pub stopped_received : (old new : Option (List ℕ)) (bytes : List ℕ) (e : DecodeError) (r : Result Received Fault)
+    → Consumes old new bytes → TellsSettled (Err e) (settled bytes)
     → r ≡ answer_to e → OfKnown old (Receives r)
-stopped_received old new bytes (errors.Refused f) r taken h is = subst (λ x. OfKnown old (Receives x)) (sym is) (refused_received old new bytes f taken h)
+stopped_received old new bytes (errors.Refused f) r taken h is =
+    subst (λ x. OfKnown old (Receives x)) (sym is) (refused_received old new bytes f taken h)
 stopped_received None new bytes errors.Memory r taken h is = tt
 stopped_received (Some xs) new bytes errors.Memory r taken h is = subst (λ x. Receives x xs) (sym is) tt
 
 -- ---- how much was taken
 
 -- a piece behind bytes that settle nothing
-pub took : (old mid new : Option (List ℕ)) (before last : List ℕ) → Consumes old mid before → settled before ≡ None → Consumes mid new last → length last ≤ 4096
+pub took : (old mid new : Option (List ℕ)) (before last : List ℕ) → Consumes old mid before → settled before ≡ None
+    → Consumes mid new last → length last ≤ 4096
     → length before + length last ≤ 65537 → TakesNoMore old new
 took old mid new before last first unsettled then_ short few =
     let all = length-append before last in
     (before, last, Consumes-trans old mid new before last first then_, unsettled, short, omega (arith, few, all))
 
 -- the same of the front of a buffer
-pub took_piece : (old mid new : Option (List ℕ)) (before buf : List ℕ) (n room : ℕ) → Consumes old mid before → settled before ≡ None → Consumes mid new (take n buf) → length buf ≤ room
+pub took_piece : (old mid new : Option (List ℕ)) (before buf : List ℕ) (n room : ℕ) → Consumes old mid before
+    → settled before ≡ None → Consumes mid new (take n buf) → length buf ≤ room
     → room ≤ 4096 → length before + room ≤ 65537 → TakesNoMore old new
 took_piece old mid new before buf n room first unsettled then_ short few within =
     let front = length-take n buf in
-    took old mid new before (take n buf) first unsettled then_ (omega (arith, front, short, few)) (omega (arith, front, short, within))
+    took old mid new before (take n buf) first unsettled then_ (omega (arith, front, short, few))
+    (omega (arith, front, short, within))
 
 -- nothing behind them, where the source failed
-pub took_none : (old mid new : Option (List ℕ)) (before : List ℕ) → Consumes old mid before → settled before ≡ None → Keeps mid new → length before ≤ 65536
+pub took_none : (old mid new : Option (List ℕ)) (before : List ℕ) → Consumes old mid before → settled before ≡ None
+    → Keeps mid new → length before ≤ 65536
     → TakesNoMore old new
 took_none old mid new before first unsettled keeps within =
-    took old mid new before [] first unsettled (Consumes-kept mid mid new [] (Consumes-nil mid) keeps) (omega (arith)) (omega (arith, within))
+    took old mid new before [] first unsettled (Consumes-kept mid mid new [] (Consumes-nil mid) keeps) (omega (arith))
+    (omega (arith, within))
 
 -- nothing was taken yet
 pub none_taken : (known : Option (List ℕ)) (bytes : List ℕ) → bytes ≡ [] → Consumes known known bytes

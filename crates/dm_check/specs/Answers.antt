@@ -1,35 +1,30 @@
 -- What `show` and `check` write of one message, and how they end.
-use Rattle.std.specs.Prelude.{ℕ, Bool, if◌then◌else◌, bytes_eq, codes, List, [], ◌∷◌, ◌++◌, length, Result, Ok, Err}
+use Rattle.std.specs.Prelude.{ℕ, Bool, if◌then◌else◌, bytes_eq, codes, List, ◌++◌, length, Result, Ok, Err}
 use Rattle.std.specs.Fmt.{decimal}
 use Rattle.wbxml_tokens.specs.declared.reason.Refusal.{Refusal}
-use Rattle.wbxml_tokens.specs.Reasons.{word_of}
 use Rattle.syncml_types.specs.Message.{Parts}
 use Rattle.syncml_types.specs.Canonical.{canonical}
 use Rattle.syncml_types.specs.Lengths.{up_to_most}
 use Rattle.syncml_codec.specs.Listing.{listing_of}
 use Rattle.syncml_codec.specs.Decoding.{read_of}
+use Rattle.dm_replay.specs.Output.{line_feed, refused_line}
 use Rattle.dm_replay.specs.declared.exit.Exit.{Exit}
 use Rattle.dm_replay.specs.declared.exit.Exit.TheVariants as exit
-
-abbrev pub line_feed : List ℕ
-line_feed = 10 ∷ []
-
--- where and why no message is read
-abbrev pub refused_line : Refusal → List ℕ
-refused_line refusal = codes "refused " ++ decimal refusal.at ++ codes " " ++ word_of refusal.reason ++ line_feed
 
 -- a message of so many bytes, and how many its canonical spelling has
 abbrev pub ok_line : ℕ → ℕ → Bool → List ℕ
 ok_line bytes spelling same =
-    codes "ok " ++ decimal bytes ++ codes " " ++ decimal spelling ++ (if same then codes " canonical" else codes " other") ++ line_feed
+    codes "ok " ++ decimal bytes ++ codes " " ++ decimal spelling
+    ++ (if same then codes " canonical" else codes " other") ++ line_feed
 
 abbrev pub shown : Result Parts Refusal → List ℕ
 shown (Ok message) = listing_of message
-shown (Err refusal) = refused_line refusal
+shown (Err refusal) = refused_line refusal ++ line_feed
 
 abbrev pub checked : List ℕ → Result Parts Refusal → List ℕ
-checked bytes (Ok message) = ok_line (length bytes) (up_to_most (length (canonical message))) (bytes_eq bytes (canonical message))
-checked bytes (Err refusal) = refused_line refusal
+checked bytes (Ok message) =
+    ok_line (length bytes) (up_to_most (length (canonical message))) (bytes_eq bytes (canonical message))
+checked bytes (Err refusal) = refused_line refusal ++ line_feed
 
 abbrev pub exit_of : Result Parts Refusal → Exit
 exit_of (Ok message) = exit.Done
@@ -39,7 +34,8 @@ exit_of (Err refusal) = exit.BadInput
 unfoldable pub show_text : List ℕ → List ℕ
 show_text bytes = shown (read_of bytes)
 
--- the text of `check`: the lengths of the bytes and of the canonical spelling, and whether they are the same; or the refusal
+-- the text of `check`: the lengths of the bytes and of the canonical spelling, and whether they are the same; or the
+-- refusal
 unfoldable pub check_text : List ℕ → List ℕ
 check_text bytes = checked bytes (read_of bytes)
 

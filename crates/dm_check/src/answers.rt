@@ -32,8 +32,8 @@ fn put_answer<K: Sink>(out: &mut K, text: &[u8], received: &Received) -> Exit
 /// Writes the listing of the message that the source has, or why it has none. It answers
 /// - `Done` where the bytes spell a message,
 /// - `BadInput` where they are refused,
-/// - `ReadFault` and `WriteFault` after a fault of the source and of the sink, and `NoMemory` at any place; then what was
-///   written is a prefix of the text.
+/// - `ReadFault` and `WriteFault` after a fault of the source and of the sink, and `NoMemory` at any place; then what
+///   was written is a prefix of the text.
 pub fn show<S: Source, K: Sink>(alloc: Global, src: &mut S, out: &mut K) -> Exit
     ensures output { OfKnown (S.left src.old) (λ bytes. Ends (show_text bytes) (message_exit bytes) (K.got out.old)
         (K.got out.new) result) }
@@ -52,8 +52,8 @@ pub fn show<S: Source, K: Sink>(alloc: Global, src: &mut S, out: &mut K) -> Exit
     }
 }
 
-/// Writes the length of the message that the source has, the length of its canonical spelling and whether the two are the
-/// same bytes, or why it has none. It answers as `show` does.
+/// Writes the length of the message that the source has, the length of its canonical spelling and whether the two are
+/// the same bytes, or why it has none. It answers as `show` does.
 pub fn check<S: Source, K: Sink>(alloc: Global, src: &mut S, out: &mut K) -> Exit
     ensures output { OfKnown (S.left src.old) (λ bytes. Ends (check_text bytes) (message_exit bytes) (K.got out.old)
         (K.got out.new) result) }

@@ -1,36 +1,25 @@
 // The lines that are written of what was received.
-ghost use Rattle.std.specs.Prelude.{◌≡◌, ◌++◌, bytes_eq, length, IfOk, OnOk};
-ghost use Rattle.std.specs.Fmt.{decimal};
+ghost use Rattle.std.specs.Prelude.{◌≡◌, ◌++◌, bytes_eq, length, IfOk};
 ghost use Rattle.syncml_types.specs.Canonical.{canonical};
 ghost use Rattle.syncml_types.specs.Lengths.{up_to_most};
+ghost use Rattle.dm_replay.specs.Output.{refused_line, line_feed};
 ghost use Rattle.dm_check.specs.Answers as Spec;
 ghost use Rattle.dm_check.specs.Kept.{read_in, checked_in};
 
 use crate::message::Received;
 use dm_base::{Bytes, Memory};
-use itoa::Buffer;
+use dm_replay::answers::{add_number, refused_line};
 use std::alloc::Global;
 use syncml_codec::{encode, listing};
 use syncml_types::{Message, length};
 use wbxml_tokens::Refusal;
 
-// Adds a number in decimal digits.
-fn add_number(line: &mut Bytes, number: u64) -> Result<(), Memory>
-    ensures { OnOk result (line.new ≡ line.old ++ decimal number) }
+fn refusal_text(alloc: Global, refusal: Refusal) -> Result<Bytes, Memory>
+    ensures { IfOk result (λ text. text ≡ refused_line refusal ++ line_feed) }
 {
-    let mut buffer = Buffer::new();
-    line.extend(buffer.format(number).as_bytes())
-}
-
-fn refused_line(alloc: Global, refusal: Refusal) -> Result<Bytes, Memory>
-    ensures { IfOk result (λ line. line ≡ Spec.refused_line refusal) }
-{
-    let mut line = Bytes::of_slice(alloc, b"refused ")?;
-    add_number(&mut line, refusal.at)?;
-    line.push(b' ')?;
-    line.extend(refusal.reason.word().as_bytes())?;
-    line.push(b'\n')?;
-    Ok(line)
+    let mut text = refused_line(alloc, refusal)?;
+    text.push(b'\n')?;
+    Ok(text)
 }
 
 fn ok_line(alloc: Global, bytes: u64, spelling: u64, same: bool) -> Result<Bytes, Memory>
@@ -45,8 +34,9 @@ fn ok_line(alloc: Global, bytes: u64, spelling: u64, same: bool) -> Result<Bytes
     Ok(line)
 }
 
-// Whether the bytes are the canonical spelling, of which the length is known. Only where the lengths agree is it written: a
-// string of the table may stand for a text at many places, so the spelling may be many times as long as the bytes.
+// Whether the bytes are the canonical spelling, of which the length is known. Only where the lengths agree is it
+// written: a string of the table may stand for a text at many places, so the spelling may be many times as long as the
+// bytes.
 #[tactic(auto, using(crate::proofs::Lengths::other_length))]
 fn is_canonical(
     alloc: Global,
@@ -69,7 +59,7 @@ pub fn show_lines(alloc: Global, received: &Received) -> Result<Bytes, Memory>
 {
     match received {
         Received::Message { message, .. } => listing(alloc, message),
-        Received::Refused(refusal) => refused_line(alloc, *refusal),
+        Received::Refused(refusal) => refusal_text(alloc, *refusal),
     }
 }
 
@@ -83,6 +73,6 @@ pub fn check_line(alloc: Global, received: &Received) -> Result<Bytes, Memory>
             let same = is_canonical(alloc, message, bytes.as_slice(), spelling)?;
             ok_line(alloc, bytes.len() as u64, spelling, same)
         }
-        Received::Refused(refusal) => refused_line(alloc, *refusal),
+        Received::Refused(refusal) => refusal_text(alloc, *refusal),
     }
 }

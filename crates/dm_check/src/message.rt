@@ -64,8 +64,9 @@ fn finish(decoder: Decoder, bytes: Bytes) -> Result<Received, Fault>
     }
 }
 
-/// Takes bytes until they settle a refusal or end, at most 65,537 of them in pieces of at most 4,096. It answers what all
-/// bytes of the source are, those too that it doesn't take; `Failed` after a fault of the source, and `Memory` at any place.
+/// Takes bytes until they settle a refusal or end, at most 65,537 of them in pieces of at most 4,096. It answers what
+/// all bytes of the source are, those too that it doesn't take; `Failed` after a fault of the source, and `Memory` at
+/// any place.
 pub fn receive<S: Source>(alloc: Global, src: &mut S) -> Result<Received, Fault>
     ensures received { OfKnown (S.left src.old) (Receives result) }
     ensures taken { TakesNoMore (S.left src.old) (S.left src.new) }

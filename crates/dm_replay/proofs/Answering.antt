@@ -1,5 +1,6 @@
 -- What is answered to events that aren't messages, and which of them leave the machine as it is.
-use Rattle.std.proofs.Common.{◌≡◌, ◌++◌, ℕ, Bool, true, false, List, Some, None, Ok, Err, OnOk, IfOk, refl, sym, ap, ◌∙◌, if◌then◌else◌}
+use Rattle.std.proofs.Common.{◌≡◌, ◌++◌, ℕ, Bool, true, false, List, Some, None, Ok, Err, OnOk, IfOk, refl, sym, ap}
+use Rattle.std.proofs.Common.{◌∙◌, if◌then◌else◌}
 use Rattle.std.specs.Prelude.{codes}
 use Rattle.std.specs.Option.{option_map}
 use Rattle.std.specs.declared.option.Option.{Option}
@@ -9,7 +10,8 @@ use Rattle.syncml_types.specs.Canonical.{canonical}
 use Rattle.dm_tree.specs.declared.nodes.Stamp.{Stamp}
 use Rattle.dm_machine.specs.declared.kinds.Kind.{Kind}
 use Rattle.dm_machine.specs.Machine.{Session, Machine}
-use Rattle.dm_machine.specs.Events.{Answer, clocked, exhausted, clock, opened, loss, loss_answer, sent_in, takes, after, taken_answer, refusal}
+use Rattle.dm_machine.specs.Events.{Answer, clocked, exhausted, clock, opened, loss, loss_answer, sent_in, takes, after}
+use Rattle.dm_machine.specs.Events.{taken_answer, refusal}
 use Rattle.dm_machine.specs.History.{answer_now, next, kept_in}
 use Rattle.dm_replay.specs.Output.{answer_line}
 

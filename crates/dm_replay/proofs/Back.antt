@@ -1,5 +1,7 @@
 -- A run that ends by Done went over a whole trace.
-use Rattle.std.proofs.Common.{suc, zero, None, Some, Ok, Err, ◌≡◌, ◌≤◌, ◌+◌, ◌==◌, ◌&&◌, ℕ, Bool, true, false, List, [], ◌∷◌, ◌++◌, refl, sym, ap, subst, ◌∙◌, rules, length, take, arith, if◌then◌else◌, nat_lt, append-nil}
+use Rattle.std.proofs.Common.{suc, zero, None, Some, Ok, Err, ◌≡◌, ◌≤◌, ◌+◌, ◌==◌, ◌&&◌, ℕ, Bool, true, false, List, []}
+use Rattle.std.proofs.Common.{◌∷◌, ◌++◌, refl, sym, ap, subst, ◌∙◌, rules, length, take, arith, if◌then◌else◌, nat_lt}
+use Rattle.std.proofs.Common.{append-nil}
 use Rattle.std.proofs.lemmas.Bool.{eqb-true, eqb-false}
 use Rattle.std.proofs.lemmas.List.{take_all}
 use Rattle.std.specs.Prelude.{bytes_eq, codes, ⊤}
@@ -21,8 +23,11 @@ use Rattle.dm_base.specs.declared.values.Nonce.{Nonce}
 use Rattle.dm_tree.specs.declared.nodes.Stamp.{Stamp}
 use Rattle.dm_machine.specs.declared.kinds.Kind.{Kind}
 use Rattle.dm_start.specs.Fields.{begins_with, clock_in}
-use Rattle.dm_replay.specs.Events.{event_of, kind_of, session_of, place_of, opened_at, opened_by, open_in, msg_by, msg_in, act_in, clock_by, clock_event, alone}
-use Rattle.dm_replay.specs.Trace.{Stop, bad, too_long, whole, stopped, began, unbegun, is_long, tail_stop, told_in, behind_begin, start_line, start_from, no_events, event_line, end_from, events_from, ids_of}
+use Rattle.dm_replay.specs.Events.{event_of, kind_of, session_of, place_of, opened_at, opened_by, open_in, msg_by}
+use Rattle.dm_replay.specs.Events.{msg_in, act_in, clock_by, clock_event, alone}
+use Rattle.dm_replay.specs.Trace.{Stop, bad, too_long, whole, stopped, began, unbegun, is_long, tail_stop, told_in}
+use Rattle.dm_replay.specs.Trace.{behind_begin, start_line, start_from, no_events, event_line, end_from, events_from}
+use Rattle.dm_replay.specs.Trace.{ids_of}
 use Rattle.dm_replay.specs.Output.{begun_exit, stop_exit, ending_exit, replay_exit}
 use Rattle.dm_replay.specs.Laws.{AreLines, text_of, happening_said, AreEvents, IsWholeTrace, OnlyTracesAreDone}
 use Rattle.dm_replay.proofs.WholeTraces.{of_told}

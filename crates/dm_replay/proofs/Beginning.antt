@@ -1,17 +1,15 @@
 -- A client can be made of a start section that was read.
-use Rattle.std.proofs.Common.{◌≡◌, ◌<◌, ◌≤◌, ◌^◌, ℕ, true, List, [], ◌∷◌, subst, arith}
+use Rattle.std.proofs.Common.{◌≡◌, ◌<◌, ◌≤◌, ◌^◌, ℕ, true, List, [], ◌∷◌, arith}
 use Rattle.std.proofs.lemmas.Grind.{common_steps}
 use Rattle.std.specs.Prelude.{IsTrue}
 use Rattle.std.specs.List.{AllByRecursion}
 use Rattle.dm_base.specs.Fields.{is_short, is_id}
 use Rattle.dm_auth.specs.declared.accounts.Account.{Account}
 use Rattle.dm_machine.specs.Ready.{IsReadyAccount}
-use Rattle.dm_start.specs.declared.telling.Phase.TheVariants as phase
 use Rattle.dm_start.specs.declared.telling.Start.{Start}
 use Rattle.dm_start.specs.Fields.{are_limits}
-use Rattle.dm_start.specs.Laws.{IsAccount}
-use Rattle.dm_start.specs.Start.{Section, telling, told_of}
-use Rattle.dm_start.proofs.Sound.{IsSoundSection}
+use Rattle.dm_start.specs.Laws.{IsAccount, IsStart}
+use Rattle.dm_start.specs.Start.{told_of}
 use Rattle.dm_replay.specs.From.{CanBegin}
 
 id_is_short : (text : List ℕ) → IsTrue (is_id text) → IsTrue (is_short text)
@@ -28,16 +26,12 @@ within_32 max_msg max_obj h = grind (arith, common_steps)
 within_most : (max_msg max_obj : ℕ) → are_limits max_msg max_obj ≡ true → max_obj ≤ 4194304
 within_most max_msg max_obj h = grind (arith, common_steps)
 
-begins : (start : Start) → IsSoundSection (telling phase.Begun (told_of start)) → CanBegin start
-begins start sound = record {
-  accounts = ready_accounts start.accounts sound.0.accounts;
-  device = sound.0.device;
+pub can_begin : (start : Start) → IsStart (told_of start) → CanBegin start
+can_begin start sound = record {
+  accounts = ready_accounts start.accounts sound.accounts;
+  device = sound.device;
   limits = record {
-    max_msg = within_32 start.limits.max_msg start.limits.max_obj sound.0.limits;
-    max_obj = within_most start.limits.max_msg start.limits.max_obj sound.0.limits;
+    max_msg = within_32 start.limits.max_msg start.limits.max_obj sound.limits;
+    max_obj = within_most start.limits.max_msg start.limits.max_obj sound.limits;
   };
 }
-
-pub can_begin : (start : Start) (s : Section) → s ≡ telling phase.Begun (told_of start) → IsSoundSection s
-    → CanBegin start
-can_begin start s is sound = begins start (subst IsSoundSection is sound)

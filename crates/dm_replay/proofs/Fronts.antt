@@ -1,5 +1,7 @@
 -- What the next line of a source tells of the input that is to come.
-use Rattle.std.proofs.Common.{None, Some, Ok, Err, ◌≡◌, ◌<◌, ◌≤◌, ◌+◌, ◌-◌, ◌==◌, ℕ, Bool, true, false, List, [], ◌∷◌, ◌++◌, refl, sym, ap, subst, ◌∙◌, length, take, arith, length-append, length-take, append_assoc, if◌then◌else◌, nat_lt}
+use Rattle.std.proofs.Common.{None, Some, Ok, Err, ◌≡◌, ◌<◌, ◌≤◌, ◌+◌, ◌-◌, ◌==◌, ℕ, Bool, true, false, List, [], ◌∷◌}
+use Rattle.std.proofs.Common.{◌++◌, refl, sym, ap, subst, ◌∙◌, length, take, arith, length-append, length-take}
+use Rattle.std.proofs.Common.{append_assoc, if◌then◌else◌, nat_lt}
 use Rattle.std.proofs.lemmas.Bool.{ne_eqb}
 use Rattle.std.specs.Option.{option_map}
 use Rattle.std.specs.declared.option.Option.{Option}

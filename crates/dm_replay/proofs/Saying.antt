@@ -1,5 +1,6 @@
 -- What a line says that is read, of a client with these accounts.
-use Rattle.std.proofs.Common.{suc, ◌≡◌, ◌<◌, ◌+◌, ◌==◌, ◌&&◌, ℕ, Bool, true, false, None, Some, Ok, Err, List, [], ◌∷◌, refl, subst, length, arith, if◌then◌else◌}
+use Rattle.std.proofs.Common.{suc, ◌≡◌, ◌<◌, ◌+◌, ◌==◌, ◌&&◌, ℕ, Bool, true, false, None, Some, Ok, Err, List, [], ◌∷◌}
+use Rattle.std.proofs.Common.{refl, subst, length, arith, if◌then◌else◌}
 use Rattle.std.specs.Prelude.{⊤, bytes_eq, codes}
 use Rattle.std.specs.declared.option.Option.{Option}
 use Rattle.std.specs.declared.result.Result.{Result}
@@ -12,7 +13,8 @@ use Rattle.dm_machine.specs.declared.kinds.Kind.{Kind}
 use Rattle.dm_start.specs.Fields.{begins_with, clock_in}
 use Rattle.dm_replay.specs.declared.events.Event.{Event}
 use Rattle.dm_replay.specs.declared.events.Event.TheVariants as event
-use Rattle.dm_replay.specs.Events.{IsOf, is_end, event_of, kind_of, session_of, place_from, place_of, opened_at, opened_by, open_in, msg_by, msg_in, act_in, clock_by, clock_event, alone}
+use Rattle.dm_replay.specs.Events.{IsOf, is_end, event_of, kind_of, session_of, place_from, place_of, opened_at}
+use Rattle.dm_replay.specs.Events.{opened_by, open_in, msg_by, msg_in, act_in, clock_by, clock_event, alone}
 
 -- ---- the account that a session is opened with
 

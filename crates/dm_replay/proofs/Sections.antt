@@ -1,5 +1,6 @@
 -- A line moves the start section on, ends it, or is refused.
-use Rattle.std.proofs.Common.{◌≡◌, ◌+◌, ℕ, true, false, if◌then◌else◌, List, Option, Some, None, Ok, Err, refl, sym, ap, ◌∙◌}
+use Rattle.std.proofs.Common.{◌≡◌, ◌+◌, ℕ, true, false, if◌then◌else◌, List, Option, Some, None, Ok, Err, refl, sym, ap}
+use Rattle.std.proofs.Common.{◌∙◌}
 use Rattle.std.specs.declared.result.Result.{Result}
 use Rattle.dm_base.specs.declared.lines.LineReason.{LineReason}
 use Rattle.dm_base.specs.declared.lines.LineReason.TheVariants as reason

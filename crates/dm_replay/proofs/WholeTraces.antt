@@ -1,5 +1,6 @@
 -- A whole trace is read line by line to its end.
-use Rattle.std.proofs.Common.{suc, None, Some, Ok, Err, ◌≡◌, ◌≤◌, ◌+◌, ◌==◌, ℕ, false, List, [], ◌∷◌, ◌++◌, refl, sym, ap, subst, ◌∙◌, length, arith, if◌then◌else◌, nat_lt}
+use Rattle.std.proofs.Common.{suc, None, Some, Ok, Err, ◌≡◌, ◌≤◌, ◌+◌, ◌==◌, ℕ, false, List, [], ◌∷◌, ◌++◌, refl, sym}
+use Rattle.std.proofs.Common.{ap, subst, ◌∙◌, length, arith, if◌then◌else◌, nat_lt}
 use Rattle.std.proofs.lemmas.List.{take_all}
 use Rattle.std.proofs.Math.Bool.{and-false}
 use Rattle.std.specs.Prelude.{codes}
@@ -16,9 +17,13 @@ use Rattle.dm_replay.specs.declared.events.Event.TheVariants as event
 use Rattle.dm_replay.specs.Input.{Input, input_of, split}
 use Rattle.dm_base.specs.Fields.{parts}
 use Rattle.dm_replay.specs.Events.{event_of, clock_event}
-use Rattle.dm_replay.specs.Trace.{bad, Ending, whole, stopped, Trace, behind_begin, behind_said, began, unbegun, is_long, told_in, start_line, start_from, begun_of, no_events, with_event, event_line, end_from, events_from, ids_of, trace_of}
-use Rattle.dm_replay.specs.Output.{client_of, begun_text, begun_exit, events_text, ending_exit, replay_text, replay_exit}
-use Rattle.dm_replay.specs.Laws.{IsLine, AreLines, text_of, happening_said, AreEvents, IsWholeTrace, WholeTracesAreAnswered}
+use Rattle.dm_replay.specs.Trace.{bad, Ending, whole, stopped, Trace, behind_begin, behind_said, began, unbegun}
+use Rattle.dm_replay.specs.Trace.{is_long, told_in, start_line, start_from, begun_of, no_events, with_event, event_line}
+use Rattle.dm_replay.specs.Trace.{end_from, events_from, ids_of, trace_of}
+use Rattle.dm_replay.specs.Output.{client_of, begun_text, begun_exit, events_text, ending_exit, replay_text}
+use Rattle.dm_replay.specs.Output.{replay_exit}
+use Rattle.dm_replay.specs.Laws.{IsLine, AreLines, text_of, happening_said, AreEvents, IsWholeTrace}
+use Rattle.dm_replay.specs.Laws.{WholeTracesAreAnswered}
 use Rattle.dm_replay.proofs.Splits.{split_line, not_lt}
 
 -- ---- the text as lines

@@ -1,5 +1,6 @@
 -- What the lines behind a start section say.
-use Rattle.std.specs.Prelude.{◌==◌, ◌&&◌, ◌+◌, ◌^◌, ◌≡◌, ◌<◌, ℕ, Bool, true, false, if◌then◌else◌, nat_lt, List, [], ◌∷◌, bytes_eq, codes, Option, Some, None, Result, Ok, Err, ⊤}
+use Rattle.std.specs.Prelude.{◌==◌, ◌&&◌, ◌+◌, ◌^◌, ◌≡◌, ◌<◌, ℕ, Bool, true, false, if◌then◌else◌, nat_lt, List, []}
+use Rattle.std.specs.Prelude.{◌∷◌, bytes_eq, codes, Option, Some, None, Result, Ok, Err, ⊤}
 use Rattle.dm_base.specs.Fields.{parts, is_id, nonce_of, num_of, hex_of}
 use Rattle.dm_base.specs.declared.lines.LineReason.{LineReason}
 use Rattle.dm_base.specs.declared.lines.LineReason.TheVariants as reason

@@ -1,16 +1,19 @@
 -- The rest of a run, from a state, a line number and the input that is to come.
-use Rattle.std.specs.Prelude.{◌≡◌, ◌⊎◌, ◌+◌, ℕ, Bool, false, if◌then◌else◌, List, [], ◌∷◌, ◌++◌, Option, Some, None, Result, Ok, Err, ⊤, IsSomeAnd, option_map}
+use Rattle.std.specs.Prelude.{◌≡◌, ◌⊎◌, ◌+◌, ℕ, Bool, false, if◌then◌else◌, List, [], ◌∷◌, ◌++◌, Option, Some, None}
+use Rattle.std.specs.Prelude.{Result, Ok, Err, ⊤, IsSomeAnd, option_map}
 use Rattle.std.specs.List.{AllByRecursion}
 use Rattle.std.specs.Io.KnownBytes.{Appends, Keeps}
 use Rattle.dm_base.specs.Outside.{Rose}
 use Rattle.dm_base.specs.declared.lines.LineReason.TheVariants as reason
+use Rattle.dm_base.specs.declared.outside.Fault.{Fault}
+use Rattle.dm_base.specs.declared.outside.Fault.TheVariants as fault
 use Rattle.dm_base.specs.declared.outside.TakeError.{TakeError}
 use Rattle.dm_base.specs.declared.outside.TakeError.TheVariants as take_error
 use Rattle.dm_base.specs.Lines.{LinesState, ahead, room}
 use Rattle.dm_tree.specs.Devices.{IsDeviceTree}
 use Rattle.dm_tree.specs.Rows.{nodes}
 use Rattle.dm_machine.specs.Machine.{Machine}
-use Rattle.dm_machine.specs.Events.{Event as Happening, Answer}
+use Rattle.dm_machine.specs.Events.{Event as Happening}
 use Rattle.dm_machine.specs.Ready.{IsReadyAccount, IsReadyLimits}
 use Rattle.dm_start.specs.declared.errors.LineError.{LineError}
 use Rattle.dm_start.specs.declared.errors.LineError.TheVariants as line_error
@@ -24,8 +27,9 @@ use Rattle.dm_replay.specs.declared.reading.Halt.TheVariants as halt
 use Rattle.dm_replay.specs.declared.reading.Started.{Started}
 use Rattle.dm_replay.specs.Input.{Input, input_of}
 use Rattle.dm_replay.specs.Events.{happening_of}
-use Rattle.dm_replay.specs.Trace.{Stop, bad, too_long, Ending, whole, stopped, Trace, Begun, began, unbegun, is_long, tail_stop, start_from, end_from, events_from, no_events, with_event, trace_of}
-use Rattle.dm_replay.specs.Output.{answer_text, bad_line, ending_exit, trace_text, client_of, PutsPrefix}
+use Rattle.dm_replay.specs.Trace.{Stop, bad, too_long, Ending, whole, stopped, Trace, Begun, began, unbegun, is_long}
+use Rattle.dm_replay.specs.Trace.{tail_stop, start_from, end_from, events_from, no_events, with_event, trace_of}
+use Rattle.dm_replay.specs.Output.{bad_line, ending_exit, trace_text, client_of, PutsPrefix}
 
 -- ---- the input to come
 
@@ -111,12 +115,12 @@ pub record CanBegin (s : Start) : Type 0 where
   pub device : IsDeviceTree (nodes s.tree.rows)
   pub limits : IsReadyLimits s.limits
 
--- the events from here, by what was read of them: one comes next, or the trace is whole, or it stops
+-- the events from here, by what was read of them: one comes next, or the `end` line, or the trace stops
 abbrev pub GoesOn : Option Input → Option Input → ℕ → List (List ℕ) → ℕ → Result (Option Event) Halt → Type 0
 GoesOn a b version ids n (Ok (Some event)) =
     IsSomeAnd (happening_of event)
     (λ (e : Happening). Between a b (λ i j. events_at version ids n i ≡ with_event e (events_at version ids (n + 1) j)))
-GoesOn a b version ids n (Ok None) = OfInput a (λ i. events_at version ids n i ≡ no_events whole)
+GoesOn a b version ids n (Ok None) = Between a b (λ i j. events_at version ids n i ≡ no_events (ending_at (n + 1) j))
 GoesOn a b version ids n (Err h) =
     OfInput a (λ i. OfStop h (λ stop. events_at version ids n i ≡ no_events (stopped stop)))
 
@@ -137,10 +141,14 @@ PutsPart old new text exit.BadInput = ⊥
 PutsPart old new text exit.ReadFault = ⊥
 PutsPart old new text exit.TooLong = ⊥
 
--- the line of an answer was put, or a part of it
-abbrev pub PutsAnswer : {T : Type 0} → Answer → Option (List ℕ) → Option (List ℕ) → Result T Exit → Type 0
-PutsAnswer a old new (Ok x) = Appends old new (answer_text a)
-PutsAnswer a old new (Err e) = PutsPart old new (answer_text a) e
+-- a front of what is due was put, and the rest is due; or a part of it was put
+abbrev pub PutsOn : Option (List ℕ) → Option (List ℕ) → List ℕ → List ℕ → Result (Unit {0}) Exit → Type 0
+PutsOn old new due rest (Ok u) = (front : List ℕ) × Appends old new front × (due ≡ front ++ rest)
+PutsOn old new due rest (Err e) = PutsPart old new due e
+
+abbrev pub exit_after : Fault → Exit
+exit_after fault.Failed = exit.WriteFault
+exit_after fault.Memory = exit.NoMemory
 
 -- the whole text was put and this is the answer, or a part of it for another answer
 abbrev pub Ends : List ℕ → Exit → Option (List ℕ) → Option (List ℕ) → Exit → Type 0
@@ -173,6 +181,18 @@ PutsHalt halt.TooLong old new e = Keeps old new × (e ≡ exit.TooLong)
 PutsHalt halt.Read old new e = Keeps old new × (e ≡ exit.ReadFault)
 PutsHalt halt.Memory old new e = Keeps old new × (e ≡ exit.NoMemory)
 
+-- what is due was put and then a halt's stop, or a part of what is due
+abbrev pub PutsBehind : List ℕ → Halt → Option (List ℕ) → Option (List ℕ) → Exit → Type 0
+PutsBehind due h old new e =
+    ((mid : Option (List ℕ)) × Appends old mid due × PutsHalt h mid new e) ⊎ PutsPart old new due e
+
+-- the same, but after a fault of the source nothing is put
+abbrev pub PutsDueAndHalt : List ℕ → Halt → Option (List ℕ) → Option (List ℕ) → Exit → Type 0
+PutsDueAndHalt due (halt.Bad n why) old new e = PutsBehind due (halt.Bad n why) old new e
+PutsDueAndHalt due halt.TooLong old new e = PutsBehind due halt.TooLong old new e
+PutsDueAndHalt due halt.Read old new e = Keeps old new × (e ≡ exit.ReadFault)
+PutsDueAndHalt due halt.Memory old new e = PutsBehind due halt.Memory old new e
+
 -- ---- a run that goes on
 
 -- with this text put, the text and the ending of the first trace are those of the second
@@ -180,9 +200,10 @@ pub record Follows (version : ℕ) (c : Machine) (t : Trace) (done : List ℕ) (
   pub text : trace_text version c t ≡ done ++ trace_text version now rest
   pub ending : t.ending ≡ rest.ending
 
--- a run over events that began at the one and has come to the other
+-- a run over events that began at the one and has come to the other; of its answers so far these are due
 pub record SoFar (a b : Option Input) (old new : Option (List ℕ)) (version : ℕ) (ids : List (List ℕ)) (n : ℕ)
-    (c : Machine) (m : ℕ) (now : Machine) : Type 0 where
+    (c : Machine) (m : ℕ) (now : Machine) (due : List ℕ) : Type 0 where
   pub done : List ℕ
   pub put : Appends old new done
-  pub follows : Between a b (λ i j. Follows version c (events_at version ids n i) done now (events_at version ids m j))
+  pub follows : Between a b
+      (λ i j. Follows version c (events_at version ids n i) (done ++ due) now (events_at version ids m j))

@@ -14,13 +14,15 @@ use Rattle.dm_atomic.specs.Updates.{begun as begun_state}
 use Rattle.dm_machine.specs.declared.kinds.End.{End}
 use Rattle.dm_machine.specs.declared.kinds.End.TheVariants.{Finished, Aborted, Denied}
 use Rattle.dm_machine.specs.Machine.{Machine}
-use Rattle.dm_machine.specs.Events.{Answer, clocked, sent, kept, again, stale, stranger, no_session, refused, exhausted, ended, acted, not_now}
+use Rattle.dm_machine.specs.Events.{Answer, clocked, sent, kept, again, stale, stranger, no_session, refused, exhausted}
+use Rattle.dm_machine.specs.Events.{ended, acted, not_now}
 use Rattle.dm_machine.specs.History.{answers, fresh, reached, answers_from, state_from}
 use Rattle.dm_start.specs.Start.{Told}
 use Rattle.dm_start.specs.TreeText.{tree_text}
 use Rattle.dm_replay.specs.declared.exit.Exit.{Exit}
 use Rattle.dm_replay.specs.declared.exit.Exit.TheVariants as exit
-use Rattle.dm_replay.specs.Trace.{Stop, bad, too_long, Ending, whole, stopped, Trace, Begun, began, unbegun, begun_of, trace_of}
+use Rattle.dm_replay.specs.Trace.{Stop, bad, too_long, Ending, whole, stopped, Trace, Begun, began, unbegun, begun_of}
+use Rattle.dm_replay.specs.Trace.{trace_of}
 
 abbrev pub line_feed : List ℕ
 line_feed = 10 ∷ []

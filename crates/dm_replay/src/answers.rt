@@ -27,8 +27,8 @@ fn number_line(alloc: Global, word: &[u8], number: u64) -> Result<Bytes, Memory>
     Ok(line)
 }
 
-// Adds a number in decimal digits.
-pub(crate) fn add_number(line: &mut Bytes, number: u64) -> Result<(), Memory>
+/// Adds a number in decimal digits. After want of memory some of them may stand there.
+pub fn add_number(line: &mut Bytes, number: u64) -> Result<(), Memory>
     ensures { OnOk result (line.new ≡ line.old ++ decimal number) }
 {
     let mut buffer = Buffer::new();
@@ -55,8 +55,8 @@ fn sent_line(alloc: Global, word: &[u8], client: &Client) -> Result<Bytes, Memor
     }
 }
 
-// Where and why bytes are no message.
-fn refused_line(alloc: Global, refusal: Refusal) -> Result<Bytes, Memory>
+/// Where and why bytes are no message, without the line feed.
+pub fn refused_line(alloc: Global, refusal: Refusal) -> Result<Bytes, Memory>
     ensures { IfOk result (λ line. line ≡ Spec.refused_line refusal) }
 {
     let mut line = Bytes::of_slice(alloc, b"refused ")?;

@@ -1,22 +1,27 @@
 // What a run puts, and how it ends.
-ghost use Rattle.std.specs.Prelude.{◌≡◌, IfOk, MatchResult};
+ghost use Rattle.std.specs.Prelude.{◌≡◌, ◌≢◌, ◌≤◌, ◌++◌, IfOk, MatchResult};
 ghost use Rattle.std.specs.Io.KnownBytes.{Appends};
+ghost use Rattle.dm_base.specs.Lines.{CountsTaken};
 ghost use Rattle.dm_tree.specs.Rows.{nodes};
 ghost use Rattle.dm_replay.specs.Output as Spec;
-ghost use Rattle.dm_replay.specs.Output.{bad_line, tree_and_done};
-ghost use Rattle.dm_replay.specs.Causes.{SinkCause};
-ghost use Rattle.dm_replay.specs.From.{PutsPart, PutsEnd, PutsHalt};
+ghost use Rattle.dm_replay.specs.Output.{bad_line, tree_and_done, ending_text, ending_exit};
+ghost use Rattle.dm_replay.specs.Causes.{SourceCause, SinkCause};
+ghost use Rattle.dm_replay.specs.From.{seen, OfInput, Ends, ending_at, exit_after, PutsOn, PutsPart, PutsEnd, PutsHalt};
+ghost use Rattle.dm_replay.specs.From.{PutsDueAndHalt};
 
 use crate::answers::add_number;
 use crate::exit::Exit;
-use crate::reading::Halt;
-use dm_base::{Bytes, Fault, LineReason, Memory, Sink, put_all};
-use dm_start::tree_text;
+use crate::reading::{Halt, read_end};
+use dm_base::{Bytes, Fault, LineReason, Lines, Memory, Sink, Source, put_all};
+use dm_start::put_tree;
 use dm_tree::Tree;
 use std::alloc::Global;
 
+// So many bytes of answers are put together at most, where no more bytes are wanted of the source.
+const PIECE: usize = 65_536;
+
 /// Puts a text, or says how the run ends.
-pub fn put_text<K: Sink>(out: &mut K, text: &[u8]) -> Result<(), Exit>
+pub(crate) fn put_text<K: Sink>(out: &mut K, text: &[u8]) -> Result<(), Exit>
     ensures bytes { MatchResult result (λ _. Appends (K.got out.old) (K.got out.new) text.now)
         (λ e. PutsPart (K.got out.old) (K.got out.new) text.now e) }
     ensures count { MatchResult result (λ _. K.faults out.new ≡ K.faults out.old)
@@ -29,27 +34,45 @@ pub fn put_text<K: Sink>(out: &mut K, text: &[u8]) -> Result<(), Exit>
     }
 }
 
-// The tree text and the last line.
-fn whole_text(alloc: Global, tree: &Tree, version: u8) -> Result<Bytes, Memory>
-    ensures { IfOk result (λ t. t ≡ tree_and_done version (nodes tree.now.rows)) }
+/// Puts the answers that are due: where the source would be asked for more bytes, and where they are many.
+pub(crate) fn put_due<K: Sink>(lines: &Lines, out: &mut K, due: &mut Bytes) -> Result<(), Exit>
+    ensures bytes { PutsOn (K.got out.old) (K.got out.new) due.old due.new result }
+    ensures count { MatchResult result (λ _. K.faults out.new ≡ K.faults out.old)
+        (λ e. SinkCause (K.faults out.old) (K.faults out.new) e) }
 {
-    let mut text = tree_text(alloc, tree, version)?;
-    text.extend(b"done\n")?;
-    Ok(text)
+    if lines.has_line() && due.len() < PIECE {
+        return Ok(());
+    }
+    match put_text(out, due.as_slice()) {
+        Ok(()) => {}
+        Err(exit) => return Err(exit),
+    }
+    due.cut_to(0);
+    Ok(())
 }
 
-/// Ends a run whose trace is whole.
-pub fn put_whole<K: Sink>(alloc: Global, out: &mut K, tree: &Tree, version: u8) -> Exit
+fn exit_of(fault: Fault) -> Exit
+    ensures { result ≡ exit_after fault }
+{
+    match fault {
+        Fault::Failed => Exit::WriteFault,
+        Fault::Memory => Exit::NoMemory,
+    }
+}
+
+/// Ends a run whose trace is whole: puts the tree text and the last line.
+pub(crate) fn put_whole<K: Sink>(alloc: Global, out: &mut K, tree: &Tree, version: u8) -> Exit
     ensures bytes { PutsEnd (tree_and_done version (nodes tree.now.rows)) Exit.Done (K.got out.old)
         (K.got out.new) result }
     ensures count { SinkCause (K.faults out.old) (K.faults out.new) result }
 {
-    match whole_text(alloc, tree, version) {
-        Ok(text) => match put_text(out, text.as_slice()) {
-            Ok(()) => Exit::Done,
-            Err(exit) => exit,
-        },
-        Err(_) => Exit::NoMemory,
+    match put_tree(alloc, out, tree, version) {
+        Ok(()) => {}
+        Err(fault) => return exit_of(fault),
+    }
+    match put_text(out, b"done\n") {
+        Ok(()) => Exit::Done,
+        Err(exit) => exit,
     }
 }
 
@@ -93,8 +116,8 @@ fn put_bad<K: Sink>(alloc: Global, out: &mut K, number: u64, reason: LineReason)
     }
 }
 
-/// Ends a run that halted.
-pub fn put_halt<K: Sink>(alloc: Global, out: &mut K, halt: Halt) -> Exit
+/// Ends a run that halted before any event.
+pub(crate) fn put_halt<K: Sink>(alloc: Global, out: &mut K, halt: Halt) -> Exit
     ensures bytes { PutsHalt halt (K.got out.old) (K.got out.new) result }
     ensures count { SinkCause (K.faults out.old) (K.faults out.new) result }
 {
@@ -103,5 +126,52 @@ pub fn put_halt<K: Sink>(alloc: Global, out: &mut K, halt: Halt) -> Exit
         Halt::TooLong => Exit::TooLong,
         Halt::Read => Exit::ReadFault,
         Halt::Memory => Exit::NoMemory,
+    }
+}
+
+/// Ends a run that halted, behind the answers that are due. Where the source failed there are none: it is asked where
+/// no line is pending.
+pub(crate) fn put_due_and_halt<K: Sink>(alloc: Global, out: &mut K, due: &[u8], halt: Halt) -> Exit
+    ensures bytes { PutsDueAndHalt due.now halt (K.got out.old) (K.got out.new) result }
+    ensures count { SinkCause (K.faults out.old) (K.faults out.new) result }
+{
+    if halt == Halt::Read {
+        return Exit::ReadFault;
+    }
+    match put_text(out, due) {
+        Ok(()) => put_halt(alloc, out, halt),
+        Err(exit) => exit,
+    }
+}
+
+/// Ends a run behind its `end` line, which is not to have another line behind it: puts the answers that are due before
+/// the source is asked.
+pub(crate) fn put_end<S: Source, K: Sink>(
+    alloc: Global,
+    lines: &mut Lines,
+    src: &mut S,
+    out: &mut K,
+    due: &[u8],
+    tree: &Tree,
+    version: u8,
+    number: u64,
+) -> Exit
+    requires limit { lines.old.taken ≤ 67108865 }
+    ensures output { OfInput (seen lines.old (S.left src.old)) (λ i. Ends
+        (due.now ++ ending_text version (nodes tree.now.rows) (ending_at number i))
+        (ending_exit (ending_at number i)) (K.got out.old) (K.got out.new) result) }
+    ensures usage { result ≢ Exit.Usage }
+    ensures taken { CountsTaken (S.left src.old) (S.left src.new) lines.old.taken lines.new.taken }
+    ensures limit { lines.new.taken ≤ 67108865 }
+    ensures source { SourceCause (S.faults src.old) (S.faults src.new) result }
+    ensures sink { SinkCause (K.faults out.old) (K.faults out.new) result }
+{
+    match put_text(out, due) {
+        Ok(()) => {}
+        Err(exit) => return exit,
+    }
+    match read_end(lines, src, number) {
+        Ok(()) => put_whole(alloc, out, tree, version),
+        Err(halt) => put_halt(alloc, out, halt),
     }
 }

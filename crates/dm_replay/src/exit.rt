@@ -7,10 +7,13 @@ pub enum Exit {
     Done,
     /// The words of the command line are of no form.
     Usage,
-    /// The input is outside its grammar; the line and the reason were written.
+    /// The input is outside its grammar; the line or the place, and the reason, were written.
     BadInput,
+    /// Reading failed; what was written is a prefix of the text.
     ReadFault,
+    /// Writing failed; what was written is a prefix of the text.
     WriteFault,
+    /// Memory was wanting; what was written is a prefix of the text.
     NoMemory,
     /// 67,108,864 bytes were taken, no whole line was left in them, and another byte came.
     TooLong,

@@ -4,7 +4,8 @@ ghost use Rattle.dm_base.specs.Lines.{room, CountsTaken};
 ghost use Rattle.dm_start.specs.declared.heads.Head.TheVariants.{First};
 ghost use Rattle.dm_start.specs.Start.{opening};
 ghost use Rattle.dm_replay.specs.Events.{IsOf};
-ghost use Rattle.dm_replay.specs.From.{seen, Between, OfInput, OfStop, Leads, stop_at, HaltCounts, halt_after, halt_for, StartsAs, CanBegin, GoesOn, EndsAs};
+ghost use Rattle.dm_replay.specs.From.{seen, Between, OfInput, OfStop, Leads, stop_at, HaltCounts, halt_after};
+ghost use Rattle.dm_replay.specs.From.{halt_for, StartsAs, CanBegin, GoesOn, EndsAs};
 
 use crate::events::{Event, read_event};
 use dm_base::{Bytes, LineOut, LineReason, Lines, List, Source, TakeError};
@@ -71,7 +72,11 @@ fn next_line<S: Source>(lines: &mut Lines, src: &mut S, number: u64) -> Result<B
 }
 
 /// Reads the start section, line by line.
-pub fn read_start<S: Source>(alloc: Global, lines: &mut Lines, src: &mut S) -> Result<Started, Halt>
+pub(crate) fn read_start<S: Source>(
+    alloc: Global,
+    lines: &mut Lines,
+    src: &mut S,
+) -> Result<Started, Halt>
     requires { room lines.old < 2 ^ 60 }
     ensures start { StartsAs (seen lines.old (S.left src.old)) (seen lines.new (S.left src.new)) 1
         (opening First) result }
@@ -101,8 +106,8 @@ pub fn read_start<S: Source>(alloc: Global, lines: &mut Lines, src: &mut S) -> R
     }
 }
 
-// Reads that nothing stands behind the `end` line.
-fn read_end<S: Source>(lines: &mut Lines, src: &mut S, number: u64) -> Result<(), Halt>
+/// Reads that nothing stands behind the `end` line.
+pub(crate) fn read_end<S: Source>(lines: &mut Lines, src: &mut S, number: u64) -> Result<(), Halt>
     ensures ending { EndsAs (seen lines.old (S.left src.old)) number result }
     ensures room { OnOk result (room lines.new ≡ room lines.old) }
     ensures taken { CountsTaken (S.left src.old) (S.left src.new) lines.old.taken lines.new.taken }
@@ -123,8 +128,8 @@ fn read_end<S: Source>(lines: &mut Lines, src: &mut S, number: u64) -> Result<()
     }
 }
 
-/// Reads the next event, or the `end` line and the end of the input.
-pub fn next_event<S: Source>(
+/// Reads the next event. None comes at the `end` line.
+pub(crate) fn next_event<S: Source>(
     alloc: Global,
     lines: &mut Lines,
     src: &mut S,
@@ -152,8 +157,5 @@ pub fn next_event<S: Source>(
     if !event.is_end() {
         return Ok(Some(event));
     }
-    match read_end(lines, src, number + 1) {
-        Ok(()) => Ok(None),
-        Err(halt) => Err(halt),
-    }
+    Ok(None)
 }

@@ -1,5 +1,5 @@
 // A trace, read and answered line by line.
-ghost use Rattle.std.specs.Prelude.{◌≡◌, ◌≢◌, ◌<◌, ◌≤◌, ◌+◌, ◌^◌, length, IfOk, IfSome, OnOk, MatchResult};
+ghost use Rattle.std.specs.Prelude.{◌≡◌, ◌≢◌, ◌<◌, ◌≤◌, ◌+◌, ◌++◌, ◌^◌, length, IfOk, IfSome, OnOk};
 ghost use Rattle.dm_base.specs.Outside.{OfKnown};
 ghost use Rattle.dm_base.specs.Lines.{room, CountsTaken};
 ghost use Rattle.dm_machine.specs.History.{answer_now, next};
@@ -8,10 +8,10 @@ ghost use Rattle.dm_replay.specs.Trace as Spec;
 ghost use Rattle.dm_replay.specs.Input.{TakesOnePast};
 ghost use Rattle.dm_replay.specs.Output.{Replays, answer_text};
 ghost use Rattle.dm_replay.specs.Causes.{SourceCause, SinkCause};
-ghost use Rattle.dm_replay.specs.From.{seen, OfInput, PutsAnswer, EndsTrace, EndsEvents, CanBegin, events_at};
+ghost use Rattle.dm_replay.specs.From.{seen, OfInput, EndsTrace, EndsEvents, CanBegin, events_at};
 
 use crate::answers::step;
-use crate::endings::{put_halt, put_text, put_whole};
+use crate::endings::{put_due, put_due_and_halt, put_end, put_halt};
 use crate::events::Event;
 use crate::exit::Exit;
 use crate::reading::{Started, next_event, read_start};
@@ -44,28 +44,20 @@ fn line_of(alloc: Global, client: &mut Client, event: &Event) -> Result<Bytes, M
     Ok(line)
 }
 
-// Does an event and puts its answer.
-fn answer<K: Sink>(
-    alloc: Global,
-    client: &mut Client,
-    out: &mut K,
-    event: Event,
-) -> Result<(), Exit>
-    requires { IsOf (length client.old.machine.accounts) event }
-    ensures state { OnOk result (IfSome (happening_of event)
+// Does an event, and adds its answer to those that are due.
+fn answer(alloc: Global, client: &mut Client, due: &mut Bytes, event: &Event) -> Result<(), Memory>
+    requires { IsOf (length client.old.machine.accounts) event.now }
+    ensures due { OnOk result (IfSome (happening_of event.now)
+        (λ e. due.new ≡ due.old ++ answer_text (answer_now client.old.machine e))) }
+    ensures state { OnOk result (IfSome (happening_of event.now)
         (λ e. client.new.machine ≡ next client.old.machine e)) }
-    ensures bytes { IfSome (happening_of event)
-        (λ e. PutsAnswer (answer_now client.old.machine e) (K.got out.old) (K.got out.new) result) }
-    ensures count { MatchResult result (λ _. K.faults out.new ≡ K.faults out.old)
-        (λ e. SinkCause (K.faults out.old) (K.faults out.new) e) }
 {
-    match line_of(alloc, client, &event) {
-        Ok(line) => put_text(out, line.as_slice()),
-        Err(_) => Err(Exit::NoMemory),
-    }
+    let line = line_of(alloc, client, event)?;
+    due.extend(line.as_slice())
 }
 
-// Answers the events from line `first` on, one by one.
+// Answers the events from line `first` on, one by one. Answers to lines that came in one piece are put together, before
+// the source is asked for more.
 fn answer_events<S: Source, K: Sink>(
     alloc: Global,
     lines: &mut Lines,
@@ -77,6 +69,7 @@ fn answer_events<S: Source, K: Sink>(
     ids: &List<Bytes>,
 ) -> Exit
     requires number { first + room lines.old < 2 ^ 60 }
+    requires limit { lines.old.taken ≤ 67108865 }
     requires accounts { length ids.now ≡ length client.old.machine.accounts }
     ensures output { OfInput (seen lines.old (S.left src.old)) (λ i. EndsTrace version client.old.machine
         (events_at version ids.now first i) (K.got out.old) (K.got out.new) result) }
@@ -87,14 +80,32 @@ fn answer_events<S: Source, K: Sink>(
     ensures sink { SinkCause (K.faults out.old) (K.faults out.new) result }
 {
     let mut number = first;
+    let mut due = Bytes::new(alloc);
     'events: loop {
-        match next_event(alloc, lines, src, number, version, ids) {
-            Ok(Some(event)) => match answer(alloc, client, out, event) {
-                Ok(()) => number += 1,
-                Err(exit) => return exit,
-            },
-            Ok(None) => return put_whole(alloc, out, client.tree(), version),
-            Err(halt) => return put_halt(alloc, out, halt),
+        match put_due(lines, out, &mut due) {
+            Ok(()) => {}
+            Err(exit) => return exit,
+        }
+        let event = match next_event(alloc, lines, src, number, version, ids) {
+            Ok(Some(event)) => event,
+            Ok(None) => {
+                let tree = client.tree();
+                return put_end(
+                    alloc,
+                    lines,
+                    src,
+                    out,
+                    due.as_slice(),
+                    tree,
+                    version,
+                    number + 1,
+                );
+            }
+            Err(halt) => return put_due_and_halt(alloc, out, due.as_slice(), halt),
+        };
+        match answer(alloc, client, &mut due, &event) {
+            Ok(()) => number += 1,
+            Err(_) => return Exit::NoMemory,
         }
     }
 }
@@ -129,13 +140,13 @@ fn answer_all<S: Source, K: Sink>(
     }
 }
 
-/// Replays a trace: reads its lines one by one, answers each event before the next line is read, and writes the tree
-/// and `done` behind the last. It answers
+/// Replays a trace: reads its lines one by one, answers each event, and writes the tree and `done` behind the last. All
+/// answers to the lines that it took are put before it asks the source for more bytes. It answers
 /// - `Done` where the trace is whole,
 /// - `BadInput` at the first line that is refused, which is told behind the answers before it,
 /// - `TooLong` where no whole line is left in the first 67,108,864 bytes and another byte comes,
-/// - `ReadFault` and `WriteFault` after a fault of the source and of the sink, and `NoMemory` at any place; then what was
-///   written is a prefix of the text.
+/// - `ReadFault` and `WriteFault` after a fault of the source and of the sink, and `NoMemory` at any place; then what
+///   was written is a prefix of the text.
 ///
 /// It takes at most 67,108,865 bytes of the source.
 pub fn replay<S: Source, K: Sink>(alloc: Global, src: &mut S, out: &mut K) -> Exit

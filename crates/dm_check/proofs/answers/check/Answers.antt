@@ -5,12 +5,14 @@ use Rattle.dm_check.proofs.answers.check.Goals as goal
 
 pub returns-in-Ok-check_line-clause-output : goal.returns-in-Ok-check_line-clause-output
 returns-in-Ok-check_line-clause-output g c =
-    all_checked _ c.in-Ok.received c.as_slice.result.now _ _ _ c.put_answer.result c.in-Ok.ensures.received (c.as_slice.ensures ∙ c.in-Ok-check_line.ensures) refl
+    all_checked _ c.in-Ok.received c.as_slice.result.now _ _ _ c.put_answer.result c.in-Ok.ensures.received
+    (c.as_slice.ensures ∙ c.in-Ok-check_line.ensures) refl
     c.put_answer.ensures.bytes
 
 pub returns-in-Ok-check_line-clause-source : goal.returns-in-Ok-check_line-clause-source
 returns-in-Ok-check_line-clause-source g c =
-    source_cause c.in-Ok.received c.as_slice.result.now _ _ _ c.put_answer.result _ _ refl c.put_answer.ensures.bytes c.in-Ok.ensures.count
+    source_cause c.in-Ok.received c.as_slice.result.now _ _ _ c.put_answer.result _ _ refl c.put_answer.ensures.bytes
+    c.in-Ok.ensures.count
 
 pub returns-in-Ok-clause-output : goal.returns-in-Ok-clause-output
 returns-in-Ok-clause-output g c = lacking _ check_text message_exit _

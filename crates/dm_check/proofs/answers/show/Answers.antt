@@ -5,12 +5,14 @@ use Rattle.dm_check.proofs.answers.show.Goals as goal
 
 pub returns-in-Ok-show_lines-clause-output : goal.returns-in-Ok-show_lines-clause-output
 returns-in-Ok-show_lines-clause-output g c =
-    all_shown _ c.in-Ok.received c.as_slice.result.now _ _ _ c.put_answer.result c.in-Ok.ensures.received (c.as_slice.ensures ∙ c.in-Ok-show_lines.ensures) refl
+    all_shown _ c.in-Ok.received c.as_slice.result.now _ _ _ c.put_answer.result c.in-Ok.ensures.received
+    (c.as_slice.ensures ∙ c.in-Ok-show_lines.ensures) refl
     c.put_answer.ensures.bytes
 
 pub returns-in-Ok-show_lines-clause-source : goal.returns-in-Ok-show_lines-clause-source
 returns-in-Ok-show_lines-clause-source g c =
-    source_cause c.in-Ok.received c.as_slice.result.now _ _ _ c.put_answer.result _ _ refl c.put_answer.ensures.bytes c.in-Ok.ensures.count
+    source_cause c.in-Ok.received c.as_slice.result.now _ _ _ c.put_answer.result _ _ refl c.put_answer.ensures.bytes
+    c.in-Ok.ensures.count
 
 pub returns-in-Ok-clause-output : goal.returns-in-Ok-clause-output
 returns-in-Ok-clause-output g c = lacking _ show_text message_exit _

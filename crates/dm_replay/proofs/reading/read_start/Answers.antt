@@ -1,7 +1,6 @@
 use Rattle.std.proofs.Common.{arith, ◌∙◌, sym}
 use Rattle.dm_base.proofs.Pending.{taken_more}
-use Rattle.dm_start.specs.Start.{section_of}
-use Rattle.dm_start.proofs.Sound.{sound_line}
+use Rattle.dm_start.specs.Start.{section_at}
 use Rattle.dm_replay.proofs.Beginning.{can_begin}
 use Rattle.dm_replay.proofs.Sections.{section_more}
 use Rattle.dm_replay.proofs.reading.read_start.Goals as goal
@@ -14,10 +13,8 @@ lines-preserved g c =
     record {
       few = omega (arith, few, room);
       open_ = sym read.last;
-      sound = sound_line (section_of c.lines.reader) c.as_slice.result.now
-          (section_of c.line-in-lines.new.self) c.lines.invariant.sound read.read;
-      section = section_more _ _ _ c.lines.number (section_of c.lines.reader)
-          (section_of c.line-in-lines.new.self) c.in-Ok.line c.as_slice.result.now c.as_slice.ensures
+      section = section_more _ _ _ c.lines.number (section_at c.lines.reader)
+          (section_at c.line-in-lines.new.self) c.in-Ok.line c.as_slice.result.now c.as_slice.ensures
           (read.read, read.last) c.lines.invariant.section c.in-Ok.ensures.line;
       taken = taken_more _ _ _ _ c.lines.lines.taken _ c.lines.invariant.taken c.in-Ok.ensures.taken;
       count = c.in-Ok.ensures.count ∙ c.lines.invariant.count;
@@ -36,8 +33,4 @@ returns-in-Err-line-clause-taken g c =
     taken_more _ _ _ _ c.lines.lines.taken _ c.lines.invariant.taken c.in-Ok.ensures.taken
 
 pub returns-in-Ok-true-clause-client : goal.returns-in-Ok-true-clause-client
-returns-in-Ok-true-clause-client g c =
-    let read = rw c.in-Ok-true.field-0-test at c.in-Ok-true.ensures in
-    can_begin c.finish.result (section_of c.line-in-lines.new.self) c.finish.ensures
-    (sound_line (section_of c.lines.reader) c.as_slice.result.now
-    (section_of c.line-in-lines.new.self) c.lines.invariant.sound read.read)
+returns-in-Ok-true-clause-client g c = can_begin c.finish.result c.finish.ensures.sound

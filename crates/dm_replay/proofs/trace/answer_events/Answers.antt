@@ -1,49 +1,98 @@
-use Rattle.std.proofs.Common.{arith, sym, ◌∙◌}
+use Rattle.std.proofs.Common.{◌+◌, arith, sym, ◌∙◌}
 use Rattle.dm_base.proofs.Pending.{taken_more}
+use Rattle.dm_replay.specs.declared.exit.Exit.TheVariants as exit
+use Rattle.dm_replay.specs.From.{ending_at, events_at}
 use Rattle.dm_replay.proofs.Accounts.{said_many}
-use Rattle.dm_replay.proofs.Running.{so_far_ends, said_more, said_breaks, whole_ends, halt_ends}
+use Rattle.dm_replay.proofs.Running.{so_far_ends, so_far_put, said_more, due_breaks, due_stays, end_ends, halt_ends}
+use Rattle.dm_replay.proofs.Running.{due_source}
 use Rattle.dm_replay.proofs.trace.answer_events.Goals as goal
 
 pub events-preserved : goal.events-preserved
 events-preserved g c =
     let read = rw c.in-Ok-Some.field-0-is at c.in-Ok-Some.ensures.events in
     let of = rw c.in-Ok-Some.field-0-is at c.in-Ok-Some.ensures.account in
-    let answered = c.in-Ok.ensures in
+    let answered = c.in-Ok-answer.ensures in
+    let so_far = so_far_put _ _ _ _ _ c.args.version _ _ _ c.events.number _ c.events.due c.put_due.new.due
+    c.events.invariant.so_far c.in-Ok.ensures.bytes in
     record {
       few = let a = c.in-Ok-Some.ensures.room in let b = c.events.invariant.few in omega (arith, a, b);
+      limit = c.in-Ok-Some.ensures.limit;
       accounts = c.events.invariant.accounts ∙ sym (said_many c.in-Ok-Some.event _ _ _ of answered.state);
-      so_far = said_more c.in-Ok-Some.event _ _ _ _ _ _ c.args.version _ _ _ c.events.number _ _
-          c.events.invariant.so_far read answered.bytes answered.state;
+      so_far = said_more c.in-Ok-Some.event _ _ _ _ _ c.args.version _ _ _ c.events.number _ _ c.put_due.new.due
+          c.answer.new.due so_far read answered.due answered.state;
       taken = taken_more _ _ _ _ c.events.lines.taken _ c.events.invariant.taken c.in-Ok-Some.ensures.taken;
       source = c.in-Ok-Some.ensures.count ∙ c.events.invariant.source;
-      sink = answered.count ∙ c.events.invariant.sink;
+      sink = c.in-Ok.ensures.count ∙ c.events.invariant.sink;
     }
 
-pub returns-in-Err-answer-clause-output : goal.returns-in-Err-answer-clause-output
-returns-in-Err-answer-clause-output g c =
+pub events-preserved-in-Ok-answer : goal.events-preserved-in-Ok-answer
+events-preserved-in-Ok-answer g c =
     let read = rw c.in-Ok-Some.field-0-is at c.in-Ok-Some.ensures.events in
-    so_far_ends _ _ _ _ _ c.args.version _ _ _ c.events.number _ _ c.events.invariant.so_far
-    (said_breaks c.in-Ok-Some.event _ _ c.args.version _ c.events.number _ _ _ _ read c.in-Err-answer.ensures.bytes)
+    let of = rw c.in-Ok-Some.field-0-is at c.in-Ok-Some.ensures.account in
+    let answered = c.in-Ok-answer.ensures in
+    let so_far = so_far_put _ _ _ _ _ c.args.version _ _ _ c.events.number _ c.events.due c.put_due.new.due
+    c.events.invariant.so_far c.in-Ok.ensures.bytes in
+    record {
+      few = let a = c.in-Ok-Some.ensures.room in let b = c.events.invariant.few in omega (arith, a, b);
+      limit = c.in-Ok-Some.ensures.limit;
+      accounts = c.events.invariant.accounts ∙ sym (said_many c.in-Ok-Some.event _ _ _ of answered.state);
+      so_far = said_more c.in-Ok-Some.event _ _ _ _ _ c.args.version _ _ _ c.events.number _ _ c.put_due.new.due
+          c.answer.new.due so_far read answered.due answered.state;
+      taken = taken_more _ _ _ _ c.events.lines.taken _ c.events.invariant.taken c.in-Ok-Some.ensures.taken;
+      source = c.in-Ok-Some.ensures.count ∙ c.events.invariant.source;
+      sink = c.in-Ok.ensures.count ∙ c.events.invariant.sink;
+    }
+
+pub returns-in-Err-clause-output : goal.returns-in-Err-clause-output
+returns-in-Err-clause-output g c =
+    so_far_ends _ _ _ _ _ c.args.version _ _ _ c.events.number _ c.events.due _ c.events.invariant.so_far
+    (due_breaks _ c.args.version _ (events_at c.args.version c.args.ids.now c.events.number) c.events.due _ _ _
+    c.in-Err.ensures.bytes)
 
 pub returns-in-Ok-None-clause-output : goal.returns-in-Ok-None-clause-output
 returns-in-Ok-None-clause-output g c =
     let read = rw c.in-Ok-None.field-0-is at c.in-Ok-None.ensures.events in
-    so_far_ends _ _ _ _ _ c.args.version _ _ _ c.events.number _ _ c.events.invariant.so_far
-    (whole_ends _ c.args.version _ _ _ _ _ read (rw c.tree.ensures.nodes at c.put_whole.ensures.bytes))
+    let so_far = so_far_put _ _ _ _ _ c.args.version _ _ _ c.events.number _ c.events.due c.put_due.new.due
+    c.events.invariant.so_far c.in-Ok.ensures.bytes in
+    let put = rw c.as_slice.ensures at c.put_end.ensures.output in
+    so_far_ends _ _ _ _ _ c.args.version _ _ _ c.events.number _ c.put_due.new.due _ so_far
+    (end_ends _ _ c.args.version _ (events_at c.args.version c.args.ids.now c.events.number)
+    (ending_at (c.events.number + 1)) c.put_due.new.due _ _ _ read (rw c.tree-tree.ensures.nodes at put))
 
-pub returns-in-Err-clause-output : goal.returns-in-Err-clause-output
-returns-in-Err-clause-output g c =
-    so_far_ends _ _ _ _ _ c.args.version _ _ _ c.events.number _ _ c.events.invariant.so_far
-    (halt_ends _ c.args.version _ _ _ _ _ _ c.in-Err.ensures.events c.put_halt.ensures.bytes)
+pub returns-in-Ok-None-clause-taken : goal.returns-in-Ok-None-clause-taken
+returns-in-Ok-None-clause-taken g c =
+    taken_more _ _ _ _ c.next_event.new.lines.taken _
+    (taken_more _ _ _ _ c.events.lines.taken _ c.events.invariant.taken c.in-Ok-None.ensures.taken)
+    c.put_end.ensures.taken
+
+pub returns-in-Err-next_event-clause-output : goal.returns-in-Err-next_event-clause-output
+returns-in-Err-next_event-clause-output g c =
+    let so_far = so_far_put _ _ _ _ _ c.args.version _ _ _ c.events.number _ c.events.due c.put_due.new.due
+    c.events.invariant.so_far c.in-Ok.ensures.bytes in
+    so_far_ends _ _ _ _ _ c.args.version _ _ _ c.events.number _ c.put_due.new.due _ so_far
+    (halt_ends _ c.args.version _ (events_at c.args.version c.args.ids.now c.events.number)
+    c.in-Err-next_event.halt c.put_due.new.due _ _ _ c.in-Err-next_event.ensures.events
+    (rw c.as_slice-in-Err-next_event.ensures at c.put_due_and_halt.ensures.bytes))
+
+pub returns-in-Err-next_event-clause-taken : goal.returns-in-Err-next_event-clause-taken
+returns-in-Err-next_event-clause-taken g c =
+    taken_more _ _ _ _ c.events.lines.taken _ c.events.invariant.taken c.in-Err-next_event.ensures.taken
+
+pub returns-in-Err-next_event-clause-source : goal.returns-in-Err-next_event-clause-source
+returns-in-Err-next_event-clause-source g c =
+    rw c.events.invariant.source at
+    (due_source _ c.in-Err-next_event.halt _ _ _ _ _ c.in-Err-next_event.ensures.count
+    c.put_due_and_halt.ensures.bytes)
+
+pub returns-in-Err-answer-clause-output : goal.returns-in-Err-answer-clause-output
+returns-in-Err-answer-clause-output g c =
+    let so_far = so_far_put _ _ _ _ _ c.args.version _ _ _ c.events.number _ c.events.due c.put_due.new.due
+    c.events.invariant.so_far c.in-Ok.ensures.bytes in
+    let put = g.K.Sink.got c.put_due.new.out in
+    so_far_ends _ _ _ put put c.args.version _ _ _ c.events.number _ c.put_due.new.due exit.NoMemory so_far
+    (due_stays _ c.args.version c.events.client.machine
+    (events_at c.args.version c.args.ids.now c.events.number) c.put_due.new.due put)
 
 pub returns-in-Err-answer-clause-taken : goal.returns-in-Err-answer-clause-taken
 returns-in-Err-answer-clause-taken g c =
     taken_more _ _ _ _ c.events.lines.taken _ c.events.invariant.taken c.in-Ok-Some.ensures.taken
-
-pub returns-in-Ok-None-clause-taken : goal.returns-in-Ok-None-clause-taken
-returns-in-Ok-None-clause-taken g c =
-    taken_more _ _ _ _ c.events.lines.taken _ c.events.invariant.taken c.in-Ok-None.ensures.taken
-
-pub returns-in-Err-clause-taken : goal.returns-in-Err-clause-taken
-returns-in-Err-clause-taken g c =
-    taken_more _ _ _ _ c.events.lines.taken _ c.events.invariant.taken c.in-Err.ensures.taken
