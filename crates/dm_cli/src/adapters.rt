@@ -1,5 +1,5 @@
-// A reader and a writer of the standard library as a source and a sink, which tell the bytes that those tell. Of standard
-// input and output that is nothing.
+// A reader and a writer of the standard library as a source and a sink, which tell the bytes that those tell. Of
+// standard input and output that is nothing.
 ghost use Rattle.std.specs.Prelude.{None};
 
 use dm_base::{Failed, Fault, Sink, Source};

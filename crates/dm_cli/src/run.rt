@@ -24,8 +24,8 @@ fn put_usage<K: Sink>(out: &mut K) -> Exit
 
 /// Does all that the tool does: reads the source, writes to the sink, and answers how the run ended. Want of memory
 /// ends it by `NoMemory` at any place; what was written is a prefix of the defined text then. Words of no form take
-/// nothing of the source, of a trace at most 67,108,865 bytes are taken, and one message is taken no further than to the
-/// piece that settles its refusal, or to its end.
+/// nothing of the source, of a trace at most 67,108,865 bytes are taken, and one message is taken no further than to
+/// the piece that settles its refusal, or to its end.
 pub fn run<S: Source, K: Sink>(alloc: Global, words: &[String], src: &mut S, out: &mut K) -> Exit
     ensures output { Runs (form_of (map string_bytes words.now)) (S.left src.old) (K.got out.old)
         (K.got out.new) result }

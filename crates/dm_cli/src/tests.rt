@@ -33,7 +33,7 @@ const PLAIN: Row = Row {
     output: Text::OneGetAnswered,
 };
 
-const ROWS: [Row; 21] = [
+const ROWS: [Row; 24] = [
     PLAIN,
     Row {
         name: "one Get, in pieces of 1",
@@ -86,11 +86,34 @@ const ROWS: [Row; 21] = [
         ..PLAIN
     },
     Row {
+        name: "a source that fails at its first call",
+        source_fails: &[1],
+        exit: Exit::ReadFault,
+        output: Text::Nothing,
+        ..PLAIN
+    },
+    Row {
         name: "a source that fails at its second call",
         piece: 64,
         source_fails: &[2],
         exit: Exit::ReadFault,
         output: Text::Nothing,
+        ..PLAIN
+    },
+    Row {
+        name: "a source that fails at its third call",
+        piece: 64,
+        source_fails: &[3],
+        exit: Exit::ReadFault,
+        output: Text::Nothing,
+        ..PLAIN
+    },
+    Row {
+        name: "a source that fails at its fourth call, inside the message line",
+        piece: 64,
+        source_fails: &[4],
+        exit: Exit::ReadFault,
+        output: Text::FirstAnswer,
         ..PLAIN
     },
     Row {
@@ -117,8 +140,8 @@ const ROWS: [Row; 21] = [
         ..PLAIN
     },
     Row {
-        name: "a sink that fails at its third call",
-        sink_fails: &[3],
+        name: "a sink that fails at its second call, behind both answers",
+        sink_fails: &[2],
         exit: Exit::WriteFault,
         output: Text::BothAnswers,
         ..PLAIN
@@ -193,10 +216,9 @@ fn passes(alloc: Global, row: &Row) -> Result<bool>
 #[test]
 fn worked_rows(rt: HostRuntime) -> Result<()> {
     for row in &ROWS {
-        if row.piece > 0 {
-            let passed = passes(rt.alloc(), row)?;
-            assert!(rt; passed, "{}", row.name);
-        }
+        assert!(rt; row.piece > 0, "{}", row.name);
+        let passed = passes(rt.alloc(), row)?;
+        assert!(rt; passed, "{}", row.name);
     }
     Ok(())
 }

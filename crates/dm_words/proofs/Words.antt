@@ -1,10 +1,12 @@
 -- What clap answers to at most one plain word.
-use Rattle.std.proofs.Common.{◌≡◌, ◌<◌, ◌≤◌, ◌==◌, ◌&&◌, ℕ, List, [], ◌∷◌, Bool, true, false, not, refl, Option, Some, None, option_and_then, inl, inr, ap, ◌∙◌, sym, subst, length, arith}
+use Rattle.std.proofs.Common.{◌≡◌, ◌<◌, ◌≤◌, ◌==◌, ◌&&◌, ℕ, List, [], ◌∷◌, Bool, true, false, not, refl, Option, Some}
+use Rattle.std.proofs.Common.{None, option_and_then, inl, inr, ap, ◌∙◌, sym, subst, length, arith}
 use Rattle.std.specs.Prelude.{codes, bytes_eq, option_map, map, Box}
 use Rattle.std.specs.Box.{box_value}
 use Rattle.std.specs.List.{list_all}
 use Rattle.std.proofs.lemmas.Slice.Eq.{bytes_eq-Decides}
-use Rattle.clap.specs.Words.{App, Row, Text, subcommand_of, subcommand_name_of, subcommand_rows, subcommand_rows_of, HasMatchesOf, is_simple}
+use Rattle.clap.specs.Words.{App, Row, Text, subcommand_of, subcommand_name_of, subcommand_rows, subcommand_rows_of}
+use Rattle.clap.specs.Words.{HasMatchesOf, is_simple}
 use Rattle.clap.specs.Values.{kind_of}
 use Rattle.clap.specs.declared.error.Error.{Error}
 use Rattle.clap.specs.declared.parser.matches.ArgMatches.{ArgMatches}

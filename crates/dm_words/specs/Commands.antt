@@ -15,5 +15,6 @@ bare = record (new_app (codes "dmtool")) {
 
 -- the tool with its subcommands
 abbrev pub tool : App
-tool = with_subcommand (with_subcommand (with_subcommand bare (new_app (codes "replay")).top) (new_app (codes "show")).top)
+tool =
+    with_subcommand (with_subcommand (with_subcommand bare (new_app (codes "replay")).top) (new_app (codes "show")).top)
     (new_app (codes "check")).top

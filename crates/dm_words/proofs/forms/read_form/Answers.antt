@@ -1,6 +1,7 @@
 use Rattle.std.proofs.Common.{rules, string_bytes}
 use Rattle.dm_words.proofs.Words.{texts_too_many, texts_unplain}
-use Rattle.dm_words.proofs.forms.read_form.Goals.{else-words-le-MOST_WORDS-via-then-words-le-MOST_WORDS+else-are_plain, else-words-le-MOST_WORDS-via-else-words-le-MOST_WORDS}
+use Rattle.dm_words.proofs.forms.read_form.Goals.{else-words-le-MOST_WORDS-via-then-words-le-MOST_WORDS+else-are_plain}
+use Rattle.dm_words.proofs.forms.read_form.Goals.{else-words-le-MOST_WORDS-via-else-words-le-MOST_WORDS}
 use Rattle.dm_words.proofs.forms.read_form.Goals as goal
 
 pub returns-else-words-le-MOST_WORDS : goal.returns-else-words-le-MOST_WORDS
