@@ -6,8 +6,6 @@ mod accounts;
 mod credentials;
 mod laws;
 mod nonces;
-#[cfg(test)]
-mod tests;
 
 pub use accounts::Account;
 pub use credentials::{Verdict, challenge, credential, digest, judge};

@@ -4,9 +4,6 @@
 ghost use Rattle.std.specs.Prelude.{◌≡◌};
 ghost use Rattle.dm_fumo.specs.States.{after_write, may_exec, progressing, after_result, result_code, StatesStay};
 
-#[cfg(test)]
-mod tests;
-
 /// Nothing to update with.
 pub const IDLE: u8 = 10;
 /// An update package is there.

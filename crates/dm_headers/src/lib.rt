@@ -9,8 +9,6 @@ pub mod laws;
 mod own;
 mod standings;
 pub mod statuses;
-#[cfg(test)]
-mod tests;
 
 pub use checks::Side;
 pub use hearing::{Heard, hear};

@@ -8,8 +8,6 @@ mod log;
 mod object;
 mod piece;
 mod rules;
-#[cfg(test)]
-mod tests;
 
 pub use inbox::{Inbox, InboxMark};
 pub use object::{Begun, Key, Object};

@@ -1,6 +1,9 @@
 // Objects in pieces, what breaks them, and the way back.
-use crate::{Inbox, Piece, Taken, What};
+ghost use Rattle.std.specs.Prelude.{◌≤◌, length};
+
+use crate::object_rows::{SENT, Sent};
 use dm_base::{Bytes, Memory};
+use dm_objects::{Inbox, Piece, Taken, What};
 use std::alloc::Global;
 use std::test::Fail;
 use syncml_types::{Step, Verb};
@@ -59,65 +62,12 @@ fn broken_by(taken: &Taken) -> &[u8] {
     }
 }
 
-// A piece, where an empty target is none, and what it comes to.
-struct Sent {
-    verb: Verb,
-    target: &'static [u8],
-    bytes: &'static [u8],
-    size: Option<u64>,
-    more: bool,
-    code: u32,
-    value: &'static [u8],
-    broken: &'static [u8],
-}
-
-const NONE: &[u8] = b"";
-
-#[rattlefmt::skip]
-const SENT: [Sent; 21] = [
-    // One piece, at the limit of ten bytes and above it; its Size isn't looked at.
-    Sent { verb: Verb::Add, target: b"./A", bytes: b"0123456789", size: Some(99), more: false, code: 200, value: b"0123456789", broken: NONE },
-    Sent { verb: Verb::Add, target: b"./A", bytes: b"0123456789a", size: None, more: false, code: 416, value: NONE, broken: NONE },
-    // Three pieces.
-    Sent { verb: Verb::Add, target: b"./A", bytes: b"ab", size: Some(5), more: true, code: 213, value: NONE, broken: NONE },
-    Sent { verb: Verb::Add, target: b"./A", bytes: b"cd", size: None, more: true, code: 213, value: NONE, broken: NONE },
-    Sent { verb: Verb::Add, target: b"./A", bytes: b"e", size: None, more: false, code: 200, value: b"abcde", broken: NONE },
-    // Another verb breaks it, and another target does.
-    Sent { verb: Verb::Add, target: b"./A", bytes: b"ab", size: Some(5), more: true, code: 213, value: NONE, broken: NONE },
-    Sent { verb: Verb::Replace, target: b"./A", bytes: b"ab", size: Some(3), more: true, code: 213, value: NONE, broken: b"./A" },
-    Sent { verb: Verb::Replace, target: b"./B", bytes: b"ab", size: Some(3), more: true, code: 213, value: NONE, broken: b"./A" },
-    // Too many bytes, and what follows is skipped up to the last.
-    Sent { verb: Verb::Replace, target: b"./B", bytes: b"cd", size: None, more: true, code: 424, value: NONE, broken: NONE },
-    Sent { verb: Verb::Replace, target: b"./B", bytes: b"", size: None, more: true, code: 424, value: NONE, broken: NONE },
-    Sent { verb: Verb::Replace, target: b"./B", bytes: b"", size: None, more: false, code: 424, value: NONE, broken: NONE },
-    Sent { verb: Verb::Replace, target: b"./B", bytes: b"x", size: None, more: false, code: 200, value: b"x", broken: NONE },
-    // First pieces that are refused: no Size, one above the limit, and one that is passed at once.
-    Sent { verb: Verb::Add, target: b"./A", bytes: b"a", size: None, more: true, code: 411, value: NONE, broken: NONE },
-    Sent { verb: Verb::Add, target: b"./A", bytes: b"a", size: Some(2), more: false, code: 411, value: NONE, broken: NONE },
-    Sent { verb: Verb::Add, target: b"./A", bytes: b"a", size: Some(11), more: true, code: 416, value: NONE, broken: NONE },
-    Sent { verb: Verb::Add, target: b"./C", bytes: b"abc", size: Some(2), more: true, code: 424, value: NONE, broken: NONE },
-    // A Get ends what is skipped; it has no pieces, and a write in pieces wants a target.
-    Sent { verb: Verb::Get, target: b"./C", bytes: b"", size: None, more: true, code: 400, value: NONE, broken: NONE },
-    Sent { verb: Verb::Add, target: NONE, bytes: b"a", size: Some(2), more: true, code: 400, value: NONE, broken: NONE },
-    // The last piece is one byte short.
-    Sent { verb: Verb::Add, target: b"./A", bytes: b"a", size: Some(3), more: true, code: 213, value: NONE, broken: NONE },
-    Sent { verb: Verb::Add, target: b"./A", bytes: b"b", size: None, more: false, code: 424, value: NONE, broken: NONE },
-    Sent { verb: Verb::Delete, target: b"./A", bytes: b"", size: None, more: false, code: 200, value: NONE, broken: NONE },
-];
-
 fn is_told(taken: &Taken, sent: &Sent) -> bool {
-    code_of(taken) == sent.code && value_of(taken) == sent.value && broken_by(taken) == sent.broken
+    code_of(taken) == sent.5 && value_of(taken) == sent.6 && broken_by(taken) == sent.7
 }
 
 fn is_taken(alloc: Global, inbox: &mut Inbox, sent: &Sent) -> Result<bool, Memory> {
-    let next = piece(
-        alloc,
-        sent.verb,
-        sent.target,
-        sent.bytes,
-        sent.size,
-        sent.more,
-    )?;
+    let next = piece(alloc, sent.0, sent.1, sent.2, sent.3, sent.4)?;
     let answer = inbox.take(&next);
     drop(next);
     let taken = answer?;
@@ -155,6 +105,7 @@ enum Between {
     Quiet,
 }
 
+#[tactic(auto, using(crate::proofs::Growing::taken_or_same))]
 fn take(
     alloc: Global,
     inbox: &mut Inbox,
@@ -162,7 +113,9 @@ fn take(
     bytes: &[u8],
     size: Option<u64>,
     more: bool,
-) -> Result<u32, Memory> {
+) -> Result<u32, Memory>
+    ensures { length inbox.old.objects ≤ length inbox.new.objects }
+{
     let next = piece(alloc, Verb::Add, target, bytes, size, more)?;
     let answer = inbox.take(&next);
     drop(next);
@@ -172,19 +125,29 @@ fn take(
     Ok(code)
 }
 
-fn skip(alloc: Global, inbox: &mut Inbox) -> Result<(), Memory> {
+#[tactic(auto, using(crate::proofs::Growing::held_or_same))]
+fn skip(alloc: Global, inbox: &mut Inbox) -> Result<(), Memory>
+    ensures { length inbox.old.objects ≤ length inbox.new.objects }
+{
     let next = piece(alloc, Verb::Add, b"./A", b"c", None, true)?;
     let answer = inbox.skip(&next);
     drop(next);
     answer
 }
 
-fn quiet(inbox: &mut Inbox) -> Result<(), Memory> {
+#[tactic(auto, using(crate::proofs::Growing::held_or_same))]
+fn quiet(inbox: &mut Inbox) -> Result<(), Memory>
+    ensures { length inbox.old.objects ≤ length inbox.new.objects }
+{
     drop(inbox.quiet()?);
     Ok(())
 }
 
-fn disturb(alloc: Global, inbox: &mut Inbox, between: Between) -> Result<(), Memory> {
+// Whatever comes adds to what was seen.
+#[tactic(auto, using(crate::proofs::Growing::held))]
+fn disturb(alloc: Global, inbox: &mut Inbox, between: Between) -> Result<(), Memory>
+    ensures { length inbox.old.objects ≤ length inbox.new.objects }
+{
     match between {
         Between::Nothing => {}
         Between::More => {
@@ -239,10 +202,6 @@ fn goes_back(
     let mark = inbox.mark();
     disturb(alloc, inbox, first)?;
     disturb(alloc, inbox, second)?;
-    // Whatever comes adds to what was seen.
-    if inbox.mark().at < mark.at {
-        return Ok(false);
-    }
     inbox.back(mark);
     is_whole(alloc, inbox)
 }

@@ -1,5 +1,5 @@
 // Digests of the standard's example, and what credentials come to.
-use crate::{Verdict, challenge, credential, digest, judge, nonce_of};
+use dm_auth::{Verdict, challenge, credential, digest, judge, nonce_of};
 use dm_base::{Bytes, Memory, Nonce};
 use std::alloc::Global;
 use std::test::Fail;

@@ -1,5 +1,5 @@
-// The whole table.
-use crate::{after_exec, after_result, after_write, may_exec, result_code};
+// The whole table of an update's states.
+use dm_fumo::{after_exec, after_result, after_write, may_exec, result_code};
 use std::test::Fail;
 
 // A state, what a write and an empty one lead to, and whether an Exec may come.

@@ -1,7 +1,8 @@
 // Headers as both ends read and write them.
-use crate::{Heard, Side, Standing, header_status, hear, next_header};
+use crate::header_rows::{ANSWERED, Answered, CHECKED, Checked, ROOMS, Told, WITHHELD};
 use dm_auth::{Account, credential};
 use dm_base::{Bytes, Limits, List, Memory, Nonce};
+use dm_headers::{Heard, Side, Standing, header_status, hear, next_header};
 use std::alloc::Global;
 use std::test::Fail;
 use syncml_types::{AlertCmd, Block, Command, Cred, Header, Loc, Member, Message, Meta, StatusCmd};
@@ -110,14 +111,6 @@ fn body(alloc: Global, ids: &[u32; 4]) -> Result<List<Command>, Memory> {
     Ok(body)
 }
 
-#[derive(Drop)]
-struct Told {
-    msg_ref: u32,
-    cmd_ref: u32,
-    code: u32,
-    nonce: Option<&'static [u8]>,
-}
-
 fn status(alloc: Global, id: u32, told: &Told) -> Result<Command, Memory> {
     let chal = match told.nonce {
         Some(nonce) => Some(meta(None, Some(text(alloc, nonce)?))),
@@ -157,69 +150,6 @@ fn code_in(heard: &Option<Heard>) -> u32 {
 }
 
 // ---- the checks
-
-#[derive(Drop)]
-struct Checked {
-    dtd: &'static [u8],
-    proto: &'static [u8],
-    ids: [u32; 4],
-    code: u32,
-}
-
-const CHECKED: [Checked; 8] = [
-    Checked {
-        dtd: b"1.2",
-        proto: b"DM/1.2",
-        ids: [1, 2, 3, 4],
-        code: 200,
-    },
-    // In any order, each once.
-    Checked {
-        dtd: b"1.2",
-        proto: b"DM/1.2",
-        ids: [9, 2, 7, 4],
-        code: 200,
-    },
-    Checked {
-        dtd: b"1.1",
-        proto: b"DM/1.1",
-        ids: [1, 1, 1, 1],
-        code: 505,
-    },
-    Checked {
-        dtd: b"1.2",
-        proto: b"DM/1.1",
-        ids: [1, 1, 1, 1],
-        code: 513,
-    },
-    // A member's is a container's.
-    Checked {
-        dtd: b"1.2",
-        proto: b"DM/1.2",
-        ids: [1, 2, 1, 4],
-        code: 400,
-    },
-    // Two members' are equal.
-    Checked {
-        dtd: b"1.2",
-        proto: b"DM/1.2",
-        ids: [1, 2, 2, 4],
-        code: 400,
-    },
-    // A later command's is a member's.
-    Checked {
-        dtd: b"1.2",
-        proto: b"DM/1.2",
-        ids: [5, 2, 3, 2],
-        code: 400,
-    },
-    Checked {
-        dtd: b"1.2",
-        proto: b"DM/1.2",
-        ids: [4, 3, 2, 4],
-        code: 400,
-    },
-];
 
 fn check(alloc: Global, row: &Checked) -> Result<u32, Memory> {
     let account = account(alloc, None)?;
@@ -301,137 +231,6 @@ fn a_second_wrong_credential_is_told(rt: HostRuntime) -> Result<(), Fail> {
 
 // ---- the Status of the last header
 
-#[derive(Drop)]
-struct Answered {
-    statuses: [Told; 2],
-    status: u32,
-    welcomed: bool,
-    nonce: &'static [u8],
-}
-
-const NEW: Option<&[u8]> = Some(b"bmV3");
-
-const ANSWERED: [Answered; 6] = [
-    // That of another message, and of a command, are none.
-    Answered {
-        statuses: [
-            Told {
-                msg_ref: 2,
-                cmd_ref: 0,
-                code: 212,
-                nonce: NEW,
-            },
-            Told {
-                msg_ref: 1,
-                cmd_ref: 1,
-                code: 212,
-                nonce: NEW,
-            },
-        ],
-        status: 0,
-        welcomed: false,
-        nonce: b"",
-    },
-    // The first counts.
-    Answered {
-        statuses: [
-            Told {
-                msg_ref: 1,
-                cmd_ref: 0,
-                code: 212,
-                nonce: NEW,
-            },
-            Told {
-                msg_ref: 1,
-                cmd_ref: 0,
-                code: 401,
-                nonce: None,
-            },
-        ],
-        status: 212,
-        welcomed: true,
-        nonce: b"new",
-    },
-    Answered {
-        statuses: [
-            Told {
-                msg_ref: 1,
-                cmd_ref: 2,
-                code: 200,
-                nonce: None,
-            },
-            Told {
-                msg_ref: 1,
-                cmd_ref: 0,
-                code: 401,
-                nonce: NEW,
-            },
-        ],
-        status: 401,
-        welcomed: false,
-        nonce: b"new",
-    },
-    // A nonce that isn't strict base64 leaves the one before.
-    Answered {
-        statuses: [
-            Told {
-                msg_ref: 1,
-                cmd_ref: 0,
-                code: 212,
-                nonce: Some(b"bmV3="),
-            },
-            Told {
-                msg_ref: 1,
-                cmd_ref: 0,
-                code: 212,
-                nonce: NEW,
-            },
-        ],
-        status: 212,
-        welcomed: true,
-        nonce: b"",
-    },
-    // 200 asks for no nonce.
-    Answered {
-        statuses: [
-            Told {
-                msg_ref: 1,
-                cmd_ref: 0,
-                code: 200,
-                nonce: NEW,
-            },
-            Told {
-                msg_ref: 1,
-                cmd_ref: 1,
-                code: 200,
-                nonce: None,
-            },
-        ],
-        status: 200,
-        welcomed: false,
-        nonce: b"",
-    },
-    Answered {
-        statuses: [
-            Told {
-                msg_ref: 1,
-                cmd_ref: 0,
-                code: 407,
-                nonce: NEW,
-            },
-            Told {
-                msg_ref: 1,
-                cmd_ref: 1,
-                code: 212,
-                nonce: None,
-            },
-        ],
-        status: 407,
-        welcomed: false,
-        nonce: b"new",
-    },
-];
-
 fn is_answered(heard: &Heard, row: &Answered) -> bool {
     let nonce = match &heard.account {
         Some(account) => account.user_nonce.as_slice(),
@@ -469,15 +268,6 @@ fn the_status_of_the_last_header_is_read(rt: HostRuntime) -> Result<(), Fail> {
 
 // ---- room
 
-const ROOMS: [(Option<u64>, u64); 6] = [
-    (None, 16384),
-    (Some(0), 2048),
-    (Some(2047), 2048),
-    (Some(5000), 5000),
-    (Some(65537), 65536),
-    (Some(18446744073709551615), 65536),
-];
-
 fn room_after(alloc: Global, told: Option<u64>) -> Result<u64, Memory> {
     let account = account(alloc, None)?;
     let header = header(alloc, b"1.2", b"DM/1.2", None, told)?;
@@ -503,15 +293,6 @@ fn a_room_counts_within_its_limits(rt: HostRuntime) -> Result<(), Fail> {
 }
 
 // ---- what an end says
-
-// Whether a header with NoResp and one without are answered, by their code.
-const WITHHELD: [(u32, bool); 5] = [
-    (200, false),
-    (212, false),
-    (400, false),
-    (401, true),
-    (407, true),
-];
 
 fn is_told(alloc: Global, code: u32, no_resp: bool) -> Result<bool, Memory> {
     let mut header = header(alloc, b"1.2", b"DM/1.2", None, None)?;
