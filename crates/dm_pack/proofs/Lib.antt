@@ -18,3 +18,5 @@ pub mod Ending
 pub mod Most
 pub mod Ready
 pub mod Fixtures
+pub mod Asking
+pub mod Moving

@@ -110,7 +110,7 @@ pub put_some : (v : List ℕ) (c : Command) → (length v == 0) ≡ false → pu
 put_some [] c h = absurd (eqb-false 0 0 h refl)
 put_some (b ∷ bs) c h = refl
 
-put_numbered : (first : ℕ) (v : List ℕ) (c : Command)
+pub put_numbered : (first : ℕ) (v : List ℕ) (c : Command)
     → put_back v (with_numbers first c) ≡ with_numbers first (put_back v c)
 put_numbered first [] c = refl
 put_numbered first (b ∷ bs) c = sym (number_changed (with_value (b ∷ bs)) first c)

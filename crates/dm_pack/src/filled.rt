@@ -16,7 +16,7 @@ use syncml_codec::encode_with_length;
 use syncml_types::{Command, Header, Message};
 
 // About as many bytes as a Status takes; where entries take fewer, the list of a message's commands grows.
-const ENTRY: usize = 64;
+pub(crate) const ENTRY: usize = 64;
 
 /// What stands at the end of a message.
 #[derive(Clone, Copy, Debug, PartialEq, Eq)]
@@ -52,7 +52,7 @@ fn tail_of(queue: &Queue, whole: usize, heard: bool) -> Tail
     }
 }
 
-fn is_final(tail: Tail) -> bool
+pub(crate) fn is_final(tail: Tail) -> bool
     ensures { result ≡ Spec.is_final tail }
 {
     match tail {
@@ -71,7 +71,12 @@ fn push_asks(alloc: Global, next: u32, body: &mut List<Command>) -> Result<(), M
     body.push(asks)
 }
 
-fn push_tail(alloc: Global, tail: Tail, next: u32, body: &mut List<Command>) -> Result<(), Memory>
+pub(crate) fn push_tail(
+    alloc: Global,
+    tail: Tail,
+    next: u32,
+    body: &mut List<Command>,
+) -> Result<(), Memory>
     requires { next + 1 < 2 ^ 32 }
     ensures { OnOk result (body.new ≡ body.old ++ numbered next (tail_commands tail)) }
 {
@@ -81,7 +86,7 @@ fn push_tail(alloc: Global, tail: Tail, next: u32, body: &mut List<Command>) -> 
     }
 }
 
-fn spelled(
+pub(crate) fn spelled(
     alloc: Global,
     message: Message,
     message_length: u64,
@@ -133,7 +138,7 @@ pub fn fill(queue: &Queue, header: Header, room: u64, heard: bool) -> Result<Fil
     let (cut, place) = push_next(queue, taken, room, &mut body)?;
     let tail = tail_of(queue, taken.whole, heard);
     push_tail(alloc, tail, place.next, &mut body)?;
-    let message_length = place.used.saturating_add(place.tail_length(alloc, tail));
+    let message_length = place.used.saturating_add(place.tail_length(tail));
     let message = Message::of_parts(header, body, is_final(tail));
     spelled(alloc, message, message_length, taken.whole, cut, tail)
 }

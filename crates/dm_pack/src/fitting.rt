@@ -48,7 +48,7 @@ fn greatest_part(value: &[u8], budget: u64) -> (u64, u64)
 }
 
 // With how many bytes of Data a message fits that has come so far with a part without it, and how long their token is.
-fn bytes_that_fit(alloc: Global, part: Place, value: &[u8], room: u64) -> (u64, u64)
+fn bytes_that_fit(part: Place, value: &[u8], room: u64) -> (u64, u64)
     requires short { IsShortData value.now }
     requires room { room ≤ 65536 }
     requires low { part.next + 1 < 2 ^ 32 }
@@ -56,7 +56,7 @@ fn bytes_that_fit(alloc: Global, part: Place, value: &[u8], room: u64) -> (u64, 
     ensures token { 0 < result.0 → result.1 ≡ Packing.data_length (take result.0 value.now) }
     ensures low { result.1 ≤ room }
 {
-    let end = end_length(alloc, part.page, part.next);
+    let end = end_length(part.page, part.next);
     let used = part.used.saturating_add(1).saturating_add(end);
     greatest_part(value, room.saturating_sub(used))
 }
@@ -96,7 +96,7 @@ pub(crate) fn take_entries(
     for at in 0..queue.len() {
         let entry = queue.entry(at);
         let hollow = place.with_hollow(entry);
-        match hollow.with_data(alloc, entry.left(), room) {
+        match hollow.with_data(entry.left(), room) {
             None => {
                 return Ok(Taken {
                     whole: at,
@@ -134,7 +134,7 @@ fn push_bytes(
 
 // Adds a part of an entry with as many bytes of its Data as fit, where that is one at least and fewer than all. It
 // gives the number, and where the message has come to.
-fn push_part(
+pub(crate) fn push_part(
     alloc: Global,
     place: Place,
     hollow: Place,
@@ -155,7 +155,7 @@ fn push_part(
         return Ok((0, place));
     }
     let part = hollow.with_marks(entry);
-    let (bytes, token) = bytes_that_fit(alloc, part, entry.left(), room);
+    let (bytes, token) = bytes_that_fit(part, entry.left(), room);
     if bytes == 0 {
         return Ok((0, place));
     }

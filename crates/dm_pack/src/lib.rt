@@ -2,6 +2,7 @@
 #![tactic(auto)]
 
 mod counting;
+pub mod emptying;
 pub mod filled;
 mod fitting;
 pub mod laws;
@@ -10,8 +11,6 @@ mod place;
 pub mod queue;
 mod waiting;
 
+pub use emptying::fill_out;
 pub use filled::{Filled, Tail, fill};
 pub use queue::Queue;
-
-#[cfg(test)]
-mod tests;

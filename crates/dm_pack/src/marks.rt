@@ -9,7 +9,8 @@ ghost use Rattle.dm_pack.specs.Measures.{marked};
 use itoa::Buffer;
 use syncml_types::{Item, Meta};
 
-fn decimal_length(number: u64) -> u64
+// How many decimal digits a number has.
+pub(crate) fn decimal_length(number: u64) -> u64
     ensures value { result ≡ length (decimal number) }
     ensures low { result ≤ 40 }
 {

@@ -13,6 +13,7 @@ ghost use Rattle.dm_pack.specs.Measures as Spec;
 ghost use Rattle.dm_pack.specs.Measures.{behind_hollow, within, with_cost, place_of, marks_of};
 
 use crate::filled::Tail;
+use crate::marks::decimal_length;
 use crate::waiting::Waiting;
 use dm_base::List;
 use std::alloc::Global;
@@ -39,17 +40,19 @@ pub(crate) fn asks_next(alloc: Global) -> Command
     })
 }
 
-// How many bytes the Alert 1222 takes, and the page behind it.
-#[tactic(auto, unfolding(syncml_types::specs::Numbering::ids_in))]
-fn asks_length(alloc: Global, page: u8, next: u32) -> (u64, u8)
+// How many bytes the Alert 1222 takes, and the page behind it. All but the digits of its CmdID is always the same.
+#[tactic(auto, using(crate::proofs::Asking::asks_on_page, crate::proofs::Asking::asks_on_other, crate::proofs::Asking::page_behind_asks))]
+fn asks_length(page: u8, next: u32) -> (u64, u8)
     requires { next + 1 < 2 ^ 32 }
     ensures length { result.0 ≡ spelled_length 0 page (command_tokens (with_numbers next Filling.asks_next)) }
     ensures page { result.1 ≡ page_behind page (command_tokens (with_numbers next Filling.asks_next)) }
 {
-    let asks = asks_next(alloc);
-    let measured = numbered_length(page, next, &asks);
-    drop(asks);
-    measured
+    let digits = decimal_length(next as u64);
+    if page == 0 {
+        (14 + digits, 0)
+    } else {
+        (16 + digits, 0)
+    }
 }
 
 // How many bytes Final takes, with what ends the message.
@@ -62,11 +65,11 @@ fn final_length(page: u8) -> u64
 
 // How many bytes an Alert 1222 and Final would take, and what ends the message.
 #[tactic(auto, unfolding(crate::specs::Measures::end_length))]
-pub(crate) fn end_length(alloc: Global, page: u8, next: u32) -> u64
+pub(crate) fn end_length(page: u8, next: u32) -> u64
     requires { next + 1 < 2 ^ 32 }
     ensures { result ≡ up_to_most (Spec.end_length page next) }
 {
-    let (bytes, behind) = asks_length(alloc, page, next);
+    let (bytes, behind) = asks_length(page, next);
     bytes.saturating_add(final_length(behind))
 }
 
@@ -126,13 +129,13 @@ impl Place {
     }
 
     // With that Data, where the message fits then.
-    pub(crate) fn with_data(self, alloc: Global, value: &[u8], room: u64) -> Option<Place>
+    pub(crate) fn with_data(self, value: &[u8], room: u64) -> Option<Place>
         requires short { IsShortData value.now }
         requires room { room ≤ 65536 }
         requires low { self.next + 1 < 2 ^ 32 }
         ensures { result ≡ within room (with_cost value.now self) }
     {
-        let end = end_length(alloc, self.page, self.next);
+        let end = end_length(self.page, self.next);
         let least = self.used.saturating_add(end);
         if least > room {
             return None;
@@ -163,13 +166,13 @@ impl Place {
     }
 
     // How many bytes stand behind the commands of a message.
-    pub(crate) fn tail_length(self, alloc: Global, tail: Tail) -> u64
+    pub(crate) fn tail_length(self, tail: Tail) -> u64
         requires { self.next + 1 < 2 ^ 32 }
         ensures { result ≡ up_to_most (Spec.tail_length self tail) }
     {
         match tail {
             Tail::Final => final_length(self.page),
-            Tail::NextMessage => asks_length(alloc, self.page, self.next).0.saturating_add(2),
+            Tail::NextMessage => asks_length(self.page, self.next).0.saturating_add(2),
             Tail::Nothing => 2,
         }
     }

@@ -1,5 +1,6 @@
 // The entries that wait.
 ghost use Rattle.std.specs.Prelude.{◌≡◌, ◌<◌, ◌≤◌, ◌+◌, ◌∷◌, ◌++◌, [], length, take, drop, OnOk, OnErr, IfOk};
+ghost use Rattle.std.specs.Prelude.{MatchOption};
 ghost use Rattle.dm_pack.specs.Entries.{fresh};
 ghost use Rattle.dm_pack.specs.Filling.{next_rest, left_after, HasMore, CanBeTaken};
 
@@ -40,6 +41,7 @@ fn go_on(entries: &mut VecDeque<Waiting>, bytes: usize)
 }
 
 impl Queue {
+    /// An empty queue, which takes no memory.
     pub fn new(alloc: Global) -> Queue
         ensures { result ≡ [] }
     {
@@ -67,6 +69,7 @@ impl Queue {
         Ok(())
     }
 
+    /// How many entries wait.
     pub fn len(&self) -> usize
         ensures { result ≡ length self.now }
     {
@@ -113,6 +116,30 @@ impl Queue {
         if filled.cut > 0 {
             go_on(&mut self.entries, filled.cut as usize);
         }
+    }
+
+    // So many bytes of the first entry have gone out.
+    pub(crate) fn go_on(&mut self, bytes: usize)
+        requires { HasMore bytes self.old }
+        ensures { self.new ≡ next_rest bytes self.old }
+    {
+        if bytes > 0 {
+            go_on(&mut self.entries, bytes);
+        }
+    }
+
+    // Takes the first entry out.
+    pub(crate) fn pop_front(&mut self) -> Option<Waiting>
+        ensures { MatchOption result (self.old ≡ []) (λ entry. self.old ≡ entry ∷ self.new) }
+    {
+        self.entries.pop_front()
+    }
+
+    pub(crate) fn first(&self) -> &Waiting
+        requires { 0 < length self.now }
+        ensures { self.now ≡ result.now ∷ drop 1 self.now }
+    {
+        &self.entries[0]
     }
 
     pub(crate) fn alloc(&self) -> Global {

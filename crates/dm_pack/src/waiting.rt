@@ -1,6 +1,6 @@
 // An entry that waits. The Data that may be cut is kept apart, so that the rest is measured without looking at it, and
 // what went out of it is a number, so that nothing moves.
-ghost use Rattle.std.specs.Prelude.{◌≡◌, ◌<◌, ◌≤◌, ◌+◌, ◌-◌, ◌^◌, IfOk, length, true};
+ghost use Rattle.std.specs.Prelude.{◌≡◌, ◌<◌, ◌≤◌, ◌+◌, ◌-◌, ◌^◌, IfOk, length, drop, true};
 ghost use Rattle.wbxml_tokens.specs.Spelling.{page_behind};
 ghost use Rattle.syncml_types.specs.Fitness.{is_short, command_data};
 ghost use Rattle.syncml_types.specs.Pages.{with_value};
@@ -84,6 +84,30 @@ fn put_data(command: &mut Command, value: Bytes)
     } else {
         put_value(command, value);
     }
+}
+
+// What is left of Data behind so many bytes.
+#[tactic(auto, using(crate::proofs::Moving::whole_value))]
+fn rest_behind(value: Bytes, sent: usize) -> Bytes
+    ensures { result ≡ drop sent value }
+{
+    if sent > 0 {
+        let mut rest = value;
+        rest.drop_front(sent);
+        return rest;
+    }
+    value
+}
+
+// A command with CmdIDs, and with this Data put back.
+fn numbered_with(command: Command, value: Bytes, first: u32) -> Command
+    requires { first + ids_of_command command < 2 ^ 32 }
+    ensures { result ≡ put_back value (with_numbers first command) }
+{
+    let mut numbered = command;
+    numbered.set_ids(first);
+    put_data(&mut numbered, value);
+    numbered
 }
 
 // How long the Data is, where none of it went out.
@@ -212,6 +236,19 @@ impl Waiting {
         command.set_ids(first);
         put_data(&mut command, value);
         Ok(command)
+    }
+
+    // The command itself, with CmdIDs.
+    pub(crate) fn into_command(self, first: u32) -> Command
+        requires { first + ids_of_command self.command < 2 ^ 32 }
+        ensures { result ≡ with_numbers first self.command }
+    {
+        let Waiting {
+            command,
+            value,
+            sent,
+        } = self;
+        numbered_with(command, rest_behind(value, sent), first)
     }
 
     // How far a message comes with the next part where it comes so far with the whole, both without Data.
