@@ -9,6 +9,7 @@ pub mod OpenGroups
 pub mod Telling
 pub mod MadeAhead
 pub mod TasksAhead
+pub mod Answering
 pub mod GivenUps
 pub mod Tried
 pub mod Closings

@@ -1,7 +1,7 @@
 -- What is told piece by piece.
-use Rattle.std.proofs.Common.{◌≡◌, Bool, true, false, List, [], ◌∷◌, ◌++◌, refl, sym, ◌∙◌, ap, append_assoc}
+use Rattle.std.proofs.Common.{◌≡◌, Bool, true, false, List, [], ◌∷◌, ◌++◌, map, refl, sym, ◌∙◌, ap, append_assoc}
 use Rattle.std.specs.Prelude.{if◌then◌else◌, Result, Ok, Err, OnOk}
-use Rattle.std.proofs.lemmas.List.{append-nil}
+use Rattle.std.proofs.lemmas.List.{append-nil, map-append}
 use Rattle.syncml_types.specs.declared.command.Command.{Command}
 use Rattle.dm_atomic.specs.Made.{Made, entry_of, is_withheld, told, IsInFront}
 
@@ -64,3 +64,11 @@ pub told_both_ok : {X Y : Type 0} (result : Result X Y) (out first second : List
     → first ≡ out ++ told a → OnOk result (second ≡ first ++ told b) → OnOk result (second ≡ out ++ told (a ++ b))
 told_both_ok (Ok x) out first second a b e f = told_both out first second a b e f
 told_both_ok (Err x) out first second a b e f = f
+
+-- what was told of the first ones, and of the next
+pub one_more : {X : Type 0} (made : X → Made) (out now next : List Command) (done : List X) (x : X)
+    → now ≡ out ++ told (map made done) → next ≡ now ++ told (made x ∷ [])
+    → next ≡ out ++ told (map made (done ++ x ∷ []))
+one_more made out now next done x e f =
+    told_both out now next (map made done) (made x ∷ []) e f
+    ∙ ap (λ ms. out ++ told ms) (sym (map-append made done (x ∷ [])))

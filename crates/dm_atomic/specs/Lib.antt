@@ -1,5 +1,6 @@
 pub mod Tasks
 pub mod Made
+pub mod Answers
 pub mod Run
 pub mod Posts
 pub mod Laws

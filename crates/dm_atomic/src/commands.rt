@@ -17,7 +17,7 @@ ghost use Rattle.dm_atomic.specs.Stays.{committed_ids};
 ghost use Rattle.dm_atomic.specs.Updates.{clock_of, max_obj_of};
 
 use crate::engine::Engine;
-use crate::entries::{put_report, put_status};
+use crate::entries::{put_own_report, put_status};
 use crate::task_lists::{alert_task, container_post, member_tasks, members_tasks, plain_tasks};
 use crate::tasks::{Named, Origin, Task, Work};
 use dm_base::{List, Memory};
@@ -66,7 +66,7 @@ impl Engine {
     {
         self.break_first(&task.work, out)?;
         let report = self.one_step(caller, task, out)?;
-        put_report(self.alloc, &report, out)?;
+        put_own_report(self.alloc, report, out)?;
         Ok(())
     }
 

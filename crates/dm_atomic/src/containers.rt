@@ -22,6 +22,7 @@ pub(crate) fn put_container(
     ensures ok { OnOk result (out.new ≡ out.old ++ told (container post.now code reports.now)) }
     ensures err { OnErr result (IsInFront out.old out.new) }
 {
+    out.reserve(reports.len().saturating_add(1))?;
     put_status(alloc, post, code, out)?;
     put_reports(alloc, reports, out)
 }
@@ -137,6 +138,8 @@ pub(crate) fn put_failed(
         ++ told (container post.now 507 (map undone done.now ++ failed.now ∷ map not_run unrun.now))) }
     ensures err { OnErr result (IsInFront out.old out.new) }
 {
+    let steps = done.len().saturating_add(unrun.len());
+    out.reserve(steps.saturating_add(2))?;
     put_status(alloc, post, 507, out)?;
     put_steps_failed(alloc, done, failed, unrun, out)
 }

@@ -57,21 +57,6 @@ pub(crate) fn put_status(
     out.push(Command::Status(status_of(alloc, post, code)?))
 }
 
-fn found_meta(alloc: Global, found: &Found) -> Result<Meta, Memory>
-    ensures { IfOk result (λ meta. meta ≡ found_meta found.now) }
-{
-    Ok(Meta {
-        format: Some(found.format.copy(alloc)?),
-        media: copy_bytes(alloc, &found.media)?,
-        size: None,
-        next_nonce: None,
-        max_msg: None,
-        max_obj: None,
-        mark: None,
-        version: None,
-    })
-}
-
 fn source_item(uri: Bytes, meta: Option<Meta>, value: Option<Bytes>) -> Item
     ensures { result ≡ source_item uri meta value }
 {
@@ -84,20 +69,38 @@ fn source_item(uri: Bytes, meta: Option<Meta>, value: Option<Bytes>) -> Item
     }
 }
 
-fn found_items(alloc: Global, found: &Found) -> Result<List<Item>, Memory>
-    ensures { IfOk result
-        (λ items. items ≡ source_item found.now.uri (Some (found_meta found.now)) found.now.value ∷ []) }
+fn found_item(found: Found) -> Item
+    ensures { result ≡ source_item found.uri (Some (found_meta found)) found.value }
+{
+    let Found {
+        uri,
+        format,
+        media,
+        value,
+    } = found;
+    let meta = Meta {
+        format: Some(format),
+        media,
+        size: None,
+        next_nonce: None,
+        max_msg: None,
+        max_obj: None,
+        mark: None,
+        version: None,
+    };
+    source_item(uri, Some(meta), value)
+}
+
+fn found_items(alloc: Global, found: Found) -> Result<List<Item>, Memory>
+    ensures { IfOk result (λ items. items ≡ source_item found.uri (Some (found_meta found)) found.value ∷ []) }
 {
     let mut items = List::with_room(alloc, 1)?;
-    let uri = found.uri.copy(alloc)?;
-    let meta = found_meta(alloc, found)?;
-    let value = copy_bytes(alloc, &found.value)?;
-    items.push(source_item(uri, Some(meta), value))?;
+    items.push(found_item(found))?;
     Ok(items)
 }
 
-fn results_of(alloc: Global, post: &Post, found: &Found) -> Result<ResultsCmd, Memory>
-    ensures { IfOk result (λ results. commands.Results results ≡ entry_of (AResult post.now found.now)) }
+fn results_of(alloc: Global, post: &Post, found: Found) -> Result<ResultsCmd, Memory>
+    ensures { IfOk result (λ results. commands.Results results ≡ entry_of (AResult post.now found)) }
 {
     Ok(ResultsCmd {
         id: 0,
@@ -114,13 +117,36 @@ fn results_of(alloc: Global, post: &Post, found: &Found) -> Result<ResultsCmd, M
 pub(crate) fn put_result(
     alloc: Global,
     post: &Post,
+    found: Found,
+    out: &mut List<Command>,
+) -> Result<(), Memory>
+    ensures ok { OnOk result (out.new ≡ out.old ++ told (AResult post.now found ∷ [])) }
+    ensures err { OnErr result (out.new ≡ out.old) }
+{
+    out.push(Command::Results(results_of(alloc, post, found)?))
+}
+
+fn copy_found(alloc: Global, found: &Found) -> Result<Found, Memory>
+    ensures { IfOk result (λ copied. copied ≡ found.now) }
+{
+    Ok(Found {
+        uri: found.uri.copy(alloc)?,
+        format: found.format.copy(alloc)?,
+        media: copy_bytes(alloc, &found.media)?,
+        value: copy_bytes(alloc, &found.value)?,
+    })
+}
+
+fn put_copied(
+    alloc: Global,
+    post: &Post,
     found: &Found,
     out: &mut List<Command>,
 ) -> Result<(), Memory>
     ensures ok { OnOk result (out.new ≡ out.old ++ told (AResult post.now found.now ∷ [])) }
     ensures err { OnErr result (out.new ≡ out.old) }
 {
-    out.push(Command::Results(results_of(alloc, post, found)?))
+    put_result(alloc, post, copy_found(alloc, found)?, out)
 }
 
 fn broken_items(alloc: Global, target: &[u8]) -> Result<List<Item>, Memory>
@@ -183,9 +209,41 @@ fn put_results(
     ensures err { OnErr result (IsInFront out.old out.new) }
 {
     for found in found.as_slice() {
-        put_result(alloc, post, found, out)?;
+        put_copied(alloc, post, found, out)?;
     }
     Ok(())
+}
+
+// The values go into their commands as they are.
+#[tactic(auto, using(crate::proofs::Telling::nothing_more, crate::proofs::Telling::some_more, crate::proofs::Telling::one_more))]
+fn put_own_results(
+    alloc: Global,
+    post: &Post,
+    found: List<Found>,
+    out: &mut List<Command>,
+) -> Result<(), Memory>
+    ensures ok { OnOk result (out.new ≡ out.old ++ told (map (AResult post.now) found)) }
+    ensures err { OnErr result (IsInFront out.old out.new) }
+{
+    for value in found.into_vec() {
+        put_result(alloc, post, value, out)?;
+    }
+    Ok(())
+}
+
+/// Tells the Status of a task, and then its Results, of which no value is copied. After `Memory` a part may be told.
+#[tactic(auto, using(crate::proofs::Telling::told_both, crate::proofs::Telling::nothing_more, crate::proofs::Telling::some_more))]
+pub(crate) fn put_own_report(
+    alloc: Global,
+    report: Report,
+    out: &mut List<Command>,
+) -> Result<(), Memory>
+    ensures ok { OnOk result (out.new ≡ out.old ++ told (reported report)) }
+    ensures err { OnErr result (IsInFront out.old out.new) }
+{
+    let Report { post, code, found } = report;
+    put_status(alloc, &post, code, out)?;
+    put_own_results(alloc, &post, found, out)
 }
 
 /// Tells the Status of a task, and then its Results. After `Memory` a part of these may be told.

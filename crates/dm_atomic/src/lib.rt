@@ -2,6 +2,7 @@
 //! and groups that stay open over messages.
 #![tactic(auto)]
 
+pub mod answers;
 mod atomics;
 mod attempts;
 mod commands;
@@ -15,11 +16,10 @@ pub mod reports;
 mod step;
 mod task_lists;
 pub mod tasks;
-#[cfg(test)]
-mod tests;
 mod unfinished;
 mod updates;
 
+pub use answers::answer_each;
 pub use engine::Engine;
 pub use marks::EngineMark;
 pub use reports::{Part, Report, Started};

@@ -107,7 +107,8 @@ fn piece_of(alloc: Global, in_atomic: bool, command: &Plain, item: &Item) -> Res
     })
 }
 
-fn item_post(
+/// What the Status of an item at this place answers.
+pub(crate) fn item_post(
     alloc: Global,
     origin: Origin,
     command: &Plain,

@@ -99,14 +99,6 @@ append-none : (a : Path) → a ++ [] ≡ a
 append-none [] = refl
 append-none (n ∷ ns) = ap (λ s. n ∷ s) (append-none ns)
 
--- a path is one that it stands below, or comes behind that
-same_or_before : (p q : Path) → is_below p q ≡ true → (p ≡ q → ⊥) → is_before p q ≡ true
-same_or_before p q h other = ap (is_before p) (rest_below p q h) ∙ behind_it (drop (length p) q) (rest_below p q h)
-  where
-    behind_it : (r : Path) → q ≡ p ++ r → is_before p (p ++ r) ≡ true
-    behind_it [] e = absurd (other (sym (e ∙ append-none p)))
-    behind_it (n ∷ ns) e = before_longer p n ns
-
 -- of two paths, one is the other, or comes before it
 pub data Stands (p q : Path) : Type 0 where
   same : p ≡ q → Stands p q

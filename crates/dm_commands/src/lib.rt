@@ -17,8 +17,6 @@ mod replaces;
 mod results;
 pub mod steps;
 mod targets;
-#[cfg(test)]
-mod tests;
 mod updates;
 mod values;
 

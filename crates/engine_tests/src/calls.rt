@@ -32,8 +32,8 @@ fn step_of(letter: u8) -> Step {
     }
 }
 
-// An empty text is none.
-fn text(alloc: Global, bytes: &[u8]) -> Result<Option<Bytes>, Memory> {
+/// A text, where an empty one is none.
+pub(crate) fn text(alloc: Global, bytes: &[u8]) -> Result<Option<Bytes>, Memory> {
     if bytes.is_empty() {
         return Ok(None);
     }

@@ -76,6 +76,54 @@ pub(crate) fn told(alloc: Global, entries: &[Command]) -> Option<Bytes> {
     Some(out)
 }
 
+fn put_or_dash(out: &mut Bytes, text: Option<&Bytes>) -> Option<()> {
+    match text {
+        None => put(out, b"-"),
+        Some(text) => put(out, text.as_slice()),
+    }
+}
+
+fn put_named_status(alloc: Global, out: &mut Bytes, status: &StatusCmd) -> Option<()> {
+    put_number(alloc, out, status.code)?;
+    put(out, b" ")?;
+    put_or_dash(out, status.target_refs.as_slice().first())
+}
+
+// The Format, Type and value of the first item.
+fn put_found(out: &mut Bytes, items: &List<Item>) -> Option<()> {
+    let item = items.as_slice().first()?;
+    let meta = item.meta.as_ref()?;
+    put(out, b" ")?;
+    put_or_dash(out, meta.format.as_ref())?;
+    put(out, b" ")?;
+    put_or_dash(out, meta.media.as_ref())?;
+    put(out, b" ")?;
+    put_or_dash(out, item.value.as_ref())
+}
+
+fn put_named(alloc: Global, out: &mut Bytes, command: &Command) -> Option<()> {
+    match command {
+        Command::Status(status) => put_named_status(alloc, out, status)?,
+        Command::Results(results) => {
+            put_source(out, &results.items)?;
+            put_found(out, &results.items)?;
+        }
+        Command::Alert(alert) => put_alert(alloc, out, alert)?,
+        Command::Plain(_) | Command::Atomic(_) | Command::Sequence(_) => put(out, b"?")?,
+    }
+    put(out, b"|")
+}
+
+/// Of each Status its code and first TargetRef, of Results URI, Format, Type and value, and of an Alert its code and
+/// URI; `-` stands for what isn't there. None where memory runs out.
+pub(crate) fn named(alloc: Global, entries: &[Command]) -> Option<Bytes> {
+    let mut out = Bytes::new(alloc);
+    for entry in entries {
+        put_named(alloc, &mut out, entry)?;
+    }
+    Some(out)
+}
+
 fn put_value(alloc: Global, tree: &Tree, uri: &[u8], out: &mut Bytes) -> Option<()> {
     let uri = parse(alloc, uri).ok()?;
     match tree.find(&uri.path) {

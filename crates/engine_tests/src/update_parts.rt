@@ -13,6 +13,17 @@ use dm_tree::{NewNode, NodeId, Role, Tree, Value};
 use dm_uri::{Name, parse_name};
 use std::alloc::Global;
 
+/// How the update part begins.
+#[derive(Clone, Copy)]
+pub(crate) enum Begins {
+    /// Nothing to update with: an empty package.
+    Idle,
+    /// An update may be started, with a package of one byte.
+    Ready,
+    /// It runs, with a package of one byte.
+    Running,
+}
+
 // Each of these answers None where memory runs out, or a text isn't what it has to be.
 
 // A permanent node for the update.
@@ -41,18 +52,30 @@ fn part(alloc: Global, interior: bool, format: &[u8], bytes: &[u8], role: Role) 
     })
 }
 
-// State, which says that an update runs or that one may be started.
-fn state_part(alloc: Global, running: bool) -> Option<NewNode>
+fn package_part(alloc: Global, begins: Begins) -> Option<NewNode>
+    ensures may { IfSome result (λ new. IsNewNode new) }
+    ensures leaf { IfSome result (λ new. new.interior ≡ false) }
+    ensures permanent { IfSome result (λ new. new.permanent ≡ true) }
+    ensures role { IfSome result (λ new. new.role ≡ role.PkgData) }
+{
+    match begins {
+        Begins::Idle => part(alloc, false, b"bin", b"", Role::PkgData),
+        Begins::Ready | Begins::Running => part(alloc, false, b"bin", b"p", Role::PkgData),
+    }
+}
+
+fn state_part(alloc: Global, begins: Begins) -> Option<NewNode>
     ensures may { IfSome result (λ new. IsNewNode new) }
     ensures leaf { IfSome result (λ new. new.interior ≡ false) }
     ensures permanent { IfSome result (λ new. new.permanent ≡ true) }
     ensures role { IfSome result (λ new. new.role ≡ role.State) }
     ensures state { IfSome result (λ new. is_update_state new.value.bytes ≡ true) }
 {
-    if running {
-        return part(alloc, false, b"int", b"60", Role::State);
+    match begins {
+        Begins::Idle => part(alloc, false, b"int", b"10", Role::State),
+        Begins::Ready => part(alloc, false, b"int", b"50", Role::State),
+        Begins::Running => part(alloc, false, b"int", b"60", Role::State),
     }
-    part(alloc, false, b"int", b"50", Role::State)
 }
 
 fn put_part(tree: &mut Tree, parent: NodeId, name: Name, part: NewNode) -> Option<NodeId>
@@ -86,8 +109,8 @@ fn name_of(alloc: Global, text: &[u8]) -> Option<Name>
     parse_name(alloc, text).ok()
 }
 
-// Update, PkgData below it with one byte, and State, below the root.
-fn put_update(alloc: Global, tree: &mut Tree, running: bool) -> Option<()>
+// Update, PkgData below it, and State, below the root.
+fn put_update(alloc: Global, tree: &mut Tree, begins: Begins) -> Option<()>
     requires { HasNoUpdate (nodes tree.old.rows) }
     ensures { IfSome result (λ _. IsUpdateInOrder (nodes tree.new.rows)) }
 {
@@ -95,21 +118,21 @@ fn put_update(alloc: Global, tree: &mut Tree, running: bool) -> Option<()>
     let name = name_of(alloc, b"Update")?;
     let root = tree.root();
     let id = put_part(tree, root, name, update)?;
-    let package = part(alloc, false, b"bin", b"p", Role::PkgData)?;
+    let package = package_part(alloc, begins)?;
     let name = name_of(alloc, b"PkgData")?;
     put_part(tree, id, name, package)?;
-    let state = state_part(alloc, running)?;
+    let state = state_part(alloc, begins)?;
     let name = name_of(alloc, b"State")?;
     let root = tree.root();
     put_part(tree, root, name, state)?;
     Some(())
 }
 
-/// A tree with an update part, in which an update runs or may be started.
-pub(crate) fn update_tree(alloc: Global, running: bool) -> Option<Tree>
+/// A tree with an update part. None where memory runs out.
+pub(crate) fn update_tree(alloc: Global, begins: Begins) -> Option<Tree>
     ensures { IfSome result (λ tree. IsUpdateInOrder (nodes tree.rows)) }
 {
     let mut tree = bare_tree(alloc)?;
-    put_update(alloc, &mut tree, running)?;
+    put_update(alloc, &mut tree, begins)?;
     Some(tree)
 }

@@ -4,7 +4,7 @@ ghost use Rattle.dm_atomic.specs.Engine.{IsSoundEngine};
 ghost use Rattle.dm_atomic.specs.Marks.{Holds};
 
 use crate::entries::told;
-use crate::update_parts::update_tree;
+use crate::update_parts::{Begins, update_tree};
 use dm_atomic::{Engine, Origin};
 use dm_base::{Bytes, List, Memory};
 use std::alloc::Global;
@@ -16,10 +16,10 @@ const ORIGIN: Origin = Origin {
     quiet: false,
 };
 
-fn engine(alloc: Global, running: bool) -> Option<Engine>
+fn engine(alloc: Global, begins: Begins) -> Option<Engine>
     ensures { IfSome result IsSoundEngine }
 {
-    match Engine::new(alloc, update_tree(alloc, running)?, 4_096) {
+    match Engine::new(alloc, update_tree(alloc, begins)?, 4_096) {
         Ok(engine) => Some(engine),
         Err(_) => None,
     }
@@ -116,7 +116,7 @@ fn finish(engine: &mut Engine, ok: bool) -> Option<()>
 
 // How it stands when it is started, and after its result.
 fn updated(alloc: Global, ok: bool) -> Option<(bool, Shown, Shown)> {
-    let mut engine = engine(alloc, false)?;
+    let mut engine = engine(alloc, Begins::Ready)?;
     if engine.is_updating() {
         return None;
     }
@@ -141,7 +141,7 @@ fn an_update_is_started_and_ends(rt: HostRuntime) -> Result<(), Fail> {
 
 // Where an engine begins with an update that runs: how it stands, what an Exec tells, and after the result.
 fn begun(alloc: Global, ok: bool) -> Option<(Shown, bool, Shown)> {
-    let mut engine = engine(alloc, true)?;
+    let mut engine = engine(alloc, Begins::Running)?;
     let first = shown(&engine)?;
     let text = start(alloc, &mut engine)?;
     finish(&mut engine, ok)?;
@@ -163,7 +163,7 @@ fn an_engine_begins_with_an_update_that_runs(rt: HostRuntime) -> Result<(), Fail
 
 // How it stands after its result, after that was taken back, and after the start was taken back.
 fn taken_back(alloc: Global) -> Option<(Shown, Shown, Shown)> {
-    let mut engine = engine(alloc, false)?;
+    let mut engine = engine(alloc, Begins::Ready)?;
     let first = engine.mark();
     start(alloc, &mut engine)?;
     let second = engine.mark();

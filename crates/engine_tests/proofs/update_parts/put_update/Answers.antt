@@ -26,9 +26,9 @@ returns c =
       role_is = ap (λ (n : NewNode). n.role) c.in_ok-update.ensures;
     })
     (record {
-      kind = ap (λ (n : NewNode). n.interior) c.in_ok-package.ensures;
-      permanent = ap (λ (n : NewNode). n.permanent) c.in_ok-package.ensures;
-      role_is = ap (λ (n : NewNode). n.role) c.in_ok-package.ensures;
+      kind = c.in_ok-package.ensures.leaf;
+      permanent = c.in_ok-package.ensures.permanent;
+      role_is = c.in_ok-package.ensures.role;
     })
     (record {
       kind = c.in_ok-state.ensures.leaf;
