@@ -4,6 +4,7 @@ ghost use Rattle.dm_base.specs.Fields.{parts};
 ghost use Rattle.dm_start.specs.Fields.{word_of as first_word, begins_with as has_first_word};
 
 use dm_base::field;
+use memchr::memchr;
 
 fn word_of(line: &[u8]) -> &[u8]
     ensures { result.now ≡ first_word line.now }
@@ -18,94 +19,87 @@ pub fn begins_with(word: &[u8], line: &[u8]) -> bool
     word_of(line) == word
 }
 
-#[tactic(auto, using(crate::proofs::Counted::two_parts))]
+// The first field, and what stands behind its space. None comes exactly where the line is one field.
+fn cut(line: &[u8]) -> Option<(&[u8], &[u8])>
+    ensures { MatchOption result (parts line.now ≡ line.now ∷ [])
+        (λ cut. parts line.now ≡ cut.0.now ∷ parts cut.1.now) }
+{
+    match memchr(b' ', line) {
+        Some(at) => Some((&line[..at], &line[at + 1..])),
+        None => None,
+    }
+}
+
+#[tactic(auto, using(crate::proofs::Counted::more_than_one))]
+fn one_field(line: &[u8]) -> Option<&[u8]>
+    ensures { MatchOption result (length (parts line.now) ≢ 1) (λ f. parts line.now ≡ f.now ∷ []) }
+{
+    match cut(line) {
+        Some(_) => None,
+        None => Some(line),
+    }
+}
+
+/// The two fields of a line that has just so many.
+#[tactic(auto, using(crate::proofs::Counted::one_is_few, crate::proofs::Counted::another_number))]
 pub fn two_fields(line: &[u8]) -> Option<(&[u8], &[u8])>
     ensures { MatchOption result (length (parts line.now) ≢ 2)
         (λ f. parts line.now ≡ f.0.now ∷ f.1.now ∷ []) }
 {
-    match field(line, 2) {
-        Some(_) => None,
-        None => Some((field(line, 0)?, field(line, 1)?)),
-    }
+    let (first, rest) = cut(line)?;
+    let second = one_field(rest)?;
+    Some((first, second))
 }
 
-#[tactic(auto, using(crate::proofs::Counted::three_parts))]
+/// The three fields of a line that has just so many.
+#[tactic(auto, using(crate::proofs::Counted::one_is_few, crate::proofs::Counted::another_number))]
 pub fn three_fields(line: &[u8]) -> Option<(&[u8], &[u8], &[u8])>
     ensures { MatchOption result (length (parts line.now) ≢ 3)
         (λ f. parts line.now ≡ f.0.now ∷ f.1.now ∷ f.2.now ∷ []) }
 {
-    match field(line, 3) {
-        Some(_) => None,
-        None => Some((field(line, 0)?, field(line, 1)?, field(line, 2)?)),
-    }
+    let (first, rest) = cut(line)?;
+    let (second, third) = two_fields(rest)?;
+    Some((first, second, third))
 }
 
-#[tactic(auto, using(crate::proofs::Counted::four_parts))]
+/// The four fields of a line that has just so many.
+#[tactic(auto, using(crate::proofs::Counted::one_is_few, crate::proofs::Counted::another_number))]
 pub fn four_fields(line: &[u8]) -> Option<(&[u8], &[u8], &[u8], &[u8])>
     ensures { MatchOption result (length (parts line.now) ≢ 4)
         (λ f. parts line.now ≡ f.0.now ∷ f.1.now ∷ f.2.now ∷ f.3.now ∷ []) }
 {
-    match field(line, 4) {
-        Some(_) => None,
-        None => Some((
-            field(line, 0)?,
-            field(line, 1)?,
-            field(line, 2)?,
-            field(line, 3)?,
-        )),
-    }
+    let (first, rest) = cut(line)?;
+    let (second, third, fourth) = three_fields(rest)?;
+    Some((first, second, third, fourth))
 }
 
-#[tactic(auto, using(crate::proofs::Counted::five_parts))]
+/// The five fields of a line that has just so many.
+#[tactic(auto, using(crate::proofs::Counted::one_is_few, crate::proofs::Counted::another_number))]
 pub fn five_fields(line: &[u8]) -> Option<(&[u8], &[u8], &[u8], &[u8], &[u8])>
     ensures { MatchOption result (length (parts line.now) ≢ 5)
         (λ f. parts line.now ≡ f.0.now ∷ f.1.now ∷ f.2.now ∷ f.3.now ∷ f.4.now ∷ []) }
 {
-    match field(line, 5) {
-        Some(_) => None,
-        None => Some((
-            field(line, 0)?,
-            field(line, 1)?,
-            field(line, 2)?,
-            field(line, 3)?,
-            field(line, 4)?,
-        )),
-    }
+    let (first, rest) = cut(line)?;
+    let (second, third, fourth, fifth) = four_fields(rest)?;
+    Some((first, second, third, fourth, fifth))
 }
 
-#[tactic(auto, using(crate::proofs::Counted::six_parts))]
+#[tactic(auto, using(crate::proofs::Counted::one_is_few, crate::proofs::Counted::another_number))]
 pub(crate) fn six_fields(line: &[u8]) -> Option<(&[u8], &[u8], &[u8], &[u8], &[u8], &[u8])>
     ensures { MatchOption result (length (parts line.now) ≢ 6)
         (λ f. parts line.now ≡ f.0.now ∷ f.1.now ∷ f.2.now ∷ f.3.now ∷ f.4.now ∷ f.5.now ∷ []) }
 {
-    match field(line, 6) {
-        Some(_) => None,
-        None => Some((
-            field(line, 0)?,
-            field(line, 1)?,
-            field(line, 2)?,
-            field(line, 3)?,
-            field(line, 4)?,
-            field(line, 5)?,
-        )),
-    }
+    let (first, rest) = cut(line)?;
+    let (second, third, fourth, fifth, sixth) = five_fields(rest)?;
+    Some((first, second, third, fourth, fifth, sixth))
 }
 
-#[tactic(auto, using(crate::proofs::Counted::seven_parts))]
+#[tactic(auto, using(crate::proofs::Counted::one_is_few, crate::proofs::Counted::another_number))]
 pub(crate) fn seven_fields(line: &[u8]) -> Option<(&[u8], &[u8], &[u8], &[u8], &[u8], &[u8], &[u8])>
     ensures { MatchOption result (length (parts line.now) ≢ 7)
         (λ f. parts line.now ≡ f.0.now ∷ f.1.now ∷ f.2.now ∷ f.3.now ∷ f.4.now ∷ f.5.now ∷ f.6.now ∷ []) }
 {
-    match field(line, 7) {
-        Some(_) => None,
-        None => Some((
-            field(line, 0)?,
-            field(line, 1)?,
-            field(line, 2)?,
-            field(line, 3)?,
-            field(line, 4)?,
-            field(line, 5)?,
-            field(line, 6)?,
-        )),
-    }
+    let (first, rest) = cut(line)?;
+    let (second, third, fourth, fifth, sixth, seventh) = six_fields(rest)?;
+    Some((first, second, third, fourth, fifth, sixth, seventh))
 }

@@ -13,8 +13,6 @@ pub mod reader;
 pub mod shorts;
 mod start_trees;
 pub mod telling;
-#[cfg(test)]
-mod tests;
 mod texts;
 mod updates;
 

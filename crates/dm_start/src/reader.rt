@@ -1,5 +1,5 @@
 // The reader of a start section.
-ghost use Rattle.std.specs.Prelude.{◌≡◌, true, false, Ok, IfOk, IfErr, OnOk, OnErr};
+ghost use Rattle.std.specs.Prelude.{◌≡◌, ◌⊎◌, true, false, Ok, IfOk, IfErr, OnOk, OnErr};
 ghost use Rattle.dm_base.specs.Fields.{parts};
 ghost use Rattle.dm_start.specs.declared.heads.Head.TheVariants as head;
 ghost use Rattle.dm_start.specs.declared.telling.Phase.TheVariants as phase;
@@ -176,6 +176,17 @@ impl StartReader {
         StartReader {
             alloc,
             place: Place::Opening(Head::First),
+        }
+    }
+
+    /// A reader of a section whose first line told this version: the line of the device comes next.
+    pub fn behind_first(alloc: Global, version: u8) -> StartReader
+        requires { (version ≡ 1) ⊎ (version ≡ 2) }
+        ensures { section_at result ≡ Spec.opening (head.Device version) }
+    {
+        StartReader {
+            alloc,
+            place: Place::Opening(Head::Device(version)),
         }
     }
 

@@ -1,4 +1,4 @@
-//! Tests of start sections by public calls alone.
+//! Tests of start sections, and of the text of a tree, by public calls alone.
 #![tactic(auto)]
 
 #[cfg(test)]
@@ -9,3 +9,5 @@ mod pieces;
 mod refusals;
 #[cfg(test)]
 mod starts;
+#[cfg(test)]
+mod texts;

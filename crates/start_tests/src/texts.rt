@@ -3,10 +3,10 @@ ghost use Rattle.std.specs.Prelude.{◌≡◌, ◌++◌, ◌∷◌, [], true, fa
 ghost use Rattle.dm_uri.specs.Names.{is_within_limits};
 ghost use Rattle.dm_tree.specs.Nodes.{IsNewNode, IsReadAgain, IsValue};
 
-use crate::tree_text;
 use dm_acl::Acl;
 use dm_acl::laws::lists_that_are_read_are_short;
 use dm_base::Bytes;
+use dm_start::tree_text;
 use dm_tree::{NewNode, Role, Stamp, Tree, Value};
 use dm_uri::{Name, Path, parse};
 use std::alloc::Global;
