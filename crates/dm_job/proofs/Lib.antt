@@ -9,10 +9,11 @@ mod Made
 mod Members
 mod Moves
 mod Parsed
+mod Reached
 mod Refusals
 mod Soundness
 mod Taken
 mod Texts
 mod Told
-mod Turns
+pub mod Turns
 mod Whole

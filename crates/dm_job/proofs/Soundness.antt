@@ -50,20 +50,20 @@ use Rattle.dm_pack.proofs.Numbers.{length_last}
 -- ---- a job as far as it was read
 
 -- the last of them is a container that is open
-record IsOpened (es : List JobEntry) : Type 0 where
+pub record IsOpened (es : List JobEntry) : Type 0 where
   before : List JobEntry
   last : JobEntry
   are : es ≡ before ++ last ∷ []
   sound : AllByRecursion IsEntry before
   grown : IsGrown last.command
 
-abbrev AreSound : Place → List JobEntry → Type 0
+abbrev pub AreSound : Place → List JobEntry → Type 0
 AreSound place.Between es = AllByRecursion IsEntry es
 AreSound place.Package es = AllByRecursion IsEntry es
 AreSound place.Container es = IsOpened es
 AreSound place.End es = AllByRecursion IsEntry es
 
-record IsSoundSofar (at : Place) (job : Job) (count : ℕ) : Type 0 where
+pub record IsSoundSofar (at : Place) (job : Job) (count : ℕ) : Type 0 where
   account : IsAccount job.account
   limits : are_limits job.limits.max_msg job.limits.max_obj ≡ true
   filled : AreFilled job.packages
@@ -71,10 +71,10 @@ record IsSoundSofar (at : Place) (job : Job) (count : ℕ) : Type 0 where
   entries : AreSound at (all_entries job.packages)
   numbered : Numbered 1 (all_entries job.packages) (count + 1)
 
-abbrev IsSoundDraft : Draft → Type 0
+abbrev pub IsSoundDraft : Draft → Type 0
 IsSoundDraft d = IsSoundSofar d.place d.job d.count
 
-abbrev IsSoundReading : Reading → Type 0
+abbrev pub IsSoundReading : Reading → Type 0
 IsSoundReading reading.First = ⊤
 IsSoundReading reading.Server = ⊤
 IsSoundReading (reading.Limits account) = IsAccount account
@@ -309,7 +309,7 @@ line_sound (reading.Commands d) next line e h = by_draft (draft_after d.place d 
     by_draft (Ok n) is k = subst IsSoundReading (same_reading _ next k) (draft_sound d.place d n line refl is h)
     by_draft (Err why) is k = absurd (cc)
 
-lines_sound : (n : ℕ) (r reached : Reading) (lines : List (List ℕ)) → lines_after n r lines ≡ Ok reached
+pub lines_sound : (n : ℕ) (r reached : Reading) (lines : List (List ℕ)) → lines_after n r lines ≡ Ok reached
     → IsSoundReading r
     → IsSoundReading reached
 lines_sound n r reached [] e h = subst IsSoundReading (same_end r reached e) h
@@ -327,7 +327,7 @@ lines_sound n r reached (line ∷ lines) e h =
     by_line (Ok read) is k rest = rest read k (line_sound r read line is h)
     by_line (Err why) is k rest = absurd (cc)
 
-job_sound : (r : Reading) (job : Job) → job_in r ≡ Some job → IsSoundReading r → IsSound job
+pub job_sound : (r : Reading) (job : Job) → job_in r ≡ Some job → IsSoundReading r → IsSound job
 job_sound reading.First job e h = absurd (cc)
 job_sound reading.Server job e h = absurd (cc)
 job_sound (reading.Limits account) job e h = absurd (cc)

@@ -1,5 +1,5 @@
 -- What is measured where a container ends.
-use Rattle.std.specs.Prelude.{◌≡◌, ◌≤◌, ◌+◌, true, List, ℕ, Option, IfSome, option_and_then, ⊤}
+use Rattle.std.specs.Prelude.{◌≡◌, ◌≤◌, ◌+◌, true, List, ℕ, Option, IfSome, option_and_then, ⊤, Ok}
 use Rattle.syncml_types.specs.declared.values.Item.{Item}
 use Rattle.syncml_types.specs.declared.command.Command.{Command}
 use Rattle.syncml_types.specs.Fitness.{is_short, command_data}
@@ -8,7 +8,7 @@ use Rattle.dm_job.specs.Commands.{member_count}
 use Rattle.dm_job.specs.declared.job.JobEntry.{JobEntry}
 use Rattle.dm_job.specs.declared.draft.Reading.{Reading}
 use Rattle.dm_job.specs.declared.draft.Reading.TheVariants as reading
-use Rattle.dm_job.specs.Reading.{last_entry}
+use Rattle.dm_job.specs.Reading.{last_entry, lines_after}
 
 abbrev pub item_value : Item → Option (List ℕ)
 item_value i = i.value
@@ -34,3 +34,13 @@ CanGoOn reading.First = ⊤
 CanGoOn reading.Server = ⊤
 CanGoOn (reading.Limits account) = ⊤
 CanGoOn (reading.Commands d) = CanClose d.job.packages
+
+-- some lines lead here from the first on
+pub record IsReached (r : Reading) : Type 0 where
+  pub lines : List (List ℕ)
+  pub taken : lines_after 1 reading.First lines ≡ Ok r
+
+-- what holds of a reader, wherever it has come to
+pub record IsGoing (r : Reading) : Type 0 where
+  pub can_go_on : CanGoOn r
+  pub reached : IsReached r

@@ -48,9 +48,13 @@ abbrev pub end_or : ℕ → Option Job → List (List ℕ) → Result Job (ℕ �
 end_or n (Some job) behind rest = end_at (n + 1) job behind
 end_or n None behind rest = rest
 
+-- why a line is refused that no line feed ends
+abbrev pub tail_reason : List ℕ → LineReason
+tail_reason tail = if is_long tail then reason.Long else reason.Cut
+
 -- no line feed ends line n
 abbrev pub unended : ℕ → List ℕ → ℕ × LineReason
-unended n tail = (n, if is_long tail then reason.Long else reason.Cut)
+unended n tail = (n, tail_reason tail)
 
 -- the rest of a text from line n on, where the lines before have come so far: its job, or the number of the first line
 -- that is refused, and why

@@ -8,7 +8,7 @@ mod errors;
 pub mod job;
 pub mod laws;
 mod lines;
-mod parsing;
+pub mod parsing;
 pub mod reader;
 
 pub use errors::JobError;

@@ -22,8 +22,9 @@ fn bad_line(line: u64, error: LineError) -> JobError
     }
 }
 
-// The first line, without its line feed, and what stands behind it. None comes exactly where no line feed ends it.
-fn cut_line(text: &[u8]) -> Option<(&[u8], &[u8])>
+/// The first line of a text, without its line feed, and what stands behind it. None comes exactly where no line feed
+/// ends it.
+pub fn cut_line(text: &[u8]) -> Option<(&[u8], &[u8])>
     ensures { MatchOption result (segments text.now ≡ text.now ∷ [])
         (λ cut. (text.now ≡ cut.0.now ++ 10 ∷ cut.1.now) × (segments text.now ≡ cut.0.now ∷ segments cut.1.now)) }
 {
@@ -33,21 +34,31 @@ fn cut_line(text: &[u8]) -> Option<(&[u8], &[u8])>
     }
 }
 
-fn is_long(line: &[u8]) -> bool
+/// Whether a line, without its line feed, has more than 8,400,000 bytes.
+pub fn is_long(line: &[u8]) -> bool
     ensures { result ≡ Spec.is_long line.now }
 {
     line.len() > LINE_LIMIT
 }
 
-fn unended(line: u64, tail: &[u8]) -> JobError
-    ensures { result ≡ Spec.bad_at (Spec.unended line tail.now) }
+/// Why a line is refused that no line feed ends.
+pub fn tail_reason(tail: &[u8]) -> LineReason
+    ensures { result ≡ Spec.tail_reason tail.now }
 {
-    let reason = if is_long(tail) {
+    if is_long(tail) {
         LineReason::Long
     } else {
         LineReason::Cut
-    };
-    JobError::Bad { line, reason }
+    }
+}
+
+fn unended(line: u64, tail: &[u8]) -> JobError
+    ensures { result ≡ Spec.bad_at (Spec.unended line tail.now) }
+{
+    JobError::Bad {
+        line,
+        reason: tail_reason(tail),
+    }
 }
 
 // Behind the `end` line, where nothing may stand.

@@ -6,6 +6,7 @@ ghost use Rattle.dm_job.specs.Answers.{Does, Says};
 ghost use Rattle.dm_job.specs.Measures.{CanGoOn};
 ghost use Rattle.dm_job.specs.Reading as Spec;
 ghost use Rattle.dm_job.specs.Reading.{after_line as reading_after};
+ghost use Rattle.dm_job.specs.Sound.{IsSound};
 ghost use Rattle.dm_job.specs.Texts.{job_in, is_ended as has_ended};
 
 use crate::draft::{Draft, Place, Reading};
@@ -30,13 +31,13 @@ pub struct JobReader {
 
 impl Model for JobReader {
     ghost use Rattle.dm_job.specs.declared.draft.Reading.{Reading as Progress};
-    ghost use Rattle.dm_job.specs.Measures.{CanGoOn};
+    ghost use Rattle.dm_job.specs.Measures.{IsGoing};
 
     ghost Value = { Progress };
 
     ghost view = { λ r. r.reading };
 
-    ghost invariant = { λ r. CanGoOn r.reading };
+    ghost invariant = { λ r. IsGoing r.reading };
 }
 
 fn first_line(line: &[u8]) -> Result<Reading, LineError>
@@ -105,6 +106,17 @@ fn is_ended(reading: &Reading) -> bool
     }
 }
 
+// What a job that has ended says.
+fn job_of(reading: Reading) -> Job
+    requires { has_ended reading ≡ true }
+    ensures { job_in reading ≡ Some result }
+{
+    match reading {
+        Reading::Commands(draft) => draft.job,
+        Reading::First | Reading::Server | Reading::Limits(_) => unreachable!(),
+    }
+}
+
 impl JobReader {
     /// A reader of a job of which no line came.
     pub fn new(alloc: Global) -> JobReader
@@ -133,14 +145,12 @@ impl JobReader {
         Ok(is_ended(&self.reading))
     }
 
-    /// What the job says. It takes no memory.
+    /// What the job says, which is sound, whatever its lines were. It takes no memory.
     pub fn finish(self) -> Job
         requires { has_ended self ≡ true }
-        ensures { job_in self ≡ Some result }
+        ensures job { job_in self ≡ Some result }
+        ensures sound { IsSound result }
     {
-        match self.reading {
-            Reading::Commands(draft) => draft.job,
-            Reading::First | Reading::Server | Reading::Limits(_) => unreachable!(),
-        }
+        job_of(self.reading)
     }
 }
