@@ -2,7 +2,8 @@ pub mod Texts
 pub mod Uris
 pub mod Answers
 pub mod Headers
-pub mod Farewells
+pub mod ShortFarewells
 pub mod Hearing
 pub mod Statuses
 pub mod Distinct
+pub mod LastWords

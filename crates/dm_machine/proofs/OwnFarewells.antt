@@ -5,7 +5,7 @@ use Rattle.syncml_types.specs.Canonical.{canonical}
 use Rattle.dm_auth.specs.declared.accounts.Account.{Account}
 use Rattle.dm_pack.specs.Filling.{IsReadyHeader}
 use Rattle.dm_ends.proofs.Answers.{IsNonce}
-use Rattle.dm_ends.proofs.Farewells.{farewell_short as short_farewell}
+use Rattle.dm_ends.proofs.ShortFarewells.{farewell_short as short_farewell}
 use Rattle.dm_machine.specs.declared.progress.Progress.{Progress}
 use Rattle.dm_machine.specs.Machine.{Machine}
 use Rattle.dm_machine.specs.Sending.{header_from}
