@@ -23,7 +23,7 @@ use Rattle.dm_pack.proofs.Within.{fill_within}
 use Rattle.dm_ends.specs.Commands.{is_abort, session_of}
 use Rattle.dm_ends.specs.Ready.{IsReadyAccount, IsReadyLimits, IsReadyMessage}
 use Rattle.dm_ends.proofs.Answers.{IsNonce, nonce_is, answer_ready}
-use Rattle.dm_ends.proofs.Farewells.{farewell_short}
+use Rattle.dm_ends.proofs.ShortFarewells.{farewell_short}
 use Rattle.dm_ends.proofs.Hearing.{IsRoom, hears_ready}
 use Rattle.dm_ends.proofs.Statuses.{AreReadyPosts, AreReadyMade, origin_ready, posts_ready, status_is_ready, told_ready}
 use Rattle.dm_ends.proofs.Texts.{known_number}

@@ -41,11 +41,6 @@ pub either : {A : Type 0} (P : A → Type 0) (b : Bool) (x y : A) → P x → P 
 either P true x y h k = h
 either P false x y h k = k
 
-at-stands : (p : Progress) (n msg : ℕ) (o : Option Session) → p.number ≡ n → p.standing.last ≡ msg → Stands p o
-    → IsAt n msg o
-at-stands p n msg None e f h = h
-at-stands p n msg (Some x) e f h = (ap (λ (q : Progress). q.number) h ∙ e, ap (λ (q : Progress). q.standing.last) h ∙ f)
-
 -- ---- a message
 
 gives-stands : (v : Service) (s : Session) → Stands s.progress (gives_up v s).session

@@ -14,7 +14,7 @@ abbrev pub verb_code : Verb → ℕ
 verb_code Replace = 200
 verb_code other = 406
 
--- alerts, and what the device tells of itself, are taken note of outside of containers
+-- an Alert and a Replace outside of containers are taken; all else is no command for a server
 abbrev pub code_for : Command → ℕ
 code_for (command.Plain c) = verb_code c.verb
 code_for (command.Alert a) = 200

@@ -12,12 +12,14 @@ use Rattle.syncml_types.specs.declared.command.ResultsCmd.{ResultsCmd}
 use Rattle.syncml_types.specs.declared.command.StatusCmd.{StatusCmd}
 use Rattle.syncml_types.specs.declared.command.Step.{Step}
 use Rattle.dm_objects.specs.declared.object.Object.{Object}
+use Rattle.dm_objects.specs.declared.object.Object.TheVariants.{Nothing}
+use Rattle.dm_objects.specs.declared.piece.Piece.{Piece}
 use Rattle.dm_objects.specs.declared.piece.What.TheVariants.{Whole}
 use Rattle.dm_objects.specs.Gathering.{gather}
 use Rattle.syncml_types.specs.declared.command.Command.{Command}
 use Rattle.syncml_types.specs.declared.command.Command.TheVariants as command
 use Rattle.dm_headers.specs.declared.checks.Side.TheVariants.{User}
-use Rattle.dm_headers.specs.Checks.{fault_of, passes}
+use Rattle.dm_headers.specs.Checks.{fault_of, is_denied, passes}
 use Rattle.dm_headers.specs.Standings.{hears}
 use Rattle.dm_job.specs.declared.job.Job.{Job}
 use Rattle.dm_job.specs.Sound.{all_entries, AreNumbered, IsSound}
@@ -150,15 +152,30 @@ CodesAreTold = (v : Service) (s : Session) (m : Parts) (nonce : List ℕ) (place
     → (code_at v.told place ≡ Some code) ⊎ (IsTold s.sent m.body place code
     × (passes (hears User v.job.account s.progress.standing m nonce).code ≡ true))
 
--- among these commands, Results for the command of the job at this place, with an Item by which this value came whole:
--- a single piece, or the last piece behind those of the object before it
-pub record IsFound (max : ℕ) (sent : List Sent) (cs : List Command) (place : ℕ) (value : Step) : Type 0 where
+-- among these commands, Results with an Item that is this piece
+pub record IsPieceOf (cs : List Command) (piece : Piece) : Type 0 where
   pub results : ResultsCmd
   pub within : Contains cs (command.Results results)
   pub item : Item
   pub item_within : Contains results.items item
-  pub object : Object
-  pub whole : (gather max object (result_piece results item)).what ≡ Whole value
+  pub piece_is : piece ≡ result_piece results item
+
+-- the object that pieces leave of one
+abbrev pub gather_all : ℕ → Object → List Piece → Object
+gather_all max object [] = object
+gather_all max object (p ∷ ps) = gather_all max (gather max object p).object ps
+
+-- among these commands, Results for the command of the job at this place, with an Item by which this value came whole
+-- behind the object before them and other pieces that came with them
+pub record IsFound (max : ℕ) (sent : List Sent) (before : Object) (cs : List Command) (place : ℕ) (value : Step)
+    : Type 0 where
+  pub results : ResultsCmd
+  pub within : Contains cs (command.Results results)
+  pub item : Item
+  pub item_within : Contains results.items item
+  pub earlier : List Piece
+  pub are_pieces : AllByRecursion (IsPieceOf cs) earlier
+  pub whole : (gather max (gather_all max before earlier) (result_piece results item)).what ≡ Whole value
   pub command : Sent
   pub was_sent : Contains sent command
   pub msg_ref : results.msg_ref ≡ Some command.msg
@@ -168,11 +185,18 @@ pub record IsFound (max : ℕ) (sent : List Sent) (cs : List Command) (place : �
 abbrev pub found_at : List Told → ℕ → List Step
 found_at told place = (get_or told place untold).found
 
--- each value was known before, or came whole by Results in a message that passes the checks of its header
+-- the object that the session gathers, or none where a Status with this code gave it up
+abbrev pub IsLeftOf : Session → ℕ → Object → Type 0
+IsLeftOf s status before = (before ≡ s.object) ⊎ ((before ≡ Nothing) × (is_denied status ≡ true))
+
+-- each value was known before, or came whole by Results in a message that passes the checks of its header, with the
+-- pieces that the session gathered before
 abbrev pub ValuesAreFound : Type 0
 ValuesAreFound = (v : Service) (s : Session) (m : Parts) (nonce : List ℕ) (place : ℕ) (value : Step)
     → Contains (found_at (accepts v s m nonce).told place) value
-    → Contains (found_at v.told place) value ⊎ (IsFound v.job.limits.max_obj s.sent m.body place value
+    → Contains (found_at v.told place) value
+    ⊎ ((before : Object) × IsLeftOf s (hears User v.job.account s.progress.standing m nonce).status before
+    × IsFound v.job.limits.max_obj s.sent before m.body place value
     × (passes (hears User v.job.account s.progress.standing m nonce).code ≡ true))
 
 -- a message that doesn't pass the checks of its header tells nothing of the job

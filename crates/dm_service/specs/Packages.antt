@@ -55,7 +55,8 @@ abbrev pub put_back : List JobEntry → List (List JobEntry) → List (List JobE
 put_back [] ps = ps
 put_back (e ∷ es) ps = (e ∷ es) ∷ ps
 
--- the job doesn't run in this session, where nothing that was sent in it is left
+-- the job doesn't run in this session, where commands were sent in it and none of them is left; where none was sent,
+-- it runs where it ran
 abbrev pub runs_after : Option ℕ → List Sent → List Sent → Option ℕ
 runs_after runs [] left = runs
 runs_after runs (s ∷ ss) [] = None

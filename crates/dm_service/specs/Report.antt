@@ -44,7 +44,7 @@ alert_line a = codes "alert 1226" ++ hex_field (Some a.media) ++ hex_field (Some
 abbrev pub has_code : Told → Bool
 has_code t = is_some t.code
 
--- no command was sent; each has its code; or neither
+-- no command counts as sent; each has its code; or neither
 abbrev pub state_word : Service → List ℕ
 state_word v =
     if not (is_some v.runs_in) then codes "waiting" else if list_all has_code v.told then codes "over"

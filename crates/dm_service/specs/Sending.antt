@@ -64,7 +64,8 @@ but_the_last [] = []
 but_the_last (s ∷ []) = not_counting s ∷ []
 but_the_last (s ∷ t ∷ ss) = s ∷ but_the_last (t ∷ ss)
 
--- where a part follows, the command comes again, and of a container itself and its last member
+-- where a part follows, its Statuses don't count: that of the command, which comes again, and of a container those of
+-- itself and of its last member
 abbrev pub part_holds : List Sent → List Sent
 part_holds [] = []
 part_holds (s ∷ ss) = not_counting s ∷ but_the_last ss
@@ -98,7 +99,8 @@ is_done_there m code = m.last || (passes code && list_any asks_next m.body)
 abbrev pub is_welcome : Account → Standing → Bool
 is_welcome a s = not (is_some a.server_password) || s.welcomed
 
--- nothing is left on either side: the message has Final and no command, nothing waits, and no package is left
+-- nothing is left on either side: the client is accepted and has accepted the server, its own package is at its end;
+-- the message has Final and no command, nothing waits, and no package is left
 abbrev pub is_last : Service → Standing → Parts → ℕ → Filling → Bool
 is_last v s m code f =
     s.accepted && is_final f.tail && list_all is_report f.message.body && length v.packages == 0

@@ -35,11 +35,11 @@ pub record Service : Type 0 where
   -- its account has the nonces to use next
   pub job : Job
   pub queue : List Waiting
-  -- the packages of the job that weren't queued
+  -- the packages of the job that are still to be queued in this session
   pub packages : List (List JobEntry)
   -- the package that was queued last in the present session
   pub newest : List JobEntry
-  -- the session in which commands of the job were sent
+  -- the session in which commands of the job were sent that count as sent
   pub runs_in : Option ℕ
   -- one for each command of the job, in order
   pub told : List Told

@@ -16,7 +16,7 @@ pub fn accepted_numbers_rise()
 {}
 
 /// Law: what was sent in a session is in the order of MsgIDs, and of CmdIDs in a message. So the two numbers name at
-/// most one command, which is found by halving.
+/// most one command.
 pub fn sent_in_order()
     ensures { SentInOrder }
 {}
@@ -46,8 +46,8 @@ pub fn codes_are_told()
 {}
 
 /// Law: where a message is accepted, each value that is known then was known before, or came whole by an Item of
-/// Results in that message for the command, as it was sent in this session; and the message passes the checks of its
-/// header.
+/// Results in that message for the command, as it was sent in this session. Its earlier pieces are those of the object
+/// that the session gathers, and of Results in that message. And the message passes the checks of its header.
 pub fn values_are_found()
     ensures { ValuesAreFound }
 {}
