@@ -1,0 +1,139 @@
+// The pieces of values that Results bring, and the alerts, as they are kept.
+ghost use Rattle.std.specs.Prelude.{◌≡◌, [], IfOk, unwrap_or, option_and_then};
+ghost use Rattle.syncml_types.specs.declared.values.Meta.{Meta as AMeta};
+ghost use Rattle.dm_atomic.specs.Tasks.{meta_child, target_text};
+ghost use Rattle.dm_service.specs.Matching as Spec;
+
+use dm_base::{Bytes, Memory};
+use dm_objects::Piece;
+use dm_service::KeptAlert;
+use std::alloc::Global;
+use syncml_types::copies::copy_bytes;
+use syncml_types::{Item, Meta, ResultsCmd, Step, Verb};
+
+fn format_in(alloc: Global, meta: &Option<Meta>) -> Result<Option<Bytes>, Memory>
+    ensures { IfOk result (λ format. format ≡ option_and_then (λ (m : AMeta). m.format) meta.now) }
+{
+    match meta {
+        None => Ok(None),
+        Some(meta) => copy_bytes(alloc, &meta.format),
+    }
+}
+
+fn media_in(alloc: Global, meta: &Option<Meta>) -> Result<Option<Bytes>, Memory>
+    ensures { IfOk result (λ media. media ≡ option_and_then (λ (m : AMeta). m.media) meta.now) }
+{
+    match meta {
+        None => Ok(None),
+        Some(meta) => copy_bytes(alloc, &meta.media),
+    }
+}
+
+fn size_in(meta: &Option<Meta>) -> Option<u64>
+    ensures { result ≡ option_and_then (λ (m : AMeta). m.size) meta.now }
+{
+    match meta {
+        None => None,
+        Some(meta) => meta.size,
+    }
+}
+
+// The item's own goes before that of the Results.
+fn format_of(alloc: Global, results: &ResultsCmd, item: &Item) -> Result<Option<Bytes>, Memory>
+    ensures { IfOk result (λ format. format ≡ meta_child (λ m. m.format) item.now (Spec.as_replace results.now)) }
+{
+    match format_in(alloc, &item.meta)? {
+        Some(format) => Ok(Some(format)),
+        None => format_in(alloc, &results.meta),
+    }
+}
+
+fn media_of(alloc: Global, results: &ResultsCmd, item: &Item) -> Result<Option<Bytes>, Memory>
+    ensures { IfOk result (λ media. media ≡ meta_child (λ m. m.media) item.now (Spec.as_replace results.now)) }
+{
+    match media_in(alloc, &item.meta)? {
+        Some(media) => Ok(Some(media)),
+        None => media_in(alloc, &results.meta),
+    }
+}
+
+fn size_of(results: &ResultsCmd, item: &Item) -> Option<u64>
+    ensures { result ≡ meta_child (λ m. m.size) item.now (Spec.as_replace results.now) }
+{
+    match size_in(&item.meta) {
+        Some(size) => Some(size),
+        None => size_in(&results.meta),
+    }
+}
+
+fn source_text(alloc: Global, item: &Item) -> Result<Option<Bytes>, Memory>
+    ensures { IfOk result (λ text. text ≡ target_text (Spec.to_source item.now)) }
+{
+    match &item.source {
+        None => Ok(None),
+        Some(source) => Ok(Some(source.uri.copy(alloc)?)),
+    }
+}
+
+fn bytes_or_none(alloc: Global, bytes: &Option<Bytes>) -> Result<Bytes, Memory>
+    ensures { IfOk result (λ copied. copied ≡ unwrap_or bytes.now []) }
+{
+    match bytes {
+        None => Ok(Bytes::new(alloc)),
+        Some(bytes) => bytes.copy(alloc),
+    }
+}
+
+fn step_of(alloc: Global, results: &ResultsCmd, item: &Item) -> Result<Step, Memory>
+    ensures { IfOk result (λ step. step ≡ (Spec.result_piece results.now item.now).step) }
+{
+    Ok(Step {
+        verb: Verb::Replace,
+        target: source_text(alloc, item)?,
+        format: format_of(alloc, results, item)?,
+        media: media_of(alloc, results, item)?,
+        value: bytes_or_none(alloc, &item.value)?,
+        correlator: None,
+        in_atomic: false,
+    })
+}
+
+/// What an Item of Results brings: a piece of a Replace outside an Atomic, whose target is the Item's Source.
+pub(crate) fn result_piece(
+    alloc: Global,
+    results: &ResultsCmd,
+    item: &Item,
+) -> Result<Piece, Memory>
+    ensures { IfOk result (λ piece. piece ≡ Spec.result_piece results.now item.now) }
+{
+    Ok(Piece {
+        step: step_of(alloc, results, item)?,
+        size: size_of(results, item),
+        more: item.more,
+    })
+}
+
+fn item_media(alloc: Global, item: &Item) -> Result<Bytes, Memory>
+    ensures { IfOk result (λ media. media ≡ unwrap_or (Spec.item_media item.now) []) }
+{
+    match &item.meta {
+        None => Ok(Bytes::new(alloc)),
+        Some(meta) => bytes_or_none(alloc, &meta.media),
+    }
+}
+
+/// What is kept of an Alert with these Items.
+pub(crate) fn kept_alert(alloc: Global, items: &[Item]) -> Result<KeptAlert, Memory>
+    ensures { IfOk result (λ alert. alert ≡ Spec.kept_alert items.now) }
+{
+    let Some(item) = items.first() else {
+        return Ok(KeptAlert {
+            media: Bytes::new(alloc),
+            value: Bytes::new(alloc),
+        });
+    };
+    Ok(KeptAlert {
+        media: item_media(alloc, item)?,
+        value: bytes_or_none(alloc, &item.value)?,
+    })
+}

@@ -1,0 +1,187 @@
+// What messages tell, and the report of it.
+ghost use Rattle.std.specs.Prelude.{◌≡◌};
+
+use crate::messages::{Told, body_of};
+use crate::rows::{ALERTS, IN_PIECES, OF_TWO, Row, SENT, STATUSES, VALUES};
+use dm_base::{Bytes, Memory};
+use dm_report::{Findings, Gathering};
+use std::alloc::Global;
+use std::test::Fail;
+
+// The greatest value that is taken, in bytes.
+const MAX_OBJ: u32 = 8;
+
+fn take(
+    alloc: Global,
+    findings: &mut Findings,
+    gathering: &mut Gathering,
+    told: &[Told],
+) -> Result<(), Memory>
+    ensures { gathering.new.max_obj ≡ gathering.old.max_obj }
+{
+    let body = body_of(alloc, told)?;
+    let taken = findings.take(gathering, &SENT, body.as_slice());
+    drop(body);
+    taken
+}
+
+// The value is given up where one of so many commands from one on found it.
+fn give_up(alloc: Global, gathering: &mut Gathering, first: u64, count: u64)
+    requires { gathering.old.max_obj ≡ MAX_OBJ }
+{
+    if gathering.is_found_by(first, count) {
+        *gathering = gathering.emptied(alloc, MAX_OBJ);
+    }
+}
+
+// What two messages tell; between them the value of so many commands from one on is given up.
+fn take_both(
+    alloc: Global,
+    findings: &mut Findings,
+    gathering: &mut Gathering,
+    row: &Row,
+    first: u64,
+    count: u64,
+) -> Result<(), Memory>
+    requires { gathering.old.max_obj ≡ MAX_OBJ }
+{
+    take(alloc, findings, gathering, row.first)?;
+    give_up(alloc, gathering, first, count);
+    take(alloc, findings, gathering, row.second)
+}
+
+fn take_into(
+    alloc: Global,
+    findings: &mut Findings,
+    row: &Row,
+    first: u64,
+    count: u64,
+) -> Result<(), Memory> {
+    let mut gathering = Gathering::new(alloc, MAX_OBJ);
+    let taken = take_both(alloc, findings, &mut gathering, row, first, count);
+    drop(gathering);
+    taken
+}
+
+fn take_and_report(
+    alloc: Global,
+    findings: &mut Findings,
+    row: &Row,
+    first: u64,
+    count: u64,
+) -> Result<Bytes, Memory> {
+    take_into(alloc, findings, row, first, count)?;
+    findings.report(true)
+}
+
+// The report behind both messages, where the value of so many commands from one on was given up between them.
+fn report_of(alloc: Global, row: &Row, first: u64, count: u64) -> Result<Bytes, Memory> {
+    let mut findings = Findings::new(alloc, 3)?;
+    let report = take_and_report(alloc, &mut findings, row, first, count);
+    drop(findings);
+    report
+}
+
+// The number of the first row with another report.
+fn wrong_row(alloc: Global, rows: &[Row]) -> Result<Option<usize>, Memory> {
+    for (number, row) in rows.iter().enumerate() {
+        let report = report_of(alloc, row, 0, 0)?;
+        if report.as_slice() != row.report {
+            return Ok(Some(number));
+        }
+    }
+    Ok(None)
+}
+
+#[test]
+fn statuses_tell_codes(rt: HostRuntime) -> Result<(), Fail> {
+    assert_eq!(rt; wrong_row(rt.alloc(), &STATUSES)?, None);
+    Ok(())
+}
+
+#[test]
+fn results_tell_values(rt: HostRuntime) -> Result<(), Fail> {
+    assert_eq!(rt; wrong_row(rt.alloc(), &VALUES)?, None);
+    Ok(())
+}
+
+#[test]
+fn alerts_are_kept(rt: HostRuntime) -> Result<(), Fail> {
+    assert_eq!(rt; wrong_row(rt.alloc(), &ALERTS)?, None);
+    Ok(())
+}
+
+fn is_report(
+    alloc: Global,
+    row: &Row,
+    first: u64,
+    count: u64,
+    text: &[u8],
+) -> Result<bool, Memory> {
+    let report = report_of(alloc, row, first, count)?;
+    let same = report.as_slice() == text;
+    drop(report);
+    Ok(same)
+}
+
+#[test]
+fn a_value_is_given_up_with_its_command(rt: HostRuntime) -> Result<(), Fail> {
+    let none = b"status 1 200\nstate running\n";
+    assert!(rt; is_report(rt.alloc(), &IN_PIECES, 2, 2, IN_PIECES.report)?);
+    assert!(rt; is_report(rt.alloc(), &IN_PIECES, 1, 1, none)?);
+    Ok(())
+}
+
+fn report_without_the_second(findings: &Findings) -> Result<Bytes, Memory> {
+    let rest = findings.without(2, 1)?;
+    let report = rest.report(true);
+    drop(rest);
+    report
+}
+
+fn take_and_forget(alloc: Global, findings: &mut Findings, row: &Row) -> Result<Bytes, Memory> {
+    take_into(alloc, findings, row, 0, 0)?;
+    report_without_the_second(findings)
+}
+
+fn without_the_second(alloc: Global, row: &Row) -> Result<Bytes, Memory> {
+    let mut findings = Findings::new(alloc, 3)?;
+    let report = take_and_forget(alloc, &mut findings, row);
+    drop(findings);
+    report
+}
+
+#[test]
+fn values_stand_by_command_and_are_forgotten_with_it(rt: HostRuntime) -> Result<(), Fail> {
+    let rest = b"status 1 200\nresult 2e2f42 - - 78\nstate running\n";
+    assert!(rt; is_report(rt.alloc(), &OF_TWO, 0, 0, OF_TWO.report)?);
+    assert_eq!(rt;
+        without_the_second(rt.alloc(), &OF_TWO)?.as_slice(),
+        rest.as_slice()
+    );
+    Ok(())
+}
+
+fn report_of_nothing(alloc: Global, commands: usize, ran: bool) -> Result<Bytes, Memory> {
+    let findings = Findings::new(alloc, commands)?;
+    let report = findings.report(ran);
+    drop(findings);
+    report
+}
+
+#[test]
+fn states_are_told(rt: HostRuntime) -> Result<(), Fail> {
+    assert_eq!(rt;
+        report_of_nothing(rt.alloc(), 2, false)?.as_slice(),
+        b"state waiting\n".as_slice()
+    );
+    assert_eq!(rt;
+        report_of_nothing(rt.alloc(), 2, true)?.as_slice(),
+        b"state running\n".as_slice()
+    );
+    assert_eq!(rt;
+        report_of_nothing(rt.alloc(), 0, true)?.as_slice(),
+        b"state over\n".as_slice()
+    );
+    Ok(())
+}
