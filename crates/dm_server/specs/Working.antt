@@ -1,0 +1,162 @@
+-- What a message that is taken makes of a server.
+use Rattle.std.specs.Prelude.{◌≡◌, ◌<◌, ◌≤◌, ◌+◌, ◌^◌, ◌++◌, ◌||◌, ℕ, Bool, true, false, not, if◌then◌else◌, List, []}
+use Rattle.std.specs.Prelude.{map, Option, option_map, is_some, IfSome, IsSomeAnd, unwrap_or, Ok}
+use Rattle.std.specs.List.{filter}
+use Rattle.std.specs.Option.{option_or}
+use Rattle.syncml_types.specs.declared.command.Command.{Command}
+use Rattle.syncml_types.specs.Message.{Parts}
+use Rattle.syncml_types.specs.Fitness.{IsFit}
+use Rattle.syncml_codec.specs.Ranges.{AreNumbers}
+use Rattle.dm_auth.specs.declared.accounts.Account.{Account}
+use Rattle.dm_headers.specs.Checks.{fault_of, is_denied, passes}
+use Rattle.dm_headers.specs.Standings.{Heard}
+use Rattle.dm_ends.specs.declared.farewells.LastMessage.{LastMessage}
+use Rattle.dm_ends.specs.Ready.{IsReadyAccount, IsReadyLimits}
+use Rattle.dm_job.specs.declared.job.Job.{Job}
+use Rattle.dm_job.specs.declared.job.JobEntry.{JobEntry}
+use Rattle.dm_job.specs.Sound.{AreNumbered}
+use Rattle.dm_objects.specs.declared.object.Object.TheVariants.{Nothing}
+use Rattle.dm_report.specs.Known.{Known, Gathered, Tells as TellsOfJob, is_within}
+use Rattle.dm_report.specs.Sending.{AreCommands}
+use Rattle.dm_service.specs.declared.progress.Progress.{Progress}
+use Rattle.dm_service.specs.declared.sent.Sent.{Sent}
+use Rattle.dm_service.specs.Laws.{AreInOrder}
+use Rattle.dm_service.specs.Packages.{holds_number, next_package}
+use Rattle.dm_service.specs.Answers.{answers}
+use Rattle.dm_service.specs.Sending.{sends}
+use Rattle.dm_service.specs.Ready.{AreReadyPackages, AreReadyWaiting}
+use Rattle.dm_service.specs.Service.{Session, Service}
+use Rattle.dm_service.specs.Messages.{answer_waiting, tells, in_session, by_header, accepts}
+use Rattle.dm_service.specs.Events.{Arrival, last_of, takes, after, opens, refusal, reply_of}
+use Rattle.dm_server.specs.declared.answers.Answer.{Answer}
+use Rattle.dm_server.specs.declared.answers.Answer.TheVariants as answer
+use Rattle.dm_server.specs.declared.coming.Coming.{Coming}
+use Rattle.dm_server.specs.declared.coming.Coming.TheVariants as coming
+use Rattle.dm_server.specs.declared.drafts.Next.{Next}
+use Rattle.dm_server.specs.declared.drafts.Draft.{Draft}
+use Rattle.dm_server.specs.declared.held.Run.{Run}
+use Rattle.dm_server.specs.declared.held.Outbox.{Outbox}
+use Rattle.dm_server.specs.declared.held.Session.{Session as Held}
+use Rattle.dm_server.specs.Inside.{at_work, message_in, IsNumberedJob, IsPlace, IsSpelled, KeepsReply}
+use Rattle.dm_server.specs.View.{Tells}
+
+abbrev pub with_account : Job → Account → Job
+with_account job account = record job { account = account }
+
+-- ---- what a message meets
+
+-- what waits can be sent, and what was sent are commands of the job in their order
+pub record Holds (job : Job) (run : Run) (o : Outbox) : Type 0 where
+  pub place : IsPlace job run
+  pub queue : AreReadyWaiting o.queue
+  pub commands : AreCommands o.sent
+  pub order : AreInOrder o.sent
+
+pub record CanWork (job : Job) (account : Account) (run : Run) (p : Progress) (o : Outbox) (g : Gathered)
+    : Type 0 where
+  pub holds : Holds job run o
+  pub max_obj : g.max_obj ≡ job.limits.max_obj
+  pub numbered : IsNumberedJob job
+  pub packages : AreReadyPackages job.packages
+  pub limits : IsReadyLimits job.limits
+  pub named : IsReadyAccount account
+  pub number : p.number < 2 ^ 32
+  pub own : p.standing.own + 1 < 2 ^ 32
+  pub room : (2048 ≤ p.standing.room) × (p.standing.room ≤ 65536)
+
+-- a message that can be held
+pub record IsReadyBody (m : Parts) : Type 0 where
+  pub fit : IsFit m.header m.body
+  pub numbers : AreNumbers m
+
+-- the code of its header is below 2 ^ 32, and tells whether it has a fault
+pub record IsFaultTold (code : ℕ) (m : Parts) : Type 0 where
+  pub low : code < 2 ^ 32
+  pub faultless : (passes code || is_denied code) ≡ not (is_some (fault_of m))
+
+-- a session that can take a message of this MsgID
+pub record CanAccept (job : Job) (run : Run) (s : Held) (msg : ℕ) : Type 0 where
+  pub holds : Holds job run s.outbox
+  pub max_obj : s.gathering.max_obj ≡ job.limits.max_obj
+  pub numbered : IsNumberedJob job
+  pub packages : AreReadyPackages job.packages
+  pub limits : IsReadyLimits job.limits
+  pub named : IsReadyAccount job.account
+  pub number : s.progress.number < 2 ^ 32
+  pub own : s.progress.standing.own < msg
+  pub room : (2048 ≤ s.progress.standing.room) × (s.progress.standing.room ≤ 65536)
+
+-- ---- what it leaves
+
+-- the machine behind a message, where this one was sent last before
+abbrev pub behind : Job → Account → Next → Outbox → Gathered → Known → Option Parts → Service
+behind job account next o g known before =
+    at_work (with_account job account) next.run next.progress o g known
+    (option_or (option_map message_in next.sent) before)
+
+-- a message is sent exactly where the progress says so, and its bytes spell it
+pub record IsReply (p : Progress) (sent : Option LastMessage) : Type 0 where
+  pub answered : p.answered ≡ is_some sent
+  pub spelled : IfSome sent IsSpelled
+
+-- what is left of an answer once the Status of the header stands in front of what waits
+abbrev pub answered_from : Service → Session → Parts → ℕ → Service
+answered_from v s m code =
+    let told = tells v s m code in
+    let t = in_session told s in
+    let queue = told.queue ++ map answer_waiting (if passes code then answers m else []) in
+    sends (next_package (record told { queue = queue }) t.progress.standing) t m code
+
+-- the same, with the account where it is new
+abbrev pub drafted : Job → Draft → Held → Known → Option Parts → Service
+drafted job d s known before =
+    at_work (with_account job (unwrap_or d.account job.account)) d.run s.progress s.outbox s.gathering known
+    (option_or (option_map message_in d.sent) before)
+
+abbrev pub answer_with : Option LastMessage → Answer
+answer_with sent = if is_some sent then answer.Sent else answer.Ended
+
+-- commands that pass tell of the job, others nothing
+abbrev pub ToldBy : Bool → List Sent → List Command → Known → Known → Gathered → Gathered → Type 0
+ToldBy true sent body known next before after = TellsOfJob sent body known next before after
+ToldBy false sent body known next before after = (next ≡ known) × (after ≡ before)
+
+-- ---- a package is given up
+
+-- what a message makes of a machine whose session may have changed
+abbrev pub by_header_after : Service → Session → Parts → Heard → List ℕ → Service
+by_header_after v s m h nonce = by_header v (in_session v s) m h nonce
+
+-- its commands are numbered in a row
+pub record AreInARow (given : List JobEntry) : Type 0 where
+  pub first : ℕ
+  pub numbered : AreNumbered first given
+
+-- so many from the first one on
+abbrev pub IsRow : List JobEntry → ℕ → ℕ → Type 0
+IsRow given first count = (n : ℕ) → holds_number given n ≡ is_within first count n
+
+abbrev pub sent_without : ℕ → ℕ → List Sent → List Sent
+sent_without first count = filter (λ (s : Sent). not (is_within first count s.number))
+
+-- a value that one of its commands found is given up
+abbrev pub given_up_within : ℕ → ℕ → Gathered → Gathered
+given_up_within first count g =
+    record g { object = if is_within first count g.found_by then Nothing else g.object }
+
+-- ---- what a message is to a machine
+
+abbrev pub arrival : Parts → List ℕ → Arrival
+arrival m nonce = record { read = Ok m; nonce = nonce }
+
+-- the first message of a session, a later one, or one that isn't taken
+abbrev pub ComesAs : Coming → Service → Parts → List ℕ → Type 0
+ComesAs (coming.Begins n) v m nonce =
+    (takes v (arrival m nonce) ≡ true) × (after v (arrival m nonce) ≡ opens v n m nonce)
+ComesAs coming.Follows v m nonce =
+    (takes v (arrival m nonce) ≡ true)
+    × IsSomeAnd v.session (λ (s : Session). (last_of s < m.header.msg)
+    × (after v (arrival m nonce) ≡ accepts v s m nonce))
+ComesAs (coming.Old a) v m nonce =
+    (takes v (arrival m nonce) ≡ false)
+    × (KeepsReply v → Tells a v (refusal v (arrival m nonce) (reply_of v)))

@@ -1,0 +1,40 @@
+// What a server keeps.
+use dm_base::List;
+use dm_job::Job;
+use dm_report::Gathering;
+use dm_service::{Progress, Sent};
+use dm_waiting::WaitingList;
+use std::alloc::Global;
+
+/// The job, whose account has the nonces to use next.
+#[derive(Drop)]
+pub(crate) struct Plan {
+    pub alloc: Global,
+    pub job: Job,
+}
+
+/// How far the job is.
+#[derive(Clone, Copy, Debug, PartialEq, Eq)]
+pub(crate) struct Run {
+    /// The place of the first package that wasn't queued, from 0.
+    pub next: usize,
+    /// Whether the package before it was queued in the present session.
+    pub queued: bool,
+    /// The session in which commands of the job were sent.
+    pub runs_in: Option<u32>,
+}
+
+/// What waits to be sent in a session, and the commands of the job that were sent in it, in order.
+#[derive(Drop)]
+pub(crate) struct Outbox {
+    pub queue: WaitingList,
+    pub sent: List<Sent>,
+}
+
+/// The present session.
+#[derive(Drop)]
+pub(crate) struct Session {
+    pub progress: Progress,
+    pub outbox: Outbox,
+    pub gathering: Gathering,
+}
