@@ -1,7 +1,6 @@
 pub mod Runs
 pub mod Machines
 pub mod Updates
-pub mod Farewells
 pub mod Queues
 pub mod Told
 pub mod Sendable

@@ -31,7 +31,7 @@ use Rattle.dm_machine.specs.Ready.{IsReadyProgress, AreReadyResults}
 use Rattle.dm_machine.proofs.ToldGroups.{all_append}
 use Rattle.dm_machine.proofs.ToldMessages.{told_ready}
 use Rattle.dm_ends.proofs.Answers.{nonce_is, answer_ready}
-use Rattle.dm_ends.proofs.Farewells.{last_words_fit}
+use Rattle.dm_ends.proofs.ShortFarewells.{last_words_fit}
 use Rattle.dm_machine.proofs.OwnHeaders.{header_ready}
 use Rattle.dm_machine.proofs.OwnPackages.{package_ready}
 use Rattle.dm_ends.proofs.Texts.{known_number}
@@ -81,31 +81,6 @@ pub own_header_ready : (e : Engine) (r : Rest) (m : Nodes) (p : Progress) (a : A
 own_header_ready e r m p a h t is limits device account number own =
     subst IsReadyHeader (sym (own_header e [] r m p a h t is))
     (header_ready (machine_of e [] r) p a limits device account number own)
-
--- ---- a farewell
-
--- a header's Status is one command
-pub status_alone : (status : Option Command) (h : Header) (code : ℕ) (nonce : List ℕ)
-    → option_to_list status ≡ header_answer h code nonce
-    → IfSome status (λ s. ids_in s ≡ 1)
-unfolding header_answer ids_in
-status_alone None h code nonce is = tt
-status_alone (Some s) h code nonce is = alone (is_withheld h code) is
-  where
-    first_is : {c d : Command} → c ∷ [] ≡ d ∷ [] → c ≡ d
-    first_is e = cc
-
-    alone : (b : Bool) → s ∷ [] ≡ cond b [] (status_of h code nonce ∷ []) → ids_in s ≡ 1
-    alone true e = absurd (cc)
-    alone false e = ap ids_in (first_is e)
-
-pub denial_fit : (own : Header) (code : ℕ) (nonce : List ℕ) (m : Parts) (status : Option Command) → IsReadyHeader own
-    → IsReadyMessage m nonce → code < 2 ^ 32 → option_to_list status ≡ header_answer m.header code nonce
-    → IsFit own (numbered 1 (option_to_list status ++ alert 1223 None [] ∷ []))
-denial_fit own code nonce m status ready message low is =
-    subst (λ cs. IsFit own (numbered 1 (cs ++ alert 1223 None [] ∷ []))) (sym is)
-    (last_words_fit own m.header code nonce ready (known_number m message.fit) message.numbers.header.msg low
-    (nonce_is nonce message.nonce_long message.nonce_bytes))
 
 -- ---- the first package
 

@@ -1,8 +1,7 @@
 -- What a client's fields stand for.
-use Rattle.std.specs.Prelude.{◌≡◌, List, Option, None, Some, option_map, IfSome}
+use Rattle.std.specs.Prelude.{◌≡◌, List, None, option_map, IfSome}
 use Rattle.syncml_types.specs.Message.{Parts}
 use Rattle.syncml_types.specs.Canonical.{canonical}
-use Rattle.dm_tree.specs.Nodes.{Ids}
 use Rattle.dm_pack.specs.Entries.{Entry}
 use Rattle.dm_atomic.specs.declared.engine.Engine.{Engine}
 use Rattle.dm_atomic.specs.Engine.{state_of, IsSoundEngine}

@@ -1,8 +1,7 @@
 -- A client as it is seen, and what its calls tell.
-use Rattle.std.specs.Prelude.{◌≡◌, ◌==◌, ◌&&◌, ℕ, Bool, if◌then◌else◌, List, Option, Result, Ok, Err, ⊤, IsSomeAnd}
-use Rattle.std.specs.Prelude.{is_some, option_map, option_and_then, Some, None, not}
+use Rattle.std.specs.Prelude.{◌≡◌, ℕ, if◌then◌else◌, List, Option, Result, Ok, Err, ⊤, IsSomeAnd}
+use Rattle.std.specs.Prelude.{option_map, None}
 use Rattle.syncml_types.specs.Canonical.{canonical}
-use Rattle.syncml_types.specs.Message.{Parts}
 use Rattle.dm_tree.specs.Nodes.{Nodes, Ids}
 use Rattle.dm_tree.specs.Devices.{pkg_data, value_at}
 use Rattle.dm_atomic.specs.Updates.{is_updating}

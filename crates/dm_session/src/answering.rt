@@ -23,7 +23,6 @@ ghost use Rattle.dm_session.specs.Inside.{machine_of, IsSpelled, CanGoOn};
 ghost use Rattle.dm_session.specs.Stays.{body_covers};
 ghost use Rattle.dm_session.specs.Working.{told, outcome, rest_behind, IsNextSpelled, HeardAs, Ran};
 
-use crate::bodies::are_reports;
 use crate::drafts::Next;
 use crate::ending::close;
 use crate::executing::execute;
@@ -34,6 +33,7 @@ use crate::sending::{push_all, send, session_after};
 use dm_atomic::Engine;
 use dm_auth::Account;
 use dm_base::{List, Memory, Nonce};
+use dm_ends::all_reports;
 use dm_headers::{Heard, header_status, is_denied, passes};
 use dm_machine::{End, Progress};
 use dm_pack::Queue;
@@ -128,7 +128,7 @@ fn is_over(message: &Message, code: u32, queue: &Queue, made: &List<Command>) ->
 {
     passes(code)
         && message.last()
-        && are_reports(message.body().as_slice())
+        && all_reports(message.body().as_slice())
         && queue.len() == 0
         && made.is_empty()
 }

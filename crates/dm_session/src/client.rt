@@ -1,5 +1,5 @@
 // The client, which is seen as its machine.
-ghost use Rattle.std.specs.Prelude.{◌≡◌, ◌≤◌, ◌<◌, ◌^◌, [], true, false, None, ℕ, get_or, length, option_map, IfOk};
+ghost use Rattle.std.specs.Prelude.{◌≡◌, ◌≤◌, ◌<◌, ◌^◌, [], true, false, None, ℕ, get_or, length, is_some, option_map, IfOk};
 ghost use Rattle.std.specs.Prelude.{IsErrOf};
 ghost use Rattle.std.specs.Prelude.{OnOk, OnErr, Ok as Good};
 ghost use Rattle.std.specs.List.{AllByRecursion};
@@ -279,9 +279,10 @@ impl Client {
     }
 
     /// The update that runs has ended, which a later first package tells. `NotNow` comes exactly where a session is
-    /// open or no update runs: State isn't 60. After `Memory` nothing has changed.
+    /// open or no update runs: State isn't 60; that takes no memory. After `Memory` nothing has changed.
     pub fn acted(&mut self, ok: bool) -> Result<Acted, Memory>
         ensures answer { IfOk result (λ a. TellsActed a (answer_now self.old.machine (act ok))) }
+        ensures memory { OnErr result (takes self.old.machine (act ok) ≡ true) }
         ensures ok { OnOk result (self.new.machine ≡ next self.old.machine (act ok)) }
         ensures err { OnErr result (self.new ≡ self.old) }
         ensures ids { (self.new.ids ≡ self.old.ids) × (self.new.base_ids ≡ self.old.base_ids) }
@@ -334,9 +335,10 @@ impl Client {
         }
     }
 
-    /// The package to install: the value of PkgData, where an update runs.
+    /// The package to install: the value of PkgData, where an update runs. None comes exactly where none runs.
     pub fn started(&self) -> Option<&[u8]>
-        ensures { option_map (λ bytes. bytes.now) result ≡ package_started self.now.machine.engine.tree }
+        ensures none { is_some result ≡ is_updating self.now.machine.engine.tree }
+        ensures package { option_map (λ bytes. bytes.now) result ≡ package_started self.now.machine.engine.tree }
     {
         if !self.is_updating() {
             return None;

@@ -8,11 +8,12 @@ ghost use Rattle.dm_machine.specs.Opening as Spec;
 
 use crate::device::{device_path, printed, update_uri, value_at};
 use dm_base::{Bytes, List, Memory};
+use dm_ends::alert;
 use dm_machine::{Kind, UpdateResult};
 use dm_tree::Tree;
 use std::alloc::Global;
 use syncml_types::copies::copy_bytes;
-use syncml_types::{AlertCmd, Command, Item, Loc, Meta, Plain, Verb};
+use syncml_types::{Command, Item, Loc, Meta, Plain, Verb};
 
 fn kind_code(kind: Kind) -> u32
     ensures { result ≡ Spec.kind_code kind }
@@ -21,19 +22,6 @@ fn kind_code(kind: Kind) -> u32
         Kind::ByServer => 1200,
         Kind::ByClient => 1201,
     }
-}
-
-/// An Alert whose CmdID isn't set yet.
-pub(crate) fn alert(code: u32, correlator: Option<Bytes>, items: List<Item>) -> Command
-    ensures { result ≡ Spec.alert code correlator items }
-{
-    Command::Alert(AlertCmd {
-        id: 0,
-        no_resp: false,
-        code,
-        correlator,
-        items,
-    })
 }
 
 fn meta_of(alloc: Global, format: &[u8], media: &[u8]) -> Result<Meta, Memory>

@@ -17,15 +17,15 @@ ghost use Rattle.dm_session.specs.Stays.{body_covers};
 ghost use Rattle.dm_session.specs.Working.{told, outcome, rest_behind, drafted, IsNextSpelled, HeardAs};
 
 use crate::answering::answered;
-use crate::bodies::has_abort;
 use crate::drafts::{Draft, Next};
-use crate::ending::{close, farewell};
+use crate::ending::close;
 use crate::headers::header_from;
 use crate::rest::{Rest, Sent};
 use dm_atomic::Engine;
 use dm_auth::Account;
 use dm_base::{Memory, Nonce};
-use dm_headers::{Heard, Side, header_status, hear, passes};
+use dm_ends::{LastMessage, farewell, has_abort};
+use dm_headers::{Heard, Side, hear, passes};
 use dm_machine::{End, Progress};
 use dm_pack::Queue;
 use syncml_types::Message;
@@ -53,8 +53,8 @@ fn denial(
     ensures spelled { IfOk result IsSpelled }
 {
     let header = header_from(rest.alloc, rest.limits, engine.tree(), progress, account)?;
-    let status = header_status(rest.alloc, message.header(), code, nonce)?;
-    farewell(rest.alloc, header, status)
+    let LastMessage { message, bytes } = farewell(rest.alloc, header, message, code, nonce)?;
+    Ok(Sent { message, bytes })
 }
 
 // A message whose header was heard.
