@@ -1,0 +1,10 @@
+pub mod Deeds
+pub mod World
+pub mod Start
+pub mod Lockstep
+pub mod Acts
+pub mod Packing
+pub mod Order
+pub mod Held
+pub mod Commands
+pub mod Report
