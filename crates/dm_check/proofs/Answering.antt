@@ -6,11 +6,10 @@ use Rattle.dm_base.specs.Outside.{OfKnown}
 use Rattle.wbxml_tokens.specs.declared.reason.Refusal.{Refusal}
 use Rattle.syncml_types.specs.Message.{Parts}
 use Rattle.syncml_codec.specs.Decoding.{read_of}
-use Rattle.dm_replay.specs.declared.exit.Exit.{Exit}
-use Rattle.dm_replay.specs.declared.exit.Exit.TheVariants as exit
-use Rattle.dm_replay.specs.Output.{PutsPrefix}
-use Rattle.dm_replay.specs.From.{PutsPart, PutsEnd, Ends}
-use Rattle.dm_replay.specs.Causes.{SourceCause}
+use Rattle.dm_exit.specs.declared.exit.Exit.{Exit}
+use Rattle.dm_exit.specs.declared.exit.Exit.TheVariants as exit
+use Rattle.dm_exit.specs.Causes.{SourceCause}
+use Rattle.dm_exit.specs.Puts.{PutsPrefix, PutsPart, PutsEnd, Ends}
 use Rattle.dm_replay.proofs.Running.{ends_put, prefix_none}
 use Rattle.dm_replay.proofs.Usage.{end_is_no_usage}
 use Rattle.dm_check.specs.declared.message.Received.{Received}

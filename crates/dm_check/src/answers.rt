@@ -1,8 +1,8 @@
 // What is answered to one message.
 ghost use Rattle.std.specs.Prelude.{◌≡◌, ◌≢◌};
 ghost use Rattle.dm_base.specs.Outside.{OfKnown};
-ghost use Rattle.dm_replay.specs.Causes.{SourceCause, SinkCause};
-ghost use Rattle.dm_replay.specs.From.{Ends, PutsEnd};
+ghost use Rattle.dm_exit.specs.Causes.{SourceCause, SinkCause};
+ghost use Rattle.dm_exit.specs.Puts.{PutsEnd, Ends};
 ghost use Rattle.dm_check.specs.Answers as Spec;
 ghost use Rattle.dm_check.specs.Answers.{show_text, check_text, message_exit};
 ghost use Rattle.dm_check.specs.Kept.{read_in};
@@ -11,7 +11,7 @@ ghost use Rattle.dm_check.specs.Receiving.{TakesNoMore};
 use crate::lines::{check_line, show_lines};
 use crate::message::{Received, receive};
 use dm_base::{Fault, Sink, Source, put_all};
-use dm_replay::Exit;
+use dm_exit::Exit;
 use std::alloc::Global;
 
 // Puts the text of what was received.

@@ -4,8 +4,6 @@
 mod answers;
 mod lines;
 mod message;
-#[cfg(test)]
-mod tests;
 
 pub use answers::{check, show};
 pub use message::{Received, receive};

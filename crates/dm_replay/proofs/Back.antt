@@ -14,9 +14,9 @@ use Rattle.dm_machine.specs.Events.{Event as Happening}
 use Rattle.dm_start.specs.declared.heads.Head.TheVariants.{First}
 use Rattle.dm_start.specs.declared.telling.Phase.TheVariants as phase
 use Rattle.dm_start.specs.Start.{Told, Section, opening, telling, after_line, lines_after, behind_line}
+use Rattle.dm_exit.specs.declared.exit.Exit.TheVariants as exit
 use Rattle.dm_replay.specs.declared.events.Event.{Event}
 use Rattle.dm_replay.specs.declared.events.Event.TheVariants as event
-use Rattle.dm_replay.specs.declared.exit.Exit.TheVariants as exit
 use Rattle.dm_replay.specs.Input.{Split, input_of, split, with_byte}
 use Rattle.dm_base.specs.Fields.{parts, is_id, nonce_of, hex_of}
 use Rattle.dm_base.specs.declared.values.Nonce.{Nonce}

@@ -16,8 +16,10 @@ use Rattle.dm_base.specs.declared.outside.Fault.{Fault}
 use Rattle.dm_base.specs.declared.outside.Fault.TheVariants as fault
 use Rattle.dm_base.specs.Outside.{PutsAll}
 use Rattle.dm_tree.specs.Nodes.{Nodes}
-use Rattle.dm_replay.specs.declared.exit.Exit.{Exit}
-use Rattle.dm_replay.specs.declared.exit.Exit.TheVariants as exit
+use Rattle.dm_exit.specs.declared.exit.Exit.{Exit}
+use Rattle.dm_exit.specs.declared.exit.Exit.TheVariants as exit
+use Rattle.dm_exit.specs.Causes.{SourceCause}
+use Rattle.dm_exit.specs.Puts.{PutsPrefix, PutsPart, PutsEnd, Ends}
 use Rattle.dm_replay.specs.declared.reading.Halt.{Halt}
 use Rattle.dm_replay.specs.declared.reading.Halt.TheVariants as halt
 use Rattle.dm_replay.specs.declared.events.Event.{Event}
@@ -28,9 +30,8 @@ use Rattle.dm_replay.specs.Input.{Input}
 use Rattle.dm_replay.specs.Events.{happening_of}
 use Rattle.dm_replay.specs.Trace.{Ending, whole, stopped, Trace, no_events, with_event, ids_of}
 use Rattle.dm_replay.specs.Output.{answer_text, answers_text, ending_text, ending_exit, bad_line, tree_and_done}
-use Rattle.dm_replay.specs.Output.{trace_text, client_of, PutsPrefix}
-use Rattle.dm_replay.specs.Causes.{SourceCause}
-use Rattle.dm_replay.specs.From.{OfInput, Between, events_at, OfStop, PutsPart, Ends, EndsTrace, PutsEnd, PutsHalt}
+use Rattle.dm_replay.specs.Output.{trace_text, client_of}
+use Rattle.dm_replay.specs.From.{OfInput, Between, events_at, OfStop, EndsTrace, PutsHalt}
 use Rattle.dm_replay.specs.From.{PutsOn, PutsBehind, PutsDueAndHalt, exit_after, Follows, SoFar, GoesOn, EndsEvents}
 use Rattle.dm_replay.specs.From.{HaltCounts}
 

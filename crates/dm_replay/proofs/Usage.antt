@@ -1,11 +1,12 @@
 -- No answer of a run over a trace is Usage.
 use Rattle.std.proofs.Common.{◌≡◌, ◌≢◌, inl, inr, ℕ, List, sym, subst, ◌∙◌}
 use Rattle.std.specs.Prelude.{Option}
-use Rattle.dm_replay.specs.declared.exit.Exit.{Exit}
-use Rattle.dm_replay.specs.declared.exit.Exit.TheVariants as exit
+use Rattle.dm_exit.specs.declared.exit.Exit.{Exit}
+use Rattle.dm_exit.specs.declared.exit.Exit.TheVariants as exit
+use Rattle.dm_exit.specs.Puts.{PutsPart, PutsEnd}
 use Rattle.dm_replay.specs.declared.reading.Halt.{Halt}
 use Rattle.dm_replay.specs.declared.reading.Halt.TheVariants as halt
-use Rattle.dm_replay.specs.From.{PutsPart, PutsEnd, PutsHalt, PutsBehind, PutsDueAndHalt}
+use Rattle.dm_replay.specs.From.{PutsHalt, PutsBehind, PutsDueAndHalt}
 
 pub part_is_no_usage : (old new : Option (List ℕ)) (text : List ℕ) (e : Exit) → PutsPart old new text e → e ≢ exit.Usage
 part_is_no_usage old new text e h is = subst (PutsPart old new text) is h

@@ -11,8 +11,9 @@ use Rattle.dm_machine.specs.Laws.{IsUnused}
 use Rattle.dm_machine.proofs.History.{state_is_enough}
 use Rattle.dm_start.specs.declared.heads.Head.TheVariants.{First}
 use Rattle.dm_start.specs.Start.{Told, opening, told_of}
-use Rattle.dm_replay.specs.declared.exit.Exit.{Exit}
-use Rattle.dm_replay.specs.declared.exit.Exit.TheVariants as exit
+use Rattle.dm_exit.specs.declared.exit.Exit.{Exit}
+use Rattle.dm_exit.specs.declared.exit.Exit.TheVariants as exit
+use Rattle.dm_exit.specs.Puts.{Ends}
 use Rattle.dm_replay.specs.declared.reading.Halt.{Halt}
 use Rattle.dm_replay.specs.declared.reading.Halt.TheVariants as halt
 use Rattle.dm_replay.specs.declared.reading.Started.{Started}
@@ -20,7 +21,7 @@ use Rattle.dm_replay.specs.Input.{Input, input_of}
 use Rattle.dm_replay.specs.Trace.{bad, too_long, Trace, Begun, began, unbegun, trace_of}
 use Rattle.dm_replay.specs.Output.{answers_text, ending_text, ending_exit, bad_line, trace_text, events_text, client_of}
 use Rattle.dm_replay.specs.Output.{begun_text, begun_exit, replay_text, replay_exit, Replays}
-use Rattle.dm_replay.specs.From.{OfInput, seen, begun_at, OfStop, StartsAs, Ends, EndsTrace, EndsEvents, PutsHalt}
+use Rattle.dm_replay.specs.From.{OfInput, seen, begun_at, OfStop, StartsAs, EndsTrace, EndsEvents, PutsHalt}
 use Rattle.dm_replay.proofs.Running.{ends_put, prefix_none, kept_appends}
 
 -- ---- the text by the history is that by the state

@@ -19,9 +19,10 @@ use Rattle.dm_start.specs.declared.errors.LineError.{LineError}
 use Rattle.dm_start.specs.declared.errors.LineError.TheVariants as line_error
 use Rattle.dm_start.specs.declared.telling.Start.{Start}
 use Rattle.dm_start.specs.Start.{Section, told_of}
+use Rattle.dm_exit.specs.declared.exit.Exit.{Exit}
+use Rattle.dm_exit.specs.declared.exit.Exit.TheVariants as exit
+use Rattle.dm_exit.specs.Puts.{PutsPart, PutsEnd, Ends}
 use Rattle.dm_replay.specs.declared.events.Event.{Event}
-use Rattle.dm_replay.specs.declared.exit.Exit.{Exit}
-use Rattle.dm_replay.specs.declared.exit.Exit.TheVariants as exit
 use Rattle.dm_replay.specs.declared.reading.Halt.{Halt}
 use Rattle.dm_replay.specs.declared.reading.Halt.TheVariants as halt
 use Rattle.dm_replay.specs.declared.reading.Started.{Started}
@@ -29,7 +30,7 @@ use Rattle.dm_replay.specs.Input.{Input, input_of}
 use Rattle.dm_replay.specs.Events.{happening_of}
 use Rattle.dm_replay.specs.Trace.{Stop, bad, too_long, Ending, whole, stopped, Trace, Begun, began, unbegun, is_long}
 use Rattle.dm_replay.specs.Trace.{tail_stop, start_from, end_from, events_from, no_events, with_event, trace_of}
-use Rattle.dm_replay.specs.Output.{bad_line, ending_exit, trace_text, client_of, PutsPrefix}
+use Rattle.dm_replay.specs.Output.{bad_line, ending_exit, trace_text, client_of}
 
 -- ---- the input to come
 
@@ -131,16 +132,6 @@ EndsAs a n (Err h) = OfInput a (λ i. OfStop h (λ stop. ending_at n i ≡ stopp
 
 -- ---- what is put
 
--- a text was put in part, for this answer
-abbrev pub PutsPart : Option (List ℕ) → Option (List ℕ) → List ℕ → Exit → Type 0
-PutsPart old new text exit.WriteFault = PutsPrefix old new text
-PutsPart old new text exit.NoMemory = PutsPrefix old new text
-PutsPart old new text exit.Done = ⊥
-PutsPart old new text exit.Usage = ⊥
-PutsPart old new text exit.BadInput = ⊥
-PutsPart old new text exit.ReadFault = ⊥
-PutsPart old new text exit.TooLong = ⊥
-
 -- a front of what is due was put, and the rest is due; or a part of it was put
 abbrev pub PutsOn : Option (List ℕ) → Option (List ℕ) → List ℕ → List ℕ → Result (Unit {0}) Exit → Type 0
 PutsOn old new due rest (Ok u) = (front : List ℕ) × Appends old new front × (due ≡ front ++ rest)
@@ -149,16 +140,6 @@ PutsOn old new due rest (Err e) = PutsPart old new due e
 abbrev pub exit_after : Fault → Exit
 exit_after fault.Failed = exit.WriteFault
 exit_after fault.Memory = exit.NoMemory
-
--- the whole text was put and this is the answer, or a part of it for another answer
-abbrev pub Ends : List ℕ → Exit → Option (List ℕ) → Option (List ℕ) → Exit → Type 0
-Ends text good old new exit.Done = Appends old new text × (good ≡ exit.Done)
-Ends text good old new exit.BadInput = Appends old new text × (good ≡ exit.BadInput)
-Ends text good old new exit.TooLong = Appends old new text × (good ≡ exit.TooLong)
-Ends text good old new exit.ReadFault = PutsPrefix old new text
-Ends text good old new exit.WriteFault = PutsPrefix old new text
-Ends text good old new exit.NoMemory = PutsPrefix old new text
-Ends text good old new exit.Usage = ⊥
 
 -- the rest of a run from a state and a trace
 abbrev pub EndsTrace : ℕ → Machine → Trace → Option (List ℕ) → Option (List ℕ) → Exit → Type 0
@@ -169,10 +150,6 @@ abbrev pub EndsEvents : Started → Option Input → Option (List ℕ) → Optio
 EndsEvents s a old new e =
     OfInput a (λ i. EndsTrace s.start.version (client_of (told_of s.start))
     (trace_of s.number (told_of s.start) i) old new e)
-
--- a text and then its answer: no answer but this one, a write fault and want of memory
-abbrev pub PutsEnd : List ℕ → Exit → Option (List ℕ) → Option (List ℕ) → Exit → Type 0
-PutsEnd text good old new e = (Appends old new text × (e ≡ good)) ⊎ PutsPart old new text e
 
 -- a halted run puts its stop; a fault of the source and want of memory put nothing
 abbrev pub PutsHalt : Halt → Option (List ℕ) → Option (List ℕ) → Exit → Type 0

@@ -8,8 +8,8 @@ use Rattle.dm_machine.specs.Events.{Event as Happening}
 use Rattle.dm_machine.specs.History.{answers, fresh, reached}
 use Rattle.dm_start.specs.declared.telling.Phase.TheVariants as phase
 use Rattle.dm_start.specs.Start.{Told, telling, section_of_lines}
+use Rattle.dm_exit.specs.declared.exit.Exit.TheVariants as exit
 use Rattle.dm_replay.specs.declared.events.Event.{Event}
-use Rattle.dm_replay.specs.declared.exit.Exit.TheVariants as exit
 use Rattle.dm_replay.specs.Events.{event_of, happening_of}
 use Rattle.dm_replay.specs.Trace.{ids_of}
 use Rattle.dm_replay.specs.Output.{answers_text, tree_and_done, client_of, replay_text, replay_exit}

@@ -19,8 +19,9 @@ use Rattle.dm_machine.specs.Events.{ended, acted, not_now}
 use Rattle.dm_machine.specs.History.{answers, fresh, reached, answers_from, state_from}
 use Rattle.dm_start.specs.Start.{Told}
 use Rattle.dm_start.specs.TreeText.{tree_text}
-use Rattle.dm_replay.specs.declared.exit.Exit.{Exit}
-use Rattle.dm_replay.specs.declared.exit.Exit.TheVariants as exit
+use Rattle.dm_exit.specs.declared.exit.Exit.{Exit}
+use Rattle.dm_exit.specs.declared.exit.Exit.TheVariants as exit
+use Rattle.dm_exit.specs.Puts.{PutsPrefix}
 use Rattle.dm_replay.specs.Trace.{Stop, bad, too_long, Ending, whole, stopped, Trace, Begun, began, unbegun, begun_of}
 use Rattle.dm_replay.specs.Trace.{trace_of}
 
@@ -139,10 +140,6 @@ replay_text bytes = begun_text (begun_of bytes)
 -- its answer, where nothing fails
 unfoldable pub replay_exit : List ℕ → Exit
 replay_exit bytes = begun_exit (begun_of bytes)
-
--- a prefix of the text was put
-abbrev pub PutsPrefix : Option (List ℕ) → Option (List ℕ) → List ℕ → Type 0
-PutsPrefix old new text = (n : ℕ) × Appends old new (take n text)
 
 -- the whole text was put, and the answer is the one that these bytes have
 abbrev pub PutsWhole : List ℕ → Option (List ℕ) → Option (List ℕ) → Exit → Type 0

@@ -3,36 +3,23 @@ ghost use Rattle.std.specs.Prelude.{◌≡◌, ◌≢◌, ◌≤◌, ◌++◌, I
 ghost use Rattle.std.specs.Io.KnownBytes.{Appends};
 ghost use Rattle.dm_base.specs.Lines.{CountsTaken};
 ghost use Rattle.dm_tree.specs.Rows.{nodes};
+ghost use Rattle.dm_exit.specs.Causes.{SourceCause, SinkCause};
+ghost use Rattle.dm_exit.specs.Puts.{PutsPart, PutsEnd, Ends};
 ghost use Rattle.dm_replay.specs.Output as Spec;
 ghost use Rattle.dm_replay.specs.Output.{bad_line, tree_and_done, ending_text, ending_exit};
-ghost use Rattle.dm_replay.specs.Causes.{SourceCause, SinkCause};
-ghost use Rattle.dm_replay.specs.From.{seen, OfInput, Ends, ending_at, exit_after, PutsOn, PutsPart, PutsEnd, PutsHalt};
+ghost use Rattle.dm_replay.specs.From.{seen, OfInput, ending_at, exit_after, PutsOn, PutsHalt};
 ghost use Rattle.dm_replay.specs.From.{PutsDueAndHalt};
 
 use crate::answers::add_number;
-use crate::exit::Exit;
 use crate::reading::{Halt, read_end};
-use dm_base::{Bytes, Fault, LineReason, Lines, Memory, Sink, Source, put_all};
+use dm_base::{Bytes, Fault, LineReason, Lines, Memory, Sink, Source};
+use dm_exit::{Exit, put_text};
 use dm_start::put_tree;
 use dm_tree::Tree;
 use std::alloc::Global;
 
 // So many bytes of answers are put together at most, where no more bytes are wanted of the source.
 const PIECE: usize = 65_536;
-
-/// Puts a text, or says how the run ends.
-pub(crate) fn put_text<K: Sink>(out: &mut K, text: &[u8]) -> Result<(), Exit>
-    ensures bytes { MatchResult result (λ _. Appends (K.got out.old) (K.got out.new) text.now)
-        (λ e. PutsPart (K.got out.old) (K.got out.new) text.now e) }
-    ensures count { MatchResult result (λ _. K.faults out.new ≡ K.faults out.old)
-        (λ e. SinkCause (K.faults out.old) (K.faults out.new) e) }
-{
-    match put_all(out, text) {
-        Ok(()) => Ok(()),
-        Err(Fault::Failed) => Err(Exit::WriteFault),
-        Err(Fault::Memory) => Err(Exit::NoMemory),
-    }
-}
 
 /// Puts the answers that are due: where the source would be asked for more bytes, and where they are many.
 pub(crate) fn put_due<K: Sink>(lines: &Lines, out: &mut K, due: &mut Bytes) -> Result<(), Exit>
@@ -91,7 +78,8 @@ fn reason_word(reason: LineReason) -> &'static str
     }
 }
 
-fn bad_line(alloc: Global, number: u64, reason: LineReason) -> Result<Bytes, Memory>
+/// The line that tells which line of a text is refused, and why.
+pub fn bad_line(alloc: Global, number: u64, reason: LineReason) -> Result<Bytes, Memory>
     ensures { IfOk result (λ line. line ≡ bad_line number reason) }
 {
     let mut line = Bytes::of_slice(alloc, b"bad ")?;

@@ -4,13 +4,12 @@
 pub mod answers;
 mod endings;
 pub mod events;
-pub mod exit;
 pub mod laws;
 mod reading;
 pub mod trace;
 
 pub use answers::step;
+pub use endings::bad_line;
 pub use events::{Event, read_event};
-pub use exit::Exit;
 pub use laws::{only_traces_are_done, whole_traces_are_answered};
-pub use trace::replay;
+pub use trace::{ids_of, replay};

@@ -3,25 +3,25 @@ ghost use Rattle.std.specs.Prelude.{◌≡◌, ◌≢◌, ◌<◌, ◌≤◌, �
 ghost use Rattle.dm_base.specs.Outside.{OfKnown};
 ghost use Rattle.dm_base.specs.Lines.{room, CountsTaken};
 ghost use Rattle.dm_machine.specs.History.{answer_now, next};
+ghost use Rattle.dm_exit.specs.Causes.{SourceCause, SinkCause};
 ghost use Rattle.dm_replay.specs.Events.{IsOf, happening_of};
 ghost use Rattle.dm_replay.specs.Trace as Spec;
 ghost use Rattle.dm_replay.specs.Input.{TakesOnePast};
 ghost use Rattle.dm_replay.specs.Output.{Replays, answer_text};
-ghost use Rattle.dm_replay.specs.Causes.{SourceCause, SinkCause};
 ghost use Rattle.dm_replay.specs.From.{seen, OfInput, EndsTrace, EndsEvents, CanBegin, events_at};
 
 use crate::answers::step;
 use crate::endings::{put_due, put_due_and_halt, put_end, put_halt};
 use crate::events::Event;
-use crate::exit::Exit;
 use crate::reading::{Started, next_event, read_start};
 use dm_auth::Account;
 use dm_base::{Bytes, Lines, List, Memory, Sink, Source};
+use dm_exit::Exit;
 use dm_session::Client;
 use std::alloc::Global;
 
-// The servers of accounts, in their order.
-fn ids_of(alloc: Global, accounts: &List<Account>) -> Result<List<Bytes>, Memory>
+/// The servers of accounts, in their order.
+pub fn ids_of(alloc: Global, accounts: &List<Account>) -> Result<List<Bytes>, Memory>
     ensures { IfOk result (λ ids. ids ≡ Spec.ids_of accounts.now) }
 {
     let mut ids = List::new(alloc);

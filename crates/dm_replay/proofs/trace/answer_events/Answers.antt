@@ -1,6 +1,6 @@
 use Rattle.std.proofs.Common.{◌+◌, arith, sym, ◌∙◌}
 use Rattle.dm_base.proofs.Pending.{taken_more}
-use Rattle.dm_replay.specs.declared.exit.Exit.TheVariants as exit
+use Rattle.dm_exit.specs.declared.exit.Exit.TheVariants as exit
 use Rattle.dm_replay.specs.From.{ending_at, events_at}
 use Rattle.dm_replay.proofs.Accounts.{said_many}
 use Rattle.dm_replay.proofs.Running.{so_far_ends, so_far_put, said_more, due_breaks, due_stays, end_ends, halt_ends}
