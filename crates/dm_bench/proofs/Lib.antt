@@ -1,0 +1,5 @@
+pub mod Drawing
+pub mod Leading
+pub mod Beginning
+pub mod Delivering
+pub mod Summing
