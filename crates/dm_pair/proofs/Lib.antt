@@ -1,0 +1,6 @@
+mod Turns
+mod Wording
+mod Both
+mod Within
+mod Writing
+mod Putting

@@ -1,0 +1,134 @@
+-- What the command puts of what it took.
+use Rattle.std.proofs.Common.{◌≡◌, ◌∙◌, ◌+◌, ◌++◌, ◌<◌, ◌≤◌, ℕ, Bool, true, false, List, [], refl, sym, ap, subst}
+use Rattle.std.proofs.Common.{length, arith, length-append, append-nil, inl, inr}
+use Rattle.std.proofs.lemmas.Bool.{cases_lt}
+use Rattle.std.proofs.lemmas.Grind.{common_steps}
+use Rattle.std.proofs.lemmas.List.{take-append-le, take_all}
+use Rattle.std.proofs.Math.Seq.{take-append_seam, take-append-add}
+use Rattle.std.proofs.KnownBytes.{Appends-trans}
+use Rattle.std.specs.Prelude.{Option, Some, None, Result, Ok, Err, MatchResult}
+use Rattle.std.specs.Io.KnownBytes.{Appends, Consumes, IsAtEnd}
+use Rattle.dm_base.specs.Outside.{OfKnown, TakesAll}
+use Rattle.dm_base.specs.declared.outside.TakeError.TheVariants as take_error
+use Rattle.dm_exit.specs.declared.exit.Exit.{Exit}
+use Rattle.dm_exit.specs.declared.exit.Exit.TheVariants as exit
+use Rattle.dm_exit.specs.Puts.{PutsPrefix, PutsPart, PutsEnd, Ends}
+use Rattle.dm_replay.proofs.Running.{ends_put}
+use Rattle.dm_pair.specs.Texts.{written, is_too_long, pair_text, pair_exit}
+use Rattle.dm_pair.specs.Seen.{exit_of}
+
+-- ---- the text of the whole input
+
+full : (text : List ℕ) (bad : Bool) (old new : Option (List ℕ)) → Appends old new text
+    → Ends text (exit_of bad) old new (exit_of bad)
+full text true old new h = (h, refl)
+full text false old new h = (h, refl)
+
+ends_by : (text : List ℕ) (bad : Bool) (old new : Option (List ℕ)) (e : Exit) → PutsEnd text (exit_of bad) old new e
+    → Ends text (exit_of bad) old new e
+ends_by text bad old new e h = ends_put text (exit_of bad) old new e (full text bad old new) h
+
+few : (bytes : List ℕ) → length bytes ≤ 67108864 → is_too_long bytes ≡ false
+few bytes h = grind (arith, common_steps, h)
+
+many : (bytes : List ℕ) → 67108864 < length bytes → is_too_long bytes ≡ true
+many bytes h = grind (arith, common_steps, h)
+
+whole_ends : (bytes : List ℕ) (b : Bool) (old new : Option (List ℕ)) (e : Exit) → is_too_long bytes ≡ b → b ≡ false
+    → Ends (written bytes).text (exit_of (written bytes).bad) old new e
+    → Ends (pair_text bytes) (pair_exit bytes) old new e
+unfolding pair_text pair_exit
+whole_ends bytes b old new e is none h = rw is (rw none h)
+
+-- all of it was taken
+taken_is : (bytes : List ℕ) (left : Option (List ℕ)) (input : List ℕ) → Consumes (Some bytes) left input
+    → IsAtEnd left → bytes ≡ input
+taken_is bytes None input taken end = absurd taken
+taken_is bytes (Some ys) input taken end = taken ∙ ap (λ l. input ++ l) end ∙ append-nil input
+
+pub all_put : (left rest : Option (List ℕ)) (input text : List ℕ) (bad : Bool) (old new : Option (List ℕ)) (e : Exit)
+    → TakesAll left rest 67108864 (Ok input) → text ≡ (written input).text → bad ≡ (written input).bad
+    → PutsEnd text (exit_of bad) old new e → OfKnown left (λ bytes. Ends (pair_text bytes) (pair_exit bytes) old new e)
+all_put None rest input text bad old new e took is_text is_bad h = tt
+all_put (Some bytes) rest input text bad old new e took is_text is_bad h =
+    subst (λ b. Ends (pair_text b) (pair_exit b) old new e) (sym (taken_is bytes rest input took.1 took.2))
+    (whole_ends input false old new e (few input took.0) refl
+    (subst (λ t. Ends t (exit_of (written input).bad) old new e) is_text
+    (subst (λ b. Ends text (exit_of b) old new e) is_bad (ends_by text bad old new e h))))
+
+-- ---- part by part
+
+prefix_of_front : (old new : Option (List ℕ)) (front rest : List ℕ) → PutsPrefix old new front
+    → PutsPrefix old new (front ++ rest)
+prefix_of_front old new front rest h =
+    elim (cases_lt (length front) h.0) [
+      | inl more ↦ (
+        length front,
+        subst (Appends old new)
+            (take_all h.0 front (omega (arith, more)) ∙ sym (take-append_seam front rest)) h.1,
+      )
+      | inr less ↦ (h.0, subst (Appends old new) (sym (take-append-le h.0 front rest less)) h.1)
+    ]
+
+prefix_behind : (old mid new : Option (List ℕ)) (front rest : List ℕ) → Appends old mid front
+    → PutsPrefix mid new rest → PutsPrefix old new (front ++ rest)
+prefix_behind old mid new front rest put h = (
+  length front + h.0,
+  subst (Appends old new) (sym (take-append-add front rest h.0))
+      (Appends-trans old mid new _ _ put h.1),
+)
+
+-- the front of a text breaks
+pub front_breaks : (old new : Option (List ℕ)) (front rest : List ℕ) (e : Exit) → PutsPart old new front e
+    → PutsPart old new (front ++ rest) e
+front_breaks old new front rest exit.WriteFault h = prefix_of_front old new front rest h
+front_breaks old new front rest exit.NoMemory h = prefix_of_front old new front rest h
+front_breaks old new front rest exit.Done h = absurd h
+front_breaks old new front rest exit.Usage h = absurd h
+front_breaks old new front rest exit.BadInput h = absurd h
+front_breaks old new front rest exit.ReadFault h = absurd h
+front_breaks old new front rest exit.TooLong h = absurd h
+
+-- what follows the front breaks
+pub rest_breaks : (old mid new : Option (List ℕ)) (front rest : List ℕ) (e : Exit) → Appends old mid front
+    → PutsPart mid new rest e → PutsPart old new (front ++ rest) e
+rest_breaks old mid new front rest exit.WriteFault put h = prefix_behind old mid new front rest put h
+rest_breaks old mid new front rest exit.NoMemory put h = prefix_behind old mid new front rest put h
+rest_breaks old mid new front rest exit.Done put h = absurd h
+rest_breaks old mid new front rest exit.Usage put h = absurd h
+rest_breaks old mid new front rest exit.BadInput put h = absurd h
+rest_breaks old mid new front rest exit.ReadFault put h = absurd h
+rest_breaks old mid new front rest exit.TooLong put h = absurd h
+
+-- a text behind its front
+pub both_put : {T : Type 0} (old mid new : Option (List ℕ)) (front rest : List ℕ) (r : Result T Exit)
+    → Appends old mid front
+    → MatchResult r (λ _. Appends mid new rest) (λ e. PutsPart mid new rest e)
+    → MatchResult r (λ _. Appends old new (front ++ rest)) (λ e. PutsPart old new (front ++ rest) e)
+both_put old mid new front rest (Ok x) put h = Appends-trans old mid new front rest put h
+both_put old mid new front rest (Err e) put h = rest_breaks old mid new front rest e put h
+
+-- ---- nothing is put
+
+appends_nothing : (old : Option (List ℕ)) → Appends old old []
+appends_nothing None = tt
+appends_nothing (Some xs) = sym (append-nil xs)
+
+long_ends : (bytes : List ℕ) (b : Bool) (old : Option (List ℕ)) → is_too_long bytes ≡ b → b ≡ true
+    → Ends (pair_text bytes) (pair_exit bytes) old old exit.TooLong
+unfolding pair_text pair_exit
+long_ends bytes b old is all = rw is (rw all (appends_nothing old, refl))
+
+longer : (bytes : List ℕ) (left : Option (List ℕ)) (input : List ℕ) → length input ≡ 67108864 + 1
+    → Consumes (Some bytes) left input → 67108864 < length bytes
+longer bytes None input long taken = absurd taken
+longer bytes (Some ys) input long taken =
+    let whole = ap length taken in
+    let parts = length-append input ys in
+    omega (arith, long, whole, parts)
+
+pub too_long : (left rest old : Option (List ℕ)) → TakesAll left rest 67108864 (Err take_error.TooLong)
+    → OfKnown left (λ bytes. Ends (pair_text bytes) (pair_exit bytes) old old exit.TooLong)
+too_long None rest old took = tt
+too_long (Some bytes) rest old took =
+    long_ends bytes true old (many bytes (longer bytes rest took.0 took.1 took.2)) refl

@@ -1,0 +1,5 @@
+pub mod Events
+pub mod Pairing
+pub mod Texts
+pub mod From
+pub mod Seen

@@ -1,0 +1,117 @@
+// The client's start section, and the server's job.
+ghost use Rattle.std.specs.Prelude.{◌≡◌, ◌<◌, ◌≤◌, ◌+◌, ◌^◌, length, IfOk, IfErr};
+ghost use Rattle.dm_start.specs.declared.heads.Head.TheVariants.{Device};
+ghost use Rattle.dm_start.specs.Start.{opening, told_of, Told};
+ghost use Rattle.dm_job.specs.declared.draft.Reading.TheVariants as reading;
+ghost use Rattle.dm_job.specs.Sound.{IsSound};
+ghost use Rattle.dm_replay.specs.From.{CanBegin};
+ghost use Rattle.dm_replay.specs.Trace.{ids_of};
+ghost use Rattle.dm_pair.specs.Texts.{first, starting, jobbing, happening, pairing_of};
+ghost use Rattle.dm_pair.specs.From.{rest_of, HaltsAs};
+
+use crate::lines::{Halt, halt_at, next_line};
+use dm_base::LineReason;
+use dm_job::{Job, JobReader};
+use dm_start::{LineError, Start, StartReader};
+use std::alloc::Global;
+
+/// A start section that was read, what stands behind it, and the number of the next line.
+#[derive(Drop)]
+pub struct Begun<'a> {
+    pub start: Start,
+    pub rest: &'a [u8],
+    pub number: u64,
+}
+
+/// A job that was read, what stands behind it, and the number of the next line.
+#[derive(Drop)]
+pub struct Given<'a> {
+    pub job: Job,
+    pub rest: &'a [u8],
+    pub number: u64,
+}
+
+/// Reads the first line, `dm-pair 1`, and gives what stands behind it.
+#[tactic(auto, using(crate::proofs::Turns::first_read, crate::proofs::Turns::first_refused))]
+pub fn read_first(text: &[u8]) -> Result<&[u8], Halt>
+    ensures rest { IfOk result (λ rest. rest_of 1 first text.now ≡ rest_of 2 (starting (opening (Device 1))) rest.now) }
+    ensures shorter { IfOk result (λ rest. length rest.now < length text.now) }
+    ensures halt { IfErr result (HaltsAs (rest_of 1 first text.now)) }
+{
+    let (line, behind) = match next_line(text, 1) {
+        Ok(cut) => cut,
+        Err(halt) => return Err(halt),
+    };
+    if line == b"dm-pair 1".as_slice() {
+        Ok(behind)
+    } else {
+        Err(Halt::Bad {
+            number: 1,
+            reason: LineReason::Word,
+        })
+    }
+}
+
+/// Reads the client's start section, behind the first line: from `device` to `begin`.
+pub fn read_start(alloc: Global, text: &[u8]) -> Result<Begun<'_>, Halt>
+    requires { length text.now < 2 ^ 63 }
+    ensures start { IfOk result (λ b. rest_of 2 (starting (opening (Device 1))) text.now
+        ≡ rest_of b.number (jobbing (told_of b.start) reading.First) b.rest.now) }
+    ensures client { IfOk result (λ b. CanBegin b.start) }
+    ensures number { IfOk result (λ b. b.number + length b.rest.now ≤ 2 + length text.now) }
+    ensures halt { IfErr result (HaltsAs (rest_of 2 (starting (opening (Device 1))) text.now)) }
+{
+    let mut reader = StartReader::behind_first(alloc, 1);
+    let mut number = 2u64;
+    let mut rest = text;
+    'lines: loop {
+        let (line, behind) = match next_line(rest, number) {
+            Ok(cut) => cut,
+            Err(halt) => return Err(halt),
+        };
+        rest = behind;
+        match reader.line(line) {
+            Ok(false) => number += 1,
+            Ok(true) => {
+                return Ok(Begun {
+                    start: reader.finish(),
+                    rest,
+                    number: number + 1,
+                });
+            }
+            Err(error) => return Err(halt_at(number, error)),
+        }
+    }
+}
+
+/// Reads the server's job, behind the start section: from `dm-job 1` to its `end`.
+pub fn read_job<'a>(alloc: Global, text: &'a [u8], first: u64) -> Result<Given<'a>, Halt>
+    requires { first + length text.now < 2 ^ 64 }
+    ensures job { IfOk result (λ g. (told : Told) → rest_of first (jobbing told reading.First) text.now
+        ≡ rest_of g.number (happening (ids_of told.accounts) (pairing_of told g.job)) g.rest.now) }
+    ensures sound { IfOk result (λ g. IsSound g.job) }
+    ensures number { IfOk result (λ g. g.number + length g.rest.now ≤ first + length text.now) }
+    ensures halt { IfErr result (λ h. (told : Told) → HaltsAs (rest_of first (jobbing told reading.First) text.now) h) }
+{
+    let mut reader = JobReader::new(alloc);
+    let mut number = first;
+    let mut rest = text;
+    'lines: loop {
+        let (line, behind) = match next_line(rest, number) {
+            Ok(cut) => cut,
+            Err(halt) => return Err(halt),
+        };
+        rest = behind;
+        match reader.line(line) {
+            Ok(false) => number += 1,
+            Ok(true) => {
+                return Ok(Given {
+                    job: reader.finish(),
+                    rest,
+                    number: number + 1,
+                });
+            }
+            Err(error) => return Err(halt_at(number, error)),
+        }
+    }
+}

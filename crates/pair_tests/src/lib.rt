@@ -1,0 +1,5 @@
+//! Tests of texts of both ends by public calls alone.
+#![tactic(auto)]
+
+#[cfg(test)]
+mod schedules;
