@@ -1,10 +1,10 @@
 -- A run that ends before its form is known puts nothing, which is a prefix of every text.
-use Rattle.std.proofs.Common.{ℕ, List, [], refl, sym, arith}
+use Rattle.std.proofs.Common.{ℕ, List, [], inr, refl, sym, arith}
 use Rattle.std.specs.Io.KnownBytes.{Consumes}
 use Rattle.std.specs.Prelude.{Option, Some, None}
 use Rattle.std.proofs.lemmas.List.{append-nil}
-use Rattle.dm_replay.specs.Output.{PutsPrefix}
-use Rattle.dm_replay.specs.declared.exit.Exit.TheVariants as exit
+use Rattle.dm_exit.specs.declared.exit.Exit.TheVariants as exit
+use Rattle.dm_exit.specs.Puts.{PutsPrefix}
 use Rattle.dm_words.specs.declared.forms.Form.{Form}
 use Rattle.dm_words.specs.declared.forms.Form.TheVariants as forms
 use Rattle.dm_check.specs.Receiving.{TakesNoMore}
@@ -16,11 +16,15 @@ nothing None text = (0, tt)
 nothing (Some xs) text = (0, sym (append-nil xs))
 
 pub lacking : (form : Option Form) (left old : Option (List ℕ)) → Runs form left old old exit.NoMemory
+unfolding Runs
 lacking None left old = nothing old _
 lacking (Some forms.Replay) None old = tt
+lacking (Some forms.Pair) None old = tt
 lacking (Some forms.Show) None old = tt
 lacking (Some forms.Check) None old = tt
+lacking (Some (forms.Bench seed nodes messages)) left old = inr (nothing old _)
 lacking (Some forms.Replay) (Some bytes) old = nothing old _
+lacking (Some forms.Pair) (Some bytes) old = nothing old _
 lacking (Some forms.Show) (Some bytes) old = nothing old _
 lacking (Some forms.Check) (Some bytes) old = nothing old _
 
@@ -33,7 +37,10 @@ takes_nothing left = ([], [], consumes_nothing left, nothing_settled, omega arit
 
 -- and takes nothing
 pub untaken : {S : Type 0} (left : S → Option (List ℕ)) (form : Option Form) (src : S) → TakesFor left form src src
+unfolding TakesFor
 untaken left None src = refl
 untaken left (Some forms.Replay) src = ([], consumes_nothing (left src), omega arith)
+untaken left (Some forms.Pair) src = ([], consumes_nothing (left src), omega arith)
 untaken left (Some forms.Show) src = takes_nothing (left src)
 untaken left (Some forms.Check) src = takes_nothing (left src)
+untaken left (Some (forms.Bench seed nodes messages)) src = refl

@@ -2,18 +2,20 @@
 use Rattle.std.specs.Prelude.{◌≡◌, ℕ, codes, List, [], ◌∷◌, ◌++◌, Option, Some, None}
 use Rattle.std.specs.Io.KnownBytes.{Appends}
 use Rattle.dm_base.specs.Outside.{OfKnown}
+use Rattle.dm_exit.specs.declared.exit.Exit.{Exit}
+use Rattle.dm_exit.specs.declared.exit.Exit.TheVariants as exit
+use Rattle.dm_exit.specs.Puts.{PutsPrefix, PutsEnd, Ends}
 use Rattle.dm_replay.specs.Input.{TakesOnePast}
-use Rattle.dm_replay.specs.Output.{Replays, PutsPrefix}
-use Rattle.dm_replay.specs.From.{Ends}
-use Rattle.dm_replay.specs.declared.exit.Exit.{Exit}
-use Rattle.dm_replay.specs.declared.exit.Exit.TheVariants as exit
+use Rattle.dm_replay.specs.Output.{Replays}
 use Rattle.dm_check.specs.Answers.{show_text, check_text, message_exit}
 use Rattle.dm_check.specs.Receiving.{TakesNoMore}
+use Rattle.dm_bench.specs.Workload.{bench_text}
+use Rattle.dm_pair.specs.Texts.{pair_text, pair_exit}
 use Rattle.dm_words.specs.declared.forms.Form.{Form}
 use Rattle.dm_words.specs.declared.forms.Form.TheVariants as forms
 
 abbrev pub usage_line : List ℕ
-usage_line = codes "usage: dmtool replay | show | check" ++ 10 ∷ []
+usage_line = codes "usage: dmtool replay | pair | show | check | bench SEED NODES MESSAGES" ++ 10 ∷ []
 
 -- the usage line was put, or a part of it
 abbrev pub PutsUsage : Option (List ℕ) → Option (List ℕ) → Exit → Type 0
@@ -25,24 +27,30 @@ PutsUsage old new exit.BadInput = ⊥
 PutsUsage old new exit.ReadFault = ⊥
 PutsUsage old new exit.TooLong = ⊥
 
--- what a run puts, by the form of its words: the usage line, or a text over the bytes that the source tells
-abbrev pub Runs : Option Form → Option (List ℕ) → Option (List ℕ) → Option (List ℕ) → Exit → Type 0
+-- what a run puts, by the form of its words: the usage line, a text over the bytes that the source tells, or the line
+-- of a workload, over its numbers
+unfoldable pub Runs : Option Form → Option (List ℕ) → Option (List ℕ) → Option (List ℕ) → Exit → Type 0
 Runs None left old new e = PutsUsage old new e
 Runs (Some forms.Replay) left old new e = OfKnown left (λ bytes. Replays bytes old new e)
+Runs (Some forms.Pair) left old new e = OfKnown left (λ bytes. Ends (pair_text bytes) (pair_exit bytes) old new e)
 Runs (Some forms.Show) left old new e = OfKnown left (λ bytes. Ends (show_text bytes) (message_exit bytes) old new e)
 Runs (Some forms.Check) left old new e = OfKnown left (λ bytes. Ends (check_text bytes) (message_exit bytes) old new e)
+Runs (Some (forms.Bench seed nodes messages)) left old new e =
+    PutsEnd (bench_text seed nodes messages) exit.Done old new e
 
 -- whatever the source tells, Usage is answered only to words of no form
 abbrev pub UsageMeansNoForm : Option Form → Exit → Type 0
 UsageMeansNoForm form e = e ≡ exit.Usage → form ≡ None
 
--- what a run takes of its source: nothing where its words have no form, of a trace at most one byte past those that it
--- looks at, and of one message no more than settles it
-abbrev pub TakesFor : {S : Type 0} → (S → Option (List ℕ)) → Option Form → S → S → Type 0
+-- what a run takes of its source: nothing where its words have no form or ask for a workload, of a trace and
+-- of a text for both ends at most one byte past those that it looks at, and of one message no more than settles it
+unfoldable pub TakesFor : {S : Type 0} → (S → Option (List ℕ)) → Option Form → S → S → Type 0
 TakesFor left None old new = new ≡ old
 TakesFor left (Some forms.Replay) old new = TakesOnePast (left old) (left new)
+TakesFor left (Some forms.Pair) old new = TakesOnePast (left old) (left new)
 TakesFor left (Some forms.Show) old new = TakesNoMore (left old) (left new)
 TakesFor left (Some forms.Check) old new = TakesNoMore (left old) (left new)
+TakesFor left (Some (forms.Bench seed nodes messages)) old new = new ≡ old
 
 -- the status that the program ends with
 abbrev pub status_of : Exit → ℕ

@@ -13,6 +13,7 @@ pub struct StdSource<R: Drop> {
 }
 
 impl<R: Read + Drop> StdSource<R> {
+    /// A source of what the reader gives, with no fault so far.
     pub fn new(inner: R) -> StdSource<R> {
         StdSource { inner, faults: 0 }
     }
@@ -42,6 +43,7 @@ pub struct StdSink<W: Drop> {
 }
 
 impl<W: Write + Drop> StdSink<W> {
+    /// A sink to the writer, with no fault so far.
     pub fn new(inner: W) -> StdSink<W> {
         StdSink { inner, faults: 0 }
     }

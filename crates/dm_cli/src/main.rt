@@ -7,7 +7,7 @@ mod run;
 mod tests;
 
 use adapters::{StdSink, StdSource};
-use dm_replay::Exit;
+use dm_exit::Exit;
 use run::{run, status};
 use std::io::ErrorKind;
 use std::process::ExitCode;

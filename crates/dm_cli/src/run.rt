@@ -1,18 +1,24 @@
 // The top call.
-ghost use Rattle.std.specs.Prelude.{◌≡◌, map, string_bytes};
-ghost use Rattle.dm_replay.specs.Causes.{SourceCause, SinkCause};
-ghost use Rattle.dm_words.specs.Forms.{form_of};
-ghost use Rattle.dm_cli.specs.Forms.{Runs, PutsUsage, TakesFor, UsageMeansNoForm, status_of};
+ghost use Rattle.std.specs.Prelude.{◌≡◌, ◌≢◌, ◌<◌, ℕ, List, Option, Some, None, map, string_bytes};
+ghost use Rattle.dm_exit.specs.Causes.{SourceCause, SinkCause};
+ghost use Rattle.dm_words.specs.declared.forms.Form.TheVariants as forms;
+ghost use Rattle.dm_words.specs.Forms.{form_of, IsWithinBounds};
+ghost use Rattle.dm_cli.specs.Forms.{Runs, TakesFor, UsageMeansNoForm, status_of};
 
 use dm_base::{Fault, Memory, Sink, Source, put_all};
+use dm_bench::bench;
 use dm_check::{check, show};
-use dm_replay::{Exit, replay};
+use dm_exit::Exit;
+use dm_pair::pair;
+use dm_replay::replay;
 use dm_words::{Form, USAGE, read_form};
 use std::alloc::Global;
 
 // Puts the usage line.
+#[tactic(auto, unfolding(crate::specs::Forms::Runs))]
 fn put_usage<K: Sink>(out: &mut K) -> Exit
-    ensures output { PutsUsage (K.got out.old) (K.got out.new) result }
+    ensures output { (left : Option (List ℕ)) → Runs None left (K.got out.old) (K.got out.new) result }
+    ensures source { (faults : ℕ) → SourceCause faults faults result }
     ensures sink { SinkCause (K.faults out.old) (K.faults out.new) result }
 {
     match put_all(out, USAGE.as_bytes()) {
@@ -22,10 +28,94 @@ fn put_usage<K: Sink>(out: &mut K) -> Exit
     }
 }
 
+// Answers a trace.
+#[tactic(auto, unfolding(crate::specs::Forms::Runs, crate::specs::Forms::TakesFor))]
+fn run_replay<S: Source, K: Sink>(alloc: Global, src: &mut S, out: &mut K) -> Exit
+    ensures output { Runs (Some forms.Replay) (S.left src.old) (K.got out.old) (K.got out.new) result }
+    ensures usage { result ≢ Exit.Usage }
+    ensures taken { TakesFor S.left (Some forms.Replay) src.old src.new }
+    ensures source { SourceCause (S.faults src.old) (S.faults src.new) result }
+    ensures sink { SinkCause (K.faults out.old) (K.faults out.new) result }
+{
+    replay(alloc, src, out)
+}
+
+// Runs both ends.
+#[tactic(auto, unfolding(crate::specs::Forms::Runs, crate::specs::Forms::TakesFor))]
+fn run_pair<S: Source, K: Sink>(alloc: Global, src: &mut S, out: &mut K) -> Exit
+    ensures output { Runs (Some forms.Pair) (S.left src.old) (K.got out.old) (K.got out.new) result }
+    ensures usage { result ≢ Exit.Usage }
+    ensures taken { TakesFor S.left (Some forms.Pair) src.old src.new }
+    ensures source { SourceCause (S.faults src.old) (S.faults src.new) result }
+    ensures sink { SinkCause (K.faults out.old) (K.faults out.new) result }
+{
+    pair(alloc, src, out)
+}
+
+// Lists a message.
+#[tactic(auto, unfolding(crate::specs::Forms::Runs, crate::specs::Forms::TakesFor))]
+fn run_show<S: Source, K: Sink>(alloc: Global, src: &mut S, out: &mut K) -> Exit
+    ensures output { Runs (Some forms.Show) (S.left src.old) (K.got out.old) (K.got out.new) result }
+    ensures usage { result ≢ Exit.Usage }
+    ensures taken { TakesFor S.left (Some forms.Show) src.old src.new }
+    ensures source { SourceCause (S.faults src.old) (S.faults src.new) result }
+    ensures sink { SinkCause (K.faults out.old) (K.faults out.new) result }
+{
+    show(alloc, src, out)
+}
+
+// Says whether a message is canonical.
+#[tactic(auto, unfolding(crate::specs::Forms::Runs, crate::specs::Forms::TakesFor))]
+fn run_check<S: Source, K: Sink>(alloc: Global, src: &mut S, out: &mut K) -> Exit
+    ensures output { Runs (Some forms.Check) (S.left src.old) (K.got out.old) (K.got out.new) result }
+    ensures usage { result ≢ Exit.Usage }
+    ensures taken { TakesFor S.left (Some forms.Check) src.old src.new }
+    ensures source { SourceCause (S.faults src.old) (S.faults src.new) result }
+    ensures sink { SinkCause (K.faults out.old) (K.faults out.new) result }
+{
+    check(alloc, src, out)
+}
+
+// Runs a workload.
+#[tactic(auto, unfolding(crate::specs::Forms::Runs))]
+fn run_bench<K: Sink>(alloc: Global, seed: u64, nodes: u32, messages: u32, out: &mut K) -> Exit
+    requires { 0 < nodes }
+    ensures output { (left : Option (List ℕ)) → Runs (Some (forms.Bench seed nodes messages)) left (K.got out.old)
+        (K.got out.new) result }
+    ensures usage { result ≢ Exit.Usage }
+    ensures source { (faults : ℕ) → SourceCause faults faults result }
+    ensures sink { SinkCause (K.faults out.old) (K.faults out.new) result }
+{
+    bench(alloc, seed, nodes, messages, out)
+}
+
+// Does what a form asks for. A run of each form is in a function of its own, so that no proof here looks into its
+// definition.
+fn run_form<S: Source, K: Sink>(alloc: Global, form: Form, src: &mut S, out: &mut K) -> Exit
+    requires { IsWithinBounds form }
+    ensures output { Runs (Some form) (S.left src.old) (K.got out.old) (K.got out.new) result }
+    ensures usage { result ≢ Exit.Usage }
+    ensures taken { TakesFor S.left (Some form) src.old src.new }
+    ensures source { SourceCause (S.faults src.old) (S.faults src.new) result }
+    ensures sink { SinkCause (K.faults out.old) (K.faults out.new) result }
+{
+    match form {
+        Form::Replay => run_replay(alloc, src, out),
+        Form::Pair => run_pair(alloc, src, out),
+        Form::Show => run_show(alloc, src, out),
+        Form::Check => run_check(alloc, src, out),
+        Form::Bench {
+            seed,
+            nodes,
+            messages,
+        } => run_bench(alloc, seed, nodes, messages, out),
+    }
+}
+
 /// Does all that the tool does: reads the source, writes to the sink, and answers how the run ended. Want of memory
-/// ends it by `NoMemory` at any place; what was written is a prefix of the defined text then. Words of no form take
-/// nothing of the source, of a trace at most 67,108,865 bytes are taken, and one message is taken no further than to
-/// the piece that settles its refusal, or to its end.
+/// ends it by `NoMemory` at any place; what was written is a prefix of the defined text then. Words of no form and a
+/// workload take nothing of the source, of a trace and of a text for both ends at most 67,108,865 bytes are taken, and
+/// one message is taken no further than to the piece that settles its refusal, or to its end.
 pub fn run<S: Source, K: Sink>(alloc: Global, words: &[String], src: &mut S, out: &mut K) -> Exit
     ensures output { Runs (form_of (map string_bytes words.now)) (S.left src.old) (K.got out.old)
         (K.got out.new) result }
@@ -35,9 +125,7 @@ pub fn run<S: Source, K: Sink>(alloc: Global, words: &[String], src: &mut S, out
     ensures sink { SinkCause (K.faults out.old) (K.faults out.new) result }
 {
     match read_form(alloc, words) {
-        Ok(Some(Form::Replay)) => replay(alloc, src, out),
-        Ok(Some(Form::Show)) => show(alloc, src, out),
-        Ok(Some(Form::Check)) => check(alloc, src, out),
+        Ok(Some(form)) => run_form(alloc, form, src, out),
         Ok(None) => put_usage(out),
         Err(Memory) => Exit::NoMemory,
     }

@@ -7,7 +7,7 @@ use crate::run::run;
 use crate::tests::texts::{Text, bytes_of};
 use anyhow::Result;
 use dm_base::{Bytes, List, MemSink, MemSource};
-use dm_replay::Exit;
+use dm_exit::Exit;
 use std::alloc::Global;
 
 /// A run, and what it must answer and write.
@@ -33,7 +33,7 @@ const PLAIN: Row = Row {
     output: Text::OneGetAnswered,
 };
 
-const ROWS: [Row; 24] = [
+const ROWS: [Row; 30] = [
     PLAIN,
     Row {
         name: "one Get, in pieces of 1",
@@ -185,6 +185,54 @@ const ROWS: [Row; 24] = [
         input: Text::Get,
         piece: 7,
         output: Text::GetChecked,
+        ..PLAIN
+    },
+    Row {
+        name: "a workload, which reads nothing",
+        words: &["bench", "7", "20", "5"],
+        source_fails: &[1],
+        output: Text::Workload,
+        ..PLAIN
+    },
+    Row {
+        name: "the line of a workload that is not written",
+        words: &["bench", "7", "20", "5"],
+        sink_fails: &[1],
+        exit: Exit::WriteFault,
+        output: Text::Nothing,
+        ..PLAIN
+    },
+    Row {
+        name: "a workload without leaves",
+        words: &["bench", "7", "0", "5"],
+        exit: Exit::Usage,
+        output: Text::Usage,
+        ..PLAIN
+    },
+    Row {
+        name: "both ends, in pieces of 7",
+        words: &["pair"],
+        input: Text::Both,
+        piece: 7,
+        output: Text::BothRun,
+        ..PLAIN
+    },
+    Row {
+        name: "both ends, over a source that fails behind the last line",
+        words: &["pair"],
+        input: Text::Both,
+        source_fails: &[2],
+        exit: Exit::ReadFault,
+        output: Text::Nothing,
+        ..PLAIN
+    },
+    Row {
+        name: "what both ends came to is not written",
+        words: &["pair"],
+        input: Text::Both,
+        sink_fails: &[1],
+        exit: Exit::WriteFault,
+        output: Text::Nothing,
         ..PLAIN
     },
     Row {

@@ -13,8 +13,12 @@ bare = record (new_app (codes "dmtool")) {
   };
 }
 
+-- with those that read a whole text
+abbrev pub of_texts : App
+of_texts = with_subcommand (with_subcommand bare (new_app (codes "replay")).top) (new_app (codes "pair")).top
+
 -- the tool with its subcommands
 abbrev pub tool : App
 tool =
-    with_subcommand (with_subcommand (with_subcommand bare (new_app (codes "replay")).top) (new_app (codes "show")).top)
-    (new_app (codes "check")).top
+    with_subcommand (with_subcommand (with_subcommand of_texts (new_app (codes "show")).top)
+    (new_app (codes "check")).top) (new_app (codes "bench")).top

@@ -3,7 +3,5 @@
 
 mod commands;
 mod forms;
-#[cfg(test)]
-mod tests;
 
 pub use forms::{Form, USAGE, read_form};

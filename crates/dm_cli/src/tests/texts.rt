@@ -237,12 +237,55 @@ SyncML\n  SyncHdr\n    VerDTD 1.2\n    VerProto DM/1.2\n    SessionID 1\n    Msg
 \x20   Source\n      LocURI s1\n  SyncBody\n    Get\n      CmdID 1\n      Item\n        Target\n          LocURI ./A\n\
 \x20   Final\n";
 
+const BOTH: &[u8] = b"\
+dm-pair 1\n\
+device d1 Acme Box 1.2 en\n\
+limits 16384 4194304\n\
+account s1 - - - - -\n\
+leaf ./A chr text/plain 78\n\
+begin\n\
+dm-job 1\n\
+server s1 - - - - -\n\
+limits 16384 4194304\n\
+get ./A\n\
+end\n\
+open s1 client 1\n\
+up 1\n\
+up 1\n\
+down 1\n\
+down 1\n\
+up 2\n\
+down 2\n\
+end\n";
+
+const BOTH_RUN: &[u8] = b"\
+sent\n\
+sent\n\
+kept\n\
+sent\n\
+kept\n\
+sent\n\
+ended finished\n\
+node . 0 p Add=*&Get=* - -\n\
+leaf ./A 0 - - - chr 746578742f706c61696e 78\n\
+node ./DevInfo 0 p - - -\n\
+leaf ./DevInfo/DevId 0 p - - chr 746578742f706c61696e 6431\n\
+leaf ./DevInfo/DmV 0 p - - chr 746578742f706c61696e 312e32\n\
+leaf ./DevInfo/Lang 0 p - - chr 746578742f706c61696e 656e\n\
+leaf ./DevInfo/Man 0 p - - chr 746578742f706c61696e 41636d65\n\
+leaf ./DevInfo/Mod 0 p - - chr 746578742f706c61696e 426f78\n\
+status 1 200\n\
+result 2e2f41 636872 746578742f706c61696e 78\n\
+state over\n\
+done\n";
+
 /// The texts by name, since a table of the texts themselves is too large a constant.
 #[derive(Clone, Copy)]
 pub enum Text {
     Nothing,
     Usage,
     BadCut,
+    Workload,
     OneGet,
     OneGetAnswered,
     Repeated,
@@ -258,13 +301,16 @@ pub enum Text {
     Get,
     GetListed,
     GetChecked,
+    Both,
+    BothRun,
 }
 
 pub fn bytes_of(text: Text) -> &'static [u8] {
     match text {
         Text::Nothing => b"",
-        Text::Usage => b"usage: dmtool replay | show | check\n",
+        Text::Usage => b"usage: dmtool replay | pair | show | check | bench SEED NODES MESSAGES\n",
         Text::BadCut => b"bad 1 cut\n",
+        Text::Workload => b"bench 5 ok 2 failed 3 tree 471189ee380a68b956a70ccff2afc07e\n",
         Text::OneGet => ONE_GET,
         Text::OneGetAnswered => ONE_GET_ANSWERED,
         Text::Repeated => REPEATED,
@@ -280,5 +326,7 @@ pub fn bytes_of(text: Text) -> &'static [u8] {
         Text::Get => GET,
         Text::GetListed => GET_LISTED,
         Text::GetChecked => b"ok 73 73 canonical\n",
+        Text::Both => BOTH,
+        Text::BothRun => BOTH_RUN,
     }
 }

@@ -5,7 +5,7 @@ use Rattle.dm_words.proofs.forms.read_plain.Goals as goal
 pub returns-in-Some : goal.returns-in-Some
 returns-in-Some c =
     let few = as_few string_bytes c.args.words.now in
-    c.form_named.ensures
+    c.subcommand_named.ensures
     ∙ named _ _ c.in-Ok-try_get_matches_from.matches c.in-Some.name.now c.in-Ok.ensures.app
     (omega (arith, few, c.requires.few))
     (all_plain string_bytes c.args.words.now ∙ c.requires.plain) c.in-Ok-try_get_matches_from.ensures.kinds

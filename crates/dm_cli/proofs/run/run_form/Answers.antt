@@ -1,0 +1,8 @@
+use Rattle.dm_cli.proofs.Lacking.{untaken}
+use Rattle.dm_cli.proofs.run.run_form.Goals as goal
+
+pub returns-in-Bench-clause-taken : goal.returns-in-Bench-clause-taken
+returns-in-Bench-clause-taken g c = untaken _ _ _
+
+pub returns-in-Bench-clause-source : goal.returns-in-Bench-clause-source
+returns-in-Bench-clause-source g c = c.run_bench.ensures.source _
