@@ -1,6 +1,6 @@
 //! Measures how fast documents are read into tokens and messages, and how fast messages are spelled and measured.
 //! Without words it does each once, and tells what it folds to. The words FILE SECONDS PIECE READER, encode SECONDS
-//! MESSAGE and length SECONDS MESSAGE ask for nanoseconds a byte.
+//! MESSAGE and length SECONDS MESSAGE ask for picoseconds a byte; MESSAGE is small, large, or a file that has one.
 #![tactic(auto)]
 
 mod fold;
@@ -18,6 +18,7 @@ use spell::{measure_length, spell_and_fold};
 use std::process::ExitCode;
 use std::time::Instant;
 use std::{env, fs, io};
+use syncml_codec::{DecodeError, decode};
 use syncml_types::{Message, Unfit, length};
 use turn::{Way, turn};
 use wbxml_tokens::FeedError;
@@ -96,12 +97,22 @@ fn read(rt: &HostRuntime, file: &str, work_asked: Work) -> io::Result<()> {
     work(rt, job, bytes.len(), work_asked.span)
 }
 
+// The message that a file has.
+fn message_in(rt: &HostRuntime, file: &str) -> io::Result<Message> {
+    let bytes = fs::read(rt, file)?;
+    match decode(rt.alloc(), bytes.as_slice()) {
+        Ok(message) => Ok(message),
+        Err(DecodeError::Refused(_)) => Err(io::Error::from(io::ErrorKind::InvalidData)),
+        Err(DecodeError::Memory) => Err(of_memory(Memory)),
+    }
+}
+
 // A message of this name.
 fn message_of(rt: &HostRuntime, name: &str) -> io::Result<Message> {
     let made = match name {
         "small" => small_commands(rt.alloc()),
         "large" => large_data(rt.alloc()),
-        _ => return Err(bad_words()),
+        file => return message_in(rt, file),
     };
     match made.map_err(of_memory)? {
         Ok(message) => Ok(message),

@@ -35,12 +35,7 @@ fn text_meta(alloc: Global) -> Result<Meta, Memory> {
     Ok(Meta {
         format: Some(Bytes::of_slice(alloc, b"chr")?),
         media: Some(Bytes::of_slice(alloc, b"text/plain")?),
-        size: None,
-        next_nonce: None,
-        max_msg: None,
-        max_obj: None,
-        mark: None,
-        version: None,
+        ..Meta::empty()
     })
 }
 

@@ -10,20 +10,14 @@ use dm_base::{Bytes, List, Memory};
 use std::alloc::Global;
 use std::test::Fail;
 use syncml_types::{
-    AlertCmd, Block, Command, Member, Meta, Plain, ResultsCmd, SeqBlock, SeqMember, Verb,
-    command_length, data_length, numbered_length, rest_length,
+    AlertCmd, Block, Command, Member, Meta, Plain, ResultsCmd, SeqMember, Verb, command_length,
+    data_length, numbered_length, rest_length,
 };
 
 fn format(alloc: Global) -> Result<Meta, Memory> {
     Ok(Meta {
         format: Some(Bytes::of_slice(alloc, b"chr")?),
-        media: None,
-        size: None,
-        next_nonce: None,
-        max_msg: None,
-        max_obj: None,
-        mark: None,
-        version: None,
+        ..Meta::empty()
     })
 }
 
@@ -63,7 +57,7 @@ fn members(alloc: Global) -> Result<List<Member>, Memory>
 }
 
 // An Atomic of these, which wants no response and has a Meta.
-fn block(alloc: Global) -> Result<Block, Memory>
+fn block(alloc: Global) -> Result<Block<Member>, Memory>
     ensures { IfOk result (λ b. (length b.members ≡ 2) × AllByRecursion HasShortMember b.members) }
 {
     Ok(Block {
@@ -96,7 +90,7 @@ fn seq_members(alloc: Global) -> Result<List<SeqMember>, Memory>
 fn sequence(alloc: Global) -> Result<Command, Memory>
     ensures { IfOk result (λ c. (ids_in c ≡ 5) × HasShortItems c) }
 {
-    Ok(Command::Sequence(SeqBlock {
+    Ok(Command::Sequence(Block {
         id: 1,
         no_resp: false,
         meta: None,

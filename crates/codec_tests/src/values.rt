@@ -7,8 +7,7 @@ use std::alloc::Global;
 use std::test::Fail;
 use syncml_types::put_value::put_data;
 use syncml_types::{
-    Block, Command, Header, Item, Loc, Member, Message, Plain, SeqBlock, SeqMember, Unfit, Verb,
-    put_message,
+    Block, Command, Header, Item, Loc, Member, Message, Plain, SeqMember, Unfit, Verb, put_message,
 };
 use wbxml_tokens::TokenWriter;
 
@@ -114,7 +113,7 @@ fn sequence(alloc: Global) -> Result<Command, Memory> {
     };
     let mut blocks = List::new(alloc);
     blocks.push(SeqMember::Atomic(atomic))?;
-    Ok(Command::Sequence(SeqBlock {
+    Ok(Command::Sequence(Block {
         id: 7,
         no_resp: false,
         meta: None,

@@ -4,8 +4,7 @@ use std::alloc::Global;
 use std::test::Fail;
 use syncml_codec::{encode, listing};
 use syncml_types::{
-    AlertCmd, Block, Command, Header, Item, Loc, Member, Message, Meta, Plain, SeqBlock, SeqMember,
-    Verb,
+    AlertCmd, Block, Command, Header, Item, Loc, Member, Message, Meta, Plain, SeqMember, Verb,
 };
 
 fn place(alloc: Global, uri: &[u8]) -> Result<Loc, Memory> {
@@ -97,19 +96,13 @@ fn three_members(alloc: Global) -> Result<List<SeqMember>, Memory> {
 
 fn media(alloc: Global) -> Result<Meta, Memory> {
     Ok(Meta {
-        format: None,
         media: Some(Bytes::of_slice(alloc, b"text/plain")?),
-        size: None,
-        next_nonce: None,
-        max_msg: None,
-        max_obj: None,
-        mark: None,
-        version: None,
+        ..Meta::empty()
     })
 }
 
 fn sequence(alloc: Global) -> Result<Command, Memory> {
-    Ok(Command::Sequence(SeqBlock {
+    Ok(Command::Sequence(Block {
         id: 1,
         no_resp: false,
         meta: Some(media(alloc)?),

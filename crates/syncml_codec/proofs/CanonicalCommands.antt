@@ -29,7 +29,6 @@ use Rattle.syncml_types.specs.declared.command.Member.TheVariants as member
 use Rattle.syncml_types.specs.declared.command.Block.{Block}
 use Rattle.syncml_types.specs.declared.command.SeqMember.{SeqMember}
 use Rattle.syncml_types.specs.declared.command.SeqMember.TheVariants as seq_member
-use Rattle.syncml_types.specs.declared.command.SeqBlock.{SeqBlock}
 use Rattle.syncml_types.specs.declared.command.StatusCmd.{StatusCmd}
 use Rattle.syncml_types.specs.declared.command.ResultsCmd.{ResultsCmd}
 use Rattle.syncml_types.specs.declared.command.Command.{Command}
@@ -348,14 +347,14 @@ good_member (member.One c) t d n f k r =
 good_member (member.Alert c) t d n f k r = record { texts = t; data_short = d; number = n; range = r }
 
 -- what is known of an Atomic
-pub record GoodAtomic (b : Block) : Type 0 where
+pub record GoodAtomic (b : Block Member) : Type 0 where
   pub number : is_number b.id ≡ true
   pub low : IsShort b.id
   pub meta : IfSome b.meta GoodMeta
   pub filled : is_filled b.members ≡ true
   pub members : AllByRecursion GoodMember b.members
 
-good_atomic : (b : Block) → atomic_texts is_text b ≡ true → list_all (member_data is_short) b.members ≡ true
+good_atomic : (b : Block Member) → atomic_texts is_text b ≡ true → list_all (member_data is_short) b.members ≡ true
     → atomic_numbers b ≡ true → atomic_filled b ≡ true
     → list_all member_correlates b.members ≡ true → AtomicRange b → GoodAtomic b
 unfolding atomic_texts atomic_numbers atomic_filled
@@ -399,7 +398,7 @@ member_one id no_resp meta (member.One c) good came before =
 member_one id no_resp meta (member.Alert c) good came before =
     alert_element c (next_among AtomicMembers EAlert kinds.Alert true came [] refl) good
 
-atomic_element : {c d : Content} {v : Value} (b : Block) → next c EAtomic ≡ Some (kinds.Atomic, d) → GoodAtomic b
+atomic_element : {c d : Content} {v : Value} (b : Block Member) → next c EAtomic ≡ Some (kinds.Atomic, d) → GoodAtomic b
     → Puts c v (atomic_tokens b) d (with_child v EAtomic (node (drafts.Atomic b)))
 unfolding atomic_tokens members_tokens
 atomic_element b n good =
@@ -428,7 +427,7 @@ good_seq_member (seq_member.Single m) t d n f k r = good_member m t d n f k r
 good_seq_member (seq_member.Atomic b) t d n f k r = good_atomic b t d n f k r
 
 -- what is known of a Sequence
-pub record GoodSequence (b : SeqBlock) : Type 0 where
+pub record GoodSequence (b : Block SeqMember) : Type 0 where
   pub number : is_number b.id ≡ true
   pub low : IsShort b.id
   pub meta : IfSome b.meta GoodMeta
@@ -450,7 +449,7 @@ seq_member_one id no_resp meta (seq_member.Single (member.Alert c)) good came be
 seq_member_one id no_resp meta (seq_member.Atomic b) good came before =
     atomic_element b (next_among SequenceMembers EAtomic kinds.Atomic true came [] refl) good
 
-sequence_element : {c d : Content} {v : Value} (b : SeqBlock) → next c ESequence ≡ Some (kinds.Sequence, d)
+sequence_element : {c d : Content} {v : Value} (b : Block SeqMember) → next c ESequence ≡ Some (kinds.Sequence, d)
     → GoodSequence b
     → Puts c v (sequence_tokens b) d (with_child v ESequence (node (drafts.Sequence b)))
 unfolding sequence_tokens seq_members_tokens

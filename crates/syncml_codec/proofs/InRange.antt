@@ -25,9 +25,10 @@ use Rattle.syncml_types.specs.declared.values.Header.{Header}
 use Rattle.syncml_types.specs.declared.command.Plain.{Plain}
 use Rattle.syncml_types.specs.declared.command.AlertCmd.{AlertCmd}
 use Rattle.syncml_types.specs.declared.command.Member.TheVariants as member
+use Rattle.syncml_types.specs.declared.command.Member.{Member}
+use Rattle.syncml_types.specs.declared.command.SeqMember.{SeqMember}
 use Rattle.syncml_types.specs.declared.command.Block.{Block}
 use Rattle.syncml_types.specs.declared.command.SeqMember.TheVariants as seq_member
-use Rattle.syncml_types.specs.declared.command.SeqBlock.{SeqBlock}
 use Rattle.syncml_types.specs.declared.command.StatusCmd.{StatusCmd}
 use Rattle.syncml_types.specs.declared.command.ResultsCmd.{ResultsCmd}
 use Rattle.syncml_types.specs.declared.command.Command.TheVariants as command
@@ -366,7 +367,7 @@ alert_node a e (draft.Item item) c r =
     record { id = r.id; code = r.code; items = one_more ItemRange a.items item r.items c }
 alert_node a e _ c r = r
 
-atomic_node : (b : Block) (e : Element) (d : Draft) → DraftRange d → AtomicRange b
+atomic_node : (b : Block Member) (e : Element) (d : Draft) → DraftRange d → AtomicRange b
     → DraftRange (with_node (draft.Atomic b) e d)
 atomic_node b e (draft.Meta meta) c r = record { id = r.id; meta = c; members = r.members }
 atomic_node b e (draft.Plain x) c r =
@@ -375,7 +376,7 @@ atomic_node b e (draft.Alert x) c r =
     record { id = r.id; meta = r.meta; members = one_more MemberRange b.members (member.Alert x) r.members c }
 atomic_node b e _ c r = record { id = r.id; meta = r.meta; members = r.members }
 
-sequence_node : (b : SeqBlock) (e : Element) (d : Draft) → DraftRange d → SequenceRange b
+sequence_node : (b : Block SeqMember) (e : Element) (d : Draft) → DraftRange d → SequenceRange b
     → DraftRange (with_node (draft.Sequence b) e d)
 sequence_node b e (draft.Meta meta) c r = record { id = r.id; meta = c; members = r.members }
 sequence_node b e (draft.Plain x) c r =

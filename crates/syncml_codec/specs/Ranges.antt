@@ -12,7 +12,6 @@ use Rattle.syncml_types.specs.declared.command.Member.TheVariants as member
 use Rattle.syncml_types.specs.declared.command.Block.{Block}
 use Rattle.syncml_types.specs.declared.command.SeqMember.{SeqMember}
 use Rattle.syncml_types.specs.declared.command.SeqMember.TheVariants as seq_member
-use Rattle.syncml_types.specs.declared.command.SeqBlock.{SeqBlock}
 use Rattle.syncml_types.specs.declared.command.StatusCmd.{StatusCmd}
 use Rattle.syncml_types.specs.declared.command.ResultsCmd.{ResultsCmd}
 use Rattle.syncml_types.specs.declared.command.Command.{Command}
@@ -56,7 +55,7 @@ abbrev pub MemberRange : Member → Type 0
 MemberRange (member.One c) = PlainRange c
 MemberRange (member.Alert c) = AlertRange c
 
-pub record AtomicRange (b : Block) : Type 0 where
+pub record AtomicRange (b : Block Member) : Type 0 where
   pub id : IsShort b.id
   pub meta : IfSome b.meta MetaRange
   pub members : AllByRecursion MemberRange b.members
@@ -65,7 +64,7 @@ abbrev pub SeqMemberRange : SeqMember → Type 0
 SeqMemberRange (seq_member.Single m) = MemberRange m
 SeqMemberRange (seq_member.Atomic b) = AtomicRange b
 
-pub record SequenceRange (b : SeqBlock) : Type 0 where
+pub record SequenceRange (b : Block SeqMember) : Type 0 where
   pub id : IsShort b.id
   pub meta : IfSome b.meta MetaRange
   pub members : AllByRecursion SeqMemberRange b.members

@@ -7,7 +7,7 @@ ghost use Rattle.syncml_codec.specs.Ranges.{StatusRange, ResultsRange, CommandRa
 
 use syncml_types::{
     AlertCmd, Block, Command, Cred, Header, Item, Member, Message, Meta, Plain, ResultsCmd,
-    SeqBlock, SeqMember, StatusCmd,
+    SeqMember, StatusCmd,
 };
 
 fn is_short(number: Option<u32>)
@@ -95,7 +95,7 @@ fn members_range(members: &[Member])
     }
 }
 
-fn atomic_range(block: &Block)
+fn atomic_range(block: &Block<Member>)
     ensures { AtomicRange block.now }
 {
     let _id = block.id;
@@ -121,7 +121,7 @@ fn seq_members_range(members: &[SeqMember])
     }
 }
 
-fn sequence_range(block: &SeqBlock)
+fn sequence_range(block: &Block<SeqMember>)
     ensures { SequenceRange block.now }
 {
     let _id = block.id;

@@ -22,7 +22,6 @@ use Rattle.syncml_types.specs.declared.command.Member.TheVariants as member
 use Rattle.syncml_types.specs.declared.command.Block.{Block}
 use Rattle.syncml_types.specs.declared.command.SeqMember.{SeqMember}
 use Rattle.syncml_types.specs.declared.command.SeqMember.TheVariants as seq_member
-use Rattle.syncml_types.specs.declared.command.SeqBlock.{SeqBlock}
 use Rattle.syncml_types.specs.declared.command.StatusCmd.{StatusCmd}
 use Rattle.syncml_types.specs.declared.command.ResultsCmd.{ResultsCmd}
 use Rattle.syncml_types.specs.declared.command.Command.{Command}
@@ -114,7 +113,7 @@ abbrev pub FitMember : Member → Type 0
 FitMember (member.One c) = Ended FitPlain c
 FitMember (member.Alert c) = Ended FitAlert c
 
-pub record FitAtomic (content : Content) (b : Block) : Type 0 where
+pub record FitAtomic (content : Content) (b : Block Member) : Type 0 where
   pub meta : IfSome b.meta FitMeta
   pub members : AllByRecursion FitMember b.members
   pub id : needs (number_of ECmdID) content ≡ false → is_number b.id ≡ true
@@ -124,7 +123,7 @@ abbrev pub FitSeqMember : SeqMember → Type 0
 FitSeqMember (seq_member.Single m) = FitMember m
 FitSeqMember (seq_member.Atomic b) = Ended FitAtomic b
 
-pub record FitSequence (content : Content) (b : SeqBlock) : Type 0 where
+pub record FitSequence (content : Content) (b : Block SeqMember) : Type 0 where
   pub meta : IfSome b.meta FitMeta
   pub members : AllByRecursion FitSeqMember b.members
   pub id : needs (number_of ECmdID) content ≡ false → is_number b.id ≡ true
@@ -242,7 +241,8 @@ unfolding member_texts
 member_passes test p (member.One c) f = plain_passes test p c f
 member_passes test p (member.Alert c) f = alert_passes test p c f
 
-atomic_passes : (test : List ℕ → Bool) → IsPassed test → (b : Block) → Ended FitAtomic b → atomic_texts test b ≡ true
+atomic_passes : (test : List ℕ → Bool) → IsPassed test → (b : Block Member) → Ended FitAtomic b
+    → atomic_texts test b ≡ true
 unfolding atomic_texts
 atomic_passes test p b (content, done, f) =
     both (metas_pass test p b.meta f.meta)
@@ -254,7 +254,7 @@ unfolding seq_member_texts
 seq_member_passes test p (seq_member.Single m) f = member_passes test p m f
 seq_member_passes test p (seq_member.Atomic b) f = atomic_passes test p b f
 
-sequence_passes : (test : List ℕ → Bool) → IsPassed test → (b : SeqBlock) → Ended FitSequence b
+sequence_passes : (test : List ℕ → Bool) → IsPassed test → (b : Block SeqMember) → Ended FitSequence b
     → sequence_texts test b ≡ true
 unfolding sequence_texts
 sequence_passes test p b (content, done, f) =
@@ -328,7 +328,7 @@ unfolding member_numbers
 numbered_member (member.One c) (content, done, f) = f.id (complete_needs (number_of ECmdID) content done)
 numbered_member (member.Alert c) (content, done, f) = f.id (complete_needs (number_of ECmdID) content done)
 
-numbered_atomic : (b : Block) → Ended FitAtomic b → atomic_numbers b ≡ true
+numbered_atomic : (b : Block Member) → Ended FitAtomic b → atomic_numbers b ≡ true
 unfolding atomic_numbers
 numbered_atomic b (content, done, f) =
     both (f.id (complete_needs (number_of ECmdID) content done))
@@ -375,7 +375,7 @@ unfolding member_filled
 filled_member (member.One c) f = filled_plain c f
 filled_member (member.Alert c) f = refl
 
-filled_atomic : (b : Block) → Ended FitAtomic b → atomic_filled b ≡ true
+filled_atomic : (b : Block Member) → Ended FitAtomic b → atomic_filled b ≡ true
 unfolding atomic_filled
 filled_atomic b (content, done, f) =
     both (f.filled (complete_needs is_member content done))

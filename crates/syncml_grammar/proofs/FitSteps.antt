@@ -26,7 +26,6 @@ use Rattle.syncml_types.specs.declared.command.Member.TheVariants as member
 use Rattle.syncml_types.specs.declared.command.Block.{Block}
 use Rattle.syncml_types.specs.declared.command.SeqMember.{SeqMember}
 use Rattle.syncml_types.specs.declared.command.SeqMember.TheVariants as seq_member
-use Rattle.syncml_types.specs.declared.command.SeqBlock.{SeqBlock}
 use Rattle.syncml_types.specs.declared.command.StatusCmd.{StatusCmd}
 use Rattle.syncml_types.specs.declared.command.ResultsCmd.{ResultsCmd}
 use Rattle.syncml_types.specs.declared.command.Command.TheVariants as command
@@ -566,7 +565,7 @@ alert_step content after e k c (node d) g ok h f = alert_moved c (draft_sort d) 
 
 -- ---- an Atomic
 
-atomic_moved : {content after : Content} {e : Element} {k : Kind} (b : Block) (s : ℕ) → Came content e (k, after)
+atomic_moved : {content after : Content} {e : Element} {k : Kind} (b : Block Member) (s : ℕ) → Came content e (k, after)
     → sort k ≡ s → (s == 21) ≡ false → ((s == 4) || (s == 5)) ≡ false
     → FitAtomic content b → FitAtomic after b
 atomic_moved b s g is other unlike f = record {
@@ -576,7 +575,7 @@ atomic_moved b s g is other unlike f = record {
   filled = same_members s g is unlike f.filled;
 }
 
-atomic_member : {content after : Content} {e : Element} {k : Kind} (b : Block) (m : Member) (s : ℕ)
+atomic_member : {content after : Content} {e : Element} {k : Kind} (b : Block Member) (m : Member) (s : ℕ)
     → Came content e (k, after) → sort k ≡ s → (s == 21) ≡ false
     → FitMember m → FitAtomic content b → FitAtomic after (record b { members = b.members ++ m ∷ [] })
 atomic_member b m s g is other h f = record {
@@ -586,7 +585,8 @@ atomic_member b m s g is other h f = record {
   filled = λ _. is_filled_more b.members m;
 }
 
-atomic_step : (content after : Content) (e : Element) (k : Kind) (b : Block) (w : Whole) → Came content e (k, after)
+atomic_step : (content after : Content) (e : Element) (k : Kind) (b : Block Member) (w : Whole)
+    → Came content e (k, after)
     → id_alone e k ≡ true → FitWhole k w
     → FitAtomic content b → FitDraft after (draft_with (draft.Atomic b) e w)
 atomic_step content after e k b (simple (simples.Text text)) g ok h f = atomic_moved b 20 g h.0 refl refl f
@@ -620,7 +620,8 @@ atomic_step content after e k b (node d) g ok h f = atomic_moved b (draft_sort d
 
 -- ---- a Sequence
 
-sequence_moved : {content after : Content} {e : Element} {k : Kind} (b : SeqBlock) (s : ℕ) → Came content e (k, after)
+sequence_moved : {content after : Content} {e : Element} {k : Kind} (b : Block SeqMember) (s : ℕ)
+    → Came content e (k, after)
     → sort k ≡ s → (s == 21) ≡ false → (((s == 4) || (s == 5)) || (s == 6)) ≡ false
     → FitSequence content b → FitSequence after b
 sequence_moved b s g is other unlike f = record {
@@ -630,7 +631,7 @@ sequence_moved b s g is other unlike f = record {
   filled = same_seq_members s g is unlike f.filled;
 }
 
-sequence_member : {content after : Content} {e : Element} {k : Kind} (b : SeqBlock) (m : SeqMember) (s : ℕ)
+sequence_member : {content after : Content} {e : Element} {k : Kind} (b : Block SeqMember) (m : SeqMember) (s : ℕ)
     → Came content e (k, after) → sort k ≡ s → (s == 21) ≡ false
     → FitSeqMember m → FitSequence content b → FitSequence after (record b { members = b.members ++ m ∷ [] })
 sequence_member b m s g is other h f = record {
@@ -640,7 +641,7 @@ sequence_member b m s g is other h f = record {
   filled = λ _. is_filled_more b.members m;
 }
 
-sequence_step : (content after : Content) (e : Element) (k : Kind) (b : SeqBlock) (w : Whole)
+sequence_step : (content after : Content) (e : Element) (k : Kind) (b : Block SeqMember) (w : Whole)
     → Came content e (k, after) → id_alone e k ≡ true → FitWhole k w
     → FitSequence content b → FitDraft after (draft_with (draft.Sequence b) e w)
 sequence_step content after e k b (simple (simples.Text text)) g ok h f = sequence_moved b 20 g h.0 refl refl f

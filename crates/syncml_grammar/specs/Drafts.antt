@@ -5,7 +5,6 @@ use Rattle.wbxml_tables.specs.declared.Element.TheVariants.{EAdd, ECopy, EDelete
 use Rattle.syncml_shape.specs.declared.rows.Kind.{Kind}
 use Rattle.syncml_shape.specs.declared.rows.Kind.TheVariants as kinds
 use Rattle.syncml_types.specs.declared.values.Loc.{Loc}
-use Rattle.syncml_types.specs.declared.values.Meta.{Meta}
 use Rattle.syncml_types.specs.declared.values.Item.{Item}
 use Rattle.syncml_types.specs.declared.values.Cred.{Cred}
 use Rattle.syncml_types.specs.declared.values.Header.{Header}
@@ -14,9 +13,9 @@ use Rattle.syncml_types.specs.declared.command.Verb.TheVariants as verb
 use Rattle.syncml_types.specs.declared.command.Plain.{Plain}
 use Rattle.syncml_types.specs.declared.command.AlertCmd.{AlertCmd}
 use Rattle.syncml_types.specs.declared.command.Block.{Block}
-use Rattle.syncml_types.specs.declared.command.SeqBlock.{SeqBlock}
 use Rattle.syncml_types.specs.declared.command.StatusCmd.{StatusCmd}
 use Rattle.syncml_types.specs.declared.command.ResultsCmd.{ResultsCmd}
+use Rattle.syncml_types.specs.Message.{no_meta}
 use Rattle.syncml_grammar.specs.declared.draft.BodyDraft.{BodyDraft}
 use Rattle.syncml_grammar.specs.declared.draft.MessageDraft.{MessageDraft}
 use Rattle.syncml_grammar.specs.declared.draft.Draft.{Draft}
@@ -24,18 +23,6 @@ use Rattle.syncml_grammar.specs.declared.draft.Draft.TheVariants as draft
 
 abbrev pub no_loc : Loc
 no_loc = record { uri = []; name = None }
-
-abbrev pub no_meta : Meta
-no_meta = record {
-  format = None;
-  media = None;
-  size = None;
-  next_nonce = None;
-  max_msg = None;
-  max_obj = None;
-  mark = None;
-  version = None;
-}
 
 abbrev pub no_item : Item
 no_item = record { target = None; source = None; meta = None; value = None; more = false }
@@ -69,11 +56,8 @@ no_plain v = record { verb = v; id = 0; no_resp = false; meta = None; correlator
 abbrev pub no_alert : AlertCmd
 no_alert = record { id = 0; no_resp = false; code = 0; correlator = None; items = [] }
 
-abbrev pub no_block : Block
+abbrev pub no_block : {M : Type 0} → Block M
 no_block = record { id = 0; no_resp = false; meta = None; members = [] }
-
-abbrev pub no_sequence : SeqBlock
-no_sequence = record { id = 0; no_resp = false; meta = None; members = [] }
 
 abbrev pub no_status : StatusCmd
 no_status = record {
@@ -116,7 +100,7 @@ fresh_draft kinds.Plain e = draft.Plain (no_plain (verb_of e))
 fresh_draft kinds.Exec e = draft.Plain (no_plain (verb_of e))
 fresh_draft kinds.Alert e = draft.Alert no_alert
 fresh_draft kinds.Atomic e = draft.Atomic no_block
-fresh_draft kinds.Sequence e = draft.Sequence no_sequence
+fresh_draft kinds.Sequence e = draft.Sequence no_block
 fresh_draft kinds.Status e = draft.Status no_status
 fresh_draft kinds.Results e = draft.Results no_results
 fresh_draft kinds.Item e = draft.Item no_item

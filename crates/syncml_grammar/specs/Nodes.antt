@@ -14,7 +14,6 @@ use Rattle.syncml_types.specs.declared.command.Member.TheVariants as member
 use Rattle.syncml_types.specs.declared.command.Block.{Block}
 use Rattle.syncml_types.specs.declared.command.SeqMember.{SeqMember}
 use Rattle.syncml_types.specs.declared.command.SeqMember.TheVariants as seq_member
-use Rattle.syncml_types.specs.declared.command.SeqBlock.{SeqBlock}
 use Rattle.syncml_types.specs.declared.command.StatusCmd.{StatusCmd}
 use Rattle.syncml_types.specs.declared.command.ResultsCmd.{ResultsCmd}
 use Rattle.syncml_types.specs.declared.command.Command.{Command}
@@ -74,13 +73,9 @@ abbrev pub alert_with : AlertCmd → Draft → AlertCmd
 alert_with c (draft.Item item) = record c { items = c.items ++ item ∷ [] }
 alert_with c other = c
 
-abbrev pub atomic_with : Block → Draft → Block
-atomic_with b (draft.Meta meta) = record b { meta = Some meta }
-atomic_with b other = record b { members = joined b.members (as_member other) }
-
-abbrev pub sequence_with : SeqBlock → Draft → SeqBlock
-sequence_with b (draft.Meta meta) = record b { meta = Some meta }
-sequence_with b other = record b { members = joined b.members (as_seq_member other) }
+abbrev pub block_with : {M : Type 0} → (Draft → Option M) → Block M → Draft → Block M
+block_with one b (draft.Meta meta) = record b { meta = Some meta }
+block_with one b other = record b { members = joined b.members (one other) }
 
 abbrev pub status_with : StatusCmd → Draft → StatusCmd
 status_with c (draft.Chal meta) = record c { chal = Some meta }
@@ -117,8 +112,8 @@ with_node (draft.Header h) e child = draft.Header (header_with h e child)
 with_node (draft.Body b) e child = draft.Body (record b { commands = joined b.commands (as_command child) })
 with_node (draft.Plain c) e child = draft.Plain (plain_with c child)
 with_node (draft.Alert c) e child = draft.Alert (alert_with c child)
-with_node (draft.Atomic b) e child = draft.Atomic (atomic_with b child)
-with_node (draft.Sequence b) e child = draft.Sequence (sequence_with b child)
+with_node (draft.Atomic b) e child = draft.Atomic (block_with as_member b child)
+with_node (draft.Sequence b) e child = draft.Sequence (block_with as_seq_member b child)
 with_node (draft.Status c) e child = draft.Status (status_with c child)
 with_node (draft.Results c) e child = draft.Results (results_with c child)
 with_node (draft.Item item) e child = draft.Item (item_with item e child)

@@ -4,15 +4,14 @@ ghost use Rattle.syncml_grammar.specs.declared.draft.Draft.TheVariants as draft;
 ghost use Rattle.syncml_grammar.specs.Values.{of_draft};
 ghost use Rattle.syncml_grammar.specs.Reads.{parts_from, parts_in};
 ghost use Rattle.syncml_grammar.specs.Opens.{parts_of};
-ghost use Rattle.syncml_grammar.specs.Drafts.{no_meta, no_item, no_loc, no_header, no_message, no_body, no_cred};
-ghost use Rattle.syncml_grammar.specs.Drafts.{no_plain, no_alert, no_block, no_sequence, no_status, no_results};
-ghost use Rattle.syncml_grammar.specs.Drafts.{verb_of, fresh_draft};
+ghost use Rattle.syncml_grammar.specs.Drafts.{no_item, no_loc, no_header, no_message, no_body, no_cred, no_plain};
+ghost use Rattle.syncml_grammar.specs.Drafts.{no_alert, no_block, no_status, no_results, verb_of, fresh_draft};
 
 use crate::boxed::Boxed;
 use dm_base::{Bytes, List};
 use std::alloc::Global;
 use syncml_types::{
-    AlertCmd, Block, Command, Cred, Header, Item, Loc, Meta, Plain, ResultsCmd, SeqBlock,
+    AlertCmd, Block, Command, Cred, Header, Item, Loc, Member, Meta, Plain, ResultsCmd, SeqMember,
     StatusCmd, Verb,
 };
 use wbxml_tables::Element;
@@ -64,8 +63,8 @@ pub enum Draft {
     Body(Boxed<BodyDraft>),
     Plain(Boxed<Plain>),
     Alert(Boxed<AlertCmd>),
-    Atomic(Boxed<Block>),
-    Sequence(Boxed<SeqBlock>),
+    Atomic(Boxed<Block<Member>>),
+    Sequence(Boxed<Block<SeqMember>>),
     Status(Boxed<StatusCmd>),
     Results(Boxed<ResultsCmd>),
     Item(Boxed<Item>),
@@ -96,21 +95,6 @@ pub(crate) fn new_loc(alloc: Global) -> Loc
     Loc {
         uri: Bytes::new(alloc),
         name: None,
-    }
-}
-
-pub(crate) fn new_meta() -> Meta
-    ensures { result ≡ no_meta }
-{
-    Meta {
-        format: None,
-        media: None,
-        size: None,
-        next_nonce: None,
-        max_msg: None,
-        max_obj: None,
-        mark: None,
-        version: None,
     }
 }
 
@@ -210,21 +194,10 @@ pub(crate) fn new_alert(alloc: Global) -> AlertCmd
     }
 }
 
-pub(crate) fn new_block(alloc: Global) -> Block
+pub(crate) fn new_block<M>(alloc: Global) -> Block<M>
     ensures { result ≡ no_block }
 {
     Block {
-        id: 0,
-        no_resp: false,
-        meta: None,
-        members: List::new(alloc),
-    }
-}
-
-pub(crate) fn new_sequence(alloc: Global) -> SeqBlock
-    ensures { result ≡ no_sequence }
-{
-    SeqBlock {
         id: 0,
         no_resp: false,
         meta: None,

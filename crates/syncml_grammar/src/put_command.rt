@@ -8,15 +8,13 @@ ghost use Rattle.syncml_grammar.specs.declared.draft.Draft.TheVariants as drafts
 ghost use Rattle.syncml_grammar.specs.Nodes.{with_node, is_document};
 
 use crate::boxed::Boxed;
-use crate::draft::{Draft, new_alert, new_block, new_plain, new_results, new_sequence, new_status};
+use crate::draft::{Draft, new_alert, new_block, new_plain, new_results, new_status};
 use crate::few::push_few;
 use crate::spare::Spares;
 use dm_base::{List, Memory};
 use std::alloc::Global;
 use std::mem;
-use syncml_types::{
-    AlertCmd, Block, Command, Member, Plain, ResultsCmd, SeqBlock, SeqMember, StatusCmd,
-};
+use syncml_types::{AlertCmd, Block, Command, Member, Plain, ResultsCmd, SeqMember, StatusCmd};
 use wbxml_tables::Element;
 
 fn push_plain(alloc: Global, commands: &mut List<Command>, plain: &mut Plain) -> Result<(), Memory>
@@ -100,7 +98,7 @@ pub(crate) fn put_alert(
     }
 }
 
-fn take_block(alloc: Global, block: &mut Block) -> Block
+fn take_block<M: Drop>(alloc: Global, block: &mut Block<M>) -> Block<M>
     ensures { result ≡ block.old }
 {
     mem::replace(block, new_block(alloc))
@@ -110,7 +108,7 @@ pub(crate) fn put_atomic(
     spares: &mut Spares,
     draft: &mut Draft,
     element: Element,
-    mut ended: Boxed<Block>,
+    mut ended: Boxed<Block<Member>>,
 ) -> Result<(), Memory>
     requires { is_document draft.old ≡ false }
     ensures { OnOk result (draft.new ≡ with_node draft.old element (drafts.Atomic ended)) }
@@ -127,22 +125,16 @@ pub(crate) fn put_atomic(
     }
 }
 
-fn take_sequence(alloc: Global, block: &mut SeqBlock) -> SeqBlock
-    ensures { result ≡ block.old }
-{
-    mem::replace(block, new_sequence(alloc))
-}
-
 pub(crate) fn put_sequence(
     spares: &mut Spares,
     draft: &mut Draft,
     element: Element,
-    mut ended: Boxed<SeqBlock>,
+    mut ended: Boxed<Block<SeqMember>>,
 ) -> Result<(), Memory>
     requires { is_document draft.old ≡ false }
     ensures { OnOk result (draft.new ≡ with_node draft.old element (drafts.Sequence ended)) }
 {
-    let block = take_sequence(spares.alloc, &mut ended.inner);
+    let block = take_block(spares.alloc, &mut ended.inner);
     spares.sequence = Some(ended);
     match draft {
         Draft::Body(body) => body.inner.commands.push(Command::Sequence(block)),

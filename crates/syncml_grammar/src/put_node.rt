@@ -6,7 +6,7 @@ ghost use Rattle.syncml_grammar.specs.declared.draft.Draft.TheVariants as drafts
 ghost use Rattle.syncml_grammar.specs.Nodes.{header_with_loc, item_with_loc, with_node, is_document};
 
 use crate::boxed::Boxed;
-use crate::draft::{BodyDraft, Draft, new_item, new_loc, new_meta};
+use crate::draft::{BodyDraft, Draft, new_item, new_loc};
 use crate::few::push_few;
 use crate::put_command::{put_alert, put_atomic, put_plain, put_results, put_sequence, put_status};
 use crate::spare::Spares;
@@ -122,7 +122,7 @@ fn put_cred(draft: &mut Draft, element: Element, cred: Boxed<Cred>)
 fn set_meta(slot: &mut Option<Meta>, meta: &mut Meta)
     ensures { slot.new ≡ Some meta.old }
 {
-    *slot = Some(mem::replace(meta, new_meta()));
+    *slot = Some(mem::replace(meta, Meta::empty()));
 }
 
 fn put_chal(spares: &mut Spares, draft: &mut Draft, element: Element, mut meta: Boxed<Meta>)

@@ -2,18 +2,19 @@
 // written again. The first box of a kind is filled in a function of its own, since each function pays at its entry for
 // its largest locals.
 ghost use Rattle.std.specs.Prelude.{◌≡◌, IfOk, IsTrue};
-ghost use Rattle.syncml_grammar.specs.Drafts.{no_message, no_body, no_loc, no_header, no_alert, no_block, no_sequence};
-ghost use Rattle.syncml_grammar.specs.Drafts.{no_cred, no_item, no_meta, no_plain, no_status, no_results};
+ghost use Rattle.syncml_grammar.specs.Drafts.{no_message, no_body, no_loc, no_header, no_alert, no_block};
+ghost use Rattle.syncml_grammar.specs.Drafts.{no_cred, no_item, no_plain, no_status, no_results};
+ghost use Rattle.syncml_types.specs.Message.{no_meta};
 
 use crate::boxed::Boxed;
 use crate::draft::{
     BodyDraft, MessageDraft, new_alert, new_block, new_body, new_cred, new_header, new_item,
-    new_loc, new_message, new_meta, new_plain, new_results, new_sequence, new_status,
+    new_loc, new_message, new_plain, new_results, new_status,
 };
 use dm_base::Memory;
 use std::alloc::Global;
 use syncml_types::{
-    AlertCmd, Block, Cred, Header, Item, Loc, Meta, Plain, ResultsCmd, SeqBlock, StatusCmd, Verb,
+    AlertCmd, Block, Cred, Header, Item, Loc, Meta, Plain, ResultsCmd, StatusCmd, Verb,
 };
 
 fn is_new_loc(loc: &Loc) -> bool
@@ -100,7 +101,7 @@ fn become_loc(loc: &mut Loc, alloc: Global)
 fn become_meta(meta: &mut Meta)
     ensures { meta.new ≡ no_meta }
 {
-    *meta = new_meta();
+    *meta = Meta::empty();
 }
 
 fn become_item(item: &mut Item)
@@ -168,24 +169,14 @@ pub(crate) fn renewed_alert(
     filled(alloc, kept, new_alert(alloc))
 }
 
-/// A new Atomic in the box that is kept, or in a new one.
-pub(crate) fn renewed_atomic(
+/// A new container in the box that is kept, or in a new one.
+pub(crate) fn renewed_block<M: Drop>(
     alloc: Global,
-    kept: Option<Boxed<Block>>,
-) -> Result<Boxed<Block>, Memory>
+    kept: Option<Boxed<Block<M>>>,
+) -> Result<Boxed<Block<M>>, Memory>
     ensures { IfOk result (λ b. b ≡ no_block) }
 {
     filled(alloc, kept, new_block(alloc))
-}
-
-/// A new Sequence in the box that is kept, or in a new one.
-pub(crate) fn renewed_sequence(
-    alloc: Global,
-    kept: Option<Boxed<SeqBlock>>,
-) -> Result<Boxed<SeqBlock>, Memory>
-    ensures { IfOk result (λ b. b ≡ no_sequence) }
-{
-    filled(alloc, kept, new_sequence(alloc))
 }
 
 /// A new Status in the box that is kept, or in a new one.
@@ -207,7 +198,7 @@ pub(crate) fn first_cred(alloc: Global) -> Result<Boxed<Cred>, Memory>
 fn first_meta(alloc: Global) -> Result<Boxed<Meta>, Memory>
     ensures { IfOk result (λ b. b ≡ no_meta) }
 {
-    Boxed::new(alloc, new_meta())
+    Boxed::new(alloc, Meta::empty())
 }
 
 fn first_item(alloc: Global) -> Result<Boxed<Item>, Memory>

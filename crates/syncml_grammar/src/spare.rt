@@ -5,14 +5,15 @@ ghost use Rattle.syncml_grammar.specs.Drafts.{fresh_draft};
 use crate::boxed::Boxed;
 use crate::draft::{Draft, verb_named};
 use crate::renew::{
-    first_body, first_cred, first_header, first_message, renewed_alert, renewed_atomic,
-    renewed_item, renewed_loc, renewed_meta, renewed_plain, renewed_results, renewed_sequence,
-    renewed_status,
+    first_body, first_cred, first_header, first_message, renewed_alert, renewed_block,
+    renewed_item, renewed_loc, renewed_meta, renewed_plain, renewed_results, renewed_status,
 };
 use dm_base::{List, Memory};
 use std::alloc::Global;
 use syncml_shape::Kind;
-use syncml_types::{AlertCmd, Block, Item, Loc, Meta, Plain, ResultsCmd, SeqBlock, StatusCmd};
+use syncml_types::{
+    AlertCmd, Block, Item, Loc, Member, Meta, Plain, ResultsCmd, SeqMember, StatusCmd,
+};
 use wbxml_tables::Element;
 
 /// The boxes of elements that have ended, with anything in them. No more elements of a kind are open at once than have
@@ -22,8 +23,8 @@ pub(crate) struct Spares {
     pub(crate) alloc: Global,
     pub(crate) plain: Option<Boxed<Plain>>,
     pub(crate) alert: Option<Boxed<AlertCmd>>,
-    pub(crate) atomic: Option<Boxed<Block>>,
-    pub(crate) sequence: Option<Boxed<SeqBlock>>,
+    pub(crate) atomic: Option<Boxed<Block<Member>>>,
+    pub(crate) sequence: Option<Boxed<Block<SeqMember>>>,
     pub(crate) status: Option<Boxed<StatusCmd>>,
     pub(crate) results: Option<Boxed<ResultsCmd>>,
     pub(crate) item: Option<Boxed<Item>>,
@@ -70,8 +71,8 @@ impl Spares {
                 Draft::Plain(renewed_plain(alloc, self.plain.take(), verb_named(element))?)
             }
             Kind::Alert => Draft::Alert(renewed_alert(alloc, self.alert.take())?),
-            Kind::Atomic => Draft::Atomic(renewed_atomic(alloc, self.atomic.take())?),
-            Kind::Sequence => Draft::Sequence(renewed_sequence(alloc, self.sequence.take())?),
+            Kind::Atomic => Draft::Atomic(renewed_block(alloc, self.atomic.take())?),
+            Kind::Sequence => Draft::Sequence(renewed_block(alloc, self.sequence.take())?),
             Kind::Status => Draft::Status(renewed_status(alloc, self.status.take())?),
             Kind::Results => Draft::Results(renewed_results(alloc, self.results.take())?),
             Kind::Item => Draft::Item(renewed_item(alloc, self.item.take())?),

@@ -212,6 +212,7 @@ impl Model for Stack {
 }
 
 impl Stack {
+    /// The document alone.
     pub fn new(alloc: Global) -> Stack
         ensures { result ≡ root ∷ [] }
     {
@@ -222,6 +223,7 @@ impl Stack {
         }
     }
 
+    /// Takes a tag.
     pub fn tag(&mut self, element: Element, content: bool) -> Result<(), Stop>
         ensures { GivesFrames result self.new (step self.old (Tag element content)) }
     {
@@ -231,6 +233,7 @@ impl Stack {
         }
     }
 
+    /// Takes an END.
     pub fn end(&mut self) -> Result<(), Stop>
         ensures { GivesFrames result self.new (step self.old End) }
     {

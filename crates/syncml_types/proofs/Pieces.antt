@@ -23,7 +23,6 @@ use Rattle.syncml_types.specs.declared.command.Member.TheVariants as member
 use Rattle.syncml_types.specs.declared.command.Block.{Block}
 use Rattle.syncml_types.specs.declared.command.SeqMember.{SeqMember}
 use Rattle.syncml_types.specs.declared.command.SeqMember.TheVariants as seq_member
-use Rattle.syncml_types.specs.declared.command.SeqBlock.{SeqBlock}
 use Rattle.syncml_types.specs.declared.command.StatusCmd.{StatusCmd}
 use Rattle.syncml_types.specs.declared.command.ResultsCmd.{ResultsCmd}
 use Rattle.syncml_types.specs.declared.command.Command.{Command}
@@ -197,7 +196,7 @@ members : (ms : List Member) → AreShort (members_tokens ms) → list_all (memb
 unfolding members_tokens
 members ms h = each member_tokens (member_texts is_short) member_pieces ms h
 
-atomic : (b : Block) → AreShort (atomic_tokens b) → atomic_texts is_short b ≡ true
+atomic : (b : Block Member) → AreShort (atomic_tokens b) → atomic_texts is_short b ≡ true
 unfolding atomic_tokens atomic_texts
 atomic b h = inside _ (join (back _ (option_meta b.meta)) (members b.members)) h
 
@@ -210,7 +209,7 @@ seq_members : (ms : List SeqMember) → AreShort (seq_members_tokens ms) → lis
 unfolding seq_members_tokens
 seq_members ms h = each seq_member_tokens (seq_member_texts is_short) seq_member_pieces ms h
 
-sequence : (b : SeqBlock) → AreShort (sequence_tokens b) → sequence_texts is_short b ≡ true
+sequence : (b : Block SeqMember) → AreShort (sequence_tokens b) → sequence_texts is_short b ≡ true
 unfolding sequence_tokens sequence_texts
 sequence b h = inside _ (join (back _ (option_meta b.meta)) (seq_members b.members)) h
 
@@ -289,7 +288,7 @@ members_value : (ms : List Member) → AreShort (members_tokens ms) → list_all
 unfolding members_tokens
 members_value ms h = each member_tokens (member_data is_short) member_value ms h
 
-atomic_value : (b : Block) → AreShort (atomic_tokens b) → list_all (member_data is_short) b.members ≡ true
+atomic_value : (b : Block Member) → AreShort (atomic_tokens b) → list_all (member_data is_short) b.members ≡ true
 unfolding atomic_tokens
 atomic_value b h = inside _ (back _ (members_value b.members)) h
 
@@ -298,7 +297,8 @@ unfolding seq_member_tokens seq_member_data
 seq_member_value (seq_member.Single m) h = member_value m h
 seq_member_value (seq_member.Atomic b) h = atomic_value b h
 
-sequence_value : (b : SeqBlock) → AreShort (sequence_tokens b) → list_all (seq_member_data is_short) b.members ≡ true
+sequence_value : (b : Block SeqMember) → AreShort (sequence_tokens b)
+    → list_all (seq_member_data is_short) b.members ≡ true
 unfolding sequence_tokens seq_members_tokens
 sequence_value b h = inside _ (back _ (each seq_member_tokens (seq_member_data is_short) seq_member_value b.members)) h
 

@@ -32,7 +32,6 @@ use Rattle.syncml_types.specs.declared.command.Member.TheVariants as member
 use Rattle.syncml_types.specs.declared.command.Block.{Block}
 use Rattle.syncml_types.specs.declared.command.SeqMember.{SeqMember}
 use Rattle.syncml_types.specs.declared.command.SeqMember.TheVariants as seq_member
-use Rattle.syncml_types.specs.declared.command.SeqBlock.{SeqBlock}
 use Rattle.syncml_types.specs.declared.command.StatusCmd.{StatusCmd}
 use Rattle.syncml_types.specs.declared.command.ResultsCmd.{ResultsCmd}
 use Rattle.syncml_types.specs.declared.command.Command.{Command}
@@ -179,13 +178,14 @@ member_tokens (member.Alert c) = alert_tokens c
 unfoldable pub members_tokens : List Member → List Token
 members_tokens ms = flat_map member_tokens ms
 
-unfoldable pub atomic_tokens : Block → List Token
-atomic_tokens b =
-    parent_tokens EAtomic
-    (number_tokens ECmdID b.id
-    ++ flag_tokens ENoResp b.no_resp
-    ++ optional meta_tokens b.meta
-    ++ members_tokens b.members)
+-- a container with the tokens of its members
+abbrev pub block_tokens : {M : Type 0} → Element → Block M → List Token → List Token
+block_tokens e b members =
+    parent_tokens e
+    (number_tokens ECmdID b.id ++ flag_tokens ENoResp b.no_resp ++ optional meta_tokens b.meta ++ members)
+
+unfoldable pub atomic_tokens : Block Member → List Token
+atomic_tokens b = block_tokens EAtomic b (members_tokens b.members)
 
 unfoldable pub seq_member_tokens : SeqMember → List Token
 seq_member_tokens (seq_member.Single m) = member_tokens m
@@ -194,13 +194,8 @@ seq_member_tokens (seq_member.Atomic b) = atomic_tokens b
 unfoldable pub seq_members_tokens : List SeqMember → List Token
 seq_members_tokens ms = flat_map seq_member_tokens ms
 
-unfoldable pub sequence_tokens : SeqBlock → List Token
-sequence_tokens b =
-    parent_tokens ESequence
-    (number_tokens ECmdID b.id
-    ++ flag_tokens ENoResp b.no_resp
-    ++ optional meta_tokens b.meta
-    ++ seq_members_tokens b.members)
+unfoldable pub sequence_tokens : Block SeqMember → List Token
+sequence_tokens b = block_tokens ESequence b (seq_members_tokens b.members)
 
 unfoldable pub status_tokens : StatusCmd → List Token
 status_tokens c =
@@ -259,6 +254,6 @@ canonical m = prologue ++ spelled 0 (message_tokens m)
 -- ---- how it is given
 
 -- a container up to its first member
-abbrev pub block_head : Element → ℕ → Bool → Option Meta → List Token
-block_head e id no_resp meta =
-    Tag e true ∷ number_tokens ECmdID id ++ flag_tokens ENoResp no_resp ++ optional meta_tokens meta
+abbrev pub block_head : {M : Type 0} → Element → ℕ → Block M → List Token
+block_head e id b =
+    Tag e true ∷ number_tokens ECmdID id ++ flag_tokens ENoResp b.no_resp ++ optional meta_tokens b.meta

@@ -18,7 +18,6 @@ use Rattle.syncml_types.specs.declared.command.Member.TheVariants as member
 use Rattle.syncml_types.specs.declared.command.Block.{Block}
 use Rattle.syncml_types.specs.declared.command.SeqMember.{SeqMember}
 use Rattle.syncml_types.specs.declared.command.SeqMember.TheVariants as seq_member
-use Rattle.syncml_types.specs.declared.command.SeqBlock.{SeqBlock}
 use Rattle.syncml_types.specs.declared.command.StatusCmd.{StatusCmd}
 use Rattle.syncml_types.specs.declared.command.ResultsCmd.{ResultsCmd}
 use Rattle.syncml_types.specs.declared.command.Command.{Command}
@@ -74,14 +73,14 @@ unfoldable pub member_texts : (List ℕ → Bool) → Member → Bool
 member_texts test (member.One c) = plain_texts test c
 member_texts test (member.Alert c) = alert_texts test c
 
-unfoldable pub atomic_texts : (List ℕ → Bool) → Block → Bool
+unfoldable pub atomic_texts : (List ℕ → Bool) → Block Member → Bool
 atomic_texts test b = all_of (meta_texts test) b.meta && list_all (member_texts test) b.members
 
 unfoldable pub seq_member_texts : (List ℕ → Bool) → SeqMember → Bool
 seq_member_texts test (seq_member.Single m) = member_texts test m
 seq_member_texts test (seq_member.Atomic b) = atomic_texts test b
 
-unfoldable pub sequence_texts : (List ℕ → Bool) → SeqBlock → Bool
+unfoldable pub sequence_texts : (List ℕ → Bool) → Block SeqMember → Bool
 sequence_texts test b = all_of (meta_texts test) b.meta && list_all (seq_member_texts test) b.members
 
 unfoldable pub status_texts : (List ℕ → Bool) → StatusCmd → Bool
@@ -146,7 +145,7 @@ unfoldable pub member_numbers : Member → Bool
 member_numbers (member.One c) = is_number c.id
 member_numbers (member.Alert c) = is_number c.id
 
-unfoldable pub atomic_numbers : Block → Bool
+unfoldable pub atomic_numbers : Block Member → Bool
 atomic_numbers b = is_number b.id && list_all member_numbers b.members
 
 unfoldable pub seq_member_numbers : SeqMember → Bool
@@ -181,7 +180,7 @@ unfoldable pub member_filled : Member → Bool
 member_filled (member.One c) = plain_filled c
 member_filled (member.Alert c) = true
 
-unfoldable pub atomic_filled : Block → Bool
+unfoldable pub atomic_filled : Block Member → Bool
 atomic_filled b = is_filled b.members && list_all member_filled b.members
 
 unfoldable pub seq_member_filled : SeqMember → Bool

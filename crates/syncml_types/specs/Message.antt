@@ -1,7 +1,8 @@
 -- A message by its parts, and what can be spelled.
-use Rattle.std.specs.Prelude.{ℕ, ◌≤◌, length, Bool, List, IfSome}
+use Rattle.std.specs.Prelude.{ℕ, ◌≤◌, length, Bool, List, None, IfSome}
 use Rattle.std.specs.List.{AllByRecursion}
 use Rattle.dm_base.specs.Limits.{text_limit}
+use Rattle.syncml_types.specs.declared.values.Meta.{Meta}
 use Rattle.syncml_types.specs.declared.values.Item.{Item}
 use Rattle.syncml_types.specs.declared.values.Header.{Header}
 use Rattle.syncml_types.specs.declared.values.Cred.{Cred}
@@ -11,6 +12,19 @@ use Rattle.syncml_types.specs.declared.command.SeqMember.{SeqMember}
 use Rattle.syncml_types.specs.declared.command.SeqMember.TheVariants as seq_member
 use Rattle.syncml_types.specs.declared.command.Command.{Command}
 use Rattle.syncml_types.specs.declared.command.Command.TheVariants as command
+
+-- meta information that tells nothing
+abbrev pub no_meta : Meta
+no_meta = record {
+  format = None;
+  media = None;
+  size = None;
+  next_nonce = None;
+  max_msg = None;
+  max_obj = None;
+  mark = None;
+  version = None;
+}
 
 pub record Parts : Type 0 where
   pub header : Header

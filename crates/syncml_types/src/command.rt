@@ -41,29 +41,20 @@ pub enum Member {
     Alert(AlertCmd),
 }
 
-/// An Atomic. Its Meta isn't handed to its members.
+/// A container: an Atomic of `Member`s, or a Sequence of `SeqMember`s. Its Meta isn't handed to its members.
 #[derive(Drop)]
-pub struct Block {
+pub struct Block<M> {
     pub id: u32,
     pub no_resp: bool,
     pub meta: Option<Meta>,
-    pub members: List<Member>,
+    pub members: List<M>,
 }
 
 /// A member of a Sequence.
 #[derive(Drop)]
 pub enum SeqMember {
     Single(Member),
-    Atomic(Block),
-}
-
-/// A Sequence. Its Meta isn't handed to its members.
-#[derive(Drop)]
-pub struct SeqBlock {
-    pub id: u32,
-    pub no_resp: bool,
-    pub meta: Option<Meta>,
-    pub members: List<SeqMember>,
+    Atomic(Block<Member>),
 }
 
 /// The answer to the command `cmd_ref` of the message `msg_ref`; 0 stands for that message's header.
@@ -97,8 +88,8 @@ pub struct ResultsCmd {
 pub enum Command {
     Plain(Plain),
     Alert(AlertCmd),
-    Atomic(Block),
-    Sequence(SeqBlock),
+    Atomic(Block<Member>),
+    Sequence(Block<SeqMember>),
     Status(StatusCmd),
     Results(ResultsCmd),
 }

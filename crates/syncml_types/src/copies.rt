@@ -1,9 +1,7 @@
 // Copies, each equal to what it copies.
 ghost use Rattle.std.specs.Prelude.{◌≡◌, IfOk};
 
-use crate::command::{
-    AlertCmd, Block, Command, Member, Plain, ResultsCmd, SeqBlock, SeqMember, StatusCmd,
-};
+use crate::command::{AlertCmd, Block, Command, Member, Plain, ResultsCmd, SeqMember, StatusCmd};
 use crate::values::{Cred, Header, Item, Loc, Meta};
 use dm_base::{Bytes, List, Memory};
 use std::alloc::Global;
@@ -177,15 +175,26 @@ fn copy_members(alloc: Global, members: &List<Member>) -> Result<List<Member>, M
     Ok(copied)
 }
 
-fn copy_atomic(alloc: Global, block: &Block) -> Result<Block, Memory>
-    ensures { IfOk result (λ copied. copied ≡ block.now) }
+// A container with these members, equal to another in all else.
+fn copy_block<M: Drop>(
+    alloc: Global,
+    block: &Block<M>,
+    members: List<M>,
+) -> Result<Block<M>, Memory>
+    ensures { IfOk result (λ copied. copied ≡ record block.now { members = members }) }
 {
     Ok(Block {
         id: block.id,
         no_resp: block.no_resp,
         meta: copy_meta(alloc, &block.meta)?,
-        members: copy_members(alloc, &block.members)?,
+        members,
     })
+}
+
+fn copy_atomic(alloc: Global, block: &Block<Member>) -> Result<Block<Member>, Memory>
+    ensures { IfOk result (λ copied. copied ≡ block.now) }
+{
+    copy_block(alloc, block, copy_members(alloc, &block.members)?)
 }
 
 fn copy_seq_member(alloc: Global, member: &SeqMember) -> Result<SeqMember, Memory>
@@ -207,15 +216,10 @@ fn copy_seq_members(alloc: Global, members: &List<SeqMember>) -> Result<List<Seq
     Ok(copied)
 }
 
-fn copy_sequence(alloc: Global, block: &SeqBlock) -> Result<SeqBlock, Memory>
+fn copy_sequence(alloc: Global, block: &Block<SeqMember>) -> Result<Block<SeqMember>, Memory>
     ensures { IfOk result (λ copied. copied ≡ block.now) }
 {
-    Ok(SeqBlock {
-        id: block.id,
-        no_resp: block.no_resp,
-        meta: copy_meta(alloc, &block.meta)?,
-        members: copy_seq_members(alloc, &block.members)?,
-    })
+    copy_block(alloc, block, copy_seq_members(alloc, &block.members)?)
 }
 
 fn copy_status(alloc: Global, command: &StatusCmd) -> Result<StatusCmd, Memory>

@@ -5,7 +5,7 @@ ghost use Rattle.std.specs.List.{list_all};
 ghost use Rattle.syncml_types.specs.Fitness as Spec;
 ghost use Rattle.syncml_types.specs.Fitness.{is_exec, is_filled};
 
-use crate::command::{Block, Command, Member, Plain, SeqBlock, SeqMember, Verb};
+use crate::command::{Block, Command, Member, Plain, SeqMember, Verb};
 
 fn is_exec_verb(verb: Verb) -> bool
     ensures { result ≡ is_exec verb }
@@ -44,7 +44,7 @@ fn members_filled(members: &[Member]) -> bool
 }
 
 #[tactic(auto, unfolding(crate::specs::Fitness::atomic_filled))]
-fn atomic_filled(block: &Block) -> bool
+fn atomic_filled(block: &Block<Member>) -> bool
     ensures { result ≡ Spec.atomic_filled block.now }
 {
     !block.members.is_empty() && members_filled(block.members.as_slice())
@@ -66,7 +66,7 @@ fn seq_members_filled(members: &[SeqMember]) -> bool
     members.iter().all(|member| seq_member_filled(member))
 }
 
-fn sequence_filled(block: &SeqBlock) -> bool
+fn sequence_filled(block: &Block<SeqMember>) -> bool
     ensures { result ≡ (is_filled block.now.members && list_all Spec.seq_member_filled block.now.members) }
 {
     !block.members.is_empty() && seq_members_filled(block.members.as_slice())

@@ -4,7 +4,7 @@ ghost use Rattle.std.specs.List.{list_all};
 ghost use Rattle.syncml_types.specs.Fitness as Spec;
 ghost use Rattle.syncml_types.specs.Fitness.{is_number, all_of, message_numbers};
 
-use crate::command::{Block, Command, Member, SeqBlock, SeqMember};
+use crate::command::{Block, Command, Member, SeqMember};
 use crate::values::Header;
 
 #[tactic(auto, unfolding(crate::specs::Fitness::member_numbers))]
@@ -24,7 +24,7 @@ fn members_numbers(members: &[Member]) -> bool
 }
 
 #[tactic(auto, unfolding(crate::specs::Fitness::atomic_numbers))]
-fn atomic_numbers(block: &Block) -> bool
+fn atomic_numbers(block: &Block<Member>) -> bool
     ensures { result ≡ Spec.atomic_numbers block.now }
 {
     block.id != 0 && members_numbers(block.members.as_slice())
@@ -46,7 +46,7 @@ fn seq_members_numbers(members: &[SeqMember]) -> bool
     members.iter().all(|member| seq_member_numbers(member))
 }
 
-fn sequence_numbers(block: &SeqBlock) -> bool
+fn sequence_numbers(block: &Block<SeqMember>) -> bool
     ensures { result ≡ (is_number block.now.id && list_all Spec.seq_member_numbers block.now.members) }
 {
     block.id != 0 && seq_members_numbers(block.members.as_slice())

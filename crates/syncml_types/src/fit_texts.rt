@@ -5,9 +5,7 @@ ghost use Rattle.syncml_types.specs.Canonical.{is_text};
 ghost use Rattle.syncml_types.specs.Fitness as Spec;
 ghost use Rattle.syncml_types.specs.Fitness.{all_of, message_texts};
 
-use crate::command::{
-    AlertCmd, Block, Command, Member, Plain, ResultsCmd, SeqBlock, SeqMember, StatusCmd,
-};
+use crate::command::{AlertCmd, Block, Command, Member, Plain, ResultsCmd, SeqMember, StatusCmd};
 use crate::put_value::is_plain_text;
 use crate::values::{Cred, Header, Item, Loc, Meta};
 use dm_base::{Bytes, List};
@@ -136,7 +134,7 @@ fn members_texts(members: &List<Member>) -> bool
 }
 
 #[tactic(auto, unfolding(crate::specs::Fitness::atomic_texts))]
-fn atomic_texts(block: &Block) -> bool
+fn atomic_texts(block: &Block<Member>) -> bool
     ensures { result ≡ Spec.atomic_texts is_text block.now }
 {
     option_meta_texts(&block.meta) && members_texts(&block.members)
@@ -162,7 +160,7 @@ fn seq_members_texts(members: &List<SeqMember>) -> bool
 }
 
 #[tactic(auto, unfolding(crate::specs::Fitness::sequence_texts))]
-fn sequence_texts(block: &SeqBlock) -> bool
+fn sequence_texts(block: &Block<SeqMember>) -> bool
     ensures { result ≡ Spec.sequence_texts is_text block.now }
 {
     option_meta_texts(&block.meta) && seq_members_texts(&block.members)

@@ -20,7 +20,7 @@ pub mod put_whole;
 pub mod values;
 
 pub use command::{
-    AlertCmd, Block, Command, Member, Plain, ResultsCmd, SeqBlock, SeqMember, StatusCmd, Step, Verb,
+    AlertCmd, Block, Command, Member, Plain, ResultsCmd, SeqMember, StatusCmd, Step, Verb,
 };
 pub use lengths::{command_length, head_length, length, numbered_length};
 pub use message::{Message, Unfit};

@@ -64,6 +64,7 @@ impl Message {
         Message { header, body, last }
     }
 
+    /// The header.
     #[tactic(auto, using(crate::proofs::Fitting::spellable))]
     pub fn header(&self) -> &Header
         ensures value { result.now ≡ self.now.header }
@@ -73,6 +74,7 @@ impl Message {
         &self.header
     }
 
+    /// The commands.
     #[tactic(auto, using(crate::proofs::Fitting::spellable))]
     pub fn body(&self) -> &List<Command>
         ensures value { result.now ≡ self.now.body }
@@ -82,6 +84,7 @@ impl Message {
         &self.body
     }
 
+    /// Whether no message of its package follows.
     pub fn last(&self) -> bool
         ensures { result ≡ self.now.last }
     {

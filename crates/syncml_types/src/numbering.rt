@@ -5,7 +5,7 @@ ghost use Rattle.syncml_types.specs.Numbering.{with_number, numbered_members, nu
 ghost use Rattle.syncml_types.specs.Numbering.{numbered_seq_members, ids_in_seq_member, ids_in_seq_members, ids_in};
 ghost use Rattle.syncml_types.specs.Numbering.{with_numbers, first_numbered, first_seq_numbered};
 
-use crate::command::{Block, Command, Member, SeqBlock, SeqMember};
+use crate::command::{Block, Command, Member, SeqMember};
 use dm_base::List;
 
 fn set_member_id(member: &mut Member, id: u32)
@@ -40,7 +40,7 @@ fn set_members_ids(members: &mut List<Member>, first: u32)
 }
 
 // It answers how many CmdIDs the Atomic has.
-fn set_atomic_ids(block: &mut Block, first: u32) -> u32
+fn set_atomic_ids(block: &mut Block<Member>, first: u32) -> u32
     requires { first + (1 + length block.old.members) < 2 ^ 32 }
     ensures block { block.new
         ≡ record block.old { id = first; members = numbered_members (first + 1) block.old.members } }
@@ -93,7 +93,7 @@ fn set_seq_members_ids(members: &mut List<SeqMember>, first: u32) -> u32
 }
 
 // It answers the number after the Sequence's last.
-fn set_sequence_ids(block: &mut SeqBlock, first: u32) -> u32
+fn set_sequence_ids(block: &mut Block<SeqMember>, first: u32) -> u32
     requires { first + (1 + ids_in_seq_members block.old.members) < 2 ^ 32 }
     ensures block { block.new
         ≡ record block.old { id = first; members = numbered_seq_members (first + 1) block.old.members } }

@@ -7,10 +7,10 @@ ghost use Rattle.syncml_types.specs.Canonical.{block_head, verb_element, plain_t
 ghost use Rattle.syncml_types.specs.Canonical.{members_tokens, atomic_tokens, seq_member_tokens, seq_members_tokens};
 ghost use Rattle.syncml_types.specs.Canonical.{sequence_tokens, status_tokens, results_tokens, command_tokens};
 ghost use Rattle.syncml_types.specs.Canonical.{commands_tokens, number_tokens, optional};
-ghost use Rattle.wbxml_tables.specs.declared.Element.TheVariants.{EAtomic, EMsgRef, ESequence};
+ghost use Rattle.wbxml_tables.specs.declared.Element.TheVariants.{EMsgRef};
 
 use crate::command::{
-    AlertCmd, Block, Command, Member, Plain, ResultsCmd, SeqBlock, SeqMember, StatusCmd, Verb,
+    AlertCmd, Block, Command, Member, Plain, ResultsCmd, SeqMember, StatusCmd, Verb,
 };
 use crate::put_value::{
     put_flag, put_items, put_number, put_option_chal, put_option_meta, put_option_text, put_text,
@@ -87,13 +87,17 @@ fn put_members<W: Writer>(w: &mut W, members: &List<Member>) -> Result<(), W::Er
     Ok(())
 }
 
-/// Gives an Atomic with a CmdID, up to its first member.
+/// Gives a container with a CmdID, up to its first member.
 #[tactic(auto, using(crate::proofs::Given::given_append))]
-pub(crate) fn put_atomic_head<W: Writer>(w: &mut W, block: &Block, id: u32) -> Result<(), W::Error>
-    ensures { OnOk result (w.new ≡ given W.after w.old
-        (block_head EAtomic id block.now.no_resp block.now.meta)) }
+pub(crate) fn put_block_head<W: Writer, M>(
+    w: &mut W,
+    element: Element,
+    block: &Block<M>,
+    id: u32,
+) -> Result<(), W::Error>
+    ensures { OnOk result (w.new ≡ given W.after w.old (block_head element id block.now)) }
 {
-    w.tag(Element::EAtomic, true)?;
+    w.tag(element, true)?;
     put_number(w, Element::ECmdID, id as u64)?;
     put_flag(w, Element::ENoResp, block.no_resp)?;
     put_option_meta(w, &block.meta)
@@ -101,11 +105,11 @@ pub(crate) fn put_atomic_head<W: Writer>(w: &mut W, block: &Block, id: u32) -> R
 
 /// Gives an Atomic.
 #[tactic(auto, using(crate::proofs::Given::given_append), unfolding(crate::specs::Canonical::atomic_tokens))]
-pub fn put_atomic<W: Writer>(w: &mut W, block: &Block) -> Result<(), W::Error>
+pub fn put_atomic<W: Writer>(w: &mut W, block: &Block<Member>) -> Result<(), W::Error>
     requires { AllByRecursion HasShortMember block.now.members }
     ensures { OnOk result (w.new ≡ given W.after w.old (atomic_tokens block.now)) }
 {
-    put_atomic_head(w, block, block.id)?;
+    put_block_head(w, Element::EAtomic, block, block.id)?;
     put_members(w, &block.members)?;
     w.end()
 }
@@ -134,29 +138,13 @@ fn put_seq_members<W: Writer>(w: &mut W, members: &List<SeqMember>) -> Result<()
     Ok(())
 }
 
-/// Gives a Sequence with a CmdID, up to its first member.
-#[tactic(auto, using(crate::proofs::Given::given_append))]
-pub(crate) fn put_sequence_head<W: Writer>(
-    w: &mut W,
-    block: &SeqBlock,
-    id: u32,
-) -> Result<(), W::Error>
-    ensures { OnOk result (w.new ≡ given W.after w.old
-        (block_head ESequence id block.now.no_resp block.now.meta)) }
-{
-    w.tag(Element::ESequence, true)?;
-    put_number(w, Element::ECmdID, id as u64)?;
-    put_flag(w, Element::ENoResp, block.no_resp)?;
-    put_option_meta(w, &block.meta)
-}
-
 /// Gives a Sequence.
 #[tactic(auto, using(crate::proofs::Given::given_append), unfolding(crate::specs::Canonical::sequence_tokens))]
-pub fn put_sequence<W: Writer>(w: &mut W, block: &SeqBlock) -> Result<(), W::Error>
+pub fn put_sequence<W: Writer>(w: &mut W, block: &Block<SeqMember>) -> Result<(), W::Error>
     requires { AllByRecursion HasShortSeqMember block.now.members }
     ensures { OnOk result (w.new ≡ given W.after w.old (sequence_tokens block.now)) }
 {
-    put_sequence_head(w, block, block.id)?;
+    put_block_head(w, Element::ESequence, block, block.id)?;
     put_seq_members(w, &block.members)?;
     w.end()
 }

@@ -9,11 +9,12 @@ ghost use Rattle.syncml_types.specs.Numbering as Spec;
 ghost use Rattle.syncml_types.specs.Numbering.{with_number, numbered_members, numbered_seq_member};
 ghost use Rattle.syncml_types.specs.Numbering.{numbered_seq_members, ids_in_seq_members, ids_in, with_numbers};
 
-use crate::command::{Block, Command, Member, SeqBlock, SeqMember};
+use crate::command::{Block, Command, Member, SeqMember};
 use crate::put_command::{
-    put_alert_as, put_atomic_head, put_plain_as, put_results_as, put_sequence_head, put_status_as,
+    put_alert_as, put_block_head, put_plain_as, put_results_as, put_status_as,
 };
 use dm_base::List;
+use wbxml_tables::Element;
 use wbxml_tokens::Writer;
 
 #[tactic(auto, unfolding(crate::specs::Canonical::member_tokens))]
@@ -46,13 +47,13 @@ fn put_members_from<W: Writer>(
 }
 
 #[tactic(auto, using(crate::proofs::Given::given_append), unfolding(crate::specs::Canonical::atomic_tokens))]
-fn put_atomic_from<W: Writer>(w: &mut W, block: &Block, first: u32) -> Result<(), W::Error>
+fn put_atomic_from<W: Writer>(w: &mut W, block: &Block<Member>, first: u32) -> Result<(), W::Error>
     requires short { AllByRecursion HasShortMember block.now.members }
     requires room { first + (1 + length block.now.members) < 2 ^ 32 }
     ensures { OnOk result (w.new ≡ given W.after w.old
         (atomic_tokens (record block.now { id = first; members = numbered_members (first + 1) block.now.members }))) }
 {
-    put_atomic_head(w, block, first)?;
+    put_block_head(w, Element::EAtomic, block, first)?;
     put_members_from(w, &block.members, first + 1)?;
     w.end()
 }
@@ -99,14 +100,18 @@ fn put_seq_members_from<W: Writer>(
 }
 
 #[tactic(auto, using(crate::proofs::Given::given_append), unfolding(crate::specs::Canonical::sequence_tokens))]
-fn put_sequence_from<W: Writer>(w: &mut W, block: &SeqBlock, first: u32) -> Result<(), W::Error>
+fn put_sequence_from<W: Writer>(
+    w: &mut W,
+    block: &Block<SeqMember>,
+    first: u32,
+) -> Result<(), W::Error>
     requires short { AllByRecursion HasShortSeqMember block.now.members }
     requires room { first + (1 + ids_in_seq_members block.now.members) < 2 ^ 32 }
     ensures { OnOk result (w.new ≡ given W.after w.old
         (sequence_tokens
         (record block.now { id = first; members = numbered_seq_members (first + 1) block.now.members }))) }
 {
-    put_sequence_head(w, block, first)?;
+    put_block_head(w, Element::ESequence, block, first)?;
     put_seq_members_from(w, &block.members, first + 1)?;
     w.end()
 }

@@ -1,4 +1,7 @@
 // What headers and commands are made of. Texts are UTF-8 without byte 00; Data holds any bytes.
+ghost use Rattle.std.specs.Prelude.{◌≡◌};
+ghost use Rattle.syncml_types.specs.Message.{no_meta};
+
 use dm_base::Bytes;
 
 /// A place: an address or a URI, and the name that is told beside it.
@@ -19,6 +22,24 @@ pub struct Meta {
     pub max_obj: Option<u64>,
     pub mark: Option<Bytes>,
     pub version: Option<Bytes>,
+}
+
+impl Meta {
+    /// Meta information that tells nothing. It takes no memory.
+    pub fn empty() -> Meta
+        ensures { result ≡ no_meta }
+    {
+        Meta {
+            format: None,
+            media: None,
+            size: None,
+            next_nonce: None,
+            max_msg: None,
+            max_obj: None,
+            mark: None,
+            version: None,
+        }
+    }
 }
 
 /// One item of a command. `value` is its Data, and `more` says that more of the Data follows in another message.

@@ -35,6 +35,7 @@ impl Model for MbText {
 }
 
 impl MbText {
+    /// The bytes, five at most.
     pub fn as_slice(&self) -> &[u8]
         ensures { result.now ≡ self.now }
     {

@@ -19,6 +19,7 @@ pub enum Extent {
 }
 
 impl Extent {
+    /// Whether the element is whole.
     pub fn is_whole(self) -> bool
         ensures { result ≡ Spec.is_whole self }
     {

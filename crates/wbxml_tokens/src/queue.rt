@@ -28,6 +28,7 @@ impl Model for Queue {
 }
 
 impl Queue {
+    /// A queue in which no token waits.
     pub fn new(alloc: Global) -> Queue
         ensures { result.tokens ≡ [] }
     {
@@ -38,20 +39,21 @@ impl Queue {
         }
     }
 
+    /// How many tokens wait.
     pub fn len(&self) -> usize
         ensures { result ≡ length self.now.tokens }
     {
         self.tokens.len()
     }
 
-    // Keeps the first `count` tokens.
+    /// Keeps the first `count` tokens.
     pub fn cut_to(&mut self, count: usize)
         ensures { self.new.tokens ≡ take count self.old.tokens }
     {
         self.tokens.truncate(count);
     }
 
-    // The first token, which leaves.
+    /// The first token, which leaves.
     pub fn next(&mut self) -> Option<Placed>
         ensures { MatchOption result ((self.old.tokens ≡ []) × (self.new.tokens ≡ []))
             (λ p. self.old.tokens ≡ p ∷ self.new.tokens) }
