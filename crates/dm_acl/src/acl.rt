@@ -1,7 +1,7 @@
 // The access list of a node.
 ghost use Rattle.std.specs.Prelude.{◌≡◌, ◌≤◌, ◌↔◌, true, Ok, Err, length, IfOk, IfErr};
 ghost use Rattle.dm_acl.specs.declared.values.AclError.TheVariants as error;
-ghost use Rattle.dm_acl.specs.Grammar.{allowed, has_entry, printed};
+ghost use Rattle.dm_acl.specs.Grammar.{allowed, has_entry, printed, IsAcl};
 ghost use Rattle.dm_acl.specs.Reading.{parse_of, Answers};
 ghost use Rattle.dm_acl.specs.Same.{same_entries};
 
@@ -13,6 +13,7 @@ use crate::same::same_entries;
 use crate::values::{AclError, Entries, Right, Servers};
 use dm_base::{Bytes, Memory};
 use std::alloc::Global;
+use std::boxed::Box;
 use std::marker::Model;
 
 /// How many bytes a text has at most.
@@ -21,7 +22,8 @@ pub const TEXT_LIMIT: usize = 4_096;
 /// An access list: for each command an entry or none, and an entry for one command at least.
 #[derive(Drop)]
 pub struct Acl {
-    entries: Entries,
+    // In a box, since nearly no node of a tree has one.
+    entries: Box<Entries>,
 }
 
 impl Model for Acl {
@@ -30,9 +32,20 @@ impl Model for Acl {
 
     ghost Value = { Meant };
 
-    ghost view = { λ a. a.entries };
+    ghost view = { λ a. a.entries.value };
 
-    ghost invariant = { λ a. IsAcl a.entries };
+    ghost invariant = { λ a. IsAcl a.entries.value };
+}
+
+// The list of these entries.
+fn boxed(alloc: Global, entries: Entries) -> Result<Acl, AclError>
+    requires { IsAcl entries }
+    ensures { Answers result (Ok entries) }
+{
+    match Box::new(alloc, entries) {
+        Ok(entries) => Ok(Acl { entries }),
+        Err(_) => Err(AclError::Memory),
+    }
 }
 
 impl Acl {
@@ -53,7 +66,7 @@ impl Acl {
             return Err(AclError::Malformed(at));
         }
         match read_parts(alloc, text) {
-            Ok(entries) => Ok(Acl { entries }),
+            Ok(entries) => boxed(alloc, entries),
             Err(error) => Err(error),
         }
     }
@@ -64,7 +77,7 @@ impl Acl {
         ensures again { IfOk result (λ text. length text ≤ 4096 → parse_of text ≡ Ok self.now) }
         ensures err { IfErr result (λ e. e ≡ error.Memory) }
     {
-        match put_entries(alloc, &self.entries) {
+        match put_entries(alloc, self.entries.as_ref()) {
             Ok(text) => Ok(text),
             Err(_) => Err(AclError::Memory),
         }
@@ -74,7 +87,7 @@ impl Acl {
     pub fn allows(&self, server: &[u8], right: Right) -> bool
         ensures { result ≡ allowed self.now server.now right }
     {
-        match self.entries.of(right) {
+        match self.entries.as_ref().of(right) {
             None => false,
             Some(Servers::Everybody) => true,
             Some(Servers::Named(names)) => is_among(names.as_slice(), server),
@@ -85,7 +98,7 @@ impl Acl {
     pub fn names(&self, right: Right) -> bool
         ensures { result ≡ has_entry self.now right }
     {
-        self.entries.of(right).is_some()
+        self.entries.as_ref().of(right).is_some()
     }
 
     /// An equal access list.
@@ -93,7 +106,7 @@ impl Acl {
         ensures { IfOk result (λ copied. copied ≡ self.now) }
     {
         Ok(Acl {
-            entries: copy_entries(alloc, &self.entries)?,
+            entries: Box::new(alloc, copy_entries(alloc, self.entries.as_ref())?)?,
         })
     }
 
@@ -102,6 +115,6 @@ impl Acl {
         ensures value { result ≡ same_entries self.now other.now }
         ensures same { (result ≡ true) ↔ (self.now ≡ other.now) }
     {
-        same_entries(&self.entries, &other.entries)
+        same_entries(self.entries.as_ref(), other.entries.as_ref())
     }
 }

@@ -93,7 +93,8 @@ fn names_of(alloc: Global, text: &[u8]) -> Result<List<Name>, Memory>
     requires { IsTrue (list_all is_name (slice_split is_slash text.now)) }
     ensures { IfOk result (λ names. names ≡ slice_split is_slash text.now) }
 {
-    let mut names = List::new(alloc);
+    // Most paths have no more names.
+    let mut names = List::with_room(alloc, 4)?;
     let mut rest = text;
     while let Some((front, behind)) = around_slash(rest) {
         names.push(Name::of(alloc, front)?)?;
