@@ -9,7 +9,6 @@ use Rattle.syncml_types.specs.declared.command.Command.TheVariants as commands
 use Rattle.syncml_types.specs.declared.command.Member.{Member}
 use Rattle.syncml_types.specs.declared.command.Member.TheVariants as member
 use Rattle.syncml_types.specs.declared.command.Plain.{Plain}
-use Rattle.syncml_types.specs.declared.command.SeqBlock.{SeqBlock}
 use Rattle.syncml_types.specs.declared.command.SeqMember.{SeqMember}
 use Rattle.syncml_types.specs.declared.command.SeqMember.TheVariants as seq
 use Rattle.dm_tree.specs.Nodes.{Path}
@@ -64,7 +63,7 @@ member_stay origin b m ts v w is a =
     stay_within (tasks_cover ts) (λ p. member_covers p m) v w
     (λ p u. ap (λ l. tasks_cover l p) is ∙ member-cover origin b m p u) a
 
-pub atomic_stay : (origin : Origin) (b : Bool) (block : Block) (ts : List Task) (v w : AllOf)
+pub atomic_stay : (origin : Origin) (b : Bool) (block : Block Member) (ts : List Task) (v w : AllOf)
     → ts ≡ members_tasks origin b block.members → StayBut (tasks_cover ts) v w
     → StayBut (covers (commands.Atomic block)) v w
 unfolding covers
@@ -72,14 +71,15 @@ atomic_stay origin b block ts v w is a =
     stay_within (tasks_cover ts) (λ p. list_any (member_covers p) block.members) v w
     (λ p u. ap (λ l. tasks_cover l p) is ∙ members-cover origin b block.members p u) a
 
-pub block_stay : (m : SeqMember) (block : Block) (v w : AllOf) → m ≡ seq.Atomic block
+pub block_stay : (m : SeqMember) (block : Block Member) (v w : AllOf) → m ≡ seq.Atomic block
     → StayBut (covers (commands.Atomic block)) v w → StayBut (λ p. seq_member_covers p m) v w
 unfolding covers
 block_stay m block v w is a =
     stay_within (λ p. list_any (member_covers p) block.members) (λ p. seq_member_covers p m) v w
     (λ p u. ap (seq_member_covers p) (sym is) ∙ u) a
 
-pub sequence_stay : (block : SeqBlock) (v w : AllOf) → StayBut (λ p. list_any (seq_member_covers p) block.members) v w
+pub sequence_stay : (block : Block SeqMember) (v w : AllOf)
+    → StayBut (λ p. list_any (seq_member_covers p) block.members) v w
     → StayBut (covers (commands.Sequence block)) v w
 unfolding covers
 sequence_stay block v w a = a

@@ -3,7 +3,7 @@ use Rattle.std.proofs.Common.{◌≡◌, ℕ, suc, ◌+◌, ◌<◌, ◌≤◌, 
 use Rattle.std.proofs.Common.{subst, append_assoc, add-one, drop-cons}
 use Rattle.std.proofs.lemmas.List.{append-nil, drop_all}
 use Rattle.syncml_types.specs.declared.command.Command.{Command}
-use Rattle.syncml_types.specs.declared.command.SeqBlock.{SeqBlock}
+use Rattle.syncml_types.specs.declared.command.Block.{Block}
 use Rattle.syncml_types.specs.declared.command.SeqMember.{SeqMember}
 use Rattle.dm_atomic.specs.declared.tasks.Named.TheVariants as named
 use Rattle.dm_atomic.specs.declared.tasks.Origin.{Origin}
@@ -137,7 +137,8 @@ lone_gives r s next t out after g = record {
   told_is = g.told_is ∙ ap (λ x. out ++ told x) (sym (append-nil (one_alone r s t).made));
 }
 
-pub sequence_gives : (r : Running) (origin : Origin) (s next : State) (b : SeqBlock) (out first second : List Command)
+pub sequence_gives : (r : Running) (origin : Origin) (s next : State) (b : Block SeqMember)
+    (out first second : List Command)
     → first ≡ out ++ told (Status (container_post origin b.id b.no_resp named.Sequence) 200 ∷ [])
     → Gives (run_members r origin s b.members) next first second → Gives (run_sequence r origin s b) next out second
 sequence_gives r origin s next b out first second e g =

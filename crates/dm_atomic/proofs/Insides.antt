@@ -180,7 +180,7 @@ members-marked origin b (m ∷ ms) =
     All-append (λ t. IsMarked b t.work) (member_tasks origin b m) (members_tasks origin b ms)
     (member-marked origin b m) (members-marked origin b ms)
 
-pub atomic_starts_nothing : (r : Running) (origin : Origin) (s : State) (b : Block)
+pub atomic_starts_nothing : (r : Running) (origin : Origin) (s : State) (b : Block Member)
     → (run_atomic r origin s b).state.started ≡ s.started
 atomic_starts_nothing r origin s b =
     tasks_start_nothing r s (container_post origin b.id b.no_resp named.Atomic) (members_tasks origin true b.members)

@@ -1,5 +1,6 @@
 -- What execution means, over the definitions alone.
 use Rattle.std.specs.Prelude.{◌≡◌, ⊤, ℕ, Bool, true, false, List, [], All, Option, None, Some, is_some, Ok}
+use Rattle.syncml_types.specs.declared.command.Member.{Member}
 use Rattle.syncml_types.specs.declared.command.Block.{Block}
 use Rattle.syncml_types.specs.declared.command.Command.{Command}
 use Rattle.syncml_types.specs.declared.command.Command.TheVariants as commands
@@ -38,7 +39,7 @@ abbrev pub attempt : Running → State → List Task → Option Report
 attempt r s ts = (tried r (opens (join_or_break s ts).state) ts).failed
 
 -- of a command that is an Atomic
-abbrev pub IfAtomic : Command → (Block → Type 0) → Type 0
+abbrev pub IfAtomic : Command → (Block Member → Type 0) → Type 0
 IfAtomic (commands.Atomic b) holds = holds b
 IfAtomic other holds = ⊤
 
@@ -87,7 +88,7 @@ TasksStartNothing = (r : Running) (s : State) (post : Post) (ts : List Task) →
 
 -- the tasks of a message's Atomic are such, whatever stands in it
 abbrev pub AtomicStartsNothing : Type 0
-AtomicStartsNothing = (r : Running) (origin : Origin) (s : State) (b : Block)
+AtomicStartsNothing = (r : Running) (origin : Origin) (s : State) (b : Block Member)
     → (run_atomic r origin s b).state.started ≡ s.started
 
 -- ---- a task that is no success changes nothing but the unfinished object

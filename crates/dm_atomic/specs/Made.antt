@@ -4,6 +4,7 @@ use Rattle.syncml_types.specs.declared.values.Meta.{Meta}
 use Rattle.syncml_types.specs.declared.values.Item.{Item}
 use Rattle.syncml_types.specs.declared.command.Command.{Command}
 use Rattle.syncml_types.specs.declared.command.Command.TheVariants as commands
+use Rattle.syncml_types.specs.Message.{no_meta}
 use Rattle.dm_uri.specs.Reading.{parse_of}
 use Rattle.dm_commands.specs.declared.outcome.Found.{Found}
 use Rattle.dm_atomic.specs.declared.tasks.Post.{Post}
@@ -31,16 +32,7 @@ notice (Some target) = Broken target ∷ []
 -- ---- the entries
 
 abbrev pub found_meta : Found → Meta
-found_meta found = record {
-  format = Some found.format;
-  media = found.media;
-  size = None;
-  next_nonce = None;
-  max_msg = None;
-  max_obj = None;
-  mark = None;
-  version = None;
-}
+found_meta found = record no_meta { format = Some found.format; media = found.media }
 
 abbrev pub source_item : List ℕ → Option Meta → Option (List ℕ) → Item
 source_item uri meta value = record {

@@ -1,6 +1,7 @@
 -- Which Statuses are owed, which were made, and which wait.
 use Rattle.std.specs.Prelude.{◌≡◌, ◌+◌, ℕ, true, false, List, [], ◌∷◌, ◌++◌, Option, None, Some}
 use Rattle.std.specs.List.{sum_by}
+use Rattle.syncml_types.specs.declared.command.Member.{Member}
 use Rattle.syncml_types.specs.declared.command.Block.{Block}
 use Rattle.syncml_types.specs.declared.command.SeqMember.{SeqMember}
 use Rattle.syncml_types.specs.declared.command.SeqMember.TheVariants as seq
@@ -20,7 +21,7 @@ abbrev pub task_posts : List Task → List Post
 task_posts [] = []
 task_posts (t ∷ ts) = t.post ∷ task_posts ts
 
-abbrev pub atomic_posts : Origin → Block → List Post
+abbrev pub atomic_posts : Origin → Block Member → List Post
 atomic_posts origin b =
     container_post origin b.id b.no_resp named.Atomic ∷ task_posts (members_tasks origin true b.members)
 

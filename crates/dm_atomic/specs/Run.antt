@@ -2,10 +2,10 @@
 use Rattle.std.specs.Prelude.{◌==◌, ◌&&◌, ◌||◌, ℕ, Bool, true, false, if◌then◌else◌, List, [], ◌∷◌, ◌++◌, map, Option}
 use Rattle.std.specs.Prelude.{None, Some, is_some, unwrap_or, option_map, Result, Ok, Err}
 use Rattle.syncml_types.specs.declared.command.Step.{Step}
+use Rattle.syncml_types.specs.declared.command.Member.{Member}
 use Rattle.syncml_types.specs.declared.command.Block.{Block}
 use Rattle.syncml_types.specs.declared.command.SeqMember.{SeqMember}
 use Rattle.syncml_types.specs.declared.command.SeqMember.TheVariants as seq
-use Rattle.syncml_types.specs.declared.command.SeqBlock.{SeqBlock}
 use Rattle.syncml_types.specs.declared.command.Command.{Command}
 use Rattle.syncml_types.specs.declared.command.Command.TheVariants as commands
 use Rattle.dm_uri.specs.declared.uri.Uri.{Uri}
@@ -258,7 +258,7 @@ atomically r s post ts =
 
 -- ---- commands
 
-abbrev pub run_atomic : Running → Origin → State → Block → Next
+abbrev pub run_atomic : Running → Origin → State → Block Member → Next
 run_atomic r origin s b =
     atomically r s (container_post origin b.id b.no_resp named.Atomic) (members_tasks origin true b.members)
 
@@ -274,7 +274,7 @@ run_members r origin s (m ∷ ms) =
     record { state = rest.state; made = first.made ++ rest.made }
 
 -- a Sequence has 200 whatever its members have, and its Status stands before theirs
-abbrev pub run_sequence : Running → Origin → State → SeqBlock → Next
+abbrev pub run_sequence : Running → Origin → State → Block SeqMember → Next
 run_sequence r origin s b =
     let members = run_members r origin s b.members in
     record {

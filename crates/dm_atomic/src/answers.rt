@@ -11,7 +11,7 @@ use crate::task_lists::{alert_task, container_post, item_post};
 use crate::tasks::{Named, Origin};
 use dm_base::{List, Memory};
 use std::alloc::Global;
-use syncml_types::{Block, Command, Member, Plain, SeqBlock, SeqMember};
+use syncml_types::{Block, Command, Member, Plain, SeqMember};
 
 // After `Memory` a part may be told.
 #[tactic(auto, using(crate::proofs::Telling::telling_starts))]
@@ -77,7 +77,7 @@ fn answer_members(
 fn answer_atomic(
     alloc: Global,
     origin: Origin,
-    block: &Block,
+    block: &Block<Member>,
     code: u32,
     out: &mut List<Command>,
 ) -> Result<(), Memory>
@@ -127,7 +127,7 @@ fn answer_seq_members(
 fn answer_sequence(
     alloc: Global,
     origin: Origin,
-    block: &SeqBlock,
+    block: &Block<SeqMember>,
     code: u32,
     out: &mut List<Command>,
 ) -> Result<(), Memory>

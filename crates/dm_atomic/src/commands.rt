@@ -21,7 +21,7 @@ use crate::entries::{put_own_report, put_status};
 use crate::task_lists::{alert_task, container_post, member_tasks, members_tasks, plain_tasks};
 use crate::tasks::{Named, Origin, Task, Work};
 use dm_base::{List, Memory};
-use syncml_types::{AlertCmd, Block, Command, Member, Plain, SeqBlock, SeqMember};
+use syncml_types::{AlertCmd, Block, Command, Member, Plain, SeqMember};
 
 impl Engine {
     // A step of a verb breaks an open group first.
@@ -171,7 +171,7 @@ impl Engine {
         &mut self,
         caller: &[u8],
         origin: Origin,
-        block: &Block,
+        block: &Block<Member>,
         out: &mut List<Command>,
     ) -> Result<(), Memory>
         requires sound { IsSoundEngine self.old }
@@ -250,7 +250,7 @@ impl Engine {
         &mut self,
         caller: &[u8],
         origin: Origin,
-        block: &SeqBlock,
+        block: &Block<SeqMember>,
         out: &mut List<Command>,
     ) -> Result<(), Memory>
         requires sound { IsSoundEngine self.old }

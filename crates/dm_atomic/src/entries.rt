@@ -81,12 +81,7 @@ fn found_item(found: Found) -> Item
     let meta = Meta {
         format: Some(format),
         media,
-        size: None,
-        next_nonce: None,
-        max_msg: None,
-        max_obj: None,
-        mark: None,
-        version: None,
+        ..Meta::empty()
     };
     source_item(uri, Some(meta), value)
 }

@@ -7,6 +7,7 @@ use Rattle.base64.specs.Engines.{standard}
 use Rattle.base64.specs.GeneralPurpose.{encode_of, decode_of}
 use Rattle.syncml_types.specs.declared.values.Meta.{Meta}
 use Rattle.syncml_types.specs.declared.values.Cred.{Cred}
+use Rattle.syncml_types.specs.Message.{no_meta}
 use Rattle.dm_auth.specs.declared.credentials.Verdict.{Verdict}
 use Rattle.dm_auth.specs.declared.credentials.Verdict.TheVariants.{Missing, Accepted, Wrong}
 
@@ -45,15 +46,10 @@ verdict user password nonce (Some cred) =
 
 -- Format `b64` and Type `syncml:auth-md5`, and a nonce to use next or none
 abbrev pub md5_meta : Option (List ℕ) → Meta
-md5_meta next = record {
+md5_meta next = record no_meta {
   format = Some (codes "b64");
   media = Some (codes "syncml:auth-md5");
-  size = None;
   next_nonce = next;
-  max_msg = None;
-  max_obj = None;
-  mark = None;
-  version = None;
 }
 
 -- what a sender shows

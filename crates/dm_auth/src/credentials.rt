@@ -108,12 +108,8 @@ fn md5_meta(alloc: Global, next_nonce: Option<Bytes>) -> Result<Meta, Memory>
     Ok(Meta {
         format: Some(Bytes::of_slice(alloc, BASE64_FORMAT)?),
         media: Some(Bytes::of_slice(alloc, MD5_TYPE)?),
-        size: None,
         next_nonce,
-        max_msg: None,
-        max_obj: None,
-        mark: None,
-        version: None,
+        ..Meta::empty()
     })
 }
 

@@ -8,6 +8,7 @@ use Rattle.syncml_types.specs.declared.values.Loc.{Loc}
 use Rattle.syncml_types.specs.declared.values.Meta.{Meta}
 use Rattle.syncml_types.specs.declared.command.Command.{Command}
 use Rattle.syncml_types.specs.declared.command.Command.TheVariants as command
+use Rattle.syncml_types.specs.Message.{no_meta}
 use Rattle.dm_auth.specs.Digests.{credential, challenge}
 use Rattle.dm_headers.specs.declared.standings.Standing.{Standing}
 use Rattle.dm_headers.specs.Checks.{Login, is_challenged, is_denied}
@@ -48,16 +49,7 @@ abbrev pub cred_of : Login → Bool → Option Cred
 cred_of login welcomed = if welcomed then None else shown login.name login.password login.nonce
 
 abbrev pub limits_meta : Limits → Meta
-limits_meta limits = record {
-  format = None;
-  media = None;
-  size = None;
-  next_nonce = None;
-  max_msg = Some limits.max_msg;
-  max_obj = Some limits.max_obj;
-  mark = None;
-  version = None;
-}
+limits_meta limits = record no_meta { max_msg = Some limits.max_msg; max_obj = Some limits.max_obj }
 
 -- the header of the next message
 unfoldable pub next_header : Login → Standing → Limits → ℕ → Loc → Loc → Header

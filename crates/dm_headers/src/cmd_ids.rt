@@ -6,7 +6,7 @@ ghost use Rattle.dm_headers.specs.Rising.{is_rising as rising};
 
 use dm_base::{List, Memory};
 use std::alloc::Global;
-use syncml_types::{Block, Command, Member, SeqBlock, SeqMember};
+use syncml_types::{Block, Command, Member, SeqMember};
 
 fn member_id(member: &Member) -> u32
     ensures { result ≡ id_of member.now }
@@ -27,7 +27,7 @@ fn push_members(members: &List<Member>, ids: &mut List<u32>) -> Result<(), Memor
     Ok(())
 }
 
-fn push_atomic(block: &Block, ids: &mut List<u32>) -> Result<(), Memory>
+fn push_atomic(block: &Block<Member>, ids: &mut List<u32>) -> Result<(), Memory>
     ensures { OnOk result (ids.new ≡ ids.old ++ block.now.id ∷ map id_of block.now.members) }
 {
     ids.push(block.id)?;
@@ -55,7 +55,7 @@ fn push_seq_members(members: &List<SeqMember>, ids: &mut List<u32>) -> Result<()
     Ok(())
 }
 
-fn push_sequence(block: &SeqBlock, ids: &mut List<u32>) -> Result<(), Memory>
+fn push_sequence(block: &Block<SeqMember>, ids: &mut List<u32>) -> Result<(), Memory>
     ensures { OnOk result (ids.new ≡ ids.old ++ block.now.id ∷ seq_members_ids block.now.members) }
 {
     ids.push(block.id)?;
@@ -114,7 +114,7 @@ fn twins(ids: &mut [u32]) -> bool
 pub(crate) fn has_twins(alloc: Global, body: &List<Command>) -> Result<bool, Memory>
     ensures { IfOk result (λ is. is ≡ twins_in (body_ids body.now)) }
 {
-    let mut ids = List::new(alloc);
+    let mut ids = List::with_room(alloc, body.len())?;
     push_body(body, &mut ids)?;
     let mut ids = ids.into_vec();
     Ok(twins(ids.as_mut_slice()))

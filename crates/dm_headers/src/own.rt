@@ -110,14 +110,9 @@ fn limits_meta(limits: Limits) -> Meta
     ensures { result ≡ limits_told limits }
 {
     Meta {
-        format: None,
-        media: None,
-        size: None,
-        next_nonce: None,
         max_msg: Some(u64::from(limits.max_msg)),
         max_obj: Some(u64::from(limits.max_obj)),
-        mark: None,
-        version: None,
+        ..Meta::empty()
     }
 }
 

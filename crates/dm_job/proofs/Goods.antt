@@ -26,7 +26,8 @@ use Rattle.syncml_types.specs.Fitness.{plain_correlates, command_texts, command_
 use Rattle.syncml_types.specs.Fitness.{command_correlates}
 use Rattle.syncml_types.specs.Numbering.{with_numbers}
 use Rattle.syncml_types.specs.Packing.{cut_changed}
-use Rattle.dm_pack.specs.Entries.{IsReady, fresh, bare_length, without_value, no_meta}
+use Rattle.syncml_types.specs.Message.{no_meta}
+use Rattle.dm_pack.specs.Entries.{IsReady, fresh, bare_length, without_value}
 use Rattle.dm_pack.proofs.Most.{Most, none, most_append, most_parent, most_element, most_text, most_number}
 use Rattle.dm_pack.proofs.Ready.{IsText, IsOptional, Passes, texts_pass, short_passes}
 use Rattle.dm_start.specs.Fields.{opt_of}

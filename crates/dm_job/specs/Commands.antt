@@ -12,7 +12,8 @@ use Rattle.syncml_types.specs.declared.command.Member.TheVariants as member
 use Rattle.syncml_types.specs.declared.command.SeqMember.TheVariants as seq_member
 use Rattle.syncml_types.specs.declared.command.Command.{Command}
 use Rattle.syncml_types.specs.declared.command.Command.TheVariants as command
-use Rattle.dm_pack.specs.Entries.{no_meta, bare_length}
+use Rattle.syncml_types.specs.Message.{no_meta}
+use Rattle.dm_pack.specs.Entries.{bare_length}
 use Rattle.dm_start.specs.Fields.{begins_with, opt_of}
 
 -- ---- one command on one node

@@ -7,7 +7,7 @@ use dm_base::{Bytes, Form, List, Memory, OBJECT_LIMIT, hex_bytes, is_field};
 use dm_start::fields::{begins_with, five_fields, three_fields, two_fields};
 use dm_start::forms::opt_of;
 use std::alloc::Global;
-use syncml_types::{Block, Command, Item, Loc, Member, Meta, Plain, SeqBlock, SeqMember, Verb};
+use syncml_types::{Block, Command, Item, Loc, Member, Meta, Plain, SeqMember, Verb};
 
 fn meta_of(format: Option<Bytes>, media: Option<Bytes>) -> Option<Meta>
     ensures { result ≡ Spec.meta_of format media }
@@ -18,12 +18,7 @@ fn meta_of(format: Option<Bytes>, media: Option<Bytes>) -> Option<Meta>
     Some(Meta {
         format,
         media,
-        size: None,
-        next_nonce: None,
-        max_msg: None,
-        max_obj: None,
-        mark: None,
-        version: None,
+        ..Meta::empty()
     })
 }
 
@@ -186,7 +181,7 @@ pub(crate) fn new_atomic(alloc: Global) -> Command
 pub(crate) fn new_sequence(alloc: Global) -> Command
     ensures { result ≡ Spec.new_sequence }
 {
-    Command::Sequence(SeqBlock {
+    Command::Sequence(Block {
         id: 0,
         no_resp: false,
         meta: None,

@@ -15,7 +15,6 @@ use Rattle.syncml_types.specs.declared.command.Member.TheVariants as member
 use Rattle.syncml_types.specs.declared.command.Block.{Block}
 use Rattle.syncml_types.specs.declared.command.SeqMember.{SeqMember}
 use Rattle.syncml_types.specs.declared.command.SeqMember.TheVariants as seq_member
-use Rattle.syncml_types.specs.declared.command.SeqBlock.{SeqBlock}
 use Rattle.syncml_types.specs.declared.command.Command.{Command}
 use Rattle.syncml_types.specs.declared.command.Command.TheVariants as command
 use Rattle.syncml_types.specs.Message.{Parts}
@@ -159,7 +158,8 @@ next_append max first rest h k = record {
 }
 
 module _ (r : Running) (o : Origin) (running : IsReadyRunning r) (origin : IsReadyOrigin o) where
-  atomic_command : (s : State) (b : Block) → IsReadyState r.max_obj s → AtomicRange b → atomic_texts is_text b ≡ true
+  atomic_command : (s : State) (b : Block Member) → IsReadyState r.max_obj s → AtomicRange b
+      → atomic_texts is_text b ≡ true
       → IsReadyNext r.max_obj (run_atomic r o s b)
   unfolding atomic_texts
   atomic_command s b state range h =
@@ -183,7 +183,7 @@ module _ (r : Running) (o : Origin) (running : IsReadyRunning r) (origin : IsRea
       let rest = members_in_sequence (run_member r o s m).state ms first.state range.1 parts.1 in
       next_append r.max_obj (run_member r o s m) (run_members r o (run_member r o s m).state ms) first rest
 
-  sequence_command : (s : State) (b : SeqBlock) → IsReadyState r.max_obj s → SequenceRange b
+  sequence_command : (s : State) (b : Block SeqMember) → IsReadyState r.max_obj s → SequenceRange b
       → sequence_texts is_text b ≡ true → IsReadyNext r.max_obj (run_sequence r o s b)
   unfolding sequence_texts
   sequence_command s b state range h =

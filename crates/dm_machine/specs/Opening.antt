@@ -6,11 +6,12 @@ use Rattle.syncml_types.specs.declared.values.Item.{Item}
 use Rattle.syncml_types.specs.declared.command.Verb.TheVariants.{Replace}
 use Rattle.syncml_types.specs.declared.command.Command.{Command}
 use Rattle.syncml_types.specs.declared.command.Command.TheVariants as command
+use Rattle.syncml_types.specs.Message.{no_meta}
 use Rattle.dm_uri.specs.Names.{printed_path}
 use Rattle.dm_tree.specs.Nodes.{Nodes}
 use Rattle.dm_tree.specs.Devices.{device_leaves, device_path, value_at, update_node}
 use Rattle.dm_atomic.specs.Made.{source_item}
-use Rattle.dm_pack.specs.Entries.{Entry, fresh, no_meta}
+use Rattle.dm_pack.specs.Entries.{Entry, fresh}
 pub use Rattle.dm_ends.specs.Commands.{alert}
 use Rattle.dm_machine.specs.declared.kinds.Kind.{Kind}
 use Rattle.dm_machine.specs.declared.kinds.Kind.TheVariants.{ByServer, ByClient}

@@ -122,7 +122,7 @@ near_members k f n m (x ∷ y ∷ xs) l h =
 
 -- ---- members of a Sequence
 
-pub near_block : (k n m : ℕ) (b : Block) (xs ys : List Member) → NotLonger n m 1
+pub near_block : (k n m : ℕ) (b : Block Member) (xs ys : List Member) → NotLonger n m 1
     → Near k (members_tokens xs) (members_tokens ys)
     → Near k (atomic_tokens (record b { id = n; members = xs })) (atomic_tokens (record b { id = m; members = ys }))
 unfolding atomic_tokens

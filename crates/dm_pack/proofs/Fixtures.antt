@@ -29,7 +29,8 @@ use Rattle.syncml_types.specs.Fitness.{command_data, member_numbers, atomic_numb
 use Rattle.syncml_types.specs.Fitness.{member_filled, atomic_filled, command_filled, plain_correlates}
 use Rattle.syncml_types.specs.Fitness.{member_correlates, command_correlates}
 use Rattle.syncml_types.specs.Numbering.{numbered_members, with_numbers}
-use Rattle.dm_pack.specs.Entries.{Entry, IsReady, fresh, no_meta}
+use Rattle.syncml_types.specs.Message.{no_meta}
+use Rattle.dm_pack.specs.Entries.{Entry, IsReady, fresh}
 use Rattle.dm_pack.specs.Filling.{IsReadyHeader}
 use Rattle.dm_pack.proofs.Fit.{both}
 use Rattle.dm_pack.proofs.Ready.{IsText}

@@ -160,7 +160,7 @@ atomic_head : (e : Element) (a b c d : List Token) (n : ℕ) → n ≤ length d
     → 1 + n ≤ length (parent_tokens e (a ++ b ++ c ++ d))
 atomic_head e a b c d n h = let inside = inside_parent e (a ++ b ++ c) d in omega (arith, inside, h)
 
-many_atomic : (n : ℕ) (b : Block)
+many_atomic : (n : ℕ) (b : Block Member)
     → 1 + length b.members ≤ length (atomic_tokens (record b { id = n; members = numbered_members (n + 1) b.members }))
 unfolding atomic_tokens
 many_atomic n b =

@@ -21,8 +21,9 @@ use Rattle.syncml_types.specs.Numbering.{ids_in, with_numbers}
 use Rattle.syncml_types.specs.Packing.{cut_item, cut_changed, bytes_in, data_in}
 use Rattle.syncml_types.proofs.Parted.{bounds_data}
 use Rattle.syncml_types.proofs.Short.{short_cut}
+use Rattle.syncml_types.specs.Message.{no_meta}
 use Rattle.dm_pack.specs.declared.place.Place.{Place}
-use Rattle.dm_pack.specs.Entries.{Entry, IsReady, data_left, no_meta, with_size, part_meta, part_item, part_of}
+use Rattle.dm_pack.specs.Entries.{Entry, IsReady, data_left, with_size, part_meta, part_item, part_of}
 use Rattle.dm_pack.specs.Entries.{without_value}
 use Rattle.dm_pack.specs.Filling.{IsReadyHeader, fits, commands_of, taken, greatest, cut, fill}
 use Rattle.dm_pack.specs.Laws.{TheFirstGoesOut, TheSecondGoesOut}

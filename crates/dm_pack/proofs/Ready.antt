@@ -19,7 +19,8 @@ use Rattle.syncml_types.specs.Fitness.{all_of, is_short, is_number, loc_texts, m
 use Rattle.syncml_types.specs.Fitness.{alert_texts, status_texts, results_texts, command_texts, command_data}
 use Rattle.syncml_types.specs.Fitness.{command_numbers, command_filled, command_correlates}
 use Rattle.syncml_types.specs.Numbering.{with_numbers}
-use Rattle.dm_pack.specs.Entries.{IsReady, fresh, no_meta}
+use Rattle.syncml_types.specs.Message.{no_meta}
+use Rattle.dm_pack.specs.Entries.{IsReady, fresh}
 use Rattle.dm_pack.proofs.Fit.{both}
 use Rattle.dm_pack.proofs.Most.{Most, none, most_append, most_parent, most_element, most_text, most_number}
 

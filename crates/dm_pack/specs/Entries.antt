@@ -6,6 +6,7 @@ use Rattle.syncml_types.specs.declared.values.Meta.{Meta}
 use Rattle.syncml_types.specs.declared.values.Item.{Item}
 use Rattle.syncml_types.specs.declared.command.Command.{Command}
 use Rattle.syncml_types.specs.declared.command.Command.TheVariants as command
+use Rattle.syncml_types.specs.Message.{no_meta}
 use Rattle.syncml_types.specs.Canonical.{is_text, command_tokens}
 use Rattle.syncml_types.specs.Fitness.{is_short, command_texts, command_data, command_numbers, command_filled}
 use Rattle.syncml_types.specs.Fitness.{command_correlates}
@@ -25,18 +26,6 @@ abbrev pub data_left : Entry → ℕ
 data_left e = length (cut_data e.command)
 
 -- ---- a part
-
-abbrev pub no_meta : Meta
-no_meta = record {
-  format = None;
-  media = None;
-  size = None;
-  next_nonce = None;
-  max_msg = None;
-  max_obj = None;
-  mark = None;
-  version = None;
-}
 
 abbrev pub with_size : ℕ → Option Meta → Option Meta
 with_size size None = Some (record no_meta { size = Some size })

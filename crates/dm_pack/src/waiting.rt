@@ -128,14 +128,8 @@ fn set_size(meta: &mut Option<Meta>, size: u64)
         Some(meta) => meta.size = Some(size),
         None => {
             *meta = Some(Meta {
-                format: None,
-                media: None,
                 size: Some(size),
-                next_nonce: None,
-                max_msg: None,
-                max_obj: None,
-                mark: None,
-                version: None,
+                ..Meta::empty()
             });
         }
     }

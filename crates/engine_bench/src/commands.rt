@@ -9,19 +9,6 @@ use syncml_types::{Block, Command, Item, Loc, Member, Meta, Plain, Verb};
 // A node that isn't there.
 const MISSING: &[u8] = b"./none";
 
-fn no_meta() -> Meta {
-    Meta {
-        format: None,
-        media: None,
-        size: None,
-        next_nonce: None,
-        max_msg: None,
-        max_obj: None,
-        mark: None,
-        version: None,
-    }
-}
-
 // An item, which may be a piece of an object of a Size.
 fn item(
     alloc: Global,
@@ -32,7 +19,7 @@ fn item(
 ) -> Result<Item, Memory>
     ensures more { IfOk result (λ item. item.more ≡ more) }
 {
-    let mut meta = no_meta();
+    let mut meta = Meta::empty();
     meta.size = size;
     Ok(Item {
         target: Some(Loc {

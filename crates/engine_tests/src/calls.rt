@@ -1,9 +1,7 @@
 // Calls of an engine, and the commands that they run.
 use dm_base::{Bytes, List, Memory};
 use std::alloc::Global;
-use syncml_types::{
-    AlertCmd, Block, Command, Item, Loc, Member, Meta, Plain, SeqBlock, SeqMember, Verb,
-};
+use syncml_types::{AlertCmd, Block, Command, Item, Loc, Member, Meta, Plain, SeqMember, Verb};
 
 // A step: its verb, target and value; and a mark: `m` for MoreData and the Size 6, `q` for NoResp, `n` for the Format
 // of an interior node, and `a` for an Alert 1226 in place of it, which fails.
@@ -44,13 +42,8 @@ fn meta(alloc: Global, mark: u8) -> Result<Meta, Memory> {
     let format: &[u8] = if mark == b'n' { b"node" } else { b"" };
     Ok(Meta {
         format: text(alloc, format)?,
-        media: None,
         size: if mark == b'm' { Some(6) } else { None },
-        next_nonce: None,
-        max_msg: None,
-        max_obj: None,
-        mark: None,
-        version: None,
+        ..Meta::empty()
     })
 }
 
@@ -98,7 +91,7 @@ fn member(alloc: Global, id: u32, step: &Step) -> Result<Member, Memory> {
 }
 
 // The CmdIDs of the members come behind that of the container.
-fn block(alloc: Global, id: u32, letters: &[u8]) -> Result<Block, Memory> {
+fn block(alloc: Global, id: u32, letters: &[u8]) -> Result<Block<Member>, Memory> {
     let mut members = List::new(alloc);
     let mut last = id;
     for letter in letters {
@@ -114,12 +107,17 @@ fn block(alloc: Global, id: u32, letters: &[u8]) -> Result<Block, Memory> {
 }
 
 // Two steps, and then an Atomic of the others.
-fn sequence(alloc: Global, first: u8, second: u8, others: &[u8]) -> Result<SeqBlock, Memory> {
+fn sequence(
+    alloc: Global,
+    first: u8,
+    second: u8,
+    others: &[u8],
+) -> Result<Block<SeqMember>, Memory> {
     let mut members = List::new(alloc);
     members.push(SeqMember::Single(member(alloc, 2, &step_of(first))?))?;
     members.push(SeqMember::Single(member(alloc, 3, &step_of(second))?))?;
     members.push(SeqMember::Atomic(block(alloc, 4, others)?))?;
-    Ok(SeqBlock {
+    Ok(Block {
         id: 1,
         no_resp: false,
         meta: None,

@@ -17,11 +17,7 @@ fn meta(alloc: Global, given: &Given) -> Result<Meta, Memory> {
         format: text(alloc, given.0)?,
         media: text(alloc, given.1)?,
         size: given.2,
-        next_nonce: None,
-        max_msg: None,
-        max_obj: None,
-        mark: None,
-        version: None,
+        ..Meta::empty()
     })
 }
 

@@ -27,12 +27,7 @@ fn cred_of(
     let meta = Meta {
         format,
         media,
-        size: None,
-        next_nonce: None,
-        max_msg: None,
-        max_obj: None,
-        mark: None,
-        version: None,
+        ..Meta::empty()
     };
     Ok(Cred {
         meta: Some(meta),

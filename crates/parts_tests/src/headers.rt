@@ -29,14 +29,9 @@ fn loc(alloc: Global, uri: &[u8]) -> Result<Loc, Memory> {
 
 fn meta(max_msg: Option<u64>, next_nonce: Option<Bytes>) -> Meta {
     Meta {
-        format: None,
-        media: None,
-        size: None,
         next_nonce,
         max_msg,
-        max_obj: None,
-        mark: None,
-        version: None,
+        ..Meta::empty()
     }
 }
 

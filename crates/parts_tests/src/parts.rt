@@ -2,7 +2,8 @@
 ghost use Rattle.std.specs.Prelude.{◌≡◌, ◌≤◌, ◌∷◌, [], length, IfOk, Some, None, false};
 ghost use Rattle.std.specs.List.{AllByRecursion};
 ghost use Rattle.syncml_types.specs.declared.command.Member.TheVariants.{One};
-ghost use Rattle.dm_pack.specs.Entries.{IsReady, fresh, no_meta};
+ghost use Rattle.syncml_types.specs.Message.{no_meta};
+ghost use Rattle.dm_pack.specs.Entries.{IsReady, fresh};
 ghost use Rattle.dm_pack.specs.Filling.{IsReadyHeader};
 
 use crate::queues::{add_first, add_statuses, header, queue_of, repeated, status, text};
@@ -118,12 +119,7 @@ fn meta_of(format: Bytes, media: Bytes) -> Meta
     Meta {
         format: Some(format),
         media: Some(media),
-        size: None,
-        next_nonce: None,
-        max_msg: None,
-        max_obj: None,
-        mark: None,
-        version: None,
+        ..Meta::empty()
     }
 }
 
@@ -149,7 +145,7 @@ fn member(alloc: Global, verb: Verb, item: Item) -> Result<Member, Memory>
     }))
 }
 
-fn block(alloc: Global, first: Member, last: Member) -> Result<Block, Memory>
+fn block(alloc: Global, first: Member, last: Member) -> Result<Block<Member>, Memory>
     ensures { IfOk result (λ b. b ≡ record {
       id = 0;
       no_resp = false;
