@@ -14,7 +14,6 @@ use Rattle.dm_headers.specs.declared.checks.Side.TheVariants.{User}
 use Rattle.dm_headers.specs.Checks.{fault_of, is_denied, passes}
 use Rattle.dm_headers.specs.Standings.{Heard, hears}
 use Rattle.dm_objects.specs.declared.object.Object.{Object}
-use Rattle.dm_objects.specs.declared.object.Object.TheVariants.{Nothing}
 use Rattle.dm_objects.specs.declared.piece.Piece.{Piece}
 use Rattle.dm_objects.specs.declared.piece.What.{What}
 use Rattle.dm_objects.specs.declared.piece.What.TheVariants.{Whole, Buffered, Refused}
@@ -29,7 +28,7 @@ use Rattle.dm_service.specs.Packages.{holds_number, forgotten, gives_up}
 use Rattle.dm_service.specs.Messages.{ended, denies, after_status, matched_in, with_matched, in_session}
 use Rattle.dm_service.specs.Messages.{answers_message}
 use Rattle.dm_service.specs.Messages.{by_header, accepts}
-use Rattle.dm_service.specs.Laws.{IsPieceOf, gather_all, IsFound, IsLeftOf, found_at, ValuesAreFound}
+use Rattle.dm_service.specs.Laws.{IsPieceOf, gather_all, IsFound, found_at, ValuesAreFound}
 use Rattle.dm_service.proofs.Steps.{either}
 use Rattle.dm_service.proofs.Gone.{found}
 use Rattle.dm_service.proofs.Codes.{first_in, later_in, filter_in, find_named, denies_told, message_told}
@@ -360,52 +359,38 @@ forgotten-found given n (t ∷ ts) zero value h = here (holds_number given n) h
     here false h = h
 forgotten-found given n (t ∷ ts) (suc place) value h = forgotten-found given (n + 1) ts place value h
 
--- a machine in its session, of which no more was found and sent
-record Kept (max : ℕ) (told : List Told) (s : Session) (status : ℕ) (w : Service) : Type 0 where
+-- a machine in its session, of which no more was found and sent, and which gathers the same object
+record Kept (max : ℕ) (told : List Told) (s : Session) (w : Service) : Type 0 where
   session : Session
   is_it : w.session ≡ Some session
   limit : w.job.limits.max_obj ≡ max
   was_sent : (x : Sent) → Contains session.sent x → Contains s.sent x
-  was_left : IsLeftOf s status session.object
+  same_object : session.object ≡ s.object
   was_found : (place : ℕ) (value : Step) → Contains (found_at w.told place) value → Contains (found_at told place) value
 
--- the object of a package that is given up is none
-given-left : (s : Session) (status : ℕ) (b : Bool) → is_denied status ≡ true
-    → IsLeftOf s status (cond b Nothing s.object)
-given-left s status true denied = inr (refl, denied)
-given-left s status false denied = inl refl
-
-gives-kept : (v : Service) (s : Session) (status : ℕ) → is_denied status ≡ true
-    → Kept v.job.limits.max_obj v.told s status (gives_up v s)
+gives-kept : (v : Service) (s : Session) → Kept v.job.limits.max_obj v.told s (gives_up v s)
 unfolding gives_up
-gives-kept v s status denied = record {
+gives-kept v s = record {
   session = _;
   is_it = refl;
   limit = refl;
   was_sent = λ x h. filter_in (λ (y : Sent). not (holds_number v.newest y.number)) s.sent x h;
-  was_left = given-left s status (holds_number v.newest s.found_by) denied;
+  same_object = refl;
   was_found = λ place value h. forgotten-found v.newest 1 v.told place value h;
 }
 
-second-too : (a b : Bool) → a && b ≡ true → b ≡ true
-second-too true b e = e
-second-too false b e = absurd (cc)
-
 status-kept : (v : Service) (s : Session) (failed : Bool) (status : ℕ) → v.session ≡ Some s
-    → Kept v.job.limits.max_obj v.told s status (after_status v s failed status)
-status-kept v s failed status e = by (not failed && is_denied status) refl
-  where
-    by : (b : Bool) → not failed && is_denied status ≡ b
-        → Kept v.job.limits.max_obj v.told s status (cond b (gives_up v s) v)
-    by true denied = gives-kept v s status (second-too (not failed) (is_denied status) denied)
-    by false denied = record {
+    → Kept v.job.limits.max_obj v.told s (after_status v s failed status)
+status-kept v s failed status e =
+    either (Kept v.job.limits.max_obj v.told s) (not failed && is_denied status) (gives_up v s) v (gives-kept v s)
+    (record {
       session = s;
       is_it = e;
       limit = refl;
       was_sent = λ x h. h;
-      was_left = inl refl;
+      same_object = refl;
       was_found = λ place value h. h;
-    }
+    })
 
 found-sent : (max : ℕ) (sent more : List Sent) (before : Object) (cs : List Command) (place : ℕ) (value : Step)
     → ((x : Sent) → Contains sent x → Contains more x) → IsFound max sent before cs place value
@@ -425,23 +410,14 @@ found-sent max sent more before cs place value up h = record {
   number = h.number;
 }
 
--- known before, or found by a message that passes, from the session's object on
-abbrev ComesFrom : ℕ → Session → ℕ → Parts → ℕ → List Told → ℕ → Step → Type 0
-ComesFrom max s status m header told place value =
-    Contains (found_at told place) value
-    ⊎ ((before : Object) × IsLeftOf s status before × IsFound max s.sent before m.body place value
-    × (passes header ≡ true))
-
-comes-kept : (max : ℕ) (told : List Told) (s : Session) (status : ℕ) (w : Service) (m : Parts) (header place : ℕ)
-    (value : Step) (k : Kept max told s status w)
-    → Comes max k.session.sent k.session.object m header w.told place value
-    → ComesFrom max s status m header told place value
-comes-kept max told s status w m header place value k (inl h) = inl (k.was_found place value h)
-comes-kept max told s status w m header place value k (inr h) =
+comes-kept : (max : ℕ) (told : List Told) (s : Session) (w : Service) (m : Parts) (header place : ℕ) (value : Step)
+    (k : Kept max told s w) → Comes max k.session.sent k.session.object m header w.told place value
+    → Comes max s.sent s.object m header told place value
+comes-kept max told s w m header place value k (inl h) = inl (k.was_found place value h)
+comes-kept max told s w m header place value k (inr h) =
     inr (
-      k.session.object,
-      k.was_left,
-      found-sent max k.session.sent s.sent k.session.object m.body place value k.was_sent h.0,
+      subst (λ o. IsFound max s.sent o m.body place value) k.same_object
+          (found-sent max k.session.sent s.sent k.session.object m.body place value k.was_sent h.0),
       h.1,
     )
 
@@ -455,7 +431,7 @@ values_are_found v s m nonce place value h =
     let w = after_status u t failed heard.status in
     let k = status-kept u t failed heard.status refl in
     let is_x : in_session w t ≡ k.session = found w.session t k.session k.is_it in
-    comes-kept v.job.limits.max_obj v.told t heard.status w m heard.code place value k
+    comes-kept v.job.limits.max_obj v.told t w m heard.code place value k
     (subst (λ max. Comes max k.session.sent k.session.object m heard.code w.told place value) k.limit
     (header-found w k.session m heard nonce place value
     (subst (λ y. Contains (found_at (by_header w y m heard nonce).told place) value) is_x h)))

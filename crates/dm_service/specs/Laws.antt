@@ -12,14 +12,13 @@ use Rattle.syncml_types.specs.declared.command.ResultsCmd.{ResultsCmd}
 use Rattle.syncml_types.specs.declared.command.StatusCmd.{StatusCmd}
 use Rattle.syncml_types.specs.declared.command.Step.{Step}
 use Rattle.dm_objects.specs.declared.object.Object.{Object}
-use Rattle.dm_objects.specs.declared.object.Object.TheVariants.{Nothing}
 use Rattle.dm_objects.specs.declared.piece.Piece.{Piece}
 use Rattle.dm_objects.specs.declared.piece.What.TheVariants.{Whole}
 use Rattle.dm_objects.specs.Gathering.{gather}
 use Rattle.syncml_types.specs.declared.command.Command.{Command}
 use Rattle.syncml_types.specs.declared.command.Command.TheVariants as command
 use Rattle.dm_headers.specs.declared.checks.Side.TheVariants.{User}
-use Rattle.dm_headers.specs.Checks.{fault_of, is_denied, passes}
+use Rattle.dm_headers.specs.Checks.{fault_of, passes}
 use Rattle.dm_headers.specs.Standings.{hears}
 use Rattle.dm_job.specs.declared.job.Job.{Job}
 use Rattle.dm_job.specs.Sound.{all_entries, AreNumbered, IsSound}
@@ -185,18 +184,13 @@ pub record IsFound (max : ℕ) (sent : List Sent) (before : Object) (cs : List C
 abbrev pub found_at : List Told → ℕ → List Step
 found_at told place = (get_or told place untold).found
 
--- the object that the session gathers, or none where a Status with this code gave it up
-abbrev pub IsLeftOf : Session → ℕ → Object → Type 0
-IsLeftOf s status before = (before ≡ s.object) ⊎ ((before ≡ Nothing) × (is_denied status ≡ true))
-
--- each value was known before, or came whole by Results in a message that passes the checks of its header, with the
--- pieces that the session gathered before
+-- each value was known before, or came whole by Results in a message that passes the checks of its header, behind the
+-- object that the session gathers
 abbrev pub ValuesAreFound : Type 0
 ValuesAreFound = (v : Service) (s : Session) (m : Parts) (nonce : List ℕ) (place : ℕ) (value : Step)
     → Contains (found_at (accepts v s m nonce).told place) value
     → Contains (found_at v.told place) value
-    ⊎ ((before : Object) × IsLeftOf s (hears User v.job.account s.progress.standing m nonce).status before
-    × IsFound v.job.limits.max_obj s.sent before m.body place value
+    ⊎ (IsFound v.job.limits.max_obj s.sent s.object m.body place value
     × (passes (hears User v.job.account s.progress.standing m nonce).code ≡ true))
 
 -- a message that doesn't pass the checks of its header tells nothing of the job

@@ -79,7 +79,6 @@ result_piece r i = piece_of false (as_replace r) (to_source i)
 -- how far values have come
 pub record Finding : Type 0 where
   pub object : Object
-  pub found_by : ℕ
   pub told : List Told
 
 -- a piece with which the value is whole
@@ -91,7 +90,7 @@ found_in told number (Refused code) = told
 abbrev pub takes_item : ℕ → ℕ → ResultsCmd → Finding → Item → Finding
 takes_item max number r x i =
     let g = gather max x.object (result_piece r i) in
-    record { object = g.object; found_by = number; told = found_in x.told number g.what }
+    record { object = g.object; told = found_in x.told number g.what }
 
 abbrev pub takes_items : ℕ → ℕ → ResultsCmd → Finding → List Item → Finding
 takes_items max number r x [] = x

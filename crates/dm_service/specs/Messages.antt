@@ -53,7 +53,6 @@ first_session a number = record {
     is_over = false;
   };
   object = Nothing;
-  found_by = 0;
   sent = [];
 }
 
@@ -100,13 +99,13 @@ after_status v s failed status = if not failed && is_denied status then gives_up
 abbrev pub matched_in : Service → Session → Parts → Matched
 matched_in v s m =
     matched v.job.limits.max_obj s.sent
-    (record { finding = record { object = s.object; found_by = s.found_by; told = v.told }; alerts = v.alerts }) m.body
+    (record { finding = record { object = s.object; told = v.told }; alerts = v.alerts }) m.body
 
 abbrev pub with_matched : Service → Session → Matched → Service
 with_matched v s x = record v {
   told = x.finding.told;
   alerts = x.alerts;
-  session = Some (record s { object = x.finding.object; found_by = x.finding.found_by });
+  session = Some (record s { object = x.finding.object });
 }
 
 abbrev pub tells : Service → Session → Parts → ℕ → Service

@@ -4,7 +4,6 @@ use Rattle.std.specs.Prelude.{map, Option, None, Some, is_some}
 use Rattle.std.specs.List.{list_any, filter}
 use Rattle.syncml_types.specs.Numbering.{ids_in}
 use Rattle.dm_headers.specs.declared.standings.Standing.{Standing}
-use Rattle.dm_objects.specs.declared.object.Object.TheVariants.{Nothing}
 use Rattle.dm_pack.specs.Entries.{fresh}
 use Rattle.dm_job.specs.declared.job.JobEntry.{JobEntry}
 use Rattle.dm_service.specs.declared.sent.Sent.{Sent}
@@ -63,7 +62,8 @@ runs_after runs (s ∷ ss) [] = None
 runs_after runs (s ∷ ss) (x ∷ xs) = runs
 
 -- The package that was queued last in this session counts as not queued, and what was told of its commands is
--- forgotten. A job that ran in an earlier session stays there.
+-- forgotten: codes, whole values, and the numbers under which they were sent. A value that is still being gathered
+-- stays. A job that ran in an earlier session stays there.
 unfoldable pub gives_up : Service → Session → Service
 gives_up v s =
     let left = not_sent v.newest s.sent in
@@ -73,6 +73,5 @@ gives_up v s =
       newest = [];
       runs_in = runs_after v.runs_in s.sent left;
       told = forgotten v.newest 1 v.told;
-      session =
-          Some (record s { object = if holds_number v.newest s.found_by then Nothing else s.object; sent = left });
+      session = Some (record s { sent = left });
     }

@@ -26,8 +26,6 @@ pub record Session : Type 0 where
   pub progress : Progress
   -- the value that is being gathered from Results
   pub object : Object
-  -- the command of the job that its last piece was found by; 0 before one was
-  pub found_by : ℕ
   -- the commands of the job that were sent in it, in order
   pub sent : List Sent
 
