@@ -13,18 +13,16 @@ pub record Known : Type 0 where
   pub told : List Told
   pub alerts : List KeptAlert
 
--- the value that is being gathered in a session, with the greatest that is taken, and the number of the command that
--- its last piece was found by; 0 before one was
+-- the value that is being gathered in a session, with the greatest that is taken
 pub record Gathered : Type 0 where
   pub max_obj : ℕ
   pub object : Object
-  pub found_by : ℕ
 
 -- ---- a message
 
 abbrev pub matched_of : Known → Gathered → Matched
 matched_of known gathered = record {
-  finding = record { object = gathered.object; found_by = gathered.found_by; told = known.told };
+  finding = record { object = gathered.object; told = known.told };
   alerts = known.alerts;
 }
 

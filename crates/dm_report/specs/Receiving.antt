@@ -4,11 +4,10 @@ use Rattle.dm_objects.specs.declared.piece.Piece.{Piece}
 use Rattle.dm_objects.specs.declared.piece.What.{What}
 use Rattle.dm_objects.specs.Gathering.{gather}
 use Rattle.dm_objects.specs.Seen.{Seen, present}
-use Rattle.dm_report.specs.declared.gathering.Receiving.{Receiving}
 use Rattle.dm_report.specs.Known.{Gathered}
 
-abbrev pub gathered_of : Receiving → Gathered
-gathered_of r = record { max_obj = r.inbox.max_obj; object = present r.inbox.objects; found_by = r.found_by }
+abbrev pub gathered_of : Seen → Gathered
+gathered_of s = record { max_obj = s.max_obj; object = present s.objects }
 
 -- the inbox can go back to what it was
 pub record HoldsOn (old new : Seen) : Type 0 where

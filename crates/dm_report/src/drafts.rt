@@ -3,17 +3,16 @@ ghost use Rattle.std.specs.Prelude.{◌≡◌, ◌<◌, IfOk, OnOk};
 ghost use Rattle.dm_service.specs.Laws.{AreInOrder};
 ghost use Rattle.dm_service.specs.Matching as Spec;
 ghost use Rattle.dm_report.specs.declared.kept.Kept.{Kept as AKept};
-ghost use Rattle.dm_report.specs.declared.gathering.Receiving.{Receiving as AReceiving};
+ghost use Rattle.dm_objects.specs.Seen.{Seen};
 ghost use Rattle.dm_report.specs.Known.{matched_of};
 ghost use Rattle.dm_report.specs.Kept.{known_of};
 ghost use Rattle.dm_report.specs.Receiving.{gathered_of, Comes, HoldsOn};
 ghost use Rattle.dm_report.specs.Sending.{AreCommands};
 ghost use Rattle.dm_report.specs.Notes.{Notes, matched_by, on_finding};
 
-use crate::gathering::Receiving;
 use crate::kept::FoundValue;
 use crate::pieces::{kept_alert, result_piece};
-use crate::sending::{find_sent, found_by};
+use crate::sending::{find_sent, sent_for};
 use dm_base::{List, Memory};
 use dm_objects::{Inbox, Piece, What};
 use dm_service::{KeptAlert, Sent};
@@ -49,8 +48,8 @@ fn what_comes(inbox: &mut Inbox, piece: Piece) -> Result<What, Memory>
 
 fn note_value(draft: &mut Draft, number: u64, what: What) -> Result<(), Memory>
     requires { 0 < number }
-    ensures { OnOk result ((r : AReceiving) → Notes
-        (on_finding (λ x. record x { told = Spec.found_in x.told number what })) draft.old draft.new r r) }
+    ensures { OnOk result ((s : Seen) → Notes
+        (on_finding (λ x. record x { told = Spec.found_in x.told number what })) draft.old draft.new s s) }
 {
     match what {
         What::Whole(value) => draft.found.push(FoundValue {
@@ -65,38 +64,37 @@ fn note_value(draft: &mut Draft, number: u64, what: What) -> Result<(), Memory>
 fn note_item(
     alloc: Global,
     draft: &mut Draft,
-    receiving: &mut Receiving,
+    inbox: &mut Inbox,
     number: u64,
     results: &ResultsCmd,
     item: &Item,
 ) -> Result<(), Memory>
     requires { 0 < number }
     ensures ok { OnOk result (Notes
-        (on_finding (λ x. Spec.takes_item receiving.old.inbox.max_obj number results.now x item.now))
-        draft.old draft.new receiving.old receiving.new) }
-    ensures held { HoldsOn receiving.old.inbox receiving.new.inbox }
+        (on_finding (λ x. Spec.takes_item inbox.old.max_obj number results.now x item.now))
+        draft.old draft.new inbox.old inbox.new) }
+    ensures held { HoldsOn inbox.old inbox.new }
 {
     let piece = result_piece(alloc, results, item)?;
-    let what = what_comes(&mut receiving.inbox, piece)?;
-    receiving.found_by = number;
+    let what = what_comes(inbox, piece)?;
     note_value(draft, number, what)
 }
 
 fn note_items(
     alloc: Global,
     draft: &mut Draft,
-    receiving: &mut Receiving,
+    inbox: &mut Inbox,
     number: u64,
     results: &ResultsCmd,
 ) -> Result<(), Memory>
     requires { 0 < number }
     ensures ok { OnOk result (Notes
-        (on_finding (λ x. Spec.takes_items receiving.old.inbox.max_obj number results.now x results.now.items))
-        draft.old draft.new receiving.old receiving.new) }
-    ensures held { HoldsOn receiving.old.inbox receiving.new.inbox }
+        (on_finding (λ x. Spec.takes_items inbox.old.max_obj number results.now x results.now.items))
+        draft.old draft.new inbox.old inbox.new) }
+    ensures held { HoldsOn inbox.old inbox.new }
 {
     for item in results.items.as_slice() {
-        note_item(alloc, draft, receiving, number, results, item)?;
+        note_item(alloc, draft, inbox, number, results, item)?;
     }
     Ok(())
 }
@@ -105,19 +103,19 @@ fn note_items(
 fn note_results(
     alloc: Global,
     draft: &mut Draft,
-    receiving: &mut Receiving,
+    inbox: &mut Inbox,
     sent: &[Sent],
     results: &ResultsCmd,
 ) -> Result<(), Memory>
     requires in_order { AreInOrder sent.now }
     requires numbered { AreCommands sent.now }
     ensures ok { OnOk result (Notes
-        (on_finding (λ x. Spec.takes_results receiving.old.inbox.max_obj sent.now x results.now))
-        draft.old draft.new receiving.old receiving.new) }
-    ensures held { HoldsOn receiving.old.inbox receiving.new.inbox }
+        (on_finding (λ x. Spec.takes_results inbox.old.max_obj sent.now x results.now))
+        draft.old draft.new inbox.old inbox.new) }
+    ensures held { HoldsOn inbox.old inbox.new }
 {
-    match found_by(sent, results) {
-        Some(command) => note_items(alloc, draft, receiving, command.number, results),
+    match sent_for(sent, results) {
+        Some(command) => note_items(alloc, draft, inbox, command.number, results),
         None => Ok(()),
     }
 }
@@ -126,8 +124,8 @@ fn note_results(
 fn note_status(draft: &mut Draft, sent: &[Sent], status: &StatusCmd) -> Result<(), Memory>
     requires in_order { AreInOrder sent.now }
     requires numbered { AreCommands sent.now }
-    ensures { OnOk result ((r : AReceiving) → Notes
-        (on_finding (λ x. record x { told = Spec.takes_status sent.now x.told status.now })) draft.old draft.new r r) }
+    ensures { OnOk result ((s : Seen) → Notes
+        (on_finding (λ x. record x { told = Spec.takes_status sent.now x.told status.now })) draft.old draft.new s s) }
 {
     match find_sent(sent, status.msg_ref, status.cmd_ref) {
         Some(command) if command.counts => draft.codes.push(NewCode {
@@ -139,8 +137,8 @@ fn note_status(draft: &mut Draft, sent: &[Sent], status: &StatusCmd) -> Result<(
 }
 
 fn note_alert(alloc: Global, draft: &mut Draft, alert: &AlertCmd) -> Result<(), Memory>
-    ensures { OnOk result ((r : AReceiving) → Notes
-        (λ x. record x { alerts = Spec.takes_alert x.alerts alert.now }) draft.old draft.new r r) }
+    ensures { OnOk result ((s : Seen) → Notes
+        (λ x. record x { alerts = Spec.takes_alert x.alerts alert.now }) draft.old draft.new s s) }
 {
     if alert.code != 1226 {
         return Ok(());
@@ -153,20 +151,20 @@ fn note_alert(alloc: Global, draft: &mut Draft, alert: &AlertCmd) -> Result<(), 
 fn note_command(
     alloc: Global,
     draft: &mut Draft,
-    receiving: &mut Receiving,
+    inbox: &mut Inbox,
     sent: &[Sent],
     command: &Command,
 ) -> Result<(), Memory>
     requires in_order { AreInOrder sent.now }
     requires numbered { AreCommands sent.now }
     ensures ok { OnOk result (Notes
-        (λ x. Spec.takes_command receiving.old.inbox.max_obj sent.now x command.now)
-        draft.old draft.new receiving.old receiving.new) }
-    ensures held { HoldsOn receiving.old.inbox receiving.new.inbox }
+        (λ x. Spec.takes_command inbox.old.max_obj sent.now x command.now)
+        draft.old draft.new inbox.old inbox.new) }
+    ensures held { HoldsOn inbox.old inbox.new }
 {
     match command {
         Command::Status(status) => note_status(draft, sent, status),
-        Command::Results(results) => note_results(alloc, draft, receiving, sent, results),
+        Command::Results(results) => note_results(alloc, draft, inbox, sent, results),
         Command::Alert(alert) => note_alert(alloc, draft, alert),
         Command::Plain(_) | Command::Atomic(_) | Command::Sequence(_) => Ok(()),
     }
@@ -176,19 +174,19 @@ fn note_command(
 fn note_commands(
     alloc: Global,
     draft: &mut Draft,
-    receiving: &mut Receiving,
+    inbox: &mut Inbox,
     sent: &[Sent],
     body: &[Command],
 ) -> Result<(), Memory>
     requires in_order { AreInOrder sent.now }
     requires numbered { AreCommands sent.now }
     ensures ok { OnOk result (Notes
-        (λ x. Spec.matched receiving.old.inbox.max_obj sent.now x body.now)
-        draft.old draft.new receiving.old receiving.new) }
-    ensures held { HoldsOn receiving.old.inbox receiving.new.inbox }
+        (λ x. Spec.matched inbox.old.max_obj sent.now x body.now)
+        draft.old draft.new inbox.old inbox.new) }
+    ensures held { HoldsOn inbox.old inbox.new }
 {
     for command in body {
-        note_command(alloc, draft, receiving, sent, command)?;
+        note_command(alloc, draft, inbox, sent, command)?;
     }
     Ok(())
 }
@@ -196,22 +194,22 @@ fn note_commands(
 /// What the commands of a message tell. What was received before can be gone back to, also after `Memory`.
 pub(crate) fn draft_of(
     alloc: Global,
-    receiving: &mut Receiving,
+    inbox: &mut Inbox,
     sent: &[Sent],
     body: &[Command],
 ) -> Result<Draft, Memory>
     requires in_order { AreInOrder sent.now }
     requires numbered { AreCommands sent.now }
-    ensures ok { IfOk result (λ draft. (k : AKept) → matched_by draft receiving.new k
-        ≡ Spec.matched receiving.old.inbox.max_obj sent.now
-        (matched_of (known_of k) (gathered_of receiving.old)) body.now) }
-    ensures held { HoldsOn receiving.old.inbox receiving.new.inbox }
+    ensures ok { IfOk result (λ draft. (k : AKept) → matched_by draft inbox.new k
+        ≡ Spec.matched inbox.old.max_obj sent.now
+        (matched_of (known_of k) (gathered_of inbox.old)) body.now) }
+    ensures held { HoldsOn inbox.old inbox.new }
 {
     let mut draft = Draft {
         codes: List::new(alloc),
         found: List::new(alloc),
         alerts: List::new(alloc),
     };
-    note_commands(alloc, &mut draft, receiving, sent, body)?;
+    note_commands(alloc, &mut draft, inbox, sent, body)?;
     Ok(draft)
 }

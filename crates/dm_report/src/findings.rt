@@ -1,9 +1,7 @@
 // What is known of a job.
 ghost use Rattle.std.specs.Prelude.{◌≡◌, ◌+◌, [], replicate, None, if◌then◌else◌, IfOk, OnOk, OnErr};
-ghost use Rattle.std.specs.List.{list_all};
 ghost use Rattle.dm_service.specs.Laws.{AreInOrder};
 ghost use Rattle.dm_service.specs.Matching.{untold, matched};
-ghost use Rattle.dm_service.specs.Report.{has_code};
 ghost use Rattle.dm_report.specs.Known.{Tells, matched_of, is_within, forgotten_within, IsReport};
 ghost use Rattle.dm_report.specs.Kept as Spec;
 ghost use Rattle.dm_report.specs.Kept.{known_of};
@@ -12,10 +10,11 @@ ghost use Rattle.dm_report.specs.Sending.{AreCommands};
 
 use crate::copies::{copy_alerts, copy_found};
 use crate::drafts::draft_of;
-use crate::gathering::{Gathering, Receiving, is_within};
-use crate::kept::{FoundValue, Kept, all_coded, put_draft};
+use crate::gathering::Gathering;
+use crate::kept::{FoundValue, Kept, put_draft};
 use crate::report::report_text;
 use dm_base::{Bytes, List, Memory};
+use dm_objects::Inbox;
 use dm_service::Sent;
 use std::alloc::Global;
 use std::marker::Model;
@@ -52,19 +51,19 @@ fn no_codes(alloc: Global, commands: usize) -> Result<List<Option<u32>>, Memory>
 fn draft_and_put(
     alloc: Global,
     kept: &mut Kept,
-    receiving: &mut Receiving,
+    inbox: &mut Inbox,
     sent: &[Sent],
     body: &[Command],
 ) -> Result<(), Memory>
     requires in_order { AreInOrder sent.now }
     requires numbered { AreCommands sent.now }
-    ensures ok { OnOk result (matched_of (known_of kept.new) (gathered_of receiving.new)
-        ≡ matched receiving.old.inbox.max_obj sent.now (matched_of (known_of kept.old) (gathered_of receiving.old))
+    ensures ok { OnOk result (matched_of (known_of kept.new) (gathered_of inbox.new)
+        ≡ matched inbox.old.max_obj sent.now (matched_of (known_of kept.old) (gathered_of inbox.old))
         body.now) }
-    ensures held { HoldsOn receiving.old.inbox receiving.new.inbox }
+    ensures held { HoldsOn inbox.old inbox.new }
     ensures err { OnErr result (kept.new ≡ kept.old) }
 {
-    let draft = draft_of(alloc, receiving, sent, body)?;
+    let draft = draft_of(alloc, inbox, sent, body)?;
     put_draft(kept, draft)
 }
 
@@ -72,32 +71,38 @@ fn draft_and_put(
 fn take_body(
     alloc: Global,
     kept: &mut Kept,
-    receiving: &mut Receiving,
+    inbox: &mut Inbox,
     sent: &[Sent],
     body: &[Command],
 ) -> Result<(), Memory>
     requires in_order { AreInOrder sent.now }
     requires numbered { AreCommands sent.now }
-    ensures ok { OnOk result (matched_of (known_of kept.new) (gathered_of receiving.new)
-        ≡ matched receiving.old.inbox.max_obj sent.now (matched_of (known_of kept.old) (gathered_of receiving.old))
+    ensures ok { OnOk result (matched_of (known_of kept.new) (gathered_of inbox.new)
+        ≡ matched inbox.old.max_obj sent.now (matched_of (known_of kept.old) (gathered_of inbox.old))
         body.now) }
-    ensures max_obj { receiving.new.inbox.max_obj ≡ receiving.old.inbox.max_obj }
+    ensures max_obj { inbox.new.max_obj ≡ inbox.old.max_obj }
     ensures err_kept { OnErr result (kept.new ≡ kept.old) }
-    ensures err_receiving { OnErr result (receiving.new ≡ receiving.old) }
+    ensures err_inbox { OnErr result (inbox.new ≡ inbox.old) }
 {
-    let mark = receiving.inbox.mark();
-    let found_by = receiving.found_by;
-    match draft_and_put(alloc, kept, receiving, sent, body) {
+    let mark = inbox.mark();
+    match draft_and_put(alloc, kept, inbox, sent, body) {
         Ok(()) => {
-            receiving.inbox.settle();
+            inbox.settle();
             Ok(())
         }
         Err(memory) => {
-            receiving.inbox.back(mark);
-            receiving.found_by = found_by;
+            inbox.back(mark);
             Err(memory)
         }
     }
+}
+
+// Whether a number is one of so many from the first on.
+fn is_within(first: u64, count: u64, number: u128) -> bool
+    ensures { result ≡ is_within first count number }
+{
+    let first = u128::from(first);
+    first <= number && number - first < u128::from(count)
 }
 
 // The code that is known of the command at a place, from 0.
@@ -174,13 +179,7 @@ impl Findings {
         ensures err_findings { OnErr result (self.new ≡ self.old) }
         ensures err_gathering { OnErr result (gathering.new ≡ gathering.old) }
     {
-        take_body(
-            self.alloc,
-            &mut self.kept,
-            &mut gathering.receiving,
-            sent,
-            body,
-        )
+        take_body(self.alloc, &mut self.kept, &mut gathering.inbox, sent, body)
     }
 
     /// What is known but of `count` commands, numbered from `first` on, of which nothing is known then. All else is
@@ -198,13 +197,6 @@ impl Findings {
                 alerts: copy_alerts(self.alloc, self.kept.alerts.as_slice())?,
             },
         })
-    }
-
-    /// Whether each command has its code.
-    pub fn all_coded(&self) -> bool
-        ensures { result ≡ list_all has_code self.now.told }
-    {
-        all_coded(&self.kept)
     }
 
     /// The report, in one walk. `ran` tells whether a command of the job was sent.

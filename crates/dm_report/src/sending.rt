@@ -43,7 +43,7 @@ pub(crate) fn find_sent(sent: &[Sent], msg: u32, command: u32) -> Option<Sent>
 }
 
 /// The command that Results are for.
-pub(crate) fn found_by(sent: &[Sent], results: &ResultsCmd) -> Option<Sent>
+pub(crate) fn sent_for(sent: &[Sent], results: &ResultsCmd) -> Option<Sent>
     requires in_order { AreInOrder sent.now }
     requires numbered { AreCommands sent.now }
     ensures found { result ≡ option_and_then (λ msg. Spec.find_sent msg results.now.cmd_ref sent.now)

@@ -75,7 +75,7 @@ sent_is job run p next o now g k before m code filled runs over f is message who
     build : List Waiting → Option ℕ → Progress → List Sent → Parts → Service
     build q r n ss x =
         service_of job (record run { runs_in = r }) q k
-        (Some (record { progress = n; object = g.object; found_by = g.found_by; sent = ss })) (Some x)
+        (Some (record { progress = n; object = g.object; sent = ss })) (Some x)
 
     out : goes_out (p.standing.own + 1) 1 filled.whole filled.cut o.queue ≡ out_of f
     out =

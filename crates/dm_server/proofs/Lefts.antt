@@ -6,20 +6,18 @@ use Rattle.std.specs.List.{filter}
 use Rattle.syncml_types.specs.Message.{Parts}
 use Rattle.dm_job.specs.declared.job.Job.{Job}
 use Rattle.dm_job.specs.declared.job.JobEntry.{JobEntry}
-use Rattle.dm_objects.specs.declared.object.Object.{Object}
-use Rattle.dm_objects.specs.declared.object.Object.TheVariants.{Nothing}
-use Rattle.dm_report.specs.Known.{Known, Gathered, is_within, forgotten_within}
+use Rattle.dm_report.specs.Known.{Known, Gathered, forgotten_within}
 use Rattle.dm_service.specs.declared.progress.Progress.{Progress}
 use Rattle.dm_service.specs.declared.sent.Sent.{Sent}
 use Rattle.dm_report.specs.Sending.{AreCommands}
 use Rattle.dm_service.specs.Laws.{AreInOrder}
-use Rattle.dm_service.specs.Packages.{is_of_job, forgotten, gives_up, holds_number, not_sent, put_back, runs_after}
+use Rattle.dm_service.specs.Packages.{is_of_job, forgotten, gives_up, not_sent, put_back, runs_after}
 use Rattle.dm_service.specs.Ready.{AreReadyWaiting}
 use Rattle.dm_service.specs.Service.{Waiting, Told, Service}
 use Rattle.dm_server.specs.declared.held.Run.{Run}
 use Rattle.dm_server.specs.declared.held.Outbox.{Outbox}
 use Rattle.dm_server.specs.Inside.{at_work, newest_of, session_of, IsNumberedJob, IsPlace}
-use Rattle.dm_server.specs.Working.{given_up_within, sent_without, Holds, IsRow}
+use Rattle.dm_server.specs.Working.{sent_without, Holds, IsRow}
 use Rattle.dm_server.proofs.Rows.{forgotten_is, left_commands, left_in_order, sent_is}
 use Rattle.dm_server.proofs.Runs.{put_back_is}
 use Rattle.dm_server.proofs.Sendable.{others_wait}
@@ -40,21 +38,19 @@ pub given_up_is : (job : Job) (run : Run) (p : Progress) (o : Outbox) (g : Gathe
     → next ≡ (if run.queued then run.next - 1 else run.next) → runs ≡ runs_after run.runs_in o.sent sent
     → queue ≡ filter (λ w. not (is_of_job w)) o.queue → sent ≡ sent_without first count o.sent
     → known ≡ known_left first count k
-    → at_work job (run_left next runs) p (outbox_left queue sent) (given_up_within first count g) known before
+    → at_work job (run_left next runs) p (outbox_left queue sent) g known before
     ≡ gives_up (at_work job run p o g k before) (session_of p o g)
 unfolding gives_up
 given_up_is job run p o g k known before next first count runs queue sent numbered place row next_is runs_is queue_is
     sent_so known_is =
-    ap (λ x. at_work job (run_left next runs) p (outbox_left queue sent) (given_up_within first count g) x before)
-    known_is
-    ∙ ap (λ q. build q (drop next job.packages) runs told object sent) queue_is
-    ∙ ap (λ ps. build waits ps runs told object sent)
+    ap (λ x. at_work job (run_left next runs) p (outbox_left queue sent) g x before) known_is
+    ∙ ap (λ q. build q (drop next job.packages) runs told sent) queue_is
+    ∙ ap (λ ps. build waits ps runs told sent)
     (ap (λ n. drop n job.packages) next_is
     ∙ put_back_is job run.next run.queued numbered.filled place.within place.behind)
-    ∙ ap (λ r. build waits packages r told object sent) (runs_is ∙ ap (runs_after run.runs_in o.sent) left)
-    ∙ ap (λ ts. build waits packages ran ts object sent) (forgotten_is given first count 1 k.told row)
-    ∙ ap (λ b. build waits packages ran forgets (if b then Nothing else g.object) sent) (sym (row g.found_by))
-    ∙ ap (build waits packages ran forgets after) left
+    ∙ ap (λ r. build waits packages r told sent) (runs_is ∙ ap (runs_after run.runs_in o.sent) left)
+    ∙ ap (λ ts. build waits packages ran ts sent) (forgotten_is given first count 1 k.told row)
+    ∙ ap (build waits packages ran forgets) left
   where
     v : Service
     v = at_work job run p o g k before
@@ -65,14 +61,14 @@ given_up_is job run p o g k known before next first count runs queue sent number
     left : sent ≡ not_sent given o.sent
     left = sent_so ∙ sent_is given first count o.sent row
 
-    build : List Waiting → List (List JobEntry) → Option ℕ → List Told → Object → List Sent → Service
-    build q ps r ts x ss = record v {
+    build : List Waiting → List (List JobEntry) → Option ℕ → List Told → List Sent → Service
+    build q ps r ts ss = record v {
       queue = q;
       packages = ps;
       newest = [];
       runs_in = r;
       told = ts;
-      session = Some (record { progress = p; object = x; found_by = g.found_by; sent = ss });
+      session = Some (record { progress = p; object = g.object; sent = ss });
     }
 
     waits : List Waiting
@@ -89,12 +85,6 @@ given_up_is job run p o g k known before next first count runs queue sent number
 
     forgets : List Told
     forgets = forgotten given 1 k.told
-
-    object : Object
-    object = if is_within first count g.found_by then Nothing else g.object
-
-    after : Object
-    after = if holds_number given g.found_by then Nothing else g.object
 
 place-left : (ps : List (List JobEntry)) (next : ℕ) (queued : Bool) → next ≤ length ps
     → cond queued (next - 1) next ≤ length ps

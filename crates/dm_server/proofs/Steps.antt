@@ -25,8 +25,7 @@ use Rattle.dm_pack.specs.Filling.{IsReadyHeader}
 use Rattle.syncml_types.specs.Fitness.{IsFit}
 use Rattle.dm_service.proofs.Headers.{header_ready}
 use Rattle.dm_job.specs.declared.job.Job.{Job}
-use Rattle.dm_objects.specs.declared.object.Object.TheVariants.{Nothing}
-use Rattle.dm_report.specs.Known.{Known, Gathered, is_within}
+use Rattle.dm_report.specs.Known.{Known, Gathered}
 use Rattle.dm_service.specs.declared.progress.Progress.{Progress}
 use Rattle.dm_service.specs.Messages.{first_service, after_status, ended, denies, by_header, accepts}
 use Rattle.dm_service.specs.Sending.{header_for}
@@ -35,8 +34,7 @@ use Rattle.dm_server.specs.declared.held.Run.{Run}
 use Rattle.dm_server.specs.declared.held.Outbox.{Outbox}
 use Rattle.dm_server.specs.declared.held.Session.{Session as Held}
 use Rattle.dm_server.specs.Inside.{at_work, session_of}
-use Rattle.dm_server.specs.Working.{by_header_after, given_up_within, with_account, CanAccept, CanWork}
-use Rattle.dm_server.specs.Working.{IsFaultTold}
+use Rattle.dm_server.specs.Working.{by_header_after, with_account, CanAccept, CanWork, IsFaultTold}
 
 pub if_so : {A : Type 0} (b : Bool) (x y : A) → b ≡ true → cond b x y ≡ x
 if_so true x y e = refl
@@ -162,12 +160,6 @@ accepted_is job run p next o g k before m nonce account status v e c f is =
     (session_of next o g) failed n) (session_of next o g) m h nonce) c
     ∙ ap (λ x. by_header_after (after_status (at_work (with_account job h.account) run x o g k before)
     (session_of x o g) failed h.status) (session_of x o g) m h nonce) f
-
--- without the value that is given up
-pub emptied_is : (g left : Gathered) (first count : ℕ) (b : Bool) → left ≡ record g { object = Nothing }
-    → b ≡ is_within first count g.found_by → b ≡ true → left ≡ given_up_within first count g
-emptied_is g left first count b e f h =
-    e ∙ ap (λ x. record g { object = if x then Nothing else g.object }) (sym h ∙ f)
 
 -- what its header leaves can be worked with
 pub can_work : (job : Job) (run : Run) (s : Held) (m : Parts) (nonce : List ℕ) (account : Account) (standing : Standing)

@@ -45,7 +45,7 @@ service_of job run queue known session sent = record {
 }
 
 abbrev pub session_of : Progress → Outbox → Gathered → Session
-session_of p o g = record { progress = p; object = g.object; found_by = g.found_by; sent = o.sent }
+session_of p o g = record { progress = p; object = g.object; sent = o.sent }
 
 -- the machine in a session
 abbrev pub at_work : Job → Run → Progress → Outbox → Gathered → Known → Option Parts → Service
@@ -85,7 +85,7 @@ pub record Stands (job : Job) (run : Run) (o : Outbox) (g : Gathered) : Type 0 w
   pub commands : AreCommands o.sent
   pub max_obj : g.max_obj ≡ job.limits.max_obj
 
--- messages led to it
+-- a state to which messages have led the server of a job
 pub record IsReached (v : Service) : Type 0 where
   pub job : Job
   pub arrivals : List Arrival

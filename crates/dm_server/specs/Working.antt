@@ -15,7 +15,6 @@ use Rattle.dm_ends.specs.Ready.{IsReadyAccount, IsReadyLimits}
 use Rattle.dm_job.specs.declared.job.Job.{Job}
 use Rattle.dm_job.specs.declared.job.JobEntry.{JobEntry}
 use Rattle.dm_job.specs.Sound.{AreNumbered}
-use Rattle.dm_objects.specs.declared.object.Object.TheVariants.{Nothing}
 use Rattle.dm_report.specs.Known.{Known, Gathered, Tells as TellsOfJob, is_within}
 use Rattle.dm_report.specs.Sending.{AreCommands}
 use Rattle.dm_service.specs.declared.progress.Progress.{Progress}
@@ -116,7 +115,7 @@ drafted job d s known before =
 abbrev pub answer_with : Option LastMessage → Answer
 answer_with sent = if is_some sent then answer.Sent else answer.Ended
 
--- commands that pass tell of the job, others nothing
+-- the commands of a message that passes tell of the job; those of another tell nothing
 abbrev pub ToldBy : Bool → List Sent → List Command → Known → Known → Gathered → Gathered → Type 0
 ToldBy true sent body known next before after = TellsOfJob sent body known next before after
 ToldBy false sent body known next before after = (next ≡ known) × (after ≡ before)
@@ -138,11 +137,6 @@ IsRow given first count = (n : ℕ) → holds_number given n ≡ is_within first
 
 abbrev pub sent_without : ℕ → ℕ → List Sent → List Sent
 sent_without first count = filter (λ (s : Sent). not (is_within first count s.number))
-
--- a value that one of its commands found is given up
-abbrev pub given_up_within : ℕ → ℕ → Gathered → Gathered
-given_up_within first count g =
-    record g { object = if is_within first count g.found_by then Nothing else g.object }
 
 -- ---- what a message is to a machine
 

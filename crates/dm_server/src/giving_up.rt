@@ -8,7 +8,7 @@ ghost use Rattle.dm_service.specs.declared.progress.Progress.{Progress as AProgr
 ghost use Rattle.dm_service.specs.Packages.{gives_up, runs_after};
 ghost use Rattle.dm_service.specs.Ready.{IsReadyEntry, AreReadyPackages};
 ghost use Rattle.dm_server.specs.Inside.{at_work, newest_of, session_of, IsNumberedJob, IsPlace};
-ghost use Rattle.dm_server.specs.Working.{with_account, given_up_within, sent_without, Holds, AreInARow, IsRow};
+ghost use Rattle.dm_server.specs.Working.{with_account, sent_without, Holds, AreInARow, IsRow};
 
 use crate::held::{Outbox, Plan, Run};
 use crate::packages::commands_in;
@@ -18,11 +18,9 @@ use dm_report::Findings;
 use dm_service::Sent;
 use std::alloc::Global;
 
-/// What is left without a package that holds `count` commands, numbered from `first` on.
+/// What is left without a package.
 #[derive(Drop)]
 pub(crate) struct Left {
-    pub first: u64,
-    pub count: u64,
     pub run: Run,
     pub outbox: Outbox,
     pub findings: Findings,
@@ -93,7 +91,7 @@ fn place_before(run: Run) -> usize
 }
 
 /// Gives up the package that was queued last in the present session: it counts as not queued, none of its commands as
-/// sent, and nothing is known of them.
+/// sent, and nothing is known of them. A value that is being gathered has no part in it.
 pub(crate) fn give_up(
     plan: &Plan,
     run: Run,
@@ -104,8 +102,8 @@ pub(crate) fn give_up(
     requires packages { AreReadyPackages plan.now.job.packages }
     requires holds { Holds plan.now.job run outbox.now }
     ensures given_up { IfOk result (λ left. (account : AnAccount) (p : AProgress) (g : Gathered)
-        (before : OptionOf Parts) → at_work (with_account plan.now.job account) left.run p left.outbox
-        (given_up_within left.first left.count g) left.findings before
+        (before : OptionOf Parts)
+        → at_work (with_account plan.now.job account) left.run p left.outbox g left.findings before
         ≡ gives_up (at_work (with_account plan.now.job account) run p outbox.now g findings.now before)
         (session_of p outbox.now g)) }
     ensures holds { IfOk result (λ left. Holds plan.now.job left.run left.outbox) }
@@ -118,8 +116,6 @@ pub(crate) fn give_up(
         runs_in: runs_after(run.runs_in, &outbox.sent, &sent),
     };
     Ok(Left {
-        first,
-        count,
         run,
         outbox: Outbox {
             queue: outbox.queue.without_job(plan.alloc)?,

@@ -20,7 +20,7 @@ pub(crate) struct Run {
     pub next: usize,
     /// Whether the package before it was queued in the present session.
     pub queued: bool,
-    /// The session in which commands of the job were sent.
+    /// The session in which commands of the job were sent that count as sent.
     pub runs_in: Option<u32>,
 }
 

@@ -11,7 +11,7 @@ ghost use Rattle.dm_service.specs.Messages as Spec;
 ghost use Rattle.dm_service.specs.Packages.{gives_up};
 ghost use Rattle.dm_server.specs.declared.held.Outbox.{Outbox as AnOutbox};
 ghost use Rattle.dm_server.specs.Inside.{at_work, session_in, session_of, Stands};
-ghost use Rattle.dm_server.specs.Working.{behind, by_header_after, drafted, given_up_within, with_account};
+ghost use Rattle.dm_server.specs.Working.{behind, by_header_after, drafted, with_account};
 ghost use Rattle.dm_server.specs.Working.{CanAccept, CanWork, IsFaultTold, IsReply};
 
 use crate::answering::answered;
@@ -131,50 +131,6 @@ fn by_header(
     )
 }
 
-// The same without the value that one of so many commands found.
-fn by_header_without(
-    first: u64,
-    count: u64,
-    plan: &Plan,
-    account: &Account,
-    run: Run,
-    progress: &Progress,
-    outbox: &mut Outbox,
-    gathering: &mut Gathering,
-    findings: &mut Findings,
-    message: &Message,
-    nonce: &Nonce,
-    heard: &Heard,
-) -> Result<Next, Memory>
-    requires can_work { CanWork plan.now.job account.now run progress.now outbox.old gathering.old }
-    requires message { IsReadyMessage message.now nonce.now.bytes }
-    requires code { IsFaultTold heard.now.code message.now }
-    ensures state { IfOk result (λ next. (before : OptionOf Parts) (h : Standings.Heard)
-        → h.code ≡ heard.now.code → h.second ≡ heard.now.second
-        → behind plan.now.job account.now next outbox.new gathering.new findings.new before
-        ≡ Spec.by_header (at_work (with_account plan.now.job account.now) run progress.now outbox.old
-        (given_up_within first count gathering.old) findings.old before)
-        (session_of progress.now outbox.old (given_up_within first count gathering.old)) message.now h
-        nonce.now.bytes) }
-    ensures stands { IfOk result (λ next. Stands plan.now.job next.run outbox.new gathering.new) }
-    ensures reply { IfOk result (λ next. IsReply next.progress next.sent) }
-    ensures err_outbox { OnErr result (outbox.new ≡ outbox.old) }
-    ensures err_gathering { OnErr result (gathering.new ≡ gathering.old) }
-    ensures err_findings { OnErr result (findings.new ≡ findings.old) }
-{
-    if !gathering.is_found_by(first, count) {
-        return by_header(
-            plan, account, run, progress, outbox, gathering, findings, message, nonce, heard,
-        );
-    }
-    let mut left = gathering.emptied(plan.alloc, plan.job.limits.max_obj);
-    let next = by_header(
-        plan, account, run, progress, outbox, &mut left, findings, message, nonce, heard,
-    )?;
-    *gathering = left;
-    Ok(next)
-}
-
 // The same once the package that was queued last is given up.
 fn by_header_anew(
     plan: &Plan,
@@ -204,9 +160,7 @@ fn by_header_anew(
     ensures err_findings { OnErr result (findings.new ≡ findings.old) }
 {
     let mut left = give_up(plan, run, outbox, findings)?;
-    let next = by_header_without(
-        left.first,
-        left.count,
+    let next = by_header(
         plan,
         account,
         left.run,

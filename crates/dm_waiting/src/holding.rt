@@ -7,7 +7,8 @@ use crate::loads::Load;
 use dm_base::{List, Memory};
 use dm_service::{Carried, Sent};
 
-// A part that more parts follow tells no codes of the first of so many commands and of the last.
+// Whether the Status of the command at a place counts: in a part that more parts follow, those of the first and the last
+// don't.
 fn tells_code(part: bool, at: u64, count: u64) -> bool
     requires { at < count }
     ensures { result ≡ not (part && (at == 0 || at + 1 == count)) }

@@ -43,11 +43,7 @@ fn meta_of(alloc: Global, piece: &Piece) -> Result<Option<Meta>, Memory> {
         format: bytes_of(alloc, piece.format)?,
         media: bytes_of(alloc, piece.media)?,
         size: piece.size,
-        next_nonce: None,
-        max_msg: None,
-        max_obj: None,
-        mark: None,
-        version: None,
+        ..Meta::empty()
     }))
 }
 

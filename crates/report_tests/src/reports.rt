@@ -1,8 +1,6 @@
 // What messages tell, and the report of it.
-ghost use Rattle.std.specs.Prelude.{◌≡◌};
-
 use crate::messages::{Told, body_of};
-use crate::rows::{ALERTS, IN_PIECES, OF_TWO, Row, SENT, STATUSES, VALUES};
+use crate::rows::{ALERTS, FORGOTTEN, IN_PIECES, OF_TWO, Row, SENT, STATUSES, VALUES};
 use dm_base::{Bytes, Memory};
 use dm_report::{Findings, Gathering};
 use std::alloc::Global;
@@ -16,68 +14,39 @@ fn take(
     findings: &mut Findings,
     gathering: &mut Gathering,
     told: &[Told],
-) -> Result<(), Memory>
-    ensures { gathering.new.max_obj ≡ gathering.old.max_obj }
-{
+) -> Result<(), Memory> {
     let body = body_of(alloc, told)?;
     let taken = findings.take(gathering, &SENT, body.as_slice());
     drop(body);
     taken
 }
 
-// The value is given up where one of so many commands from one on found it.
-fn give_up(alloc: Global, gathering: &mut Gathering, first: u64, count: u64)
-    requires { gathering.old.max_obj ≡ MAX_OBJ }
-{
-    if gathering.is_found_by(first, count) {
-        *gathering = gathering.emptied(alloc, MAX_OBJ);
-    }
-}
-
-// What two messages tell; between them the value of so many commands from one on is given up.
 fn take_both(
     alloc: Global,
     findings: &mut Findings,
     gathering: &mut Gathering,
     row: &Row,
-    first: u64,
-    count: u64,
-) -> Result<(), Memory>
-    requires { gathering.old.max_obj ≡ MAX_OBJ }
-{
+) -> Result<(), Memory> {
     take(alloc, findings, gathering, row.first)?;
-    give_up(alloc, gathering, first, count);
     take(alloc, findings, gathering, row.second)
 }
 
-fn take_into(
-    alloc: Global,
-    findings: &mut Findings,
-    row: &Row,
-    first: u64,
-    count: u64,
-) -> Result<(), Memory> {
+fn take_into(alloc: Global, findings: &mut Findings, row: &Row) -> Result<(), Memory> {
     let mut gathering = Gathering::new(alloc, MAX_OBJ);
-    let taken = take_both(alloc, findings, &mut gathering, row, first, count);
+    let taken = take_both(alloc, findings, &mut gathering, row);
     drop(gathering);
     taken
 }
 
-fn take_and_report(
-    alloc: Global,
-    findings: &mut Findings,
-    row: &Row,
-    first: u64,
-    count: u64,
-) -> Result<Bytes, Memory> {
-    take_into(alloc, findings, row, first, count)?;
+fn take_and_report(alloc: Global, findings: &mut Findings, row: &Row) -> Result<Bytes, Memory> {
+    take_into(alloc, findings, row)?;
     findings.report(true)
 }
 
-// The report behind both messages, where the value of so many commands from one on was given up between them.
-fn report_of(alloc: Global, row: &Row, first: u64, count: u64) -> Result<Bytes, Memory> {
+// The report behind both messages.
+fn report_of(alloc: Global, row: &Row) -> Result<Bytes, Memory> {
     let mut findings = Findings::new(alloc, 3)?;
-    let report = take_and_report(alloc, &mut findings, row, first, count);
+    let report = take_and_report(alloc, &mut findings, row);
     drop(findings);
     report
 }
@@ -85,7 +54,7 @@ fn report_of(alloc: Global, row: &Row, first: u64, count: u64) -> Result<Bytes, 
 // The number of the first row with another report.
 fn wrong_row(alloc: Global, rows: &[Row]) -> Result<Option<usize>, Memory> {
     for (number, row) in rows.iter().enumerate() {
-        let report = report_of(alloc, row, 0, 0)?;
+        let report = report_of(alloc, row)?;
         if report.as_slice() != row.report {
             return Ok(Some(number));
         }
@@ -111,24 +80,65 @@ fn alerts_are_kept(rt: HostRuntime) -> Result<(), Fail> {
     Ok(())
 }
 
-fn is_report(
-    alloc: Global,
-    row: &Row,
-    first: u64,
-    count: u64,
-    text: &[u8],
-) -> Result<bool, Memory> {
-    let report = report_of(alloc, row, first, count)?;
-    let same = report.as_slice() == text;
+fn is_report(alloc: Global, row: &Row) -> Result<bool, Memory> {
+    let report = report_of(alloc, row)?;
+    let same = report.as_slice() == row.report;
     drop(report);
     Ok(same)
 }
 
 #[test]
-fn a_value_is_given_up_with_its_command(rt: HostRuntime) -> Result<(), Fail> {
-    let none = b"status 1 200\nstate running\n";
-    assert!(rt; is_report(rt.alloc(), &IN_PIECES, 2, 2, IN_PIECES.report)?);
-    assert!(rt; is_report(rt.alloc(), &IN_PIECES, 1, 1, none)?);
+fn pieces_make_a_value(rt: HostRuntime) -> Result<(), Fail> {
+    assert!(rt; is_report(rt.alloc(), &IN_PIECES)?);
+    Ok(())
+}
+
+fn second_and_report(
+    alloc: Global,
+    findings: &mut Findings,
+    gathering: &mut Gathering,
+    row: &Row,
+) -> Result<Bytes, Memory> {
+    take(alloc, findings, gathering, row.second)?;
+    findings.report(true)
+}
+
+// The first command is forgotten between the two messages.
+fn forget_between(
+    alloc: Global,
+    findings: &mut Findings,
+    gathering: &mut Gathering,
+    row: &Row,
+) -> Result<Bytes, Memory> {
+    take(alloc, findings, gathering, row.first)?;
+    let mut rest = findings.without(1, 1)?;
+    let report = second_and_report(alloc, &mut rest, gathering, row);
+    drop(rest);
+    report
+}
+
+fn forget_in(alloc: Global, findings: &mut Findings, row: &Row) -> Result<Bytes, Memory> {
+    let mut gathering = Gathering::new(alloc, MAX_OBJ);
+    let report = forget_between(alloc, findings, &mut gathering, row);
+    drop(gathering);
+    report
+}
+
+fn without_the_first_between(alloc: Global, row: &Row) -> Result<Bytes, Memory> {
+    let mut findings = Findings::new(alloc, 3)?;
+    let report = forget_in(alloc, &mut findings, row);
+    drop(findings);
+    report
+}
+
+#[test]
+fn a_value_that_is_gathered_stays_where_its_command_is_forgotten(
+    rt: HostRuntime,
+) -> Result<(), Fail> {
+    assert_eq!(rt;
+        without_the_first_between(rt.alloc(), &FORGOTTEN)?.as_slice(),
+        FORGOTTEN.report
+    );
     Ok(())
 }
 
@@ -140,7 +150,7 @@ fn report_without_the_second(findings: &Findings) -> Result<Bytes, Memory> {
 }
 
 fn take_and_forget(alloc: Global, findings: &mut Findings, row: &Row) -> Result<Bytes, Memory> {
-    take_into(alloc, findings, row, 0, 0)?;
+    take_into(alloc, findings, row)?;
     report_without_the_second(findings)
 }
 
@@ -154,7 +164,7 @@ fn without_the_second(alloc: Global, row: &Row) -> Result<Bytes, Memory> {
 #[test]
 fn values_stand_by_command_and_are_forgotten_with_it(rt: HostRuntime) -> Result<(), Fail> {
     let rest = b"status 1 200\nresult 2e2f42 - - 78\nstate running\n";
-    assert!(rt; is_report(rt.alloc(), &OF_TWO, 0, 0, OF_TWO.report)?);
+    assert!(rt; is_report(rt.alloc(), &OF_TWO)?);
     assert_eq!(rt;
         without_the_second(rt.alloc(), &OF_TWO)?.as_slice(),
         rest.as_slice()

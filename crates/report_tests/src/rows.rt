@@ -180,6 +180,19 @@ pub(crate) static IN_PIECES: Row = Row {
     report: b"status 1 200\nresult 2e2f41 636872 746578742f706c61696e 616263640a\nstate running\n",
 };
 
+/// The command is forgotten between the messages, with its code and its whole value, but not the pieces of the value
+/// that isn't whole yet.
+#[rattlefmt::skip]
+pub(crate) static FORGOTTEN: Row = Row {
+    first: &[
+        Told::Status(3, 2, 200), Told::Results(Some(3), 2, &OTHER), Told::Results(Some(3), 2, &FIRST),
+    ],
+    second: &[
+        Told::Results(Some(3), 2, &NEXT), Told::Results(Some(3), 2, &LAST), Told::Status(3, 2, 404),
+    ],
+    report: b"status 1 404\nresult 2e2f41 636872 746578742f706c61696e 616263640a\nstate running\n",
+};
+
 /// The values of each command stand in the order of their coming.
 #[rattlefmt::skip]
 pub(crate) static OF_TWO: Row = Row {

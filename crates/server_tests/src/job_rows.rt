@@ -1,7 +1,7 @@
 // What messages tell of a job's commands.
 use crate::rows::{Call, Row};
 
-pub const JOBS: [Row; 4] = [
+pub const JOBS: [Row; 5] = [
     // The last one counts; one for no command tells nothing.
     Row {
         name: "statuses_in_any_order",
@@ -158,7 +158,100 @@ state over
             ),
         ],
     },
-    // The code of its last part counts.
+    // The first piece comes before the client refuses the server, and the last one for the command as it is sent anew.
+    // What is forgotten is the code that came with the first.
+    Row {
+        name: "a_value_over_a_refusal",
+        job: "server s1 pw 00 - - -\nlimits 16384 4194304\nget ./A\npackage\nget ./B\n",
+        large: 0,
+        calls: &[
+            (
+                Call::Deliver(
+                    0,
+                    "03a4016a006d6c7103312e3200017203444d2f312e32000165033100015b033100016e570373310001016757036431\
+                        000101016b120101",
+                ),
+                "sent 1 cred GQYQZ456EoRbgrefspTI7Q==, 1.0 200, get ./A, final",
+            ),
+            (
+                Call::Deliver(
+                    0,
+                    "03a4016a006d6c7103312e3200017203444d2f312e32000165033100015b033200016e570373310001016757036431\
+                        000101016b694b033100015c033100014c033200014a0347657400014f03323030000101624b033200015c0331\
+                        00014c03320001546757032e2f410001015a0001470363687200015303746578742f706c61696e000152033400\
+                        010100004f0378790001340101464b033300014f03313232320001010101",
+                ),
+                "sent 2 cred GQYQZ456EoRbgrefspTI7Q==, 2.0 200, 2.3 200, alert 1222",
+            ),
+            (
+                Call::Report,
+                "status 1 200
+state running
+",
+            ),
+            (
+                Call::Deliver(
+                    0,
+                    "03a4016a006d6c7103312e3200017203444d2f312e32000165033100015b033300016e570373310001016757036431\
+                        000101016b694b033100015c033200014c033000014a0353796e634864720001495a0001470362363400015303\
+                        73796e636d6c3a617574682d6d643500015003415145424151454241514542415145424151454241513d3d0001\
+                        010100004f03343031000101120101",
+                ),
+                "sent 3 cred HqiTpgpXRKOJC2rV4ENaUw==, 3.0 200, get ./A, final",
+            ),
+            (
+                Call::Report,
+                "state running
+",
+            ),
+            (
+                Call::Deliver(
+                    0,
+                    "03a4016a006d6c7103312e3200017203444d2f312e32000165033100015b033400016e570373310001016757036431\
+                        000101016b694b033100015c033300014c033000014a0353796e634864720001495a0001470362363400015303\
+                        73796e636d6c3a617574682d6d643500015003416749434167494341674943416749434167494341673d3d0001\
+                        010100004f03323132000101694b033200015c033300014c033200014a0347657400014f03323030000101624b\
+                        033300015c033300014c03320001546757032e2f410001015a0001470363687200015303746578742f706c6169\
+                        6e00010100004f037a7700010101120101",
+                ),
+                "sent 4, 4.0 200, get ./B, final",
+            ),
+            (
+                Call::Report,
+                "status 1 200
+result 2e2f41 636872 746578742f706c61696e 78797a77
+state running
+",
+            ),
+            (
+                Call::Deliver(
+                    0,
+                    "03a4016a006d6c7103312e3200017203444d2f312e32000165033100015b033500016e570373310001016757036431\
+                        000101016b694b033100015c033400014c033000014a0353796e6348647200014f03323030000101694b033200\
+                        015c033400014c033200014a0347657400014f03343034000101120101",
+                ),
+                "sent 5, 5.0 200, final",
+            ),
+            (
+                Call::Report,
+                "status 1 200
+result 2e2f41 636872 746578742f706c61696e 78797a77
+status 2 404
+state over
+",
+            ),
+        ],
+    },
+    // The code of its last part counts. A message of 2,048 bytes takes 1,873 bytes `a`, since all else of it takes 175:
+    // - An element around others takes 2 bytes, and one around a text of n bytes n + 4, a text at STR_I. Children of Meta
+    //   stand on page 1, and to go there and back takes 4.
+    // - Before the header 5, and SyncML 2. The header 71: 2; VerDTD 7, VerProto 10, SessionID and MsgID 5 each; Target
+    //   and Source 2 + 6 each; Meta 2 + 4 with MaxMsgSize 9 and MaxObjSize 11.
+    // - SyncBody 2. The header's Status 35: 2; CmdID, MsgRef and CmdRef 5 each, Cmd 11, Data 7.
+    // - The Replace 44 and its data: 2; CmdID 5; Item 2; Target 2 + 7; Meta 2 + 4 with Format 7 and Size 8; Data 4;
+    //   MoreData 1.
+    // - The Alert 1222 and Final, which are measured though they aren't sent, 16: 2; CmdID 5, Data 8; 1.
+    // The second message takes the other 1,127 whole.
     Row {
         name: "a_command_in_parts",
         job: "server s1 - - - - -\nlimits 16384 4194304\n",

@@ -7,8 +7,8 @@ use Rattle.dm_report.proofs.drafts.note_commands.Given as goal
 
 abbrev pub invariant-loop-command : goal.invariant-loop-command
 invariant-loop-command l = record {
-  held : HoldsOn l.fn.receiving.inbox l.receiving.inbox;
+  held : HoldsOn l.fn.inbox l.inbox;
   matched : (k : Kept)
-      → matched l.fn.receiving.inbox.max_obj l.sent (matched_by l.draft l.receiving k) (drop l.command-index l.body)
-      ≡ matched l.fn.receiving.inbox.max_obj l.sent (matched_by l.fn.draft l.fn.receiving k) l.body;
+      → matched l.fn.inbox.max_obj l.sent (matched_by l.draft l.inbox k) (drop l.command-index l.body)
+      ≡ matched l.fn.inbox.max_obj l.sent (matched_by l.fn.draft l.fn.inbox k) l.body;
 }

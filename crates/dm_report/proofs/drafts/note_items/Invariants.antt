@@ -7,11 +7,11 @@ use Rattle.dm_report.proofs.drafts.note_items.Given as goal
 
 abbrev pub invariant-loop-item : goal.invariant-loop-item
 invariant-loop-item l = record {
-  held : HoldsOn l.fn.receiving.inbox l.receiving.inbox;
+  held : HoldsOn l.fn.inbox l.inbox;
   matched : (k : Kept)
-      → on_finding (λ (x : Finding). takes_items l.fn.receiving.inbox.max_obj l.number l.results x
-      (drop l.item-index l.item-items)) (matched_by l.draft l.receiving k)
-      ≡ on_finding (λ (x : Finding). takes_items l.fn.receiving.inbox.max_obj l.number l.results x l.item-items)
-      (matched_by l.fn.draft l.fn.receiving k);
+      → on_finding (λ (x : Finding). takes_items l.fn.inbox.max_obj l.number l.results x
+      (drop l.item-index l.item-items)) (matched_by l.draft l.inbox k)
+      ≡ on_finding (λ (x : Finding). takes_items l.fn.inbox.max_obj l.number l.results x l.item-items)
+      (matched_by l.fn.draft l.fn.inbox k);
   all : l.item-items ≡ l.results.items;
 }
