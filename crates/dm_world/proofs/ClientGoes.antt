@@ -318,7 +318,7 @@ ends-with job done s v downs ups b d run p x so i k h f w a = (
           f,
         )
 
-run-done : (c : Machine) (s : Opened) (d : Reply) (nonce : List ℕ) (done : List (Within Deed))
+pub run-done : (c : Machine) (s : Opened) (d : Reply) (nonce : List ℕ) (done : List (Within Deed))
     → deeds_acts (done ++ deeds_in c s.progress d.message nonce)
     ≡ done_then (is_executed s.progress d.message (heard_by c s.progress d.message nonce)) (deeds_acts done) d
 run-done c s d nonce done = by (is_executed s.progress d.message (heard_by c s.progress d.message nonce)) refl

@@ -37,7 +37,7 @@ use Rattle.dm_world.proofs.ToldMade.{told-as-made}
 
 -- ---- what stands in a message answers to its MsgID
 
-abbrev IsOf : Origin → Deed → Type 0
+abbrev pub IsOf : Origin → Deed → Type 0
 IsOf o d = d.post.msg ≡ o.msg
 
 step-append : (o : Origin) (a b : List Task) → Each (IsOf o) (step_deeds a) → Each (IsOf o) (step_deeds b)
@@ -76,7 +76,7 @@ command-of o (command.Sequence b) = (refl, sequence-of o b.members)
 command-of o (command.Status c) = tt
 command-of o (command.Results c) = tt
 
-all-of : (o : Origin) (cs : List Command) → Each (IsOf o) (all_deeds o cs)
+pub all-of : (o : Origin) (cs : List Command) → Each (IsOf o) (all_deeds o cs)
 all-of o [] = tt
 all-of o (c ∷ cs) = each-append (IsOf o) (command_deeds o c) (all_deeds o cs) (command-of o c) (all-of o cs)
 
@@ -101,11 +101,11 @@ falls-one (z ∷ zs) x y h (inr v) (inl b) e f =
     absurd (omega (arith, less, f, k))
 falls-one (z ∷ zs) x y h (inr v) (inr w) e f = falls-one zs x y h.1 v w e f
 
-down-read : (v : Option Serving) (ups : List Parts) (r : Reply) → DownOk v ups r → IsRead r.message
+pub down-read : (v : Option Serving) (ups : List Parts) (r : Reply) → DownOk v ups r → IsRead r.message
 down-read None ups r h = absurd h
 down-read (Some y) ups r h = h.read
 
-said-number : (r : Reply) (n : ℕ) → IsRead r.message → session_of r.message ≡ Some n → session_number r.message ≡ n
+pub said-number : (r : Reply) (n : ℕ) → IsRead r.message → session_of r.message ≡ Some n → session_number r.message ≡ n
 said-number r n read e = same (session_number r.message) n (session_of r.message) read.told e
   where
     same : (a b : ℕ) (o : Option ℕ) → o ≡ Some a → o ≡ Some b → a ≡ b

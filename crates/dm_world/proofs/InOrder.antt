@@ -1,10 +1,11 @@
 -- The client executes the job in order, each command once, whatever is lost, repeated and reordered.
 use Rattle.std.proofs.Common.{◌≡◌, ◌<◌, ◌^◌, ℕ, Bool, true, false, List, [], ◌∷◌}
 use Rattle.std.proofs.Common.{◌++◌, Option, None, Some, refl, sym, ◌∙◌, ap, subst, arith}
-use Rattle.std.proofs.Common.{length}
+use Rattle.std.proofs.Common.{length, IfSome, append_assoc}
 use Rattle.std.specs.Prelude.{Ok, slice_get}
 use Rattle.std.specs.List.{AllByRecursion}
 use Rattle.syncml_types.specs.declared.command.Plain.{Plain}
+use Rattle.syncml_types.specs.declared.command.Step.{Step}
 use Rattle.syncml_types.specs.declared.command.Member.{Member}
 use Rattle.syncml_types.specs.declared.command.Member.TheVariants as member
 use Rattle.syncml_types.specs.declared.command.SeqMember.{SeqMember}
@@ -22,21 +23,24 @@ use Rattle.dm_machine.specs.History as client_runs
 use Rattle.dm_machine.specs.Ready.{IsReadyMachine, IsReadyMessage}
 use Rattle.dm_machine.proofs.StaysReady.{stays_ready}
 use Rattle.dm_machine.proofs.Accounts.{accounts_stay}
-use Rattle.dm_world.specs.World.{World, Reply, Happening, opens, up_comes, down_comes, acts}
+use Rattle.dm_world.specs.World.{InSession, World, Reply, Happening, opens, up_comes, down_comes, acts}
 use Rattle.dm_world.specs.World.{clock_moves, is_lost, finds_no_memory, client_has}
 use Rattle.dm_world.specs.World.{down_delivered, up_delivered, happens, run}
 use Rattle.dm_world.specs.Start.{at_start, IsStart, IsNonce, IsInRange, IsSchedule}
-use Rattle.dm_world.specs.Acts.{Act, block, does, and_then, item_acts, members_acts}
+use Rattle.dm_world.specs.Acts.{Act, block, does, Joined, and_then, with_more, is_part_of, join, item_acts}
+use Rattle.dm_world.specs.Acts.{members_acts}
 use Rattle.dm_world.specs.Acts.{seq_members_acts, command_acts, deeds_acts, entries_acts, job_acts}
-use Rattle.dm_world.specs.Order.{RunsInOrder}
-use Rattle.dm_world.proofs.Lists.{Each, each-within, picked}
+use Rattle.dm_world.specs.Deeds.{Deed}
+use Rattle.dm_world.specs.Order.{IsNext, ExecutesInOrder, RunsInOrder}
+use Rattle.dm_world.proofs.Lists.{either, Each, each-within, picked}
+use Rattle.dm_world.proofs.Joins.{join-append}
 use Rattle.dm_world.proofs.Ranges.{all-first, IsShortHeld}
 use Rattle.dm_world.proofs.ReadAgain.{all-read}
 use Rattle.dm_world.proofs.Happens.{Sound}
 use Rattle.dm_world.proofs.Happens.{InRange, happens-sound, start-sound, schedule-range}
 use Rattle.dm_world.proofs.Calm.{NoHeader, MildEntry}
 use Rattle.dm_world.proofs.Refusals.{Quiet, OpenFine}
-use Rattle.dm_world.proofs.Position.{Whole, Placed}
+use Rattle.dm_world.proofs.Position.{Whole, IsBegun, Placed}
 use Rattle.dm_tree.specs.Nodes.{IsStamp}
 use Rattle.dm_atomic.specs.Tasks.{piece_of}
 use Rattle.dm_world.proofs.ClientGoes.{UpSays, Known, Aware, GoesOn, begins-goes, message-goes, act-goes, clock-goes}
@@ -227,16 +231,73 @@ entries-whole [] h = tt
 entries-whole (e ∷ es) h =
     whole-append (command_acts e.command) (entries_acts es) (command-whole e.command h.0.steps) (entries-whole es h.1)
 
+-- ---- what comes behind a part is the rest of it
+
+whole-behind : (a b : List Act) → AreWhole (a ++ b) → AreWhole b
+whole-behind [] b h = h
+whole-behind (block name ∷ a) b h = whole-behind a b h
+whole-behind (does s true ∷ a) b h = absurd h
+whole-behind (does s false ∷ a) b h = whole-behind a b h
+
+-- more of a part goes on as what the part goes on as
+part-more : (p s : Step) (xs : List Act) → IsNext xs (with_more p s) → IsNext xs p
+part-more p s [] h = h
+part-more p s (block name ∷ xs) h = h
+part-more p s (does t more ∷ xs) h =
+    (s.value ++ h.0, h.1 ∙ ap (λ v. record p { value = v }) (append_assoc p.value s.value h.0))
+
+-- where nothing is left open in the end, and all is whole
+abbrev ClosesWith : Step → Joined → Type 0
+ClosesWith p j = j.part ≡ None → AreWhole j.whole → IsNext j.whole p
+
+part-next : (p : Step) (xs : List Act) → ClosesWith p (join (Some p) xs)
+part-next p [] e w = absurd (cc)
+part-next p (block name ∷ xs) e w = part-next p xs e w
+part-next p (does s true ∷ xs) e w =
+    either (ClosesWith p) (is_part_of p s) {x = join (Some (with_more p s)) xs}
+    {y = and_then (does p true) (join (Some s) xs)}
+    (λ f v. part-more p s (join (Some (with_more p s)) xs).whole (part-next (with_more p s) xs f v))
+    (λ f v. absurd v) e w
+part-next p (does s false ∷ xs) e w =
+    either (ClosesWith p) (is_part_of p s) {x = and_then (does (with_more p s) false) (join None xs)}
+    {y = and_then (does p true) (and_then (does s false) (join None xs))} (λ f v. (s.value, refl)) (λ f v. absurd v) e
+    w
+
+begun-order : (packages : List (List JobEntry)) (executed : List (InSession Deed)) → AreWhole (job_acts packages)
+    → IsBegun (job_acts packages) (deeds_acts executed)
+    → ExecutesInOrder packages executed
+begun-order packages executed whole h =
+    let done = deeds_acts executed in
+    let j = join None done in
+    let rest = join j.part h.0 in
+    let order : j.whole ++ rest.whole ≡ job_acts packages =
+    ap (λ (x : Joined). x.whole) (sym (join-append None done h.0)) ∙ ap (λ (x : Joined). x.whole) h.1 in
+    let closed : rest.part ≡ None =
+    ap (λ (x : Joined). x.part) (sym (join-append None done h.0)) ∙ ap (λ (x : Joined). x.part) h.1 in
+    record {
+      rest = rest.whole;
+      in_order = order;
+      next = by j.part closed (whole-behind j.whole rest.whole (subst AreWhole (sym order) whole));
+    }
+  where
+    by : (o : Option Step) → (join o h.0).part ≡ None → AreWhole (join o h.0).whole
+        → IfSome o (IsNext (join o h.0).whole)
+    by None e w = tt
+    by (Some p) e w = part-next p h.0 e w
+
+job-whole : (c : Machine) (job : Job) → IsStart c job → AreWhole (job_acts job.packages)
+job-whole c job h = entries-whole (all_entries job.packages) h.sound.entries
+
 start-fair : (c : Machine) (job : Job) → IsStart c job
     → Fair (job_acts job.packages) (length c.accounts) (at_start c job)
 start-fair c job h = record {
   sound = start-sound c job h;
   placed = record {
-    prefix = (job_acts job.packages, refl);
+    prefix = (job_acts job.packages, whole-joined (job_acts job.packages) (job-whole c job h));
     runs = refl;
     queue_ok = tt;
     job_is = refl;
-    whole = whole-joined (job_acts job.packages) (entries-whole (all_entries job.packages) h.sound.entries);
+    whole = whole-joined (job_acts job.packages) (job-whole c job h);
   };
   quiet = record {
     queue = subst (Each MildEntry) (sym h.empty) tt;
@@ -263,11 +324,17 @@ ranges-of : (c : Machine) (es : List Happening) → IsSchedule c es → Each (In
 ranges-of c [] h = tt
 ranges-of c (e ∷ es) h = (range-of c e h.0, ranges-of c es h.1)
 
-pub runs_in_order : RunsInOrder
-runs_in_order c job hs start range =
-    (run-fair (job_acts job.packages) (length c.accounts) (at_start c job) hs (ranges-of c hs range)
-    (schedule-range c hs range) held (start-fair c job start)).placed.prefix
+pub all-fair : (c : Machine) (job : Job) (hs : List Happening) → IsStart c job → IsSchedule c hs
+    → Fair (job_acts job.packages) (length c.accounts) (run (at_start c job) hs)
+all-fair c job hs start range =
+    run-fair (job_acts job.packages) (length c.accounts) (at_start c job) hs (ranges-of c hs range)
+    (schedule-range c hs range) held (start-fair c job start)
   where
     held : (before after : List Happening) → before ++ after ≡ hs → SendsHeld (run (at_start c job) before)
     held before after e =
         (all-read c job before start (all-first (IsInRange c) before after (subst (IsSchedule c) (sym e) range))).downs
+
+pub runs_in_order : RunsInOrder
+runs_in_order c job hs start range =
+    begun-order job.packages (run (at_start c job) hs).executed (job-whole c job start)
+    (all-fair c job hs start range).placed.prefix

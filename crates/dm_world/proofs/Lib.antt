@@ -37,4 +37,14 @@ pub mod Rising
 pub mod Noted
 pub mod ToldMade
 pub mod GivenCodes
-pub mod FoundValues
+pub mod Paired
+pub mod Unfound
+pub mod Flows
+pub mod Gathers
+pub mod ServerFlows
+pub mod ClientFlows
+pub mod Holding
+pub mod ServerKeeps
+pub mod ClientKeeps
+pub mod WholeValues
+pub mod Heads

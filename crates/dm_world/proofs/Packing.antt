@@ -24,12 +24,13 @@ use Rattle.syncml_types.specs.Packing.{only_item, write_item, member_item, seq_m
 use Rattle.syncml_types.specs.Packing.{only_changed, write_changed, member_changed, seq_member_changed, last_changed}
 use Rattle.syncml_types.specs.Packing.{bytes_in, data_in}
 use Rattle.syncml_types.proofs.Last.{last_next}
+use Rattle.syncml_types.specs.Message.{no_meta}
 use Rattle.dm_atomic.specs.declared.tasks.Named.{Named}
 use Rattle.dm_atomic.specs.declared.tasks.Named.TheVariants as named
 use Rattle.dm_atomic.specs.Tasks.{piece_of, meta_child}
 use Rattle.dm_pack.specs.declared.filled.Tail.{Tail}
 use Rattle.dm_pack.specs.declared.filled.Tail.TheVariants.{Final, NextMessage, Nothing}
-use Rattle.dm_pack.specs.Entries.{Entry, no_meta, with_size, part_item, part_of, rest_item}
+use Rattle.dm_pack.specs.Entries.{Entry, with_size, part_item, part_of, rest_item}
 use Rattle.dm_pack.specs.Entries.{last_only}
 use Rattle.dm_pack.specs.Entries.{rest_of}
 use Rattle.dm_pack.specs.Filling.{numbered, fits, commands_of, taken, greatest, cut, next_part, next_rest, tail_of}

@@ -9,13 +9,11 @@ use Rattle.syncml_types.specs.Message.{Parts}
 use Rattle.dm_machine.specs.Machine.{Session as Opened}
 use Rattle.dm_service.specs.Service.{Service, Session as Serving}
 use Rattle.dm_world.specs.World.{Reply, with_new}
-use Rattle.dm_world.specs.Acts.{Act, acts, job_acts, Joined, join}
+use Rattle.dm_world.specs.Acts.{Act, acts, job_acts, join}
 use Rattle.dm_world.specs.Packing.{acts_to_send, IsOfJobOrReport}
 use Rattle.dm_world.specs.Lockstep.{first_of}
-use Rattle.dm_world.specs.Order.{IsPrefixOf}
 use Rattle.dm_world.proofs.Lists.{Each, each-map}
 use Rattle.dm_world.proofs.Numbers.{session_number}
-use Rattle.dm_world.proofs.Joins.{join-append}
 use Rattle.dm_world.proofs.Lockstep.{ServerOk, NextIs, NextOk}
 use Rattle.dm_world.proofs.Calm.{says}
 use Rattle.dm_world.proofs.Serves.{Idle, returned}
@@ -23,6 +21,10 @@ use Rattle.dm_world.proofs.Serves.{Idle, returned}
 -- these acts, joined, are the job
 abbrev pub Whole : List Act → List Act → Type 0
 Whole job xs = join None xs ≡ record { whole = job; part = None }
+
+-- with some acts behind them they are
+abbrev pub IsBegun : List Act → List Act → Type 0
+IsBegun job done = (rest : List Act) × Whole job (done ++ rest)
 
 abbrev pub seen : Opened → ℕ
 seen s = s.progress.standing.last
@@ -124,7 +126,7 @@ ByRun job done o v (Some y) downs ups (Some n) = Running job done o v y downs up
 
 pub record Placed (job done : List Act) (o : Option Opened) (v : Service) (downs : List Reply) (ups : List Parts) : Type
     0 where
-  pub prefix : IsPrefixOf (join None done).whole job
+  pub prefix : IsBegun job done
   pub runs : ByRun job done o v v.session downs ups v.runs_in
   pub queue_ok : Each IsOfJobOrReport v.queue
   pub job_is : job_acts v.job.packages ≡ job
@@ -159,12 +161,6 @@ first-acts (x ∷ xs) d h = ap of h
     of : Option Reply → List Act
     of None = []
     of (Some y) = acts y.message.body
-
--- what is joined so far is a prefix of what is joined in the end
-join-prefix : (acts xs : List Act) (all : List Act) → (join None (acts ++ xs)).whole ≡ all
-    → IsPrefixOf (join None acts).whole all
-join-prefix acts xs all h =
-    ((join (join None acts).part xs).whole, ap (λ (j : Joined). j.whole) (sym (join-append None acts xs)) ∙ h)
 
 -- ---- the client begins a session
 
@@ -229,7 +225,7 @@ pub record Takes (s : Opened) (v : Service) (downs : List Reply) (ups : List Par
   pub first : first_of downs ≡ Some d
   pub old : Silent b d.message.header.msg ups
 
-pending-taken : (s : Opened) (y : Serving) (downs : List Reply) (b : ℕ) (d : Reply) → NextIs b s y d
+pub pending-taken : (s : Opened) (y : Serving) (downs : List Reply) (b : ℕ) (d : Reply) → NextIs b s y d
     → first_of downs ≡ Some d
     → pending s y downs ≡ acts d.message.body
 pending-taken s y downs b d x f =
@@ -275,21 +271,19 @@ gains job done s v (Some y) downs ups (Some n) b d sb x f h = by (eq-or-less n y
     by (inl e) = gains-live job done s v y downs ups b d x f ((h.now e).client (sb ∙ sym x.number ∙ sym e))
     by (inr l) = inl (sym (pending-taken s y downs b d x f) ∙ (h.later l).quiet (sb ∙ sym x.number))
 
-gains-prefix : (job done : List Act) (v : Service) (message : List Act) → Gains job done v message
-    → IsPrefixOf (join None done).whole job
-    → IsPrefixOf (join None (done ++ message)).whole job
+gains-prefix : (job done : List Act) (v : Service) (message : List Act) → Gains job done v message → IsBegun job done
+    → IsBegun job (done ++ message)
 gains-prefix job done v message (inl e) p =
-    subst (λ z. IsPrefixOf (join None z).whole job) (sym (ap (λ m. done ++ m) e ∙ append-nil done)) p
-gains-prefix job done v message (inr w) p =
-    join-prefix (done ++ message) (acts_to_send v) job (ap (λ (j : Joined). j.whole) w)
+    subst (IsBegun job) (sym (ap (λ m. done ++ m) e ∙ append-nil done)) p
+gains-prefix job done v message (inr w) p = (acts_to_send v, w)
 
 abbrev pub done_then : Bool → List Act → Reply → List Act
 done_then true done d = done ++ acts d.message.body
 done_then false done d = done
 
 turned-prefix : (job done : List Act) (v : Service) (d : Reply) (run : Bool) → Gains job done v (acts d.message.body)
-    → IsPrefixOf (join None done).whole job
-    → IsPrefixOf (join None (done_then run done d)).whole job
+    → IsBegun job done
+    → IsBegun job (done_then run done d)
 turned-prefix job done v d true g p = gains-prefix job done v (acts d.message.body) g p
 turned-prefix job done v d false g p = p
 

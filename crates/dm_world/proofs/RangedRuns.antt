@@ -15,7 +15,6 @@ use Rattle.syncml_types.specs.declared.command.Member.TheVariants as member
 use Rattle.syncml_types.specs.declared.command.Block.{Block}
 use Rattle.syncml_types.specs.declared.command.SeqMember.{SeqMember}
 use Rattle.syncml_types.specs.declared.command.SeqMember.TheVariants as seq_member
-use Rattle.syncml_types.specs.declared.command.SeqBlock.{SeqBlock}
 use Rattle.syncml_types.specs.declared.command.Command.{Command}
 use Rattle.syncml_types.specs.declared.command.Command.TheVariants as command
 use Rattle.syncml_types.specs.Message.{Parts}
@@ -496,7 +495,7 @@ module _ (r : Running) (o : Origin) (running : IsReadyRunning r) (origin : IsRea
     range = sequence-range r s ts running ready all state;
   }
 
-  atomic-runs : (s : State) (b : Block) → IsReadyState r.max_obj s → StateRange s → AtomicRange b
+  atomic-runs : (s : State) (b : Block Member) → IsReadyState r.max_obj s → StateRange s → AtomicRange b
       → atomic_texts is_text b ≡ true
       → Runs r.max_obj (run_atomic r o s b)
   unfolding atomic_texts
@@ -529,7 +528,7 @@ module _ (r : Running) (o : Origin) (running : IsReadyRunning r) (origin : IsRea
       let rest = members-run (run_member r o s m).state ms first.ready first.range.state range.1 parts.1 in
       runs-append r.max_obj (run_member r o s m) (run_members r o (run_member r o s m).state ms) first rest
 
-  sequence-runs : (s : State) (b : SeqBlock) → IsReadyState r.max_obj s → StateRange s → SequenceRange b
+  sequence-runs : (s : State) (b : Block SeqMember) → IsReadyState r.max_obj s → StateRange s → SequenceRange b
       → sequence_texts is_text b ≡ true
       → Runs r.max_obj (run_sequence r o s b)
   unfolding sequence_texts

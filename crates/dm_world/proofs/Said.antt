@@ -114,12 +114,12 @@ accepts-tells v s m nonce = record {
   values = λ place value h.
       or-map (values_are_found v s m nonce place value h)
       (λ t. record {
-        results = t.2.results;
-        within = t.2.within;
-        item = t.2.item;
-        item_within = t.2.item_within;
-        object = gather_all v.job.limits.max_obj t.0 t.2.earlier;
-        whole = t.2.whole;
+        results = t.0.results;
+        within = t.0.within;
+        item = t.0.item;
+        item_within = t.0.item_within;
+        object = gather_all v.job.limits.max_obj s.object t.0.earlier;
+        whole = t.0.whole;
       });
   limit = ap (λ (l : Limits). l.max_obj) (limit-stays v s m nonce);
 }
@@ -243,7 +243,3 @@ start-holds c job = record {
 
 pub reports_the_said : ReportsTheSaid
 reports_the_said c job hs = (run-holds job.limits.max_obj (at_start c job) hs (start-holds c job)).said_so
-
-pub max-stays : (c : Machine) (job : Job) (hs : List Happening)
-    → (run (at_start c job) hs).server.job.limits.max_obj ≡ job.limits.max_obj
-max-stays c job hs = (run-holds job.limits.max_obj (at_start c job) hs (start-holds c job)).limit

@@ -109,12 +109,12 @@ left-bytes n before behind bytes whole e =
     ap (λ l. l ++ behind) (append_assoc before (take n bytes) (drop n bytes))
     ∙ ap (λ l. before ++ l ++ behind) (take-append-drop n bytes) ∙ e
 
-sized-format : (size : ℕ) (o : Option Meta)
+pub sized-format : (size : ℕ) (o : Option Meta)
     → option_and_then (λ (m : Meta). m.format) (with_size size o) ≡ option_and_then (λ (m : Meta). m.format) o
 sized-format size None = refl
 sized-format size (Some m) = refl
 
-sized-media : (size : ℕ) (o : Option Meta)
+pub sized-media : (size : ℕ) (o : Option Meta)
     → option_and_then (λ (m : Meta). m.media) (with_size size o) ≡ option_and_then (λ (m : Meta). m.media) o
 sized-media size None = refl
 sized-media size (Some m) = refl
@@ -233,7 +233,7 @@ fresh-tell made n [] h = tt
 fresh-tell made n (c ∷ cs) h = (h.0, fresh-tell made n cs h.1)
 
 -- all of these were made in this session
-abbrev AreMade : List (InSession Made) → ℕ → List Made → Type 0
+abbrev pub AreMade : List (InSession Made) → ℕ → List Made → Type 0
 AreMade all n ms = (x : Made) → Contains ms x → Contains all (record { session = n; what = x })
 
 told-tell : (all : List (InSession Made)) (n : ℕ) (ms : List Made) → AreMade all n ms → TellAll all n (told ms)
@@ -351,7 +351,7 @@ same-run false false true true x y e f g = absurd (cc)
 same-run false false true false x y e f g = refl
 same-run false false false abort x y e f g = refl
 
-run-made : (c : Machine) (p : Progress) (m : Parts) (h : Heard) → is_last_own p ≡ false → h.second ≡ false
+pub run-made : (c : Machine) (p : Progress) (m : Parts) (h : Heard) → is_last_own p ≡ false → h.second ≡ false
     → (passes h.code && list_any is_abort m.body) ≡ false
     → run_of (machine_heard c p m h) h.account m h.code ≡ executed c p m h
 unfolding execute
@@ -359,7 +359,7 @@ run-made c p m h e f g =
     same-run (is_last_own p) h.second (passes h.code) (list_any is_abort m.body) (execute c h.account m)
     (quietly c.engine) e f g
 
-run-within : (made : List (InSession Made)) (n : ℕ) (r : Next) (ms : List Made) → r.made ≡ ms
+pub run-within : (made : List (InSession Made)) (n : ℕ) (r : Next) (ms : List Made) → r.made ≡ ms
     → AreMade (made ++ in_session n ms) n r.made
 run-within made n r ms e x h =
     Contains-append_right made (in_session n ms) _

@@ -55,7 +55,7 @@ last-is s y (Some t) n own k p sn h e z q so =
     lower (Some y) p (inl h) = let a = p.later (let g = h.0 in omega (arith, g, sn)) in omega (arith, a)
     lower (Some y) p (inr h) = let a = p.took (h.0 ∙ sym sn) in let g = h.1 in omega (arith, a, g)
 
-served-last : (n last own : ℕ) (sent : Option Parts) (o : Option Serving) → ServedAs n last own sent o
+pub served-last : (n last own : ℕ) (sent : Option Parts) (o : Option Serving) → ServedAs n last own sent o
     → OpenAs (λ (z : Serving). (z.progress.number ≡ n) × (z.progress.standing.last ≡ last)) o
 served-last n last own sent None h = absurd h
 served-last n last own sent (Some t) (inl h) = (h.0.number, h.0.last_is)
@@ -413,7 +413,7 @@ pub record ServedWorld (job done : List Act) (o : Option Opened) (downs : List R
   pub known : Known x.session ups
   pub aware : Aware o x.session ups
 
-base-queue : (v : Service) (n : ℕ) (base : Service) (from : Serving)
+pub base-queue : (v : Service) (n : ℕ) (base : Service) (from : Serving)
     → ((base ≡ v) × (v.session ≡ Some from))
     ⊎ ((base ≡ serving.begins v n) × (from ≡ serving.first_session v.job.account n))
     → Each IsOfJobOrReport v.queue

@@ -95,7 +95,7 @@ pub record GaveUp (v g : Service) (ss gs : List Sent) : Type 0 where
 
 -- ---- sending
 
-idle-out : (msg id whole n : ℕ) (ws : List Waiting) → Each NoJob ws → goes_out msg id whole n ws ≡ []
+pub idle-out : (msg id whole n : ℕ) (ws : List Waiting) → Each NoJob ws → goes_out msg id whole n ws ≡ []
 idle-out msg id whole n [] h = refl
 idle-out msg id zero zero (w ∷ ws) h = refl
 idle-out msg id zero (suc n) (w ∷ ws) h = ap (λ j. part_holds (rest_holds msg id w.entry.begun j)) h.0
@@ -103,7 +103,7 @@ idle-out msg id (suc whole) n (w ∷ ws) h =
     ap (λ j. rest_holds msg id w.entry.begun j ++ goes_out msg (id + ids_in w.entry.command) whole n ws) h.0
     ∙ idle-out msg (id + ids_in w.entry.command) whole n ws h.1
 
-idle-left : (es : List Entry) (ws : List Waiting) → Each NoJob ws → Each NoJob (carried_on es ws)
+pub idle-left : (es : List Entry) (ws : List Waiting) → Each NoJob ws → Each NoJob (carried_on es ws)
 idle-left [] ws h = tt
 idle-left (e ∷ es) [] h = tt
 idle-left (e ∷ es) (w ∷ ws) h = (h.0, idle-left es ws h.1)
@@ -156,7 +156,7 @@ sends-goes v s m code ok =
 
 -- ---- from the service before
 
-open-map : {S : Type 0} {P Q : S → Type 0} (o : Option S) → ((t : S) → P t → Q t) → OpenAs P o → OpenAs Q o
+pub open-map : {S : Type 0} {P Q : S → Type 0} (o : Option S) → ((t : S) → P t → Q t) → OpenAs P o → OpenAs Q o
 open-map None f h = h
 open-map (Some t) f h = f t h
 
@@ -190,7 +190,7 @@ sends-returned : (v : Service) (s : Session) (m : Parts) (code : ℕ) → return
 unfolding sends
 sends-returned v s m code = refl
 
-answers-idle : (cs : List Command) → Each NoJob (map answer_waiting cs)
+pub answers-idle : (cs : List Command) → Each NoJob (map answer_waiting cs)
 answers-idle [] = tt
 answers-idle (c ∷ cs) = (refl, answers-idle cs)
 
@@ -234,10 +234,10 @@ same-idle v x h i = record {
 }
 
 -- the session that a message is answered in
-abbrev IsOf : Session → Session → Type 0
+abbrev pub IsOf : Session → Session → Type 0
 IsOf s t = (t.sent ≡ s.sent) × (t.progress ≡ s.progress)
 
-told-session : (v : Service) (s : Session) (m : Parts) (code : ℕ) → v.session ≡ Some s
+pub told-session : (v : Service) (s : Session) (m : Parts) (code : ℕ) → v.session ≡ Some s
     → IsOf s (in_session (tells v s m code) s)
 told-session v s m code e =
     either (λ (x : Service). IsOf s (session_or x.session s)) (passes code) (refl, refl)
@@ -361,7 +361,7 @@ kept-none : (w : Waiting) (ws : List Waiting) (j : Option Carried) → w.carries
 kept-none w ws None e k = (e, k)
 kept-none w ws (Some j) e k = k
 
-filter-none : (ws : List Waiting) → Each NoJob (filter (λ w. not (is_of_job w)) ws)
+pub filter-none : (ws : List Waiting) → Each NoJob (filter (λ w. not (is_of_job w)) ws)
 filter-none [] = tt
 filter-none (w ∷ ws) = kept-none w (filter (λ w. not (is_of_job w)) ws) w.carries refl (filter-none ws)
 
@@ -422,16 +422,16 @@ pub record AfterMessage (v : Service) (s : Session) (m : Parts) (x : Service) (t
   pub outcome : Outcome_of v s m x t
 
 -- what the header's Status comes to, in a message without fault
-record StatusIs (s : Standing) (m : Parts) (h : Heard) : Type 0 where
-  denied : is_denied h.status ≡ says s.own m
-  failed : h.standing.we_failed ≡ (s.we_failed || says s.own m)
-  second : h.second ≡ false → (s.we_failed && says s.own m) ≡ false
+pub record StatusIs (s : Standing) (m : Parts) (h : Heard) : Type 0 where
+  pub denied : is_denied h.status ≡ says s.own m
+  pub failed : h.standing.we_failed ≡ (s.we_failed || says s.own m)
+  pub second : h.second ≡ false → (s.we_failed && says s.own m) ≡ false
 
 second-false : (a b : Bool) → (a || b) ≡ false → b ≡ false
 second-false true b h = absurd (cc)
 second-false false b h = h
 
-status-is : (a : Account) (s : Standing) (m : Parts) (nonce : List ℕ) → fault_of m ≡ None
+pub status-is : (a : Account) (s : Standing) (m : Parts) (nonce : List ℕ) → fault_of m ≡ None
     → StatusIs s m (hears User a s m nonce)
 unfolding hears status_read
 status-is a s m nonce f =

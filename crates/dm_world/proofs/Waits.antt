@@ -201,11 +201,11 @@ part-none msg id begun None c n ok h = part-acts c begun n ok
 part-none msg id begun (Some j) c n ok h = absurd (part-some (rest_holds msg id begun (Some j))
     (holds-some msg id begun j ok) h)
 
-left-none : {A : Type 0} (a b : List A) → a ++ b ≡ [] → a ≡ []
+pub left-none : {A : Type 0} (a b : List A) → a ++ b ≡ [] → a ≡ []
 left-none [] b h = refl
 left-none (x ∷ a) b h = cc
 
-right-none : {A : Type 0} (a b : List A) → a ++ b ≡ [] → b ≡ []
+pub right-none : {A : Type 0} (a b : List A) → a ++ b ≡ [] → b ≡ []
 right-none [] b h = h
 right-none (x ∷ a) b h = cc
 

@@ -1,5 +1,6 @@
 -- What a client executes of a message: its containers and its steps, in document order.
 use Rattle.std.specs.Prelude.{true, false, List, [], ◌∷◌, ◌++◌}
+use Rattle.syncml_types.specs.declared.command.Member.{Member}
 use Rattle.syncml_types.specs.declared.command.Block.{Block}
 use Rattle.syncml_types.specs.declared.command.SeqMember.{SeqMember}
 use Rattle.syncml_types.specs.declared.command.SeqMember.TheVariants as seq_member
@@ -30,7 +31,7 @@ abbrev pub step_deeds : List Task → List Deed
 step_deeds [] = []
 step_deeds (t ∷ ts) = step_deed t ∷ step_deeds ts
 
-abbrev pub atomic_deeds : Origin → Block → List Deed
+abbrev pub atomic_deeds : Origin → Block Member → List Deed
 atomic_deeds origin b =
     record { post = container_post origin b.id b.no_resp named.Atomic; doing = container named.Atomic }
     ∷ step_deeds (members_tasks origin true b.members)

@@ -63,7 +63,8 @@ pub fn puts_back()
 {}
 
 /// Law: what the client has executed of a job is, the parts of a cut command joined, a prefix of what the job asks for,
-/// in order and each once. Of at most one command more a part has come; the law doesn't say whose it is.
+/// in order and each once. Of at most one command more a part has come, and that is the next one of the job: with more
+/// bytes it is what the job asks for next.
 pub fn runs_in_order()
     ensures { RunsInOrder }
 {}
@@ -104,8 +105,8 @@ pub fn codes_are_given()
     ensures { CodesAreGiven }
 {}
 
-/// Law: on every schedule each value that the server holds for a command of the job came whole with Results of a value
-/// that the client found for that command, of the same URI.
+/// Law: on every schedule each value that the server holds for a command of the job is one that the client found for
+/// that command, with its URI, its Format, its Type and all its bytes.
 pub fn values_are_found_for()
     ensures { ValuesAreFoundFor }
 {}
