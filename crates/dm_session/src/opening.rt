@@ -30,12 +30,7 @@ fn meta_of(alloc: Global, format: &[u8], media: &[u8]) -> Result<Meta, Memory>
     Ok(Meta {
         format: Some(Bytes::of_slice(alloc, format)?),
         media: Some(Bytes::of_slice(alloc, media)?),
-        size: None,
-        next_nonce: None,
-        max_msg: None,
-        max_obj: None,
-        mark: None,
-        version: None,
+        ..Meta::empty()
     })
 }
 

@@ -2,7 +2,7 @@
 use crate::rows::{Call, Row};
 use dm_machine::Kind;
 
-pub const ORDER: [Row; 6] = [
+pub const ORDER: [Row; 7] = [
     // The first message, and the answer to a Get, byte for byte; the tree.
     Row {
         name: "one_get_is_answered",
@@ -348,6 +348,69 @@ leaf ./DevInfo/Mod 0 p - - chr 746578742f706c61696e 426f78
                 "sent 1, alert 1201, device d1 Acme Box 1.2 en, final",
             ),
             (Call::RespUri, "none"),
+        ],
+    },
+    // The greatest MsgID and the greatest session number: nothing is new behind them.
+    Row {
+        name: "greatest_numbers",
+        account: "s1 - - - - -",
+        tree: &[],
+        large: 0,
+        calls: &[
+            (
+                Call::Begin(Kind::ByClient, 1),
+                "sent 1, alert 1201, device d1 Acme Box 1.2 en, final",
+            ),
+            // Get ./A, MsgID 4294967296.
+            (
+                Call::Deliver(
+                    0,
+                    "03a4016a006d6c7103312e3200017203444d2f312e32000165033100015b033432393439363732\
+                        393600016e570364310001016757037331000101016b534b03310001546e57032e2f4100010\
+                        10101120101",
+                ),
+                "refused 42 number",
+            ),
+            // Get ./A, MsgID 4294967295.
+            (
+                Call::Deliver(
+                    0,
+                    "03a4016a006d6c7103312e3200017203444d2f312e32000165033100015b033432393439363732\
+                        393500016e570364310001016757037331000101016b534b03310001546e57032e2f4100010\
+                        10101120101",
+                ),
+                "sent 2, 4294967295.0 200, 4294967295.1 200, 4294967295.1 found ./A x, final",
+            ),
+            // The same message.
+            (
+                Call::Deliver(
+                    0,
+                    "03a4016a006d6c7103312e3200017203444d2f312e32000165033100015b033432393439363732\
+                        393500016e570364310001016757037331000101016b534b03310001546e57032e2f4100010\
+                        10101120101",
+                ),
+                "kept 2, 4294967295.0 200, 4294967295.1 200, 4294967295.1 found ./A x, final",
+            ),
+            // Get ./A, MsgID 4294967294.
+            (
+                Call::Deliver(
+                    0,
+                    "03a4016a006d6c7103312e3200017203444d2f312e32000165033100015b033432393439363732\
+                        393400016e570364310001016757037331000101016b534b03310001546e57032e2f4100010\
+                        10101120101",
+                ),
+                "stale 4294967295",
+            ),
+            (Call::Last, "1 4294967295"),
+            (
+                Call::Begin(Kind::ByClient, 4_294_967_295),
+                "sent 1, alert 1201, device d1 Acme Box 1.2 en, final",
+            ),
+            (
+                Call::Begin(Kind::ByClient, 4_294_967_295),
+                "exhausted 4294967295",
+            ),
+            (Call::Last, "4294967295 0"),
         ],
     },
 ];
