@@ -10,7 +10,7 @@ use Rattle.dm_exit.specs.declared.exit.Exit.{Exit}
 use Rattle.dm_exit.specs.declared.exit.Exit.TheVariants as exit
 use Rattle.dm_exit.specs.Causes.{SourceCause}
 use Rattle.dm_exit.specs.Puts.{PutsPrefix, PutsPart, PutsEnd, Ends}
-use Rattle.dm_replay.proofs.Running.{ends_put, prefix_none}
+use Rattle.dm_exit.proofs.Parts.{ends_put, prefix_none}
 use Rattle.dm_replay.proofs.Usage.{end_is_no_usage}
 use Rattle.dm_check.specs.declared.message.Received.{Received}
 use Rattle.dm_check.specs.declared.message.Received.TheVariants as received

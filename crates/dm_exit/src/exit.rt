@@ -15,6 +15,6 @@ pub enum Exit {
     WriteFault,
     /// Memory was wanting; what was written is a prefix of the text.
     NoMemory,
-    /// 67,108,864 bytes were taken, no whole line was left in them, and another byte came.
+    /// 67,108,864 bytes were taken and another byte came; of a trace no whole line was left in them.
     TooLong,
 }

@@ -4,3 +4,5 @@ mod Both
 mod Within
 mod Writing
 mod Putting
+mod EventLines
+mod OnSchedule

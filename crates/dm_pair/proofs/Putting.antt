@@ -1,10 +1,7 @@
 -- What the command puts of what it took.
 use Rattle.std.proofs.Common.{◌≡◌, ◌∙◌, ◌+◌, ◌++◌, ◌<◌, ◌≤◌, ℕ, Bool, true, false, List, [], refl, sym, ap, subst}
-use Rattle.std.proofs.Common.{length, arith, length-append, append-nil, inl, inr}
-use Rattle.std.proofs.lemmas.Bool.{cases_lt}
+use Rattle.std.proofs.Common.{length, arith, length-append, append-nil}
 use Rattle.std.proofs.lemmas.Grind.{common_steps}
-use Rattle.std.proofs.lemmas.List.{take-append-le, take_all}
-use Rattle.std.proofs.Math.Seq.{take-append_seam, take-append-add}
 use Rattle.std.proofs.KnownBytes.{Appends-trans}
 use Rattle.std.specs.Prelude.{Option, Some, None, Result, Ok, Err, MatchResult}
 use Rattle.std.specs.Io.KnownBytes.{Appends, Consumes, IsAtEnd}
@@ -12,8 +9,8 @@ use Rattle.dm_base.specs.Outside.{OfKnown, TakesAll}
 use Rattle.dm_base.specs.declared.outside.TakeError.TheVariants as take_error
 use Rattle.dm_exit.specs.declared.exit.Exit.{Exit}
 use Rattle.dm_exit.specs.declared.exit.Exit.TheVariants as exit
-use Rattle.dm_exit.specs.Puts.{PutsPrefix, PutsPart, PutsEnd, Ends}
-use Rattle.dm_replay.proofs.Running.{ends_put}
+use Rattle.dm_exit.specs.Puts.{PutsPart, PutsEnd, Ends}
+use Rattle.dm_exit.proofs.Parts.{ends_put, rest_breaks}
 use Rattle.dm_pair.specs.Texts.{written, is_too_long, pair_text, pair_exit}
 use Rattle.dm_pair.specs.Seen.{exit_of}
 
@@ -57,48 +54,6 @@ all_put (Some bytes) rest input text bad old new e took is_text is_bad h =
     (subst (λ b. Ends text (exit_of b) old new e) is_bad (ends_by text bad old new e h))))
 
 -- ---- part by part
-
-prefix_of_front : (old new : Option (List ℕ)) (front rest : List ℕ) → PutsPrefix old new front
-    → PutsPrefix old new (front ++ rest)
-prefix_of_front old new front rest h =
-    elim (cases_lt (length front) h.0) [
-      | inl more ↦ (
-        length front,
-        subst (Appends old new)
-            (take_all h.0 front (omega (arith, more)) ∙ sym (take-append_seam front rest)) h.1,
-      )
-      | inr less ↦ (h.0, subst (Appends old new) (sym (take-append-le h.0 front rest less)) h.1)
-    ]
-
-prefix_behind : (old mid new : Option (List ℕ)) (front rest : List ℕ) → Appends old mid front
-    → PutsPrefix mid new rest → PutsPrefix old new (front ++ rest)
-prefix_behind old mid new front rest put h = (
-  length front + h.0,
-  subst (Appends old new) (sym (take-append-add front rest h.0))
-      (Appends-trans old mid new _ _ put h.1),
-)
-
--- the front of a text breaks
-pub front_breaks : (old new : Option (List ℕ)) (front rest : List ℕ) (e : Exit) → PutsPart old new front e
-    → PutsPart old new (front ++ rest) e
-front_breaks old new front rest exit.WriteFault h = prefix_of_front old new front rest h
-front_breaks old new front rest exit.NoMemory h = prefix_of_front old new front rest h
-front_breaks old new front rest exit.Done h = absurd h
-front_breaks old new front rest exit.Usage h = absurd h
-front_breaks old new front rest exit.BadInput h = absurd h
-front_breaks old new front rest exit.ReadFault h = absurd h
-front_breaks old new front rest exit.TooLong h = absurd h
-
--- what follows the front breaks
-pub rest_breaks : (old mid new : Option (List ℕ)) (front rest : List ℕ) (e : Exit) → Appends old mid front
-    → PutsPart mid new rest e → PutsPart old new (front ++ rest) e
-rest_breaks old mid new front rest exit.WriteFault put h = prefix_behind old mid new front rest put h
-rest_breaks old mid new front rest exit.NoMemory put h = prefix_behind old mid new front rest put h
-rest_breaks old mid new front rest exit.Done put h = absurd h
-rest_breaks old mid new front rest exit.Usage put h = absurd h
-rest_breaks old mid new front rest exit.BadInput put h = absurd h
-rest_breaks old mid new front rest exit.ReadFault put h = absurd h
-rest_breaks old mid new front rest exit.TooLong put h = absurd h
 
 -- a text behind its front
 pub both_put : {T : Type 0} (old mid new : Option (List ℕ)) (front rest : List ℕ) (r : Result T Exit)

@@ -3,3 +3,4 @@ pub mod Pairing
 pub mod Texts
 pub mod From
 pub mod Seen
+pub mod Schedules

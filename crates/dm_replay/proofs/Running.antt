@@ -1,10 +1,7 @@
 -- A run goes on by an event, and ends.
-use Rattle.std.proofs.Common.{None, Some, Ok, Err, ◌≡◌, ◌≢◌, ◌+◌, ℕ, inl, inr, List, [], ◌++◌, refl, sym, ap, subst}
+use Rattle.std.proofs.Common.{None, Some, Ok, Err, ◌≡◌, ◌+◌, ℕ, inl, inr, List, [], ◌++◌, refl, sym, ap, subst}
 use Rattle.std.proofs.Common.{◌∙◌}
-use Rattle.std.proofs.Common.{length, arith, append-nil, append_assoc}
-use Rattle.std.proofs.lemmas.Bool.{cases_lt}
-use Rattle.std.proofs.lemmas.List.{take-append-le, take_all}
-use Rattle.std.proofs.Math.Seq.{take-append_seam, take-append-add}
+use Rattle.std.proofs.Common.{append_assoc}
 use Rattle.std.proofs.KnownBytes.{Appends-trans}
 use Rattle.std.specs.Prelude.{IfSome}
 use Rattle.std.specs.declared.option.Option.{Option}
@@ -19,7 +16,9 @@ use Rattle.dm_tree.specs.Nodes.{Nodes}
 use Rattle.dm_exit.specs.declared.exit.Exit.{Exit}
 use Rattle.dm_exit.specs.declared.exit.Exit.TheVariants as exit
 use Rattle.dm_exit.specs.Causes.{SourceCause}
-use Rattle.dm_exit.specs.Puts.{PutsPrefix, PutsPart, PutsEnd, Ends}
+use Rattle.dm_exit.specs.Puts.{PutsPart, PutsEnd, Ends}
+use Rattle.dm_exit.proofs.Parts.{kept_appends, prefix_none, prefix_of_front, prefix_behind, front_breaks}
+use Rattle.dm_exit.proofs.Parts.{ends_part, ends_after, ends_put}
 use Rattle.dm_replay.specs.declared.reading.Halt.{Halt}
 use Rattle.dm_replay.specs.declared.reading.Halt.TheVariants as halt
 use Rattle.dm_replay.specs.declared.events.Event.{Event}
@@ -34,81 +33,6 @@ use Rattle.dm_replay.specs.Output.{trace_text, client_of}
 use Rattle.dm_replay.specs.From.{OfInput, Between, events_at, OfStop, EndsTrace, PutsHalt}
 use Rattle.dm_replay.specs.From.{PutsOn, PutsBehind, PutsDueAndHalt, exit_after, Follows, SoFar, GoesOn, EndsEvents}
 use Rattle.dm_replay.specs.From.{HaltCounts}
-
--- ---- a part of a text
-
-pub kept_appends : (old new : Option (List ℕ)) → Keeps old new → Appends old new []
-kept_appends None new h = tt
-kept_appends (Some xs) None h = absurd h
-kept_appends (Some xs) (Some ys) h = h ∙ sym (append-nil xs)
-
-pub prefix_none : (old new : Option (List ℕ)) (text : List ℕ) → Keeps old new → PutsPrefix old new text
-prefix_none old new text h = (0, kept_appends old new h)
-
--- a prefix of the front is a prefix of the whole
-prefix_of_front : (old new : Option (List ℕ)) (front rest : List ℕ) → PutsPrefix old new front
-    → PutsPrefix old new (front ++ rest)
-prefix_of_front old new front rest h =
-    elim (cases_lt (length front) h.0) [
-      | inl more ↦ (
-        length front,
-        subst (Appends old new)
-            (take_all h.0 front (omega (arith, more)) ∙ sym (take-append_seam front rest)) h.1,
-      )
-      | inr less ↦ (h.0, subst (Appends old new) (sym (take-append-le h.0 front rest less)) h.1)
-    ]
-
-prefix_after : (old mid new : Option (List ℕ)) (done rest : List ℕ) → Appends old mid done → PutsPrefix mid new rest
-    → PutsPrefix old new (done ++ rest)
-prefix_after old mid new done rest put h = (
-  length done + h.0,
-  subst (Appends old new) (sym (take-append-add done rest h.0))
-      (Appends-trans old mid new _ _ put h.1),
-)
-
--- ---- the end of a run
-
-pub ends_part : (text : List ℕ) (good : Exit) (old new : Option (List ℕ)) (e : Exit) → PutsPart old new text e
-    → Ends text good old new e
-ends_part text good old new exit.WriteFault h = h
-ends_part text good old new exit.NoMemory h = h
-ends_part text good old new exit.Done h = absurd h
-ends_part text good old new exit.Usage h = absurd h
-ends_part text good old new exit.BadInput h = absurd h
-ends_part text good old new exit.ReadFault h = absurd h
-ends_part text good old new exit.TooLong h = absurd h
-
-part_of_front : (front rest : List ℕ) (old new : Option (List ℕ)) (e : Exit) → PutsPart old new front e
-    → PutsPart old new (front ++ rest) e
-part_of_front front rest old new exit.WriteFault h = prefix_of_front old new front rest h
-part_of_front front rest old new exit.NoMemory h = prefix_of_front old new front rest h
-part_of_front front rest old new exit.Done h = absurd h
-part_of_front front rest old new exit.Usage h = absurd h
-part_of_front front rest old new exit.BadInput h = absurd h
-part_of_front front rest old new exit.ReadFault h = absurd h
-part_of_front front rest old new exit.TooLong h = absurd h
-
-ends_after : (done text : List ℕ) (good : Exit) (old mid new : Option (List ℕ)) (e : Exit) → Appends old mid done
-    → Ends text good mid new e
-    → Ends (done ++ text) good old new e
-ends_after done text good old mid new exit.Done put h = (Appends-trans old mid new _ _ put h.0, h.1)
-ends_after done text good old mid new exit.BadInput put h = (Appends-trans old mid new _ _ put h.0, h.1)
-ends_after done text good old mid new exit.TooLong put h = (Appends-trans old mid new _ _ put h.0, h.1)
-ends_after done text good old mid new exit.ReadFault put h = prefix_after old mid new done text put h
-ends_after done text good old mid new exit.WriteFault put h = prefix_after old mid new done text put h
-ends_after done text good old mid new exit.NoMemory put h = prefix_after old mid new done text put h
-ends_after done text good old mid new exit.Usage put h = absurd h
-
--- for an answer whose end is the whole text, what puts it ends so
-pub ends_put : (text : List ℕ) (good : Exit) (old new : Option (List ℕ)) (e : Exit)
-    → (Appends old new text → Ends text good old new good)
-    → PutsEnd text good old new e → Ends text good old new e
-ends_put text good old new e full h =
-    elim h [
-      | inl put ↦ subst (λ x. Ends text good old new x) (sym put.1)
-          (full put.0)
-      | inr part ↦ ends_part text good old new e part
-    ]
 
 ends_trace : (v : ℕ) (s : Machine) (t t' : Trace) (old new : Option (List ℕ)) (e : Exit) → t ≡ t'
     → EndsTrace v s t' old new e → EndsTrace v s t old new e
@@ -217,7 +141,7 @@ pub due_breaks : (a : Option Input) (v : ℕ) (s : Machine) (t : Input → Trace
 due_breaks None v s t due old new e h = tt
 due_breaks (Some i) v s t due old new e h =
     ends_part (due ++ trace_text v s (t i)) (ending_exit (t i).ending) old new e
-    (part_of_front due (trace_text v s (t i)) old new e h)
+    (front_breaks old new due (trace_text v s (t i)) e h)
 
 -- nothing of it was put
 pub due_stays : (a : Option Input) (v : ℕ) (s : Machine) (t : Input → Trace) (due : List ℕ) (old : Option (List ℕ))
@@ -248,7 +172,7 @@ behind_ends v s t h due old new e is p =
           (halted v s t h put.0 new e is put.2)
       | inr part ↦
           ends_part (due ++ trace_text v s t) (ending_exit t.ending) old new e
-          (part_of_front due (trace_text v s t) old new e part)
+          (front_breaks old new due (trace_text v s t) e part)
     ]
 
 due_halted : (v : ℕ) (s : Machine) (t : Trace) (h : Halt) (due : List ℕ) (old new : Option (List ℕ)) (e : Exit)
@@ -309,7 +233,7 @@ pub so_breaks : (a : Option Input) (v : ℕ) (tree : Nodes) (ending : Input → 
 so_breaks None v tree ending due old new e h = tt
 so_breaks (Some i) v tree ending due old new e h =
     ends_part (due ++ ending_text v tree (ending i)) (ending_exit (ending i)) old new e
-    (part_of_front due (ending_text v tree (ending i)) old new e h)
+    (front_breaks old new due (ending_text v tree (ending i)) e h)
 
 pub so_whole : (a : Option Input) (v : ℕ) (tree : Nodes) (ending : Input → Ending) (due : List ℕ)
     (old mid new : Option (List ℕ)) (e : Exit) → Appends old mid due → OfInput a (λ i. ending i ≡ whole)
@@ -354,8 +278,8 @@ whole_put old mid new text last put more = inl (Appends-trans old mid new _ _ pu
 
 pub last_breaks : (old mid new : Option (List ℕ)) (text last : List ℕ) (e : Exit) → Appends old mid text
     → PutsPart mid new last e → PutsEnd (text ++ last) exit.Done old new e
-last_breaks old mid new text last exit.WriteFault put h = inr (prefix_after old mid new text last put h)
-last_breaks old mid new text last exit.NoMemory put h = inr (prefix_after old mid new text last put h)
+last_breaks old mid new text last exit.WriteFault put h = inr (prefix_behind old mid new text last put h)
+last_breaks old mid new text last exit.NoMemory put h = inr (prefix_behind old mid new text last put h)
 last_breaks old mid new text last exit.Done put h = absurd h
 last_breaks old mid new text last exit.Usage put h = absurd h
 last_breaks old mid new text last exit.BadInput put h = absurd h

@@ -22,7 +22,7 @@ use Rattle.dm_replay.specs.Trace.{bad, too_long, Trace, Begun, began, unbegun, t
 use Rattle.dm_replay.specs.Output.{answers_text, ending_text, ending_exit, bad_line, trace_text, events_text, client_of}
 use Rattle.dm_replay.specs.Output.{begun_text, begun_exit, replay_text, replay_exit, Replays}
 use Rattle.dm_replay.specs.From.{OfInput, seen, begun_at, OfStop, StartsAs, EndsTrace, EndsEvents, PutsHalt}
-use Rattle.dm_replay.proofs.Running.{ends_put, prefix_none, kept_appends}
+use Rattle.dm_exit.proofs.Parts.{ends_put, prefix_none, kept_appends}
 
 -- ---- the text by the history is that by the state
 

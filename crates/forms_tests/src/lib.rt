@@ -1,4 +1,4 @@
-//! Tests of the forms of a command line, and of what each but a replay writes, by public calls alone.
+//! Tests of the forms of a command line, and of what `show`, `check` and `bench` write, by public calls alone.
 #![tactic(auto)]
 
 #[cfg(test)]

@@ -1,4 +1,5 @@
-use Rattle.dm_pair.proofs.Putting.{both_put, front_breaks}
+use Rattle.dm_exit.proofs.Parts.{front_breaks}
+use Rattle.dm_pair.proofs.Putting.{both_put}
 use Rattle.dm_pair.proofs.command.put_both.Goals as goal
 
 pub returns-in-Ok-clause-bytes : goal.returns-in-Ok-clause-bytes
