@@ -148,7 +148,7 @@ fn body(alloc: Global, members: List<Member>) -> Result<List<Command>, Memory>
     Ok(body)
 }
 
-/// The message of this number, which nine words give. Each is fit.
+/// The message of this number, which nine words give. One that isn't fit would be `Memory`; none is, as runs show.
 #[tactic(auto, unfolding(crate::specs::Messages::message_of))]
 pub fn message(
     alloc: Global,

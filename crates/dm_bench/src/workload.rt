@@ -9,22 +9,26 @@ ghost use Rattle.dm_bench.specs.Running.{begun as begun_run, with_messages};
 ghost use Rattle.dm_bench.specs.Workload as Spec;
 ghost use Rattle.dm_bench.specs.Workload.{bench_text, run_text};
 
+use crate::hashing::Hashing;
 use crate::running::{Tally, deliver_all};
 use crate::starting::begun;
 use dm_base::{Bytes, Memory, Sink, hex_into};
 use dm_exit::{Exit, put_text};
 use dm_replay::answers::add_number;
 use dm_session::Client;
-use dm_start::tree_text;
+use dm_start::put_tree;
 use dm_tree::Tree;
-use md5::{Digest, Md5};
 use std::alloc::Global;
 
+// The digest of the tree text, which is put in pieces and isn't kept.
 fn digest_of(alloc: Global, tree: &Tree) -> Result<[u8; 16], Memory>
     ensures { IfOk result (λ digest. digest ≡ md5 (text_of 1 (nodes_of tree.now.rows))) }
 {
-    let text = tree_text(alloc, tree, 1)?;
-    Ok(Md5::digest(text.as_slice()))
+    let mut out = Hashing::new();
+    match put_tree(alloc, &mut out, tree, 1) {
+        Ok(()) => Ok(out.digest()),
+        Err(_) => Err(Memory),
+    }
 }
 
 fn summary(alloc: Global, messages: u32, tally: Tally, digest: &[u8]) -> Result<Bytes, Memory>
