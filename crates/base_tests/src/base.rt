@@ -322,8 +322,8 @@ fn reads_fields(rt: HostRuntime) -> Result<(), Fail> {
     let ones = nonce(b"01010101010101010101010101010101");
     assert!(rt; ones.map_or(false, |nonce| nonce.bytes == [1u8; 16]));
     let mut text = Bytes::new(rt.alloc());
-    hex_into(rt.alloc(), &mut text, b"")?;
-    hex_into(rt.alloc(), &mut text, b"\n")?;
+    hex_into(&mut text, b"")?;
+    hex_into(&mut text, b"\n")?;
     assert_eq!(rt; text.as_slice(), b"-0a".as_slice());
     Ok(())
 }

@@ -2,3 +2,4 @@ pub mod Known
 pub mod Numbers
 pub mod Pending
 mod FieldValues
+mod Digits

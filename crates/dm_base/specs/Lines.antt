@@ -9,7 +9,7 @@ use Rattle.dm_base.specs.declared.lines.LineReason.TheVariants as reason
 use Rattle.dm_base.specs.declared.lines.LineOut.{LineOut}
 use Rattle.dm_base.specs.declared.lines.LineOut.TheVariants as line_out
 
--- how many bytes a run takes at most, and a line has at most without its line feed
+-- how many bytes of its input a run looks at, and how many a line has at most without its line feed
 abbrev pub run_limit : ℕ
 run_limit = 67108864
 

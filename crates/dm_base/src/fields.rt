@@ -3,13 +3,17 @@ ghost use Rattle.std.specs.Prelude.{◌≡◌, ◌++◌, ◌∷◌, [], ◌<◌,
 ghost use Rattle.std.specs.Prelude.{Option, option_map, not};
 ghost use Rattle.std.specs.List.{list_all};
 ghost use Rattle.std.specs.Char.{is_ascii_digit};
-ghost use Rattle.hex.specs.Hex.{is_hex_digit};
+ghost use Rattle.hex.specs.Hex.{encode_lower, is_hex_digit};
 ghost use Rattle.dm_base.specs.Fields.{field_of, parts, is_form, is_visible, is_word, is_short, is_acl_sign, is_id};
 ghost use Rattle.dm_base.specs.Fields.{is_hex, is_numeral, num_of, nonce_of, hex_of, hex_text};
 
 use crate::bytes::{Bytes, Memory};
 use crate::values::Nonce;
+use hex::encode_to_slice;
 use std::alloc::Global;
+
+// How many bytes are made digits at a time, on the stack.
+const CHUNK: usize = 64;
 
 /// The forms that a field may have.
 #[derive(Clone, Copy, Debug, PartialEq, Eq)]
@@ -163,13 +167,39 @@ pub fn hex_bytes(alloc: Global, text: &[u8]) -> Result<Option<Bytes>, Memory>
     }
 }
 
-/// Appends the lower-case `Hex` of the bytes.
-pub fn hex_into(alloc: Global, out: &mut Bytes, bytes: &[u8]) -> Result<(), Memory>
+// Two digits for each byte, into room that is taken once.
+fn put_digits(out: &mut Bytes, bytes: &[u8]) -> Result<(), Memory>
+    ensures ok { OnOk result (out.new ≡ out.old ++ encode_lower bytes.now) }
+    ensures front { take (length out.old) out.new ≡ out.old }
+{
+    out.reserve(bytes.len().saturating_mul(2))?;
+    let mut digits = [0u8; 2 * CHUNK];
+    let mut rest = bytes;
+    while !rest.is_empty() {
+        let (chunk, behind) = rest.split_at(rest.len().min(CHUNK));
+        let room = &mut digits[..2 * chunk.len()];
+        match encode_to_slice(chunk, room) {
+            Ok(()) => out.extend(room)?,
+            Err(_) => unreachable!(),
+        }
+        rest = behind;
+    }
+    Ok(())
+}
+
+/// Appends the lower-case `Hex` of the bytes: two digits a byte, or `-` for no byte. After `Memory` the list is as
+/// before.
+pub fn hex_into(out: &mut Bytes, bytes: &[u8]) -> Result<(), Memory>
     ensures ok { OnOk result (out.new ≡ out.old ++ hex_text bytes.now) }
     ensures err { OnErr result (out.new ≡ out.old) }
 {
     if bytes.is_empty() {
         return out.extend(b"-");
     }
-    out.extend(hex::encode(alloc, bytes)?.as_bytes())
+    let before = out.len();
+    let put = put_digits(out, bytes);
+    if put.is_err() {
+        out.cut_to(before);
+    }
+    put
 }

@@ -14,7 +14,7 @@ use std::marker::Model;
 
 // Large enough that asking the source costs little beside what is done with its bytes.
 const PIECE: usize = 32_768;
-/// How many bytes one run takes at most.
+/// How many bytes of its input one run looks at. One more may be taken, which tells that the input goes on.
 pub const RUN_LIMIT: usize = 67_108_864;
 /// How many bytes a line has at most, without its line feed.
 pub const LINE_LIMIT: usize = 8_400_000;
@@ -89,6 +89,7 @@ fn feed_from(bytes: &[u8], from: usize) -> Option<usize>
 }
 
 impl Lines {
+    /// The lines of a source of which nothing was taken yet.
     pub fn new(alloc: Global) -> Lines
         ensures { result ≡ record { pending = []; past = []; taken = 0 } }
     {

@@ -26,6 +26,7 @@ impl<T> List<T> {
     ghost use Rattle.std.specs.Borrow.{sem};
     ghost use Rattle.dm_base.specs.Lends.{lends_first, lends_at};
 
+    /// An empty list. It takes no memory.
     pub fn new(alloc: Global) -> List<T>
         ensures { result ≡ [] }
     {
@@ -57,18 +58,21 @@ impl<T> List<T> {
         self.items
     }
 
+    /// How many values there are.
     pub fn len(&self) -> usize
         ensures { result ≡ length self.now }
     {
         self.items.len()
     }
 
+    /// Whether there is no value.
     pub fn is_empty(&self) -> bool
         ensures { result ≡ (length self.now == 0) }
     {
         self.items.is_empty()
     }
 
+    /// The values, for reading.
     pub fn as_slice(&self) -> &[T]
         ensures { result.now ≡ self.now }
     {

@@ -1,6 +1,5 @@
 mod Counted
 pub mod Devices
-mod Digits
 mod Laid
 mod Limits
 mod NodePaths

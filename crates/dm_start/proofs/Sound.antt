@@ -30,7 +30,7 @@ use Rattle.dm_start.specs.Fields.{device_in, limits_in, clock_in, account_in, ar
 use Rattle.dm_start.specs.Growing.{new_node, interior_value, with_one, with_update, changed_at, with_acl_at, is_title}
 use Rattle.dm_start.specs.Growing.{with_title_at, may_be_permanent, with_mark_at, interior_line, with_leaf, leaf_line}
 use Rattle.dm_start.specs.Growing.{acl_line, title_line, permanent_line, update_line, nodes_after}
-use Rattle.dm_start.specs.Start.{Told, Section, opening, telling, version_in, started, behind_limits, after_opening}
+use Rattle.dm_start.specs.Start.{Setup, Section, opening, telling, version_in, started, behind_limits, after_opening}
 use Rattle.dm_start.specs.Start.{is_known, with_account, account_line, begin_line, with_nodes, later_line}
 use Rattle.dm_start.specs.Start.{after_telling, after_line, behind_line, lines_after, Reads}
 use Rattle.dm_start.specs.Laws.{IsAccount, IsStart, StartsAreSound}
@@ -180,7 +180,7 @@ not_true : (b : Bool) → not b ≡ true → b ≡ false
 not_true false h = refl
 not_true true h = absurd (cc)
 
-sound_account : (told : Told) (line : List ℕ) (t : Section) → IsKept told → account_line told line ≡ Ok t
+sound_account : (told : Setup) (line : List ℕ) (t : Section) → IsKept told → account_line told line ≡ Ok t
     → IsSoundSection t
 sound_account told line t kept e =
     let s = said reason.Fields (account_in (parts line)) (with_account told) t e in
@@ -200,7 +200,7 @@ sound_account told line t kept e =
 
 -- ---- the lines behind them
 
-grown : (told : Told) (r : Result Nodes LineReason) (t : Section) → IsKept told → 0 < length told.accounts
+grown : (told : Setup) (r : Result Nodes LineReason) (t : Section) → IsKept told → 0 < length told.accounts
     → ((n : Nodes) → r ≡ Ok n → IsDeviceTree n) → with_nodes told r ≡ Ok t → IsSoundSection t
 grown told (Err why) t kept some device e = absurd (cc)
 grown told (Ok n) t kept some device e =
@@ -216,7 +216,7 @@ grown told (Ok n) t kept some device e =
       some,
     )
 
-sound_later : (told : Told) (line : List ℕ) (t : Section) → IsKept told → 0 < length told.accounts
+sound_later : (told : Setup) (line : List ℕ) (t : Section) → IsKept told → 0 < length told.accounts
     → later_line told line ≡ Ok t → IsSoundSection t
 sound_later told line t kept some e = by_word (begins_with (codes "begin") line) e
   where
@@ -233,7 +233,7 @@ sound_later told line t kept some e = by_word (begins_with (codes "begin") line)
 some_of : (n : ℕ) → (n == 0) ≡ false → 0 < n
 some_of n h = grind (arith, nat_tests)
 
-sound_telling : (p : Phase) (told : Told) (line : List ℕ) (t : Section) → IsSoundPhase p told
+sound_telling : (p : Phase) (told : Setup) (line : List ℕ) (t : Section) → IsSoundPhase p told
     → after_telling p told line ≡ Ok t → IsSoundSection t
 sound_telling phase.Accounts told line t sound e = by_word (begins_with (codes "account") line) e
   where
@@ -280,7 +280,7 @@ sound_lines (line ∷ lines) n s t sound e =
     (λ next sound_next h. sound_lines lines (n + 1) next t sound_next h)
 
 -- a whole section tells what a client may begin with
-pub sound_told : (told : Told) → IsSoundSection (telling phase.Begun told) → IsStart told
+pub sound_told : (told : Setup) → IsSoundSection (telling phase.Begun told) → IsStart told
 sound_told told sound = record {
   version = sound.0.version;
   limits = sound.0.limits;

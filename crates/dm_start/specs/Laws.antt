@@ -6,7 +6,7 @@ use Rattle.dm_auth.specs.declared.accounts.Account.{Account}
 use Rattle.dm_tree.specs.Devices.{IsDeviceTree}
 use Rattle.dm_start.specs.declared.telling.Phase.TheVariants as phase
 use Rattle.dm_start.specs.Fields.{are_limits}
-use Rattle.dm_start.specs.Start.{Told, telling, section_of_lines}
+use Rattle.dm_start.specs.Start.{Setup, telling, section_of_lines}
 
 -- its names have the forms of their fields
 pub record IsAccount (a : Account) : Type 0 where
@@ -21,7 +21,7 @@ AreApart [] = ⊤
 AreApart (a ∷ others) = AllByRecursion (λ (b : Account). bytes_eq a.server b.server ≡ false) others × AreApart others
 
 -- what a client may begin with
-pub record IsStart (told : Told) : Type 0 where
+pub record IsStart (told : Setup) : Type 0 where
   pub version : (told.version ≡ 1) ⊎ (told.version ≡ 2)
   pub limits : IsTrue (are_limits told.limits.max_msg told.limits.max_obj)
   pub some : 0 < length told.accounts
@@ -33,4 +33,4 @@ pub record IsStart (told : Told) : Type 0 where
 -- whatever the lines of a whole section are, it tells such a start
 abbrev pub StartsAreSound : Type 0
 StartsAreSound =
-    (lines : List (List ℕ)) (told : Told) → section_of_lines lines ≡ Ok (telling phase.Begun told) → IsStart told
+    (lines : List (List ℕ)) (told : Setup) → section_of_lines lines ≡ Ok (telling phase.Begun told) → IsStart told

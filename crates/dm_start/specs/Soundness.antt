@@ -10,7 +10,7 @@ use Rattle.dm_start.specs.declared.telling.Phase.{Phase}
 use Rattle.dm_start.specs.declared.telling.Phase.TheVariants as phase
 use Rattle.dm_start.specs.Fields.{are_limits}
 use Rattle.dm_start.specs.Laws.{IsAccount, AreApart}
-use Rattle.dm_start.specs.Start.{Told, Section, opening, telling}
+use Rattle.dm_start.specs.Start.{Setup, Section, opening, telling}
 
 -- what a device tells of itself is SHORT
 pub record IsShortDevice (d : Device) : Type 0 where
@@ -21,7 +21,7 @@ pub record IsShortDevice (d : Device) : Type 0 where
   pub lang : is_short d.lang ≡ true
 
 -- what is told so far, where accounts may still come
-pub record IsKept (told : Told) : Type 0 where
+pub record IsKept (told : Setup) : Type 0 where
   pub version : (told.version ≡ 1) ⊎ (told.version ≡ 2)
   pub limits : are_limits told.limits.max_msg told.limits.max_obj ≡ true
   pub few : length told.accounts ≤ 16
@@ -36,7 +36,7 @@ IsSoundHead (head.Limits v d) = ((v ≡ 1) ⊎ (v ≡ 2)) × IsShortDevice d
 IsSoundHead (head.Clock d l) = IsShortDevice d × (are_limits l.max_msg l.max_obj ≡ true)
 
 -- behind the accounts there is one at least
-abbrev pub IsSoundPhase : Phase → Told → Type 0
+abbrev pub IsSoundPhase : Phase → Setup → Type 0
 IsSoundPhase phase.Accounts told = IsKept told
 IsSoundPhase phase.Nodes told = IsKept told × (0 < length told.accounts)
 IsSoundPhase phase.Begun told = IsKept told × (0 < length told.accounts)

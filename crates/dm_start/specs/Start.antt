@@ -25,7 +25,7 @@ use Rattle.dm_start.specs.Laying.{Refuses}
 
 -- what the lines told: the version, what the client takes, whom it talks to, and the tree and the clock that it begins
 -- with
-pub record Told : Type 0 where
+pub record Setup : Type 0 where
   pub version : ℕ
   pub limits : Limits
   pub accounts : List Account
@@ -35,7 +35,7 @@ pub record Told : Type 0 where
 -- how far a section has come: in its first lines, or behind them
 pub data Section : Type 0 where
   opening : Head → Section
-  telling : Phase → Told → Section
+  telling : Phase → Setup → Section
 
 -- ---- the first lines
 
@@ -82,31 +82,31 @@ abbrev pub is_known : List Account → List ℕ → Bool
 is_known accounts server = list_any (λ (a : Account). bytes_eq a.server server) accounts
 
 -- at most 16 accounts, each server once
-abbrev pub with_account : Told → Account → Result Section LineReason
+abbrev pub with_account : Setup → Account → Result Section LineReason
 with_account told account =
     if nat_lt (length told.accounts) 16 && not (is_known told.accounts account.server)
     then Ok (telling phase.Accounts (record told { accounts = told.accounts ++ account ∷ [] }))
     else Err reason.Account
 
-abbrev pub account_line : Told → List ℕ → Result Section LineReason
+abbrev pub account_line : Setup → List ℕ → Result Section LineReason
 account_line told line = or_refused reason.Fields (account_in (parts line)) (with_account told)
 
 -- `begin`
-abbrev pub begin_line : Told → List ℕ → Result Section LineReason
+abbrev pub begin_line : Setup → List ℕ → Result Section LineReason
 begin_line told line = if bytes_eq line (codes "begin") then Ok (telling phase.Begun told) else Err reason.Fields
 
-abbrev pub with_nodes : Told → Result Nodes LineReason → Result Section LineReason
+abbrev pub with_nodes : Setup → Result Nodes LineReason → Result Section LineReason
 with_nodes told (Ok m) = Ok (telling phase.Nodes (record told { nodes = m }))
 with_nodes told (Err why) = Err why
 
 -- the last line, or one that tells of the tree
-abbrev pub later_line : Told → List ℕ → Result Section LineReason
+abbrev pub later_line : Setup → List ℕ → Result Section LineReason
 later_line told line =
     if begins_with (codes "begin") line then begin_line told line
     else with_nodes told (nodes_after told.clock told.nodes line)
 
 -- accounts stand before all lines that tell of the tree, and there is one at least; nothing stands behind `begin`
-abbrev pub after_telling : Phase → Told → List ℕ → Result Section LineReason
+abbrev pub after_telling : Phase → Setup → List ℕ → Result Section LineReason
 after_telling phase.Accounts told line =
     if begins_with (codes "account") line then account_line told line
     else if length told.accounts == 0 then Err reason.Word
@@ -136,7 +136,7 @@ section_of_lines lines = lines_after 1 (opening head.First) lines
 
 -- ---- what a reader stands for
 
-abbrev pub told_of : Start → Told
+abbrev pub told_of : Start → Setup
 told_of start = record {
   version = start.version;
   limits = start.limits;

@@ -2,7 +2,6 @@
 ghost use Rattle.std.specs.Prelude.{◌≡◌, ◌++◌, IfOk, OnOk};
 ghost use Rattle.std.specs.Fmt.{decimal};
 ghost use Rattle.std.specs.Option.{option_copied};
-ghost use Rattle.hex.specs.Hex.{encode_lower};
 ghost use Rattle.dm_base.specs.Fields.{hex_text};
 ghost use Rattle.dm_base.specs.Outside.{PutsAll, PutCounts};
 ghost use Rattle.dm_uri.specs.Names.{printed_path};
@@ -12,17 +11,13 @@ ghost use Rattle.dm_start.specs.TreeText as Spec;
 ghost use Rattle.dm_start.specs.TreeText.{PutsOn};
 
 use dm_acl::Acl;
-use dm_base::{Bytes, Fault, Memory, Sink, put_all};
+use dm_base::{Bytes, Fault, Memory, Sink, hex_into, put_all};
 use dm_tree::{NodeId, Stamp, Tree, View};
-use hex::encode_to_slice;
 use itoa::Buffer;
 use std::alloc::Global;
 
 // So much of the text is put at a time: enough that a put costs little beside what is put.
 const PIECE: usize = 65_536;
-
-// How many bytes are made digits at a time, on the stack.
-const CHUNK: usize = 64;
 
 // Goes down from the root.
 fn put_path(out: &mut Bytes, tree: &Tree, id: NodeId) -> Result<(), Memory>
@@ -75,33 +70,11 @@ fn put_acl(alloc: Global, out: &mut Bytes, acl: Option<&Acl>) -> Result<(), Memo
     }
 }
 
-// Two digits for each byte, into room that is taken once.
-fn put_digits(out: &mut Bytes, bytes: &[u8]) -> Result<(), Memory>
-    ensures { OnOk result (out.new ≡ out.old ++ encode_lower bytes.now) }
-{
-    out.reserve(bytes.len().saturating_mul(2))?;
-    let mut digits = [0u8; 2 * CHUNK];
-    let mut rest = bytes;
-    while !rest.is_empty() {
-        let (chunk, behind) = rest.split_at(rest.len().min(CHUNK));
-        let room = &mut digits[..2 * chunk.len()];
-        match encode_to_slice(chunk, room) {
-            Ok(()) => out.extend(room)?,
-            Err(_) => unreachable!(),
-        }
-        rest = behind;
-    }
-    Ok(())
-}
-
 fn put_hex(out: &mut Bytes, bytes: &[u8]) -> Result<(), Memory>
     ensures { OnOk result (out.new ≡ out.old ++ Spec.spaced (hex_text bytes.now)) }
 {
-    if bytes.is_empty() {
-        return out.extend(b" -");
-    }
     out.push(b' ')?;
-    put_digits(out, bytes)
+    hex_into(out, bytes)
 }
 
 fn put_common(alloc: Global, out: &mut Bytes, version: u8, view: View) -> Result<(), Memory>

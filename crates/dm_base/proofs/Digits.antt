@@ -1,6 +1,7 @@
 -- The digits of bytes, piece by piece.
 use Rattle.std.proofs.Common.{◌≡◌, ◌/◌, ◌%◌, ◌≤◌, ℕ, List, [], ◌∷◌, ◌++◌, length, take, drop, refl, sym, ap, ◌∙◌}
-use Rattle.std.proofs.Common.{arith, append_assoc, append-nil, take-append-drop}
+use Rattle.std.proofs.Common.{arith, append_assoc, append-nil, take-append-drop, length-take}
+use Rattle.std.proofs.lemmas.List.{take-append-le}
 use Rattle.std.specs.Prelude.{slice_index}
 use Rattle.hex.specs.Hex.{encode_with, encode_lower, lower_digits}
 
@@ -30,3 +31,12 @@ none_left (b ∷ rest) h = absurd (omega (arith, h))
 pub digits_end : (first out rest : List ℕ) → length rest ≤ 0 → out ++ encode_lower rest ≡ first → out ≡ first
 digits_end first out rest none so_far =
     sym (append-nil out) ∙ ap (λ l. out ++ l) (sym (none_left rest none)) ∙ so_far
+
+-- what stood in front still does
+pub front_stays : (first out digits more : List ℕ) → take (length first) out ≡ first → more ≡ out ++ digits
+    → take (length first) more ≡ first
+front_stays first out digits more front is =
+    let taken : length first ≡ length (take (length first) out) = ap length (sym front) in
+    let counted = length-take (length first) out in
+    let within : length first ≤ length out = omega (arith, taken, counted) in
+    ap (take (length first)) is ∙ take-append-le (length first) out digits within ∙ front
