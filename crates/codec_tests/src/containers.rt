@@ -2,16 +2,16 @@
 ghost use Rattle.std.specs.Prelude.{◌≡◌, length, IfOk};
 ghost use Rattle.std.specs.List.{AllByRecursion};
 ghost use Rattle.syncml_types.specs.Message.{HasShortData, HasShortMember, HasShortSeqMember, HasShortItems};
-ghost use Rattle.syncml_types.specs.Packing.{cut_data};
-ghost use Rattle.syncml_types.specs.Numbering.{ids_in, ids_in_seq_members};
+ghost use Rattle.syncml_parts.specs.Packing.{cut_data};
+ghost use Rattle.syncml_parts.specs.Numbering.{ids_in, ids_in_seq_members};
 
 use crate::values::{get, items, spelling_of};
 use dm_base::{Bytes, List, Memory};
 use std::alloc::Global;
 use std::test::Fail;
+use syncml_parts::{cut_item, cut_item_mut, data_length, numbered_length, rest_length, set_ids};
 use syncml_types::{
     AlertCmd, Block, Command, Member, Meta, Plain, ResultsCmd, SeqMember, Verb, command_length,
-    data_length, numbered_length, rest_length,
 };
 
 fn format(alloc: Global) -> Result<Meta, Memory> {
@@ -68,7 +68,7 @@ fn block(alloc: Global) -> Result<Block<Member>, Memory>
     })
 }
 
-#[tactic(auto, unfolding(syncml_types::specs::Numbering::ids_in))]
+#[tactic(auto, unfolding(syncml_parts::specs::Numbering::ids_in))]
 fn atomic(alloc: Global) -> Result<Command, Memory>
     ensures { IfOk result (λ c. ids_in c ≡ 3) }
 {
@@ -76,7 +76,7 @@ fn atomic(alloc: Global) -> Result<Command, Memory>
 }
 
 // That Atomic and a Get.
-#[tactic(auto, unfolding(syncml_types::specs::Numbering::ids_in_seq_members))]
+#[tactic(auto, unfolding(syncml_parts::specs::Numbering::ids_in_seq_members))]
 fn seq_members(alloc: Global) -> Result<List<SeqMember>, Memory>
     ensures { IfOk result (λ ms. (ids_in_seq_members ms ≡ 4) × AllByRecursion HasShortSeqMember ms) }
 {
@@ -86,7 +86,7 @@ fn seq_members(alloc: Global) -> Result<List<SeqMember>, Memory>
     Ok(members)
 }
 
-#[tactic(auto, unfolding(syncml_types::specs::Numbering::ids_in))]
+#[tactic(auto, unfolding(syncml_parts::specs::Numbering::ids_in))]
 fn sequence(alloc: Global) -> Result<Command, Memory>
     ensures { IfOk result (λ c. (ids_in c ≡ 5) × HasShortItems c) }
 {
@@ -160,7 +160,7 @@ fn of_sequence(alloc: Global) -> Result<OfSequence, Memory> {
     let measured = is_measured(0, &command, 89);
     let measured_elsewhere = is_measured(1, &command, 91);
     let cut = may_be_cut(&command);
-    let next = command.set_ids(9);
+    let next = set_ids(&mut command, 9);
     let spelled = is_spelled(alloc, command, numbered_bytes());
     Ok(OfSequence {
         copied: copied?,
@@ -215,7 +215,7 @@ fn measures_data(rt: HostRuntime) -> Result<(), Fail> {
 fn cut_value(command: &Command) -> &[u8]
     ensures { result.now ≡ cut_data command.now }
 {
-    match command.cut_item() {
+    match cut_item(command) {
         None => &[],
         Some(item) => match &item.value {
             None => &[],
@@ -293,7 +293,7 @@ fn results_may_be_cut(rt: HostRuntime) -> Result<(), Fail> {
 }
 
 fn write_cut(command: &mut Command, value: Bytes) {
-    if let Some(item) = command.cut_item_mut() {
+    if let Some(item) = cut_item_mut(command) {
         item.value = Some(value);
     }
 }

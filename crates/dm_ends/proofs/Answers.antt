@@ -8,7 +8,7 @@ use Rattle.syncml_types.specs.declared.values.Meta.{Meta}
 use Rattle.syncml_types.specs.declared.values.Header.{Header}
 use Rattle.syncml_types.specs.Canonical.{optional, meta_tokens, chal_tokens, items_tokens, texts_tokens, status_tokens}
 use Rattle.syncml_types.specs.Canonical.{command_tokens}
-use Rattle.syncml_types.specs.Numbering.{with_numbers}
+use Rattle.syncml_parts.specs.Numbering.{with_numbers}
 use Rattle.dm_auth.specs.Digests.{base64_of, challenge}
 use Rattle.dm_headers.specs.Checks.{is_challenged}
 use Rattle.dm_headers.specs.Headers.{is_withheld, status_of, header_answer}

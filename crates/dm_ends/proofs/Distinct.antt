@@ -8,9 +8,9 @@ use Rattle.syncml_types.specs.declared.command.SeqMember.{SeqMember}
 use Rattle.syncml_types.specs.declared.command.SeqMember.TheVariants as seq_member
 use Rattle.syncml_types.specs.declared.command.Command.{Command}
 use Rattle.syncml_types.specs.declared.command.Command.TheVariants as command
-use Rattle.syncml_types.specs.Numbering.{with_number, numbered_members, numbered_seq_members, ids_in_seq_members}
-use Rattle.syncml_types.specs.Numbering.{ids_in}
-use Rattle.syncml_types.specs.Numbering.{with_numbers}
+use Rattle.syncml_parts.specs.Numbering.{with_number, numbered_members, numbered_seq_members, ids_in_seq_members}
+use Rattle.syncml_parts.specs.Numbering.{ids_in}
+use Rattle.syncml_parts.specs.Numbering.{with_numbers}
 use Rattle.dm_headers.specs.CmdIds.{member_id, seq_members_ids, command_ids, body_ids, has_twins}
 use Rattle.dm_headers.specs.Headers.{next_header}
 use Rattle.dm_headers.specs.Rising.{is_rising}

@@ -11,8 +11,8 @@ use Rattle.syncml_types.specs.Message.{Parts}
 use Rattle.syncml_types.specs.Canonical.{canonical, flag_tokens, items_tokens, alert_tokens, command_tokens}
 use Rattle.syncml_types.specs.Canonical.{commands_tokens}
 use Rattle.syncml_types.specs.Fitness.{IsFit}
-use Rattle.syncml_types.specs.Numbering.{ids_in, with_numbers}
-use Rattle.syncml_types.specs.Packing.{tail_tokens}
+use Rattle.syncml_parts.specs.Numbering.{ids_in, with_numbers}
+use Rattle.syncml_parts.specs.Packing.{tail_tokens}
 use Rattle.dm_headers.specs.Headers.{is_withheld, status_of, header_answer}
 use Rattle.dm_pack.specs.Entries.{IsFitCommand, IsReady, fresh}
 use Rattle.dm_pack.specs.Filling.{numbered, IsReadyHeader}

@@ -3,7 +3,7 @@ ghost use Rattle.std.specs.Prelude.{◌≡◌, ◌<◌, ◌+◌, ◌∷◌, ◌+
 ghost use Rattle.std.specs.Option.{option_to_list};
 ghost use Rattle.syncml_types.specs.Canonical.{canonical};
 ghost use Rattle.syncml_types.specs.Fitness.{IsFit};
-ghost use Rattle.syncml_types.specs.Numbering.{ids_in};
+ghost use Rattle.syncml_parts.specs.Numbering.{ids_in};
 ghost use Rattle.dm_pack.specs.Filling.{numbered, IsReadyHeader};
 ghost use Rattle.dm_ends.specs.Commands.{alert as alert_of};
 ghost use Rattle.dm_ends.specs.Farewells.{farewell as farewell_of};
@@ -13,6 +13,7 @@ use dm_base::{Bytes, List, Memory, Nonce};
 use dm_headers::header_status;
 use std::alloc::Global;
 use syncml_codec::encode;
+use syncml_parts::set_ids;
 use syncml_types::{AlertCmd, Command, Header, Item, Message};
 
 /// A message with its bytes.
@@ -44,7 +45,7 @@ fn push_status(body: &mut List<Command>, status: Option<Command>) -> Result<u32,
     match status {
         None => Ok(1),
         Some(mut status) => {
-            let next = status.set_ids(1);
+            let next = set_ids(&mut status, 1);
             body.push(status)?;
             Ok(next)
         }
@@ -52,7 +53,7 @@ fn push_status(body: &mut List<Command>, status: Option<Command>) -> Result<u32,
 }
 
 // The header's Status where there is one, and an Alert 1223.
-#[tactic(auto, using(crate::proofs::LastWords::numbered_last, crate::proofs::LastWords::few_numbers), unfolding(syncml_types::specs::Numbering::ids_in))]
+#[tactic(auto, using(crate::proofs::LastWords::numbered_last, crate::proofs::LastWords::few_numbers), unfolding(syncml_parts::specs::Numbering::ids_in))]
 fn last_words(alloc: Global, status: Option<Command>) -> Result<List<Command>, Memory>
     requires one { IfSome status (λ s. ids_in s ≡ 1) }
     ensures { IfOk result (λ body. body ≡ numbered 1 (option_to_list status ++ alert_of 1223 None [] ∷ [])) }
@@ -60,7 +61,7 @@ fn last_words(alloc: Global, status: Option<Command>) -> Result<List<Command>, M
     let mut body = List::new(alloc);
     let next = push_status(&mut body, status)?;
     let mut abort = alert(1223, None, List::new(alloc));
-    abort.set_ids(next);
+    set_ids(&mut abort, next);
     body.push(abort)?;
     Ok(body)
 }

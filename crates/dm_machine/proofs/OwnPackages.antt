@@ -16,7 +16,7 @@ use Rattle.syncml_types.specs.Canonical.{item_tokens, items_tokens, plain_tokens
 use Rattle.syncml_types.specs.Fitness.{all_of, is_short, loc_texts, meta_texts, item_texts, item_data, plain_texts}
 use Rattle.syncml_types.specs.Fitness.{alert_texts, command_texts, command_data, command_numbers, command_filled}
 use Rattle.syncml_types.specs.Fitness.{command_correlates, plain_filled, plain_correlates}
-use Rattle.syncml_types.specs.Numbering.{with_numbers}
+use Rattle.syncml_parts.specs.Numbering.{with_numbers}
 use Rattle.dm_uri.specs.Names.{printed_path}
 use Rattle.dm_uri.proofs.Limits.{all_forms}
 use Rattle.dm_tree.specs.declared.nodes.Node.{Node}

@@ -19,7 +19,7 @@ use Rattle.syncml_types.specs.Canonical.{item_tokens, items_tokens, results_toke
 use Rattle.syncml_types.specs.Fitness.{all_of, is_short, is_number, loc_texts, meta_texts, item_texts, item_data}
 use Rattle.syncml_types.specs.Fitness.{results_texts, command_texts, command_data, command_numbers, command_filled}
 use Rattle.syncml_types.specs.Fitness.{command_correlates}
-use Rattle.syncml_types.specs.Numbering.{with_numbers}
+use Rattle.syncml_parts.specs.Numbering.{with_numbers}
 use Rattle.dm_uri.specs.declared.uri.Uri.{Uri}
 use Rattle.dm_uri.specs.declared.uri.Prop.{Prop}
 use Rattle.dm_uri.specs.declared.uri.Prop.TheVariants as prop

@@ -4,8 +4,8 @@ use Rattle.std.proofs.Common.{None, IfSome, option_map, refl, sym, ap, ◌∙◌
 use Rattle.std.proofs.lemmas.List.{take_all}
 use Rattle.syncml_types.specs.declared.values.Item.{Item}
 use Rattle.syncml_types.specs.declared.command.Command.{Command}
-use Rattle.syncml_types.specs.Packing.{cut_item, cut_changed, cut_data, bytes_in, data_in}
-use Rattle.syncml_types.specs.Pages.{with_value}
+use Rattle.syncml_parts.specs.Packing.{cut_item, cut_changed, cut_data, bytes_in, data_in}
+use Rattle.syncml_parts.specs.Pages.{with_value}
 use Rattle.dm_pack.specs.Entries.{fresh}
 use Rattle.dm_pack.specs.Measures.{hollow_item, put_back, entry_of, HasEmptyData, IsApart}
 use Rattle.dm_pack.proofs.Changing.{agree_at, unchanged, no_item, twice, item_changed}

@@ -16,10 +16,10 @@ use Rattle.syncml_types.specs.declared.command.Command.TheVariants as command
 use Rattle.syncml_types.specs.Canonical.{parent_tokens, item_tokens, items_tokens, plain_tokens, member_tokens}
 use Rattle.syncml_types.specs.Canonical.{members_tokens, atomic_tokens, seq_member_tokens, seq_members_tokens}
 use Rattle.syncml_types.specs.Canonical.{sequence_tokens, results_tokens, command_tokens}
-use Rattle.syncml_types.specs.Packing.{only_item, write_item, member_item, seq_member_item, last_of, cut_item}
-use Rattle.syncml_types.specs.Packing.{only_changed, write_changed, member_changed, seq_member_changed, last_changed}
-use Rattle.syncml_types.specs.Packing.{cut_changed}
-use Rattle.syncml_types.proofs.Last.{last_next}
+use Rattle.syncml_parts.specs.Packing.{only_item, write_item, member_item, seq_member_item, last_of, cut_item}
+use Rattle.syncml_parts.specs.Packing.{only_changed, write_changed, member_changed, seq_member_changed, last_changed}
+use Rattle.syncml_parts.specs.Packing.{cut_changed}
+use Rattle.syncml_parts.proofs.Last.{last_next}
 
 -- whatever the item is changed to, the rest stays
 pub record Around (i : Item) (tokens : (Item → Item) → List Token) : Type 0 where

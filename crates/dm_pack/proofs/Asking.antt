@@ -13,7 +13,7 @@ use Rattle.wbxml_tokens.specs.Spelling.{token_bytes, spelled, page_behind}
 use Rattle.syncml_types.specs.Canonical.{parent_tokens, text_tokens, number_tokens, flag_tokens, items_tokens}
 use Rattle.syncml_types.specs.Canonical.{alert_tokens, command_tokens}
 use Rattle.syncml_types.specs.Lengths.{spelled_length}
-use Rattle.syncml_types.specs.Numbering.{with_numbers}
+use Rattle.syncml_parts.specs.Numbering.{with_numbers}
 use Rattle.dm_pack.specs.Filling.{asks_next}
 use Rattle.dm_pack.proofs.Within.{one_more}
 

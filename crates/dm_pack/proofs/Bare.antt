@@ -18,12 +18,12 @@ use Rattle.syncml_types.specs.Canonical.{number_tokens, flag_tokens, optional, t
 use Rattle.syncml_types.specs.Canonical.{items_tokens, verb_element, plain_tokens, alert_tokens, member_tokens}
 use Rattle.syncml_types.specs.Canonical.{members_tokens, atomic_tokens, seq_member_tokens, seq_members_tokens}
 use Rattle.syncml_types.specs.Canonical.{sequence_tokens, status_tokens, results_tokens, command_tokens}
-use Rattle.syncml_types.specs.Numbering.{with_number, numbered_members, numbered_seq_member, numbered_seq_members}
-use Rattle.syncml_types.specs.Numbering.{ids_in_seq_member, ids_in_seq_members, ids_in, with_numbers}
-use Rattle.syncml_types.specs.Packing.{only_item, write_item, member_item, seq_member_item, last_of, cut_item}
-use Rattle.syncml_types.specs.Packing.{only_changed, write_changed, member_changed, seq_member_changed, last_changed}
-use Rattle.syncml_types.specs.Packing.{cut_changed}
-use Rattle.syncml_types.proofs.Last.{last_next}
+use Rattle.syncml_parts.specs.Numbering.{with_number, numbered_members, numbered_seq_member, numbered_seq_members}
+use Rattle.syncml_parts.specs.Numbering.{ids_in_seq_member, ids_in_seq_members, ids_in, with_numbers}
+use Rattle.syncml_parts.specs.Packing.{only_item, write_item, member_item, seq_member_item, last_of, cut_item}
+use Rattle.syncml_parts.specs.Packing.{only_changed, write_changed, member_changed, seq_member_changed, last_changed}
+use Rattle.syncml_parts.specs.Packing.{cut_changed}
+use Rattle.syncml_parts.proofs.Last.{last_next}
 use Rattle.dm_pack.specs.Entries.{without_value}
 use Rattle.dm_pack.proofs.Near.{Near, NotLonger, near_more, near_nothing, near_both, near_same, near_then, near_parent}
 use Rattle.dm_pack.proofs.Near.{near_number}

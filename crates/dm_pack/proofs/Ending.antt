@@ -10,8 +10,8 @@ use Rattle.syncml_types.specs.declared.command.Command.{Command}
 use Rattle.syncml_types.specs.Canonical.{canonical, flag_tokens, header_tokens, body_tokens, message_tokens}
 use Rattle.syncml_types.specs.Canonical.{commands_tokens}
 use Rattle.syncml_types.specs.Lengths.{up_to_most}
-use Rattle.syncml_types.specs.Packing.{tail_tokens}
-use Rattle.syncml_types.proofs.Parted.{spells_commands}
+use Rattle.syncml_parts.specs.Packing.{tail_tokens}
+use Rattle.syncml_parts.proofs.Parted.{spells_commands}
 use Rattle.dm_pack.specs.declared.place.Place.{Place}
 use Rattle.dm_pack.specs.declared.filled.Tail.{Tail}
 use Rattle.dm_pack.specs.declared.filled.Tail.TheVariants.{Final, NextMessage, Nothing}

@@ -25,10 +25,10 @@ use Rattle.syncml_types.specs.Fitness.{status_texts, results_texts, command_text
 use Rattle.syncml_types.specs.Fitness.{seq_member_numbers, command_numbers, plain_filled, member_filled, atomic_filled}
 use Rattle.syncml_types.specs.Fitness.{seq_member_filled, command_filled, plain_correlates, member_correlates}
 use Rattle.syncml_types.specs.Fitness.{seq_member_correlates, command_correlates, IsFit}
-use Rattle.syncml_types.specs.Numbering.{ids_in, with_number, numbered_members, numbered_seq_member}
-use Rattle.syncml_types.specs.Numbering.{numbered_seq_members, ids_in_seq_member, with_numbers}
-use Rattle.syncml_types.specs.Packing.{bytes_in, only_changed, write_changed, member_changed, seq_member_changed}
-use Rattle.syncml_types.specs.Packing.{last_changed, cut_changed}
+use Rattle.syncml_parts.specs.Numbering.{ids_in, with_number, numbered_members, numbered_seq_member}
+use Rattle.syncml_parts.specs.Numbering.{numbered_seq_members, ids_in_seq_member, with_numbers}
+use Rattle.syncml_parts.specs.Packing.{bytes_in, only_changed, write_changed, member_changed, seq_member_changed}
+use Rattle.syncml_parts.specs.Packing.{last_changed, cut_changed}
 use Rattle.syncml_types.proofs.Fitting.{spellable_data}
 use Rattle.dm_pack.specs.Entries.{Entry, IsFitCommand, with_size, part_item, part_of}
 use Rattle.dm_pack.specs.Filling.{numbered, asks_next}

@@ -28,7 +28,7 @@ use Rattle.syncml_types.specs.Fitness.{item_data, plain_texts, member_texts, ato
 use Rattle.syncml_types.specs.Fitness.{command_data, member_numbers, atomic_numbers, command_numbers, plain_filled}
 use Rattle.syncml_types.specs.Fitness.{member_filled, atomic_filled, command_filled, plain_correlates}
 use Rattle.syncml_types.specs.Fitness.{member_correlates, command_correlates}
-use Rattle.syncml_types.specs.Numbering.{numbered_members, with_numbers}
+use Rattle.syncml_parts.specs.Numbering.{numbered_members, with_numbers}
 use Rattle.syncml_types.specs.Message.{no_meta}
 use Rattle.dm_pack.specs.Entries.{Entry, IsReady, fresh}
 use Rattle.dm_pack.specs.Filling.{IsReadyHeader}

@@ -4,10 +4,10 @@ use Rattle.std.proofs.Common.{◌∷◌, length, refl, sym, ◌∙◌, ap, arith
 use Rattle.std.proofs.lemmas.List.{length-take}
 use Rattle.std.proofs.lemmas.Bool.{leb-true, leb-false, le-leb}
 use Rattle.syncml_types.specs.declared.command.Command.{Command}
-use Rattle.syncml_types.specs.Numbering.{with_numbers}
+use Rattle.syncml_parts.specs.Numbering.{with_numbers}
 use Rattle.syncml_types.specs.Lengths.{up_to_most}
-use Rattle.syncml_types.specs.Packing.{data_length, cut_data}
-use Rattle.syncml_types.proofs.Parted.{bounds_data}
+use Rattle.syncml_parts.specs.Packing.{data_length, cut_data}
+use Rattle.syncml_parts.proofs.Parted.{bounds_data}
 use Rattle.dm_pack.specs.declared.place.Place.{Place}
 use Rattle.dm_pack.specs.Entries.{Entry, part_of, data_left}
 use Rattle.syncml_types.specs.declared.values.Header.{Header}

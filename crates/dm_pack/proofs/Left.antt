@@ -19,9 +19,9 @@ use Rattle.syncml_types.specs.Fitness.{seq_member_texts, atomic_texts, sequence_
 use Rattle.syncml_types.specs.Fitness.{seq_member_data, command_data, atomic_numbers, command_numbers, member_filled}
 use Rattle.syncml_types.specs.Fitness.{seq_member_filled, atomic_filled, command_filled, member_correlates}
 use Rattle.syncml_types.specs.Fitness.{seq_member_correlates, command_correlates}
-use Rattle.syncml_types.specs.Numbering.{with_number, numbered_members, numbered_seq_member, numbered_seq_members}
-use Rattle.syncml_types.specs.Numbering.{ids_in_seq_member, ids_in_seq_members, ids_in, with_numbers}
-use Rattle.syncml_types.specs.Packing.{cut_changed, bytes_in}
+use Rattle.syncml_parts.specs.Numbering.{with_number, numbered_members, numbered_seq_member, numbered_seq_members}
+use Rattle.syncml_parts.specs.Numbering.{ids_in_seq_member, ids_in_seq_members, ids_in, with_numbers}
+use Rattle.syncml_parts.specs.Packing.{cut_changed, bytes_in}
 use Rattle.dm_pack.specs.Entries.{Entry, data_left, part_of, IsFitCommand, IsReady, without_value, bare_length}
 use Rattle.dm_pack.specs.Entries.{most_bytes, rest_item, last_only, last_alone, rest_of}
 use Rattle.dm_pack.specs.Filling.{next_rest, left_after, fill, fits, taken, cut, commands_of, HasMore, CanBeTaken}

@@ -20,11 +20,11 @@ use Rattle.syncml_types.specs.declared.command.Command.{Command}
 use Rattle.syncml_types.specs.Canonical.{parent_tokens, element_tokens, text_tokens, number_tokens, flag_tokens}
 use Rattle.syncml_types.specs.Canonical.{data_tokens, optional, loc_tokens, meta_children, is_empty_meta, meta_tokens}
 use Rattle.syncml_types.specs.Canonical.{item_children, item_tokens, command_tokens}
-use Rattle.syncml_types.specs.Numbering.{with_numbers}
-use Rattle.syncml_types.specs.Packing.{cut_item, cut_changed, cut_data, bytes_in}
-use Rattle.syncml_types.specs.Pages.{with_value}
+use Rattle.syncml_parts.specs.Numbering.{with_numbers}
+use Rattle.syncml_parts.specs.Packing.{cut_item, cut_changed, cut_data, bytes_in}
+use Rattle.syncml_parts.specs.Pages.{with_value}
 use Rattle.syncml_types.proofs.Bare.{bare_meta, full_meta}
-use Rattle.syncml_types.proofs.Parted.{page_append}
+use Rattle.syncml_parts.proofs.Parted.{page_append}
 use Rattle.dm_pack.specs.declared.place.Place.{Place}
 use Rattle.dm_pack.specs.Entries.{Entry, with_size, part_item, part_of, data_left}
 use Rattle.dm_pack.specs.Measures.{hollow_item, put_back, entry_of, marked, size_told, meta_cost, marks_cost, marks_in}

@@ -12,13 +12,13 @@ use Rattle.syncml_types.specs.declared.values.Header.{Header}
 use Rattle.syncml_types.specs.declared.command.Command.{Command}
 use Rattle.syncml_types.specs.Canonical.{canonical, command_tokens, commands_tokens, header_tokens, flag_tokens}
 use Rattle.syncml_types.specs.Lengths.{head_tokens, up_to_most, spelled_length}
-use Rattle.syncml_types.specs.Numbering.{with_numbers, ids_in}
-use Rattle.syncml_types.specs.Packing.{cut_changed, cut_data, emptied, data_in, data_length, head_bytes, body_tag}
-use Rattle.syncml_types.specs.Packing.{tail_tokens}
-use Rattle.syncml_types.specs.Pages.{with_value}
-use Rattle.syncml_types.proofs.Parted.{spells_in_parts, spells_commands, bounds_data}
-use Rattle.syncml_types.proofs.Pages.{page_without_data, page_without_numbers}
-use Rattle.syncml_types.proofs.Rest.{rest_and_data}
+use Rattle.syncml_parts.specs.Numbering.{with_numbers, ids_in}
+use Rattle.syncml_parts.specs.Packing.{cut_changed, cut_data, emptied, data_in, data_length, head_bytes, body_tag}
+use Rattle.syncml_parts.specs.Packing.{tail_tokens}
+use Rattle.syncml_parts.specs.Pages.{with_value}
+use Rattle.syncml_parts.proofs.Parted.{spells_in_parts, spells_commands, bounds_data}
+use Rattle.syncml_parts.proofs.Pages.{page_without_data, page_without_numbers}
+use Rattle.syncml_parts.proofs.Rest.{rest_and_data}
 use Rattle.dm_pack.specs.declared.place.Place.{Place}
 use Rattle.dm_pack.specs.Entries.{Entry}
 use Rattle.dm_pack.specs.Filling.{numbered, asks_next, fits}

@@ -5,7 +5,7 @@ use Rattle.std.proofs.Common.{◌∙◌, subst, arith}
 use Rattle.std.proofs.lemmas.List.{drop-drop, length-drop}
 use Rattle.syncml_types.specs.declared.values.Header.{Header}
 use Rattle.syncml_types.specs.declared.command.Command.{Command}
-use Rattle.syncml_types.specs.Numbering.{with_numbers}
+use Rattle.syncml_parts.specs.Numbering.{with_numbers}
 use Rattle.dm_pack.specs.declared.place.Place.{Place}
 use Rattle.dm_pack.specs.declared.filled.Tail.{Tail}
 use Rattle.dm_pack.specs.Entries.{Entry}

@@ -10,7 +10,7 @@ use Rattle.wbxml_tokens.specs.declared.token.Token.{Token}
 use Rattle.wbxml_tokens.specs.declared.token.Token.TheVariants.{Tag, End, Text, Opaque}
 use Rattle.wbxml_tokens.specs.Spelling.{tag_byte, token_bytes, spelled, page_behind}
 use Rattle.syncml_types.specs.Canonical.{parent_tokens, element_tokens, text_tokens, number_tokens}
-use Rattle.syncml_types.proofs.Parted.{page_append}
+use Rattle.syncml_parts.proofs.Parted.{page_append}
 use Rattle.dm_pack.proofs.Within.{tag_most, tag_least, apart, one_more}
 
 -- what it costs at most to come from one page to another

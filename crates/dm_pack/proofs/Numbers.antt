@@ -18,11 +18,11 @@ use Rattle.syncml_types.specs.Canonical.{parent_tokens, number_tokens, flag_toke
 use Rattle.syncml_types.specs.Canonical.{alert_tokens, member_tokens, members_tokens, atomic_tokens, seq_member_tokens}
 use Rattle.syncml_types.specs.Canonical.{seq_members_tokens, sequence_tokens, status_tokens, results_tokens}
 use Rattle.syncml_types.specs.Canonical.{command_tokens}
-use Rattle.syncml_types.specs.Numbering.{with_number, numbered_members, numbered_seq_member, numbered_seq_members}
-use Rattle.syncml_types.specs.Numbering.{ids_in_seq_member, ids_in_seq_members, ids_in, with_numbers}
-use Rattle.syncml_types.specs.Packing.{member_item, seq_member_item, last_of, cut_item, member_changed}
-use Rattle.syncml_types.specs.Packing.{seq_member_changed, last_changed, cut_changed}
-use Rattle.syncml_types.proofs.Last.{last_next}
+use Rattle.syncml_parts.specs.Numbering.{with_number, numbered_members, numbered_seq_member, numbered_seq_members}
+use Rattle.syncml_parts.specs.Numbering.{ids_in_seq_member, ids_in_seq_members, ids_in, with_numbers}
+use Rattle.syncml_parts.specs.Packing.{member_item, seq_member_item, last_of, cut_item, member_changed}
+use Rattle.syncml_parts.specs.Packing.{seq_member_changed, last_changed, cut_changed}
+use Rattle.syncml_parts.proofs.Last.{last_next}
 use Rattle.dm_pack.specs.Entries.{Entry, IsReady, bare_length, most_bytes, without_value}
 use Rattle.dm_pack.specs.Filling.{numbered}
 use Rattle.dm_pack.specs.Measures.{ids_of}

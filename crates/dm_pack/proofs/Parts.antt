@@ -7,11 +7,11 @@ use Rattle.std.proofs.lemmas.Bool.{ne_eqb, eqb-true, eqb-false}
 use Rattle.syncml_types.specs.declared.values.Item.{Item}
 use Rattle.syncml_types.specs.declared.command.Command.{Command}
 use Rattle.syncml_types.specs.declared.command.Command.TheVariants as command
-use Rattle.syncml_types.specs.Packing.{cut_item, cut_changed, cut_data, data_in, bytes_in, member_item, seq_member_item}
-use Rattle.syncml_types.specs.Packing.{member_changed, seq_member_changed, last_of, last_changed}
-use Rattle.syncml_types.specs.Pages.{with_value}
-use Rattle.syncml_types.specs.Numbering.{with_numbers, ids_in}
-use Rattle.syncml_types.proofs.Last.{less_one, last_next}
+use Rattle.syncml_parts.specs.Packing.{cut_item, cut_changed, cut_data, data_in, bytes_in, member_item, seq_member_item}
+use Rattle.syncml_parts.specs.Packing.{member_changed, seq_member_changed, last_of, last_changed}
+use Rattle.syncml_parts.specs.Pages.{with_value}
+use Rattle.syncml_parts.specs.Numbering.{with_numbers, ids_in}
+use Rattle.syncml_parts.proofs.Last.{less_one, last_next}
 use Rattle.dm_pack.specs.Entries.{Entry, part_item, part_meta, part_of, rest_item, rest_of, last_only, last_alone}
 use Rattle.dm_pack.specs.Entries.{with_size, data_left}
 use Rattle.dm_pack.specs.Measures.{hollow_item, put_back, entry_of, marked, size_told, HasEmptyData, IsApart}

@@ -17,10 +17,10 @@ use Rattle.syncml_types.specs.declared.command.Command.{Command}
 use Rattle.syncml_types.specs.Canonical.{optional, number_tokens, flag_tokens, data_tokens, data_piece, is_text}
 use Rattle.syncml_types.specs.Canonical.{loc_tokens, meta_children, meta_tokens, item_tokens, command_tokens}
 use Rattle.syncml_types.specs.Canonical.{commands_tokens}
-use Rattle.syncml_types.specs.Numbering.{ids_in, with_numbers}
-use Rattle.syncml_types.specs.Packing.{cut_item, cut_changed, bytes_in, data_in}
-use Rattle.syncml_types.proofs.Parted.{bounds_data}
-use Rattle.syncml_types.proofs.Short.{short_cut}
+use Rattle.syncml_parts.specs.Numbering.{ids_in, with_numbers}
+use Rattle.syncml_parts.specs.Packing.{cut_item, cut_changed, bytes_in, data_in}
+use Rattle.syncml_parts.proofs.Parted.{bounds_data}
+use Rattle.syncml_parts.proofs.Short.{short_cut}
 use Rattle.syncml_types.specs.Message.{no_meta}
 use Rattle.dm_pack.specs.declared.place.Place.{Place}
 use Rattle.dm_pack.specs.Entries.{Entry, IsReady, data_left, with_size, part_meta, part_item, part_of}

@@ -18,7 +18,7 @@ use Rattle.syncml_types.specs.Canonical.{status_tokens, results_tokens, command_
 use Rattle.syncml_types.specs.Fitness.{all_of, is_short, is_number, loc_texts, meta_texts, item_texts, item_data}
 use Rattle.syncml_types.specs.Fitness.{alert_texts, status_texts, results_texts, command_texts, command_data}
 use Rattle.syncml_types.specs.Fitness.{command_numbers, command_filled, command_correlates}
-use Rattle.syncml_types.specs.Numbering.{with_numbers}
+use Rattle.syncml_parts.specs.Numbering.{with_numbers}
 use Rattle.syncml_types.specs.Message.{no_meta}
 use Rattle.dm_pack.specs.Entries.{IsReady, fresh}
 use Rattle.dm_pack.proofs.Fit.{both}

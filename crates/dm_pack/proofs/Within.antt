@@ -19,9 +19,9 @@ use Rattle.syncml_types.specs.Canonical.{canonical, optional, parent_tokens, tex
 use Rattle.syncml_types.specs.Canonical.{items_tokens, alert_tokens, command_tokens, commands_tokens, header_tokens}
 use Rattle.syncml_types.specs.Canonical.{body_tokens, message_tokens}
 use Rattle.syncml_types.specs.Lengths.{head_tokens, up_to_most, spelled_length}
-use Rattle.syncml_types.specs.Numbering.{with_numbers}
-use Rattle.syncml_types.specs.Packing.{body_tag, tail_tokens}
-use Rattle.syncml_types.proofs.Parted.{spelled_append}
+use Rattle.syncml_parts.specs.Numbering.{with_numbers}
+use Rattle.syncml_parts.specs.Packing.{body_tag, tail_tokens}
+use Rattle.syncml_parts.proofs.Parted.{spelled_append}
 use Rattle.dm_pack.specs.declared.place.Place.{Place}
 use Rattle.dm_pack.specs.declared.filled.Tail.{Tail}
 use Rattle.dm_pack.specs.declared.filled.Tail.TheVariants.{Final, NextMessage, Nothing}

@@ -10,8 +10,8 @@ use Rattle.syncml_types.specs.Message.{no_meta}
 use Rattle.syncml_types.specs.Canonical.{is_text, command_tokens}
 use Rattle.syncml_types.specs.Fitness.{is_short, command_texts, command_data, command_numbers, command_filled}
 use Rattle.syncml_types.specs.Fitness.{command_correlates}
-use Rattle.syncml_types.specs.Numbering.{with_numbers}
-use Rattle.syncml_types.specs.Packing.{cut_changed, cut_data, bytes_in}
+use Rattle.syncml_parts.specs.Numbering.{with_numbers}
+use Rattle.syncml_parts.specs.Packing.{cut_changed, cut_data, bytes_in}
 
 -- a command that waits, and whether a first part of it has gone out; it gets its CmdIDs when it goes out
 pub record Entry : Type 0 where

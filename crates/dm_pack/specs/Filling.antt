@@ -9,7 +9,7 @@ use Rattle.syncml_types.specs.declared.command.Command.TheVariants as command
 use Rattle.syncml_types.specs.Message.{Parts}
 use Rattle.syncml_types.specs.Canonical.{canonical, header_tokens}
 use Rattle.syncml_types.specs.Fitness.{IsFit}
-use Rattle.syncml_types.specs.Numbering.{ids_in, with_numbers}
+use Rattle.syncml_parts.specs.Numbering.{ids_in, with_numbers}
 use Rattle.dm_pack.specs.declared.filled.Tail.{Tail}
 use Rattle.dm_pack.specs.declared.filled.Tail.TheVariants.{Final, NextMessage, Nothing}
 use Rattle.dm_pack.specs.Entries.{Entry, data_left, part_of, rest_of}

@@ -5,7 +5,7 @@ use Rattle.dm_base.specs.Limits.{least_room}
 use Rattle.wbxml_tokens.specs.Spelling.{spelled}
 use Rattle.syncml_types.specs.declared.values.Header.{Header}
 use Rattle.syncml_types.specs.Canonical.{command_tokens}
-use Rattle.syncml_types.specs.Numbering.{with_numbers}
+use Rattle.syncml_parts.specs.Numbering.{with_numbers}
 use Rattle.dm_pack.specs.Entries.{Entry, IsReady}
 use Rattle.dm_pack.specs.Filling.{Filling, fill, left_after, IsReadyHeader}
 

@@ -9,9 +9,9 @@ use Rattle.syncml_types.specs.declared.values.Header.{Header}
 use Rattle.syncml_types.specs.declared.command.Command.{Command}
 use Rattle.syncml_types.specs.Canonical.{optional, number_tokens, is_empty_meta, command_tokens, commands_tokens}
 use Rattle.syncml_types.specs.Lengths.{head_tokens}
-use Rattle.syncml_types.specs.Numbering.{ids_in, with_numbers}
-use Rattle.syncml_types.specs.Packing.{cut_item, cut_changed, cut_data, data_length, head_bytes, body_tag, tail_tokens}
-use Rattle.syncml_types.specs.Pages.{with_value}
+use Rattle.syncml_parts.specs.Numbering.{ids_in, with_numbers}
+use Rattle.syncml_parts.specs.Packing.{cut_item, cut_changed, cut_data, data_length, head_bytes, body_tag, tail_tokens}
+use Rattle.syncml_parts.specs.Pages.{with_value}
 use Rattle.dm_pack.specs.declared.place.Place.{Place}
 use Rattle.dm_pack.specs.declared.filled.Tail.{Tail}
 use Rattle.dm_pack.specs.Entries.{Entry, with_size, part_of, data_left}

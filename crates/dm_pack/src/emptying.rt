@@ -3,7 +3,7 @@ ghost use Rattle.std.specs.Prelude.{◌≡◌, ◌<◌, ◌≤◌, ◌+◌, ◌^
 ghost use Rattle.std.specs.Prelude.{IfOk, OnOk};
 ghost use Rattle.std.specs.List.{AllByRecursion};
 ghost use Rattle.syncml_types.specs.Canonical.{canonical};
-ghost use Rattle.syncml_types.specs.Numbering.{with_numbers, ids_in};
+ghost use Rattle.syncml_parts.specs.Numbering.{with_numbers, ids_in};
 ghost use Rattle.dm_pack.specs.Entries.{IsReady, Entry};
 ghost use Rattle.dm_pack.specs.Filling as Spec;
 ghost use Rattle.dm_pack.specs.Filling.{numbered, commands_of, taken, next_part, IsReadyHeader, fill as fill_of};

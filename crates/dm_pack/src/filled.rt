@@ -13,6 +13,7 @@ use crate::queue::Queue;
 use dm_base::{Bytes, List, Memory};
 use std::alloc::Global;
 use syncml_codec::encode_with_length;
+use syncml_parts::set_ids;
 use syncml_types::{Command, Header, Message};
 
 // About as many bytes as a Status takes; where entries take fewer, the list of a message's commands grows.
@@ -61,13 +62,13 @@ pub(crate) fn is_final(tail: Tail) -> bool
     }
 }
 
-#[tactic(auto, unfolding(syncml_types::specs::Numbering::ids_in))]
+#[tactic(auto, unfolding(syncml_parts::specs::Numbering::ids_in))]
 fn push_asks(alloc: Global, next: u32, body: &mut List<Command>) -> Result<(), Memory>
     requires { next + 1 < 2 ^ 32 }
     ensures { OnOk result (body.new ≡ body.old ++ numbered next (Spec.asks_next ∷ [])) }
 {
     let mut asks = asks_next(alloc);
-    asks.set_ids(next);
+    set_ids(&mut asks, next);
     body.push(asks)
 }
 

@@ -2,8 +2,8 @@
 ghost use Rattle.std.specs.Prelude.{◌≡◌, ◌<◌, ◌≤◌, ◌+◌, ◌++◌, ◌∷◌, ◌^◌, [], length, take, drop, IfOk, OnOk};
 ghost use Rattle.std.specs.List.{AllByRecursion};
 ghost use Rattle.syncml_types.specs.Message.{IsShortData};
-ghost use Rattle.syncml_types.specs.Numbering.{with_numbers, ids_in};
-ghost use Rattle.syncml_types.specs.Packing as Packing;
+ghost use Rattle.syncml_parts.specs.Numbering.{with_numbers, ids_in};
+ghost use Rattle.syncml_parts.specs.Packing as Packing;
 ghost use Rattle.dm_pack.specs.Entries.{IsReady, data_left, part_of};
 ghost use Rattle.dm_pack.specs.Filling.{IsReadyHeader, numbered, commands_of, taken, next_part};
 ghost use Rattle.dm_pack.specs.Measures.{place_of, behind_all, behind_hollow, hollow_next, greatest_within};
@@ -14,7 +14,8 @@ use crate::queue::Queue;
 use crate::waiting::Waiting;
 use dm_base::{List, Memory};
 use std::alloc::Global;
-use syncml_types::{Command, Header, data_length};
+use syncml_parts::data_length;
+use syncml_types::{Command, Header};
 
 // How many entries a message holds whole, where it has come to with them, and where it comes to with the next one
 // without the Data that may be cut, which isn't measured again.

@@ -1,7 +1,6 @@
 //! One message packed from the entries that wait: as many as fit, and a part of the next one.
 #![tactic(auto)]
 
-mod counting;
 pub mod emptying;
 pub mod filled;
 mod fitting;

@@ -4,8 +4,8 @@ ghost use Rattle.wbxml_tokens.specs.Spelling.{spelled, page_behind};
 ghost use Rattle.syncml_types.specs.Message.{IsShortData};
 ghost use Rattle.syncml_types.specs.Canonical.{command_tokens};
 ghost use Rattle.syncml_types.specs.Lengths.{up_to_most, spelled_length};
-ghost use Rattle.syncml_types.specs.Numbering.{with_numbers};
-ghost use Rattle.syncml_types.specs.Packing.{body_tag, tail_tokens};
+ghost use Rattle.syncml_parts.specs.Numbering.{with_numbers};
+ghost use Rattle.syncml_parts.specs.Packing.{body_tag, tail_tokens};
 ghost use Rattle.dm_pack.specs.Entries.{IsReady, data_left, part_of};
 ghost use Rattle.dm_pack.specs.Filling as Filling;
 ghost use Rattle.dm_pack.specs.Filling.{IsReadyHeader};
@@ -17,7 +17,8 @@ use crate::marks::decimal_length;
 use crate::waiting::Waiting;
 use dm_base::List;
 use std::alloc::Global;
-use syncml_types::{AlertCmd, Command, Header, data_length, head_length, numbered_length};
+use syncml_parts::{data_length, numbered_length};
+use syncml_types::{AlertCmd, Command, Header, head_length};
 
 /// The bytes of a message up to the end of its commands, the page behind them, and the next CmdID.
 #[derive(Clone, Copy)]

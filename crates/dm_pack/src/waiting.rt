@@ -3,21 +3,21 @@
 ghost use Rattle.std.specs.Prelude.{◌≡◌, ◌<◌, ◌≤◌, ◌+◌, ◌-◌, ◌^◌, IfOk, length, drop, true};
 ghost use Rattle.wbxml_tokens.specs.Spelling.{page_behind};
 ghost use Rattle.syncml_types.specs.Fitness.{is_short, command_data};
-ghost use Rattle.syncml_types.specs.Pages.{with_value};
+ghost use Rattle.syncml_parts.specs.Pages.{with_value};
 ghost use Rattle.syncml_types.specs.Canonical.{command_tokens};
 ghost use Rattle.syncml_types.specs.Lengths.{spelled_length};
-ghost use Rattle.syncml_types.specs.Numbering.{ids_in as ids_of_command, with_numbers};
-ghost use Rattle.syncml_types.specs.Packing.{cut_changed, cut_data, bytes_in};
+ghost use Rattle.syncml_parts.specs.Numbering.{ids_in as ids_of_command, with_numbers};
+ghost use Rattle.syncml_parts.specs.Packing.{cut_changed, cut_data, bytes_in};
 ghost use Rattle.dm_pack.specs.Entries.{fresh, data_left, part_of, rest_of, with_size, last_only, last_alone};
 ghost use Rattle.dm_pack.specs.Measures.{hollow_item, marked, marks_of, put_back, size_told};
 
-use crate::counting::ids_in;
 use crate::marks::{marked_cost, marks_cost};
 use dm_base::{Bytes, List, Memory};
 use std::alloc::Global;
 use std::marker::Model;
 use std::mem;
-use syncml_types::{Command, Item, Meta, numbered_length};
+use syncml_parts::{cut_item, cut_item_mut, ids_in, numbered_length, set_ids};
+use syncml_types::{Command, Item, Meta};
 
 #[derive(Drop)]
 pub(crate) struct Waiting {
@@ -52,7 +52,7 @@ fn take_data(alloc: Global, command: &mut Command) -> Bytes
     ensures value { result ≡ cut_data command.old }
     ensures command { command.new ≡ cut_changed hollow_item command.old }
 {
-    match command.cut_item_mut() {
+    match cut_item_mut(command) {
         None => Bytes::new(alloc),
         Some(item) => take_value(alloc, item),
     }
@@ -68,7 +68,7 @@ fn write_value(item: &mut Item, value: Bytes)
 fn put_value(command: &mut Command, value: Bytes)
     ensures { command.new ≡ cut_changed (with_value value) command.old }
 {
-    match command.cut_item_mut() {
+    match cut_item_mut(command) {
         None => drop(value),
         Some(item) => write_value(item, value),
     }
@@ -105,7 +105,7 @@ fn numbered_with(command: Command, value: Bytes, first: u32) -> Command
     ensures { result ≡ put_back value (with_numbers first command) }
 {
     let mut numbered = command;
-    numbered.set_ids(first);
+    set_ids(&mut numbered, first);
     put_data(&mut numbered, value);
     numbered
 }
@@ -148,7 +148,7 @@ fn mark_item(item: &mut Item, size: Option<u64>)
 fn mark_part(command: &mut Command, size: Option<u64>)
     ensures { command.new ≡ cut_changed (marked size) command.old }
 {
-    match command.cut_item_mut() {
+    match cut_item_mut(command) {
         None => {}
         Some(item) => mark_item(item, size),
     }
@@ -227,7 +227,7 @@ impl Waiting {
     {
         let value = Bytes::of_slice(alloc, self.left())?;
         let mut command = self.command.copy(alloc)?;
-        command.set_ids(first);
+        set_ids(&mut command, first);
         put_data(&mut command, value);
         Ok(command)
     }
@@ -253,7 +253,7 @@ impl Waiting {
         ensures value { result ≡ used + marks_of (part_of self.now 0) - marks_of self.now.command }
         ensures low { result ≤ 70051 }
     {
-        match self.command.cut_item() {
+        match cut_item(&self.command) {
             None => used,
             Some(item) => {
                 let size = size_of(&self.value, self.sent);
@@ -271,7 +271,7 @@ impl Waiting {
     {
         let value = Bytes::of_slice(alloc, &self.left()[..bytes])?;
         let mut command = self.command.copy(alloc)?;
-        command.set_ids(first);
+        set_ids(&mut command, first);
         mark_part(&mut command, size_of(&self.value, self.sent));
         put_value(&mut command, value);
         Ok(command)

@@ -6,8 +6,8 @@ use Rattle.syncml_types.specs.declared.values.Header.{Header}
 use Rattle.syncml_types.specs.declared.command.Command.{Command}
 use Rattle.syncml_types.specs.Message.{Parts}
 use Rattle.syncml_types.specs.Canonical.{canonical, commands_tokens}
-use Rattle.syncml_types.specs.Numbering.{with_numbers, ids_in}
-use Rattle.syncml_types.proofs.Parted.{spells_commands}
+use Rattle.syncml_parts.specs.Numbering.{with_numbers, ids_in}
+use Rattle.syncml_parts.proofs.Parted.{spells_commands}
 use Rattle.dm_pack.specs.Filling.{numbered}
 use Rattle.dm_pack.specs.Measures.{ids_of}
 use Rattle.dm_pack.proofs.Numbers.{many_bytes}

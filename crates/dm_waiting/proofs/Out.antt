@@ -6,7 +6,7 @@ use Rattle.std.specs.Prelude.{is_some}
 use Rattle.std.specs.List.{AllByRecursion}
 use Rattle.std.proofs.lemmas.List.{length-append, append-nil}
 use Rattle.syncml_types.specs.declared.command.Command.{Command}
-use Rattle.syncml_types.specs.Numbering.{ids_in, with_numbers}
+use Rattle.syncml_parts.specs.Numbering.{ids_in, with_numbers}
 use Rattle.dm_pack.specs.Entries.{Entry}
 use Rattle.dm_pack.specs.Measures.{ids_of}
 use Rattle.dm_pack.specs.Filling.{numbered, commands_of, CanBeTaken}

@@ -1,6 +1,6 @@
 // The CmdIDs of commands.
 ghost use Rattle.std.specs.Prelude.{◌≡◌, ◌<◌, ◌+◌, ◌^◌, length};
-ghost use Rattle.syncml_types.specs.Numbering as Spec;
+ghost use Rattle.syncml_parts.specs.Numbering as Spec;
 ghost use Rattle.dm_waiting.specs.Held.{id_in, IsIdAt};
 
 use syncml_types::{Command, SeqMember};
@@ -15,7 +15,7 @@ fn ids_in_seq_member(member: &SeqMember) -> u64
     }
 }
 
-#[tactic(auto, unfolding(syncml_types::specs::Numbering::ids_in_seq_members))]
+#[tactic(auto, unfolding(syncml_parts::specs::Numbering::ids_in_seq_members))]
 fn ids_in_seq_members(members: &[SeqMember]) -> u64
     requires { Spec.ids_in_seq_members members.now < 2 ^ 32 }
     ensures { result ≡ Spec.ids_in_seq_members members.now }
@@ -28,7 +28,7 @@ fn ids_in_seq_members(members: &[SeqMember]) -> u64
 }
 
 /// How many CmdIDs a command has: its own, and those of its members.
-#[tactic(auto, unfolding(syncml_types::specs::Numbering::ids_in))]
+#[tactic(auto, unfolding(syncml_parts::specs::Numbering::ids_in))]
 pub fn ids_in(command: &Command) -> u64
     requires { Spec.ids_in command.now < 2 ^ 32 }
     ensures { result ≡ Spec.ids_in command.now }

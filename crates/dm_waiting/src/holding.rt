@@ -7,8 +7,8 @@ use crate::loads::Load;
 use dm_base::{List, Memory};
 use dm_service::{Carried, Sent};
 
-// Whether the Status of the command at a place counts: in a part that more parts follow, those of the first and the last
-// don't.
+// Whether the Status of the command at a place counts: in a part that more parts follow, those of the first and the
+// last don't.
 fn tells_code(part: bool, at: u64, count: u64) -> bool
     requires { at < count }
     ensures { result ≡ not (part && (at == 0 || at + 1 == count)) }

@@ -11,6 +11,7 @@ use dm_base::{Bytes, List, Memory};
 use dm_pack::{Filled, Queue, fill};
 use std::alloc::Global;
 use std::test::Fail;
+use syncml_parts::cut_item;
 use syncml_types::{Block, Command, Header, Item, Loc, Member, Meta, Plain, Verb};
 
 // A command with Data that may be cut: how many members it has, how many bytes of the Data, what Size it tells, and
@@ -46,7 +47,7 @@ fn bytes_in(item: &Item) -> usize {
 }
 
 fn part_of(command: &Command) -> Option<Part> {
-    let item = command.cut_item()?;
+    let item = cut_item(command)?;
     Some(Part {
         members: members_in(command),
         bytes: bytes_in(item),

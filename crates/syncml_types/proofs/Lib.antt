@@ -3,10 +3,4 @@ pub mod Given
 pub mod Counts
 pub mod Pieces
 pub mod Fitting
-pub mod Numbered
-pub mod Parted
-pub mod Last
-pub mod Pages
-pub mod Short
-pub mod Rest
 pub mod Zeros

@@ -3,13 +3,11 @@ ghost use Rattle.std.specs.Prelude.{◌≡◌, ◌<◌, ◌+◌, ◌^◌, IfSome
 ghost use Rattle.wbxml_tokens.specs.Spelling.{given, page_behind};
 ghost use Rattle.syncml_types.specs.Message.{IsShortData, HasShortItems, CanBeSpelled};
 ghost use Rattle.syncml_types.specs.Canonical.{canonical, command_tokens};
-ghost use Rattle.syncml_types.specs.Numbering.{ids_in, with_numbers};
 ghost use Rattle.syncml_types.specs.Lengths.{counter_after, head_tokens, spelled_length, up_to_most};
 
 use crate::command::Command;
 use crate::message::Message;
 use crate::put_command::put_command;
-use crate::put_numbered::put_command_from;
 use crate::put_whole::{put_header, put_parts};
 use crate::values::Header;
 use dm_base::List;
@@ -19,15 +17,16 @@ use wbxml_tokens::Writer;
 
 const PROLOGUE: u64 = 5;
 
-// What can't happen.
+/// The error of a writer that never refuses: it has no value.
 #[derive(Drop)]
-enum Never {}
+pub enum Never {}
 
-// Counts the bytes of tokens, up to the greatest number.
+/// A writer that keeps of the tokens only how many bytes they have, and the page behind them. The count stands still at
+/// the greatest 64-bit number.
 #[derive(Drop)]
-struct Counter {
-    count: u64,
-    page: u8,
+pub struct Counter {
+    pub count: u64,
+    pub page: u8,
 }
 
 impl Writer for Counter {
@@ -135,22 +134,6 @@ pub fn command_length(page: u8, command: &Command) -> (u64, u8)
 {
     let mut counter = Counter { count: 0, page };
     match put_command(&mut counter, command) {
-        Ok(()) => (counter.count, counter.page),
-        Err(never) => match never {},
-    }
-}
-
-/// How many bytes a command has in canonical spelling, where it begins on a page and is numbered from a CmdID on; and
-/// the page after it. Nothing is numbered.
-#[tactic(auto, using(crate::proofs::Counts::given_counted))]
-pub fn numbered_length(page: u8, first: u32, command: &Command) -> (u64, u8)
-    requires short { HasShortItems command.now }
-    requires room { first + ids_in command.now < 2 ^ 32 }
-    ensures length { result.0 ≡ spelled_length 0 page (command_tokens (with_numbers first command.now)) }
-    ensures page { result.1 ≡ page_behind page (command_tokens (with_numbers first command.now)) }
-{
-    let mut counter = Counter { count: 0, page };
-    match put_command_from(&mut counter, command, first) {
         Ok(()) => (counter.count, counter.page),
         Err(never) => match never {},
     }

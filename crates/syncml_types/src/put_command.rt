@@ -35,7 +35,7 @@ fn element_of(verb: Verb) -> Element
 
 /// Gives a command on the management tree, with a CmdID.
 #[tactic(auto, using(crate::proofs::Given::given_append), unfolding(crate::specs::Canonical::plain_tokens))]
-pub(crate) fn put_plain_as<W: Writer>(w: &mut W, c: &Plain, id: u32) -> Result<(), W::Error>
+pub fn put_plain_as<W: Writer>(w: &mut W, c: &Plain, id: u32) -> Result<(), W::Error>
     requires { AllByRecursion HasShortData c.now.items }
     ensures { OnOk result (w.new ≡ given W.after w.old (plain_tokens (record c.now { id = id }))) }
 {
@@ -50,7 +50,7 @@ pub(crate) fn put_plain_as<W: Writer>(w: &mut W, c: &Plain, id: u32) -> Result<(
 
 /// Gives an Alert, with a CmdID.
 #[tactic(auto, using(crate::proofs::Given::given_append), unfolding(crate::specs::Canonical::alert_tokens))]
-pub(crate) fn put_alert_as<W: Writer>(w: &mut W, c: &AlertCmd, id: u32) -> Result<(), W::Error>
+pub fn put_alert_as<W: Writer>(w: &mut W, c: &AlertCmd, id: u32) -> Result<(), W::Error>
     requires { AllByRecursion HasShortData c.now.items }
     ensures { OnOk result (w.new ≡ given W.after w.old (alert_tokens (record c.now { id = id }))) }
 {
@@ -89,7 +89,7 @@ fn put_members<W: Writer>(w: &mut W, members: &List<Member>) -> Result<(), W::Er
 
 /// Gives a container with a CmdID, up to its first member.
 #[tactic(auto, using(crate::proofs::Given::given_append))]
-pub(crate) fn put_block_head<W: Writer, M>(
+pub fn put_block_head<W: Writer, M>(
     w: &mut W,
     element: Element,
     block: &Block<M>,
@@ -151,7 +151,7 @@ pub fn put_sequence<W: Writer>(w: &mut W, block: &Block<SeqMember>) -> Result<()
 
 /// Gives a Status, with a CmdID.
 #[tactic(auto, using(crate::proofs::Given::given_append), unfolding(crate::specs::Canonical::status_tokens))]
-pub(crate) fn put_status_as<W: Writer>(w: &mut W, c: &StatusCmd, id: u32) -> Result<(), W::Error>
+pub fn put_status_as<W: Writer>(w: &mut W, c: &StatusCmd, id: u32) -> Result<(), W::Error>
     requires { AllByRecursion HasShortData c.now.items }
     ensures { OnOk result (w.new ≡ given W.after w.old (status_tokens (record c.now { id = id }))) }
 {
@@ -180,7 +180,7 @@ fn put_option_msg_ref<W: Writer>(w: &mut W, number: Option<u32>) -> Result<(), W
 
 /// Gives Results, with a CmdID.
 #[tactic(auto, using(crate::proofs::Given::given_append), unfolding(crate::specs::Canonical::results_tokens))]
-pub(crate) fn put_results_as<W: Writer>(w: &mut W, c: &ResultsCmd, id: u32) -> Result<(), W::Error>
+pub fn put_results_as<W: Writer>(w: &mut W, c: &ResultsCmd, id: u32) -> Result<(), W::Error>
     requires { AllByRecursion HasShortData c.now.items }
     ensures { OnOk result (w.new ≡ given W.after w.old (results_tokens (record c.now { id = id }))) }
 {

@@ -1,5 +1,5 @@
 use Rattle.std.proofs.Common.{◌≡◌, ◌≤◌, ◌-◌, length, take, nat_le}
-use Rattle.syncml_types.specs.Packing.{data_length}
+use Rattle.syncml_parts.specs.Packing.{data_length}
 use Rattle.dm_pack.specs.Filling.{greatest}
 use Rattle.dm_pack.specs.Measures.{greatest_within}
 use Rattle.dm_pack.proofs.fitting.greatest_part.Given as goal

@@ -1,7 +1,7 @@
 use Rattle.std.proofs.Common.{◌<◌, ◌∙◌, sym, ap, arith, length, take, subst}
 use Rattle.syncml_types.specs.Message.{IsShortData}
-use Rattle.syncml_types.specs.Packing.{data_length}
-use Rattle.syncml_types.proofs.Short.{short_cut}
+use Rattle.syncml_parts.specs.Packing.{data_length}
+use Rattle.syncml_parts.proofs.Short.{short_cut}
 use Rattle.dm_pack.specs.declared.place.Place.{Place}
 use Rattle.dm_pack.specs.Entries.{data_left}
 use Rattle.dm_pack.proofs.Fit.{short_items}

@@ -1,6 +1,6 @@
 use Rattle.std.proofs.Common.{◌∙◌, ◌+◌, sym, ap, arith, drop, subst, Some}
 use Rattle.syncml_types.specs.Message.{IsShortData}
-use Rattle.syncml_types.proofs.Short.{short_cut}
+use Rattle.syncml_parts.proofs.Short.{short_cut}
 use Rattle.dm_pack.specs.Measures.{hollow_next, within}
 use Rattle.dm_pack.proofs.Fit.{short_items}
 use Rattle.dm_pack.proofs.Measuring.{reached}

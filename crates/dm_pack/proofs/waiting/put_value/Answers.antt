@@ -1,5 +1,5 @@
 use Rattle.std.proofs.Common.{sym}
-use Rattle.syncml_types.specs.Pages.{with_value}
+use Rattle.syncml_parts.specs.Pages.{with_value}
 use Rattle.dm_pack.proofs.Changing.{no_item}
 use Rattle.dm_pack.proofs.Apart.{written}
 use Rattle.dm_pack.proofs.waiting.put_value.Goals as goal

@@ -1,5 +1,5 @@
 use Rattle.std.proofs.Common.{◌≡◌, ◌+◌, drop}
-use Rattle.syncml_types.specs.Numbering as Spec
+use Rattle.syncml_parts.specs.Numbering as Spec
 use Rattle.dm_waiting.proofs.counting.ids_in_seq_members.Given as goal
 
 abbrev pub invariant-loop-member : goal.invariant-loop-member

@@ -3,7 +3,7 @@ use Rattle.wbxml_tokens.specs.Spelling.{page_behind}
 use Rattle.syncml_types.specs.Canonical.{command_tokens}
 use Rattle.syncml_types.specs.Lengths.{spelled_length}
 use Rattle.syncml_types.specs.Message.{HasShortItems}
-use Rattle.syncml_types.specs.Numbering.{with_numbers}
+use Rattle.syncml_parts.specs.Numbering.{with_numbers}
 use Rattle.dm_pack.proofs.Fit.{hollow_items}
 use Rattle.dm_pack.proofs.Measuring.{page_apart}
 use Rattle.dm_pack.proofs.Parts.{kept, kept_ids}

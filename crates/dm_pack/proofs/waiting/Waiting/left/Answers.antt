@@ -1,5 +1,5 @@
 use Rattle.std.proofs.Common.{◌∙◌, sym, ap, drop}
-use Rattle.syncml_types.specs.Packing.{cut_data}
+use Rattle.syncml_parts.specs.Packing.{cut_data}
 use Rattle.dm_pack.specs.Entries.{Entry}
 use Rattle.dm_pack.proofs.Apart.{data_apart, drop_slice}
 use Rattle.dm_pack.proofs.waiting.Waiting.left.Goals as goal

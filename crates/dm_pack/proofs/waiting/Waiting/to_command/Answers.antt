@@ -1,5 +1,5 @@
 use Rattle.std.proofs.Common.{◌∙◌, ap, arith}
-use Rattle.syncml_types.specs.Numbering.{with_numbers, ids_in}
+use Rattle.syncml_parts.specs.Numbering.{with_numbers, ids_in}
 use Rattle.dm_pack.specs.Measures.{put_back}
 use Rattle.dm_pack.proofs.Parts.{kept_ids, whole_filled}
 use Rattle.dm_pack.proofs.waiting.Waiting.to_command.Goals as goal

@@ -1,8 +1,8 @@
 use Rattle.std.proofs.Common.{◌∙◌, ap, arith, length, take}
 use Rattle.std.proofs.lemmas.List.{length-take}
-use Rattle.syncml_types.specs.Packing.{cut_changed}
-use Rattle.syncml_types.specs.Pages.{with_value}
-use Rattle.syncml_types.specs.Numbering.{with_numbers, ids_in}
+use Rattle.syncml_parts.specs.Packing.{cut_changed}
+use Rattle.syncml_parts.specs.Pages.{with_value}
+use Rattle.syncml_parts.specs.Numbering.{with_numbers, ids_in}
 use Rattle.dm_pack.specs.Measures.{marked}
 use Rattle.dm_pack.proofs.Parts.{kept_ids, part_made}
 use Rattle.dm_pack.proofs.waiting.Waiting.to_part.Goals as goal

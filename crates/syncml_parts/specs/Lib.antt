@@ -1,0 +1,4 @@
+pub mod Numbering
+pub mod Packing
+pub mod Lends
+pub mod Pages

@@ -1,5 +1,0 @@
-use Rattle.syncml_types.proofs.Parted.{spells_commands}
-use Rattle.syncml_types.proofs.packing.spellings_are_parted.Goals as goal
-
-pub returns-clause-commands : goal.returns-clause-commands
-returns-clause-commands c = spells_commands
