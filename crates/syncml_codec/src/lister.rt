@@ -83,7 +83,7 @@ impl Lister {
             return self.text.extend(bytes);
         }
         self.text.push(b'#')?;
-        hex_into(self.alloc, &mut self.text, bytes)
+        hex_into(&mut self.text, bytes)
     }
 }
 

@@ -6,7 +6,8 @@ use Rattle.syncml_grammar.specs.declared.digits.Digits.{Digits}
 use Rattle.syncml_grammar.specs.declared.digits.Digits.TheVariants.{Start}
 use Rattle.syncml_grammar.specs.Numbers.{digits_after, number_in}
 
--- the number of bytes that came is that of their text: digits without a sign or a leading zero, of 64 bits
+-- bytes that came one by one are a number exactly where their text is one, and the same: digits without a sign or a
+-- leading zero, of 64 bits
 abbrev pub NumbersAreDecimal : Type 0
 NumbersAreDecimal = (text : List ℕ) → number_in (digits_after Start text) ≡ num_of text
 

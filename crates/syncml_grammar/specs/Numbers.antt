@@ -25,7 +25,7 @@ abbrev pub digits_after : Digits → List ℕ → Digits
 digits_after digits [] = digits
 digits_after digits (byte ∷ bytes) = digits_after (digit_after digits byte) bytes
 
--- the number of the bytes that came
+-- the number that the bytes are which came
 abbrev pub number_in : Digits → Option ℕ
 number_in Start = None
 number_in (Number n) = Some n

@@ -30,7 +30,8 @@ pub fn unread_is_text()
     ensures { UnreadIsText }
 {}
 
-/// A law: the number of bytes that came is that of their text in decimal, of 64 bits.
+/// A law: bytes that came one by one are a number exactly where their text is one, and the same: digits without a sign
+/// or a leading zero, of 64 bits.
 pub fn numbers_are_decimal()
     ensures { NumbersAreDecimal }
 {}

@@ -5,7 +5,6 @@ mod boxed;
 pub mod builder;
 pub mod digits;
 pub mod draft;
-mod few;
 pub mod laws;
 pub mod leaf;
 pub mod open;

@@ -85,7 +85,7 @@ impl OpenLeaf {
     {
         match self.leaf.close(alloc, self.kind) {
             Err(reason) => Err(Stop::Refused(reason)),
-            Ok(simple) => match put_simple(alloc, &mut parent.draft, self.element, simple) {
+            Ok(simple) => match put_simple(&mut parent.draft, self.element, simple) {
                 Ok(()) => Ok(()),
                 Err(_) => Err(Stop::Memory),
             },

@@ -9,7 +9,6 @@ ghost use Rattle.syncml_grammar.specs.Nodes.{with_node, is_document};
 
 use crate::boxed::Boxed;
 use crate::draft::{Draft, new_alert, new_block, new_plain, new_results, new_status};
-use crate::few::push_few;
 use crate::spare::Spares;
 use dm_base::{List, Memory};
 use std::alloc::Global;
@@ -21,11 +20,7 @@ fn push_plain(alloc: Global, commands: &mut List<Command>, plain: &mut Plain) ->
     ensures { OnOk result (commands.new ≡ commands.old ++ command.Plain plain.old ∷ []) }
 {
     let verb = plain.verb;
-    push_few(
-        alloc,
-        commands,
-        Command::Plain(mem::replace(plain, new_plain(alloc, verb))),
-    )
+    commands.push(Command::Plain(mem::replace(plain, new_plain(alloc, verb))))
 }
 
 fn push_one(alloc: Global, members: &mut List<Member>, plain: &mut Plain) -> Result<(), Memory>

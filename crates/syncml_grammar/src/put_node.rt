@@ -7,7 +7,6 @@ ghost use Rattle.syncml_grammar.specs.Nodes.{header_with_loc, item_with_loc, wit
 
 use crate::boxed::Boxed;
 use crate::draft::{BodyDraft, Draft, new_item, new_loc};
-use crate::few::push_few;
 use crate::put_command::{put_alert, put_atomic, put_plain, put_results, put_sequence, put_status};
 use crate::spare::Spares;
 use dm_base::{List, Memory};
@@ -45,10 +44,10 @@ fn put_body(
     spares.ended.push(Draft::Body(body))
 }
 
-fn push_item(alloc: Global, items: &mut List<Item>, item: &mut Item) -> Result<(), Memory>
+fn push_item(items: &mut List<Item>, item: &mut Item) -> Result<(), Memory>
     ensures { OnOk result (items.new ≡ items.old ++ item.old ∷ []) }
 {
-    push_few(alloc, items, mem::replace(item, new_item()))
+    items.push(mem::replace(item, new_item()))
 }
 
 fn put_item(
@@ -60,12 +59,11 @@ fn put_item(
     requires { is_document draft.old ≡ false }
     ensures { OnOk result (draft.new ≡ with_node draft.old element (drafts.Item item)) }
 {
-    let alloc = spares.alloc;
     match draft {
-        Draft::Plain(plain) => push_item(alloc, &mut plain.inner.items, &mut item.inner)?,
-        Draft::Alert(alert) => push_item(alloc, &mut alert.inner.items, &mut item.inner)?,
-        Draft::Status(status) => push_item(alloc, &mut status.inner.items, &mut item.inner)?,
-        Draft::Results(results) => push_item(alloc, &mut results.inner.items, &mut item.inner)?,
+        Draft::Plain(plain) => push_item(&mut plain.inner.items, &mut item.inner)?,
+        Draft::Alert(alert) => push_item(&mut alert.inner.items, &mut item.inner)?,
+        Draft::Status(status) => push_item(&mut status.inner.items, &mut item.inner)?,
+        Draft::Results(results) => push_item(&mut results.inner.items, &mut item.inner)?,
         _ => {}
     }
     spares.item = Some(item);

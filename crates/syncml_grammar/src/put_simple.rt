@@ -7,10 +7,8 @@ ghost use Rattle.syncml_grammar.specs.Simples.{with_simple};
 
 use crate::boxed::Boxed;
 use crate::draft::Draft;
-use crate::few::push_few;
 use crate::leaf::Simple;
 use dm_base::{Bytes, Memory};
-use std::alloc::Global;
 use syncml_types::{AlertCmd, Header, Loc, Meta, ResultsCmd, StatusCmd};
 use wbxml_tables::Element;
 
@@ -49,12 +47,7 @@ fn put_header(draft: &mut Boxed<Header>, element: Element, text: Bytes)
     }
 }
 
-fn put_status(
-    alloc: Global,
-    status: &mut StatusCmd,
-    element: Element,
-    text: Bytes,
-) -> Result<(), Memory>
+fn put_status(status: &mut StatusCmd, element: Element, text: Bytes) -> Result<(), Memory>
     ensures { OnOk result (status.new ≡ status_with_text status.old element text) }
 {
     match element {
@@ -62,8 +55,8 @@ fn put_status(
             status.cmd = text;
             Ok(())
         }
-        Element::ETargetRef => push_few(alloc, &mut status.target_refs, text),
-        Element::ESourceRef => push_few(alloc, &mut status.source_refs, text),
+        Element::ETargetRef => status.target_refs.push(text),
+        Element::ESourceRef => status.source_refs.push(text),
         _ => Ok(()),
     }
 }
@@ -78,14 +71,14 @@ fn put_results(results: &mut ResultsCmd, element: Element, text: Bytes)
     }
 }
 
-fn put_text(alloc: Global, draft: &mut Draft, element: Element, text: Bytes) -> Result<(), Memory>
+fn put_text(draft: &mut Draft, element: Element, text: Bytes) -> Result<(), Memory>
     ensures { OnOk result (draft.new ≡ with_text draft.old element text) }
 {
     match draft {
         Draft::Loc(loc) => put_loc(&mut loc.inner, element, text),
         Draft::Meta(meta) => put_meta(&mut meta.inner, element, text),
         Draft::Header(header) => put_header(header, element, text),
-        Draft::Status(status) => return put_status(alloc, &mut status.inner, element, text),
+        Draft::Status(status) => return put_status(&mut status.inner, element, text),
         Draft::Results(results) => put_results(&mut results.inner, element, text),
         Draft::Item(item) => item.inner.value = Some(text),
         Draft::Cred(cred) => cred.inner.value = text,
@@ -188,16 +181,11 @@ fn put_flag(draft: &mut Draft)
 }
 
 /// Puts what a child without children holds into its parent.
-pub(crate) fn put_simple(
-    alloc: Global,
-    draft: &mut Draft,
-    element: Element,
-    simple: Simple,
-) -> Result<(), Memory>
+pub(crate) fn put_simple(draft: &mut Draft, element: Element, simple: Simple) -> Result<(), Memory>
     ensures { OnOk result (draft.new ≡ with_simple draft.old element simple) }
 {
     match simple {
-        Simple::Text(text) => return put_text(alloc, draft, element, text),
+        Simple::Text(text) => return put_text(draft, element, text),
         Simple::Short(number) => put_short(draft, element, number),
         Simple::Long(number) => put_long(draft, element, number),
         Simple::Flag => put_flag(draft),

@@ -8,7 +8,6 @@ ghost use Rattle.syncml_grammar.specs.Opens.{frame_of, frames_of, leaf_frame, wi
 ghost use Rattle.syncml_grammar.specs.Opens.{parts_of};
 
 use crate::draft::WholeParts;
-use crate::few::with_room;
 use crate::open::{Open, OpenLeaf, has_leaf};
 use crate::put_node::put_node;
 use crate::spare::Spares;
@@ -39,11 +38,11 @@ impl Model for Nest {
 }
 
 // Has room for the open elements of most messages, so that the list need not grow.
-fn make_room(alloc: Global, opened: &mut List<Open>) -> Result<(), Memory>
+fn make_room(opened: &mut List<Open>) -> Result<(), Memory>
     ensures { OnOk result (opened.new ≡ opened.old) }
 {
     if opened.is_empty() {
-        *opened = with_room(alloc, 8)?;
+        opened.reserve(8)?;
     }
     Ok(())
 }
@@ -65,7 +64,7 @@ impl Nest {
         ensures content { OnOk result (on_kind self.old element true kind ≡ Ok self.new) }
         ensures empty { OnOk result (on_kind self.old element false kind ≡ step self.new End) }
     {
-        make_room(self.spares.alloc, &mut self.below)?;
+        make_room(&mut self.below)?;
         self.below
             .push(mem::replace(&mut self.top, Open::document()))?;
         self.top.begin(&mut self.spares, element, kind)
