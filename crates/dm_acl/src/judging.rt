@@ -26,7 +26,8 @@ fn entry_right(part: &[u8]) -> Option<Right>
     are_servers(list).then_some(right)
 }
 
-// Gives everybody the command of a part, where the part is an entry and its command has none yet, and says whether.
+// Notes the command of a part as named and answers true, where the part is an entry and no part before it named that
+// command. Whom the entry lists isn't kept: everybody stands for them.
 fn put_right(named: &mut Entries, part: &[u8]) -> bool
     ensures new { IsTrue result → (e : Entry) × (entry_in part.now ≡ Some e)
         × (entry_of named.old e.right ≡ None) × (named.new ≡ with_servers named.old e.right Everybody) }

@@ -8,7 +8,7 @@ use Rattle.dm_tree.specs.declared.nodes.Node.{Node}
 use Rattle.dm_tree.specs.declared.nodes.Stamp.{Stamp}
 use Rattle.dm_tree.specs.declared.rows.Row.{Row}
 use Rattle.dm_tree.specs.Nodes.{Path, IsNode, IsRoot, IsStamp, IsValue, changed, counted}
-use Rattle.dm_tree.specs.Nodes.{with_value, with_acl, with_title}
+use Rattle.dm_tree.specs.Nodes.{with_value, with_bytes, with_acl, with_title}
 use Rattle.dm_tree.specs.Rows.{row_at, node_of, path_of, IsTree, IsLive}
 use Rattle.dm_tree.specs.Edits.{with_node}
 use Rattle.dm_tree.specs.Fields.{with_field, change_of, IsField}
@@ -30,6 +30,19 @@ held_field n p (field.Value value) held may = record {
   verno = held.verno;
   stamp = held.stamp;
 }
+held_field n p (field.Bytes bytes) held may = record {
+  value = record {
+    format = held.value.format;
+    kind = held.value.kind;
+    empty = λ inner. absurd (let leaf : n.interior ≡ false = may.0 in cc);
+    media = held.value.media;
+    short = may.1;
+  };
+  acl = held.acl;
+  title = held.title;
+  verno = held.verno;
+  stamp = held.stamp;
+}
 held_field n p (field.Acl acl) held may =
     record { value = held.value; acl = may.1; title = held.title; verno = held.verno; stamp = held.stamp }
 held_field n p (field.Title title) held may =
@@ -37,11 +50,14 @@ held_field n p (field.Title title) held may =
 
 kin_field : (n : Node) (f : Field) → IsKin n (with_field n f)
 kin_field n (field.Value value) = record { interior = refl; permanent = refl }
+kin_field n (field.Bytes bytes) = record { interior = refl; permanent = refl }
 kin_field n (field.Acl acl) = record { interior = refl; permanent = refl }
 kin_field n (field.Title title) = record { interior = refl; permanent = refl }
 
 root_field : (n : Node) (f : Field) → IsField n [] f → IsRoot n → IsRoot (with_field n f)
 root_field n (field.Value value) may top =
+    absurd (let inner : n.interior ≡ true = top.interior in let leaf : n.interior ≡ false = may.0 in cc)
+root_field n (field.Bytes bytes) may top =
     absurd (let inner : n.interior ≡ true = top.interior in let leaf : n.interior ≡ false = may.0 in cc)
 root_field n (field.Acl acl) may top = record {
   interior = top.interior;
@@ -96,6 +112,10 @@ back-set rows tree k l clock (field.Value value) =
     takes_back rows _ _ tree (still_inside rows k _ l) tt
     (back-node rows k (changed clock (with_value (node_of rows k) value)) l
     (λ n. counted (with_value n (node_of rows k).value) (node_of rows k).verno (node_of rows k).stamp) refl)
+back-set rows tree k l clock (field.Bytes bytes) =
+    takes_back rows _ _ tree (still_inside rows k _ l) tt
+    (back-node rows k (changed clock (with_bytes (node_of rows k) bytes)) l
+    (λ n. counted (with_bytes n (node_of rows k).value.bytes) (node_of rows k).verno (node_of rows k).stamp) refl)
 back-set rows tree k l clock (field.Acl acl) =
     takes_back rows _ _ tree (still_inside rows k _ l) tt
     (back-node rows k (changed clock (with_acl (node_of rows k) acl)) l
@@ -110,6 +130,7 @@ alone : (rows new : List Row) (k : ℕ) (f : Field)
     → (row_of (change_of rows k f) ≡ k) × IsHeld new (change_of rows k f) × IsFresh rows (change_of rows k f)
     × Begins rows new (change_of rows k f)
 alone rows new k (field.Value value) = (refl, tt, tt, tt)
+alone rows new k (field.Bytes bytes) = (refl, tt, tt, tt)
 alone rows new k (field.Acl acl) = (refl, tt, tt, tt)
 alone rows new k (field.Title title) = (refl, tt, tt, tt)
 

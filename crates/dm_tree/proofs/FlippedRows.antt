@@ -12,6 +12,7 @@ use Rattle.dm_tree.proofs.NodeEdits.{of_both}
 
 pub other_row : (rows : List Row) (u : Change) (k : ℕ) → (row_of u ≡ k → ⊥) → row_at (flipped rows u) k ≡ row_at rows k
 other_row rows (change.Value j value verno stamp) k d = get_or-set_other rows j k _ blank (λ e. d (sym e))
+other_row rows (change.Bytes j bytes verno stamp) k d = get_or-set_other rows j k _ blank (λ e. d (sym e))
 other_row rows (change.Acl j acl verno stamp) k d = get_or-set_other rows j k _ blank (λ e. d (sym e))
 other_row rows (change.Title j title verno stamp) k d = get_or-set_other rows j k _ blank (λ e. d (sym e))
 other_row rows (change.Name j name verno stamp) k d = get_or-set_other rows j k _ blank (λ e. d (sym e))
@@ -24,6 +25,7 @@ pub kin-flipped : {X : Type 0} (f : Row → X)
     → (rows : List Row) (u : Change) → row_of u < length rows → (j : ℕ)
     → f (row_at (flipped rows u) j) ≡ f (row_at rows j)
 kin-flipped f e rows (change.Value k value verno stamp) l j = of_both rows k _ f (e (row_at rows k) _ _ _) j l
+kin-flipped f e rows (change.Bytes k bytes verno stamp) l j = of_both rows k _ f (e (row_at rows k) _ _ _) j l
 kin-flipped f e rows (change.Acl k acl verno stamp) l j = of_both rows k _ f (e (row_at rows k) _ _ _) j l
 kin-flipped f e rows (change.Title k title verno stamp) l j = of_both rows k _ f (e (row_at rows k) _ _ _) j l
 kin-flipped f e rows (change.Name k name verno stamp) l j = of_both rows k _ f (e (row_at rows k) _ _ _) j l

@@ -7,7 +7,7 @@ use Rattle.dm_tree.specs.declared.nodes.Node.{Node}
 use Rattle.dm_tree.specs.declared.rows.Row.{Row}
 use Rattle.dm_tree.specs.declared.rows.Change.{Change}
 use Rattle.dm_tree.specs.declared.rows.Change.TheVariants as change
-use Rattle.dm_tree.specs.Nodes.{counted, with_value, with_acl, with_title}
+use Rattle.dm_tree.specs.Nodes.{counted, with_value, with_bytes, with_acl, with_title}
 use Rattle.dm_tree.specs.Rows.{blank, row_at, nodes, ids, IsTree, IsParkedTop}
 use Rattle.dm_tree.specs.Undos.{row_of, flipped, turned, Fits, FitAll, all_flipped, IsReady}
 use Rattle.dm_tree.specs.Notes.{AreAt, GoesAlike}
@@ -28,6 +28,8 @@ pub flipped-set : (rows : List Row) (k : ℕ) (r : Row) (u : Change) → (row_of
     → flipped (set rows k r) u ≡ set (flipped rows u) k r
 flipped-set rows k r (change.Value j value verno stamp) d =
     one_set rows k r j (λ (s : Row). record s { node = counted (with_value s.node value) verno stamp }) d
+flipped-set rows k r (change.Bytes j bytes verno stamp) d =
+    one_set rows k r j (λ (s : Row). record s { node = counted (with_bytes s.node bytes) verno stamp }) d
 flipped-set rows k r (change.Acl j acl verno stamp) d =
     one_set rows k r j (λ (s : Row). record s { node = counted (with_acl s.node acl) verno stamp }) d
 flipped-set rows k r (change.Title j title verno stamp) d =
@@ -40,6 +42,7 @@ flipped-set rows k r (change.PutIn j) d = one_set rows k r j (λ (s : Row). reco
 ready-set : (rows : List Row) (k : ℕ) (r : Row) (u : Change) → (row_of u ≡ k → ⊥) → IsReady rows u
     → IsReady (set rows k r) u
 ready-set rows k r (change.Value j value verno stamp) d e = tt
+ready-set rows k r (change.Bytes j bytes verno stamp) d e = tt
 ready-set rows k r (change.Acl j acl verno stamp) d e = tt
 ready-set rows k r (change.Title j title verno stamp) d e = tt
 ready-set rows k r (change.Name j name verno stamp) d e = tt
@@ -50,6 +53,8 @@ turned-set : (rows : List Row) (k : ℕ) (r : Row) (u : Change) → (row_of u �
     → turned (set rows k r) u ≡ turned rows u
 turned-set rows k r (change.Value j value verno stamp) d =
     ap (λ (s : Row). change.Value j s.node.value s.node.verno s.node.stamp) (get_or-set_other rows k j r blank d)
+turned-set rows k r (change.Bytes j bytes verno stamp) d =
+    ap (λ (s : Row). change.Bytes j s.node.value.bytes s.node.verno s.node.stamp) (get_or-set_other rows k j r blank d)
 turned-set rows k r (change.Acl j acl verno stamp) d =
     ap (λ (s : Row). change.Acl j s.node.acl s.node.verno s.node.stamp) (get_or-set_other rows k j r blank d)
 turned-set rows k r (change.Title j title verno stamp) d =

@@ -601,6 +601,9 @@ pub sized-flipped : (rows : List Row) (c : Change) â†’ row_of c < length rows â†
 sized-flipped rows (change.Value k value verno stamp) l out into sizes h =
     sized-alike (flipped rows (change.Value k value verno stamp)) rows
     (alike-back rows (flipped rows (change.Value k value verno stamp)) (alike-with_node rows k _ l)) sizes h
+sized-flipped rows (change.Bytes k bytes verno stamp) l out into sizes h =
+    sized-alike (flipped rows (change.Bytes k bytes verno stamp)) rows
+    (alike-back rows (flipped rows (change.Bytes k bytes verno stamp)) (alike-with_node rows k _ l)) sizes h
 sized-flipped rows (change.Acl k acl verno stamp) l out into sizes h =
     sized-alike (flipped rows (change.Acl k acl verno stamp)) rows
     (alike-back rows (flipped rows (change.Acl k acl verno stamp)) (alike-with_node rows k _ l)) sizes h

@@ -7,7 +7,7 @@ use Rattle.dm_tree.specs.declared.nodes.Node.{Node}
 use Rattle.dm_tree.specs.declared.rows.Row.{Row}
 use Rattle.dm_tree.specs.declared.rows.Change.{Change}
 use Rattle.dm_tree.specs.declared.rows.Change.TheVariants as change
-use Rattle.dm_tree.specs.Nodes.{counted, with_value, with_acl, with_title}
+use Rattle.dm_tree.specs.Nodes.{counted, with_value, with_bytes, with_acl, with_title}
 use Rattle.dm_tree.specs.Rows.{row_at, ids, nodes, IsTree, path_of}
 use Rattle.dm_tree.specs.Edits.{attached_as, new_row}
 use Rattle.dm_tree.specs.Undos.{TakesOut, IsInserted, Fits, IsReady, FitAll, row_of, flipped, all_flipped}
@@ -30,6 +30,8 @@ pub flipped-spare : (rows : List Row) (r : Row) (u : Change) → row_of u < leng
     → flipped (rows ++ r ∷ []) u ≡ flipped rows u ++ r ∷ []
 flipped-spare rows r (change.Value k value verno stamp) l =
     one_row_set rows r k (λ (s : Row). record s { node = counted (with_value s.node value) verno stamp }) l
+flipped-spare rows r (change.Bytes k bytes verno stamp) l =
+    one_row_set rows r k (λ (s : Row). record s { node = counted (with_bytes s.node bytes) verno stamp }) l
 flipped-spare rows r (change.Acl k acl verno stamp) l =
     one_row_set rows r k (λ (s : Row). record s { node = counted (with_acl s.node acl) verno stamp }) l
 flipped-spare rows r (change.Title k title verno stamp) l =
@@ -42,6 +44,7 @@ flipped-spare rows r (change.PutIn k) l = one_row_set rows r k (λ (s : Row). re
 depth-flipped : (rows : List Row) (u : Change) → row_of u < length rows → (j : ℕ)
     → (row_at (flipped rows u) j).depth ≡ (row_at rows j).depth
 depth-flipped rows (change.Value k value verno stamp) l j = of_both rows k _ (λ s. s.depth) refl j l
+depth-flipped rows (change.Bytes k bytes verno stamp) l j = of_both rows k _ (λ s. s.depth) refl j l
 depth-flipped rows (change.Acl k acl verno stamp) l j = of_both rows k _ (λ s. s.depth) refl j l
 depth-flipped rows (change.Title k title verno stamp) l j = of_both rows k _ (λ s. s.depth) refl j l
 depth-flipped rows (change.Name k name verno stamp) l j = of_both rows k _ (λ s. s.depth) refl j l
@@ -51,6 +54,7 @@ depth-flipped rows (change.PutIn k) l j = of_both rows k _ (λ s. s.depth) refl 
 ready-spare : (rows : List Row) (r : Row) (u : Change) → row_of u < length rows → IsReady rows u
     → IsReady (rows ++ r ∷ []) u
 ready-spare rows r (change.Value k value verno stamp) l e = tt
+ready-spare rows r (change.Bytes k bytes verno stamp) l e = tt
 ready-spare rows r (change.Acl k acl verno stamp) l e = tt
 ready-spare rows r (change.Title k title verno stamp) l e = tt
 ready-spare rows r (change.Name k name verno stamp) l e = tt

@@ -5,7 +5,7 @@ use Rattle.std.proofs.lemmas.List.{set-get_or, get_or-set_same}
 use Rattle.dm_tree.specs.declared.rows.Row.{Row}
 use Rattle.dm_tree.specs.declared.rows.Change.{Change}
 use Rattle.dm_tree.specs.declared.rows.Change.TheVariants as change
-use Rattle.dm_tree.specs.Nodes.{counted, with_value, with_acl, with_title}
+use Rattle.dm_tree.specs.Nodes.{counted, with_value, with_bytes, with_acl, with_title}
 use Rattle.dm_tree.specs.Rows.{blank, row_at, node_of, IsTree, IsParkedTop}
 use Rattle.dm_tree.specs.Undos.{row_of, flipped, turned, IsReady, Fits, IsHeld, TakesBack}
 use Rattle.dm_tree.proofs.RowAppends.{set_twice}
@@ -23,6 +23,9 @@ pub flipped_twice : (rows : List Row) (u : Change) → row_of u < length rows �
 flipped_twice rows (change.Value k value verno stamp) l r =
     back-node rows k _ l
     (λ n. counted (with_value n (node_of rows k).value) (node_of rows k).verno (node_of rows k).stamp) refl
+flipped_twice rows (change.Bytes k bytes verno stamp) l r =
+    back-node rows k _ l
+    (λ n. counted (with_bytes n (node_of rows k).value.bytes) (node_of rows k).verno (node_of rows k).stamp) refl
 flipped_twice rows (change.Acl k acl verno stamp) l r =
     back-node rows k _ l (λ n. counted (with_acl n (node_of rows k).acl) (node_of rows k).verno (node_of rows k).stamp)
     refl
@@ -43,6 +46,10 @@ turned_twice rows (change.Value k value verno stamp) l =
     ap (λ (r : Row). change.Value k r.node.value r.node.verno r.node.stamp)
     (get_or-set_same rows k (record (row_at rows k) { node = counted (with_value (node_of rows k) value) verno stamp })
     blank l)
+turned_twice rows (change.Bytes k bytes verno stamp) l =
+    ap (λ (r : Row). change.Bytes k r.node.value.bytes r.node.verno r.node.stamp)
+    (get_or-set_same rows k (record (row_at rows k) { node = counted (with_bytes (node_of rows k) bytes) verno stamp })
+    blank l)
 turned_twice rows (change.Acl k acl verno stamp) l =
     ap (λ (r : Row). change.Acl k r.node.acl r.node.verno r.node.stamp)
     (get_or-set_same rows k (record (row_at rows k) { node = counted (with_acl (node_of rows k) acl) verno stamp })
@@ -60,6 +67,7 @@ turned_twice rows (change.PutIn k) l = refl
 
 row_turned : (rows : List Row) (u : Change) → row_of (turned rows u) ≡ row_of u
 row_turned rows (change.Value k value verno stamp) = refl
+row_turned rows (change.Bytes k bytes verno stamp) = refl
 row_turned rows (change.Acl k acl verno stamp) = refl
 row_turned rows (change.Title k title verno stamp) = refl
 row_turned rows (change.Name k name verno stamp) = refl
@@ -68,6 +76,7 @@ row_turned rows (change.PutIn k) = refl
 
 pub length-flipped : (rows : List Row) (u : Change) → length (flipped rows u) ≡ length rows
 length-flipped rows (change.Value k value verno stamp) = length-set rows k _
+length-flipped rows (change.Bytes k bytes verno stamp) = length-set rows k _
 length-flipped rows (change.Acl k acl verno stamp) = length-set rows k _
 length-flipped rows (change.Title k title verno stamp) = length-set rows k _
 length-flipped rows (change.Name k name verno stamp) = length-set rows k _
@@ -76,6 +85,7 @@ length-flipped rows (change.PutIn k) = length-set rows k _
 
 ready_again : (rows : List Row) (u : Change) → row_of u < length rows → IsReady (flipped rows u) (turned rows u)
 ready_again rows (change.Value k value verno stamp) l = tt
+ready_again rows (change.Bytes k bytes verno stamp) l = tt
 ready_again rows (change.Acl k acl verno stamp) l = tt
 ready_again rows (change.Title k title verno stamp) l = tt
 ready_again rows (change.Name k name verno stamp) l = tt
@@ -111,6 +121,7 @@ parked_out rows k tree fits =
 -- what a flip has turned an Undo into holds what was taken out
 pub held_then : (rows : List Row) (u : Change) → IsTree rows → Fits rows u → IsHeld (flipped rows u) (turned rows u)
 held_then rows (change.Value k value verno stamp) tree fits = tt
+held_then rows (change.Bytes k bytes verno stamp) tree fits = tt
 held_then rows (change.Acl k acl verno stamp) tree fits = tt
 held_then rows (change.Title k title verno stamp) tree fits = tt
 held_then rows (change.Name k name verno stamp) tree fits = tt

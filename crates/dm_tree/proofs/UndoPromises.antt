@@ -10,7 +10,7 @@ use Rattle.dm_tree.specs.declared.nodes.Node.{Node}
 use Rattle.dm_tree.specs.declared.rows.Row.{Row}
 use Rattle.dm_tree.specs.declared.rows.Change.{Change}
 use Rattle.dm_tree.specs.declared.rows.Change.TheVariants as change
-use Rattle.dm_tree.specs.Nodes.{counted, with_value, with_acl, with_title}
+use Rattle.dm_tree.specs.Nodes.{counted, with_value, with_bytes, with_acl, with_title}
 use Rattle.dm_tree.specs.Rows.{blank, row_at, walk, nodes, ids, path_of, IsTree, IsLive, IsParkedTop}
 use Rattle.dm_tree.specs.Edits.{with_node, with_name, attached_as, new_row, without_content}
 use Rattle.dm_tree.specs.Undos.{row_of, flipped, turned, Fits, FitAll, all_flipped, IsReady, IsHeld, TakesBack}
@@ -59,6 +59,9 @@ flipped-beside : (rows : List Row) (u : Change) (k : ℕ) → (row_of u ≡ k �
 flipped-beside rows (change.Value j value verno stamp) k d =
     both_rows rows k j emptied_row (λ (s : Row). record s { node = counted (with_value s.node value) verno stamp })
     (λ e. d (sym e))
+flipped-beside rows (change.Bytes j bytes verno stamp) k d =
+    both_rows rows k j emptied_row (λ (s : Row). record s { node = counted (with_bytes s.node bytes) verno stamp })
+    (λ e. d (sym e))
 flipped-beside rows (change.Acl j acl verno stamp) k d =
     both_rows rows k j emptied_row (λ (s : Row). record s { node = counted (with_acl s.node acl) verno stamp })
     (λ e. d (sym e))
@@ -79,6 +82,7 @@ given_row rows k j d = get_or-set_other rows k j _ blank d
 ready-beside : (rows : List Row) (u : Change) (k : ℕ) → (row_of u ≡ k → ⊥) → IsReady rows u
     → IsReady (without_content rows k) u
 ready-beside rows (change.Value j value verno stamp) k d r = tt
+ready-beside rows (change.Bytes j bytes verno stamp) k d r = tt
 ready-beside rows (change.Acl j acl verno stamp) k d r = tt
 ready-beside rows (change.Title j title verno stamp) k d r = tt
 ready-beside rows (change.Name j name verno stamp) k d r = tt
@@ -89,6 +93,8 @@ turned-beside : (rows : List Row) (u : Change) (k : ℕ) → (row_of u ≡ k →
     → turned (without_content rows k) u ≡ turned rows u
 turned-beside rows (change.Value j value verno stamp) k d =
     ap (λ (s : Row). change.Value j s.node.value s.node.verno s.node.stamp) (given_row rows k j d)
+turned-beside rows (change.Bytes j bytes verno stamp) k d =
+    ap (λ (s : Row). change.Bytes j s.node.value.bytes s.node.verno s.node.stamp) (given_row rows k j d)
 turned-beside rows (change.Acl j acl verno stamp) k d =
     ap (λ (s : Row). change.Acl j s.node.acl s.node.verno s.node.stamp) (given_row rows k j d)
 turned-beside rows (change.Title j title verno stamp) k d =
@@ -361,6 +367,8 @@ turned-spare : (rows : List Row) (r : Row) (u : Change) → row_of u < length ro
     → turned (rows ++ r ∷ []) u ≡ turned rows u
 turned-spare rows r (change.Value j value verno stamp) l =
     ap (λ (s : Row). change.Value j s.node.value s.node.verno s.node.stamp) (before_end rows r j l)
+turned-spare rows r (change.Bytes j bytes verno stamp) l =
+    ap (λ (s : Row). change.Bytes j s.node.value.bytes s.node.verno s.node.stamp) (before_end rows r j l)
 turned-spare rows r (change.Acl j acl verno stamp) l =
     ap (λ (s : Row). change.Acl j s.node.acl s.node.verno s.node.stamp) (before_end rows r j l)
 turned-spare rows r (change.Title j title verno stamp) l =

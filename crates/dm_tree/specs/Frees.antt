@@ -22,6 +22,7 @@ abbrev pub IsGivenBack : Change → List Row → List Row → Type 0
 IsGivenBack (change.PutIn k) old new = AreSpent old k new
 IsGivenBack (change.TakeOut k) old new = ⊤
 IsGivenBack (change.Value k value verno stamp) old new = ⊤
+IsGivenBack (change.Bytes k bytes verno stamp) old new = ⊤
 IsGivenBack (change.Acl k acl verno stamp) old new = ⊤
 IsGivenBack (change.Title k title verno stamp) old new = ⊤
 IsGivenBack (change.Name k name verno stamp) old new = ⊤

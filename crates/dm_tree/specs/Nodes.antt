@@ -108,6 +108,10 @@ with_mark node = record node { permanent = true }
 abbrev pub with_value : Node → Value → Node
 with_value node value = record node { value = value }
 
+-- with other bytes: its Format and its Type stay
+abbrev pub with_bytes : Node → List ℕ → Node
+with_bytes node bytes = record node { value = record node.value { bytes = bytes } }
+
 abbrev pub with_acl : Node → Option Entries → Node
 with_acl node acl = record node { acl = acl }
 

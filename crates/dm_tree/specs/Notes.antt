@@ -33,6 +33,7 @@ abbrev pub IsFresh : List Row → Change → Type 0
 IsFresh rows (change.TakeOut k) = IsUsed rows k → ⊥
 IsFresh rows (change.PutIn k) = ⊤
 IsFresh rows (change.Value k value verno stamp) = ⊤
+IsFresh rows (change.Bytes k bytes verno stamp) = ⊤
 IsFresh rows (change.Acl k acl verno stamp) = ⊤
 IsFresh rows (change.Title k title verno stamp) = ⊤
 IsFresh rows (change.Name k name verno stamp) = ⊤
@@ -42,6 +43,7 @@ abbrev pub Begins : List Row → List Row → Change → Type 0
 Begins old new (change.TakeOut k) = (j : ℕ) → IsUsed old j → IsClear new k j
 Begins old new (change.PutIn k) = ⊤
 Begins old new (change.Value k value verno stamp) = ⊤
+Begins old new (change.Bytes k bytes verno stamp) = ⊤
 Begins old new (change.Acl k acl verno stamp) = ⊤
 Begins old new (change.Title k title verno stamp) = ⊤
 Begins old new (change.Name k name verno stamp) = ⊤
@@ -51,6 +53,7 @@ abbrev pub held_by : Change → Option ℕ
 held_by (change.PutIn k) = Some k
 held_by (change.TakeOut k) = None
 held_by (change.Value k value verno stamp) = None
+held_by (change.Bytes k bytes verno stamp) = None
 held_by (change.Acl k acl verno stamp) = None
 held_by (change.Title k title verno stamp) = None
 held_by (change.Name k name verno stamp) = None
@@ -76,6 +79,7 @@ abbrev pub Stays : List Row → Change → ℕ → Type 0
 Stays rows (change.PutIn k) j = path_below rows k j ≡ None
 Stays rows (change.TakeOut k) j = ⊤
 Stays rows (change.Value k value verno stamp) j = ⊤
+Stays rows (change.Bytes k bytes verno stamp) j = ⊤
 Stays rows (change.Acl k acl verno stamp) j = ⊤
 Stays rows (change.Title k title verno stamp) j = ⊤
 Stays rows (change.Name k name verno stamp) j = ⊤

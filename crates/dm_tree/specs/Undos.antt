@@ -5,13 +5,14 @@ use Rattle.dm_tree.specs.declared.nodes.Node.{Node}
 use Rattle.dm_tree.specs.declared.rows.Row.{Row}
 use Rattle.dm_tree.specs.declared.rows.Change.{Change}
 use Rattle.dm_tree.specs.declared.rows.Change.TheVariants as change
-use Rattle.dm_tree.specs.Nodes.{counted, with_value, with_acl, with_title}
+use Rattle.dm_tree.specs.Nodes.{counted, with_value, with_bytes, with_acl, with_title}
 use Rattle.dm_tree.specs.Rows.{row_at, node_of, nodes, ids, path_of, IsTree, IsParkedTop, StayLive}
 use Rattle.dm_tree.specs.Edits.{with_node, with_name, attached_as, with_row, new_row, IsGrown, IsGivenUp}
 
 -- the row of which it speaks
 abbrev pub row_of : Change → ℕ
 row_of (change.Value k value verno stamp) = k
+row_of (change.Bytes k bytes verno stamp) = k
 row_of (change.Acl k acl verno stamp) = k
 row_of (change.Title k title verno stamp) = k
 row_of (change.Name k name verno stamp) = k
@@ -22,6 +23,8 @@ row_of (change.PutIn k) = k
 abbrev pub flipped : List Row → Change → List Row
 flipped rows (change.Value k value verno stamp) =
     with_node rows k (counted (with_value (node_of rows k) value) verno stamp)
+flipped rows (change.Bytes k bytes verno stamp) =
+    with_node rows k (counted (with_bytes (node_of rows k) bytes) verno stamp)
 flipped rows (change.Acl k acl verno stamp) = with_node rows k (counted (with_acl (node_of rows k) acl) verno stamp)
 flipped rows (change.Title k title verno stamp) =
     with_node rows k (counted (with_title (node_of rows k) title) verno stamp)
@@ -33,6 +36,8 @@ flipped rows (change.PutIn k) = attached_as rows k true
 abbrev pub turned : List Row → Change → Change
 turned rows (change.Value k value verno stamp) =
     change.Value k (node_of rows k).value (node_of rows k).verno (node_of rows k).stamp
+turned rows (change.Bytes k bytes verno stamp) =
+    change.Bytes k (node_of rows k).value.bytes (node_of rows k).verno (node_of rows k).stamp
 turned rows (change.Acl k acl verno stamp) =
     change.Acl k (node_of rows k).acl (node_of rows k).verno (node_of rows k).stamp
 turned rows (change.Title k title verno stamp) =
@@ -45,6 +50,7 @@ turned rows (change.PutIn k) = change.TakeOut k
 -- a subtree that is to be taken out is in, and one that is to be put in is out
 abbrev pub IsReady : List Row → Change → Type 0
 IsReady rows (change.Value k value verno stamp) = ⊤
+IsReady rows (change.Bytes k bytes verno stamp) = ⊤
 IsReady rows (change.Acl k acl verno stamp) = ⊤
 IsReady rows (change.Title k title verno stamp) = ⊤
 IsReady rows (change.Name k name verno stamp) = ⊤
@@ -62,6 +68,7 @@ abbrev pub IsHeld : List Row → Change → Type 0
 IsHeld rows (change.PutIn k) = IsParkedTop rows k
 IsHeld rows (change.TakeOut k) = ⊤
 IsHeld rows (change.Value k value verno stamp) = ⊤
+IsHeld rows (change.Bytes k bytes verno stamp) = ⊤
 IsHeld rows (change.Acl k acl verno stamp) = ⊤
 IsHeld rows (change.Title k title verno stamp) = ⊤
 IsHeld rows (change.Name k name verno stamp) = ⊤
@@ -71,6 +78,7 @@ abbrev pub IsDiscarded : Change → List Row → List Row → Type 0
 IsDiscarded (change.PutIn k) old new = IsGivenUp old new k
 IsDiscarded (change.TakeOut k) old new = new ≡ old
 IsDiscarded (change.Value k value verno stamp) old new = new ≡ old
+IsDiscarded (change.Bytes k bytes verno stamp) old new = new ≡ old
 IsDiscarded (change.Acl k acl verno stamp) old new = new ≡ old
 IsDiscarded (change.Title k title verno stamp) old new = new ≡ old
 IsDiscarded (change.Name k name verno stamp) old new = new ≡ old

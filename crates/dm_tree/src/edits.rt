@@ -5,8 +5,8 @@ ghost use Rattle.std.specs.FinMap as map;
 ghost use Rattle.dm_uri.specs.Names.{is_within_limits};
 ghost use Rattle.dm_tree.specs.declared.rows.Change.TheVariants as change;
 ghost use Rattle.dm_tree.specs.declared.edits.TreeError.TheVariants as error;
-ghost use Rattle.dm_tree.specs.Nodes.{made as made_node, changed, counted, with_value, with_acl, with_title, IsNewNode};
-ghost use Rattle.dm_tree.specs.Nodes.{IsValue, IsReadAgain, tree_order};
+ghost use Rattle.dm_tree.specs.Nodes.{made as made_node, changed, counted, with_value, with_bytes};
+ghost use Rattle.dm_tree.specs.Nodes.{with_acl, with_title, IsNewNode, IsValue, IsReadAgain, tree_order};
 ghost use Rattle.dm_tree.specs.Rows.{nodes, ids, row_at, node_of, path_of, IsLive, IsTree, IsParkedTop, StayLive};
 ghost use Rattle.dm_tree.specs.Index.{IsIndex, IsSized, IsKept};
 ghost use Rattle.dm_tree.specs.Edits.{with_node, attached_as, new_row as new_row_below, pruned, without_content};
@@ -70,7 +70,8 @@ pub(crate) fn raised(verno: u16) -> u16
     verno.wrapping_add(1)
 }
 
-// Sets a field, and counts the change. Flipped, what it gives takes that back.
+// Sets a field, and counts the change. Flipped, what it gives takes that back. A setter has its own case alone.
+#[inline(always)]
 fn put_field(rows: &mut Vec<Row>, id: u32, field: Field, clock: Stamp) -> Change
     requires { id < length rows.old.items }
     ensures rows { rows.new.items
@@ -85,6 +86,14 @@ fn put_field(rows: &mut Vec<Row>, id: u32, field: Field, clock: Stamp) -> Change
     match field {
         Field::Value(value) => {
             Change::Value(id, mem::replace(&mut row.node.value, value), verno, stamp)
+        }
+        Field::Bytes(bytes) => {
+            Change::Bytes(
+                id,
+                mem::replace(&mut row.node.value.bytes, bytes),
+                verno,
+                stamp,
+            )
         }
         Field::Acl(acl) => Change::Acl(id, mem::replace(&mut row.node.acl, acl), verno, stamp),
         Field::Title(title) => {
@@ -115,6 +124,11 @@ fn flip_row(rows: &mut Vec<Row>, index: &mut Vec<Children>, change: &mut Change)
         Change::Value(id, value, verno, stamp) => {
             let row = &mut rows[*id as usize];
             mem::swap(&mut row.node.value, value);
+            swap_counts(&mut row.node, verno, stamp);
+        }
+        Change::Bytes(id, bytes, verno, stamp) => {
+            let row = &mut rows[*id as usize];
+            mem::swap(&mut row.node.value.bytes, bytes);
             swap_counts(&mut row.node, verno, stamp);
         }
         Change::Acl(id, acl, verno, stamp) => {
@@ -214,7 +228,8 @@ impl Tree {
         Undo::of(Change::PutIn(id.row()))
     }
 
-    // The one edit that the three setters make.
+    // The one edit that the four setters make.
+    #[inline(always)]
     fn set_field(&mut self, id: NodeId, field: Field) -> Undo
         requires live { IsLive self.old.rows id }
         requires field { IsField (node_of self.old.rows id) (path_of self.old.rows id) field }
@@ -250,6 +265,25 @@ impl Tree {
         ensures edit { TakesEditBack result self.old.rows self.new.rows }
     {
         self.set_field(id, Field::Value(value))
+    }
+
+    /// Sets the bytes of a leaf, at most 4,194,304. Its Format and its Type stay. It takes no memory.
+    pub fn set_bytes(&mut self, id: NodeId, bytes: Bytes) -> Undo
+        requires live { IsLive self.old.rows id }
+        requires leaf { (node_of self.old.rows id).interior ≡ false }
+        requires short { length bytes ≤ 4194304 }
+        ensures nodes { nodes self.new.rows ≡ map.insert (nodes self.old.rows) (path_of self.old.rows id)
+            (changed self.old.clock (with_bytes (node_of self.old.rows id) bytes)) }
+        ensures ids { ids self.new.rows ≡ ids self.old.rows }
+        ensures stays { StayLive self.old.rows self.new.rows }
+        ensures rows { self.new ≡ record self.old {
+          rows = with_node self.old.rows id
+              (changed self.old.clock (with_bytes (node_of self.old.rows id) bytes));
+        } }
+        ensures undo { TakesBack result self.old.rows self.new.rows }
+        ensures edit { TakesEditBack result self.old.rows self.new.rows }
+    {
+        self.set_field(id, Field::Bytes(bytes))
     }
 
     /// Sets a node's own access list, or takes it away. The root keeps one. It takes no memory.

@@ -4,10 +4,11 @@ use crate::nodes::Value;
 use dm_acl::Acl;
 use dm_base::Bytes;
 
-/// One of the three fields of a node that are set, with what it will hold.
+/// What is set of a node, with what it will hold. `Bytes` is a value of which Format and Type stay.
 #[derive(Drop)]
 pub(crate) enum Field {
     Value(Value),
+    Bytes(Bytes),
     Acl(Option<Acl>),
     Title(Bytes),
 }

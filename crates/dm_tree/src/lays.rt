@@ -21,6 +21,7 @@ fn lay(rows: &mut Vec<Row>, id: u32, field: Field)
     let row = &mut rows[id as usize];
     match field {
         Field::Value(value) => row.node.value = value,
+        Field::Bytes(bytes) => row.node.value.bytes = bytes,
         Field::Acl(acl) => row.node.acl = acl,
         Field::Title(title) => row.node.title = title,
     }

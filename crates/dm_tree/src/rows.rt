@@ -25,6 +25,8 @@ pub struct Row {
 pub enum Change {
     /// Puts the value back, with the VerNo and the stamp.
     Value(u32, Value, u16, Stamp),
+    /// Puts the bytes of the value back, with the VerNo and the stamp.
+    Bytes(u32, Bytes, u16, Stamp),
     /// Puts the access list back, or none, with the VerNo and the stamp.
     Acl(u32, Option<Acl>, u16, Stamp),
     /// Puts the title back, with the VerNo and the stamp.

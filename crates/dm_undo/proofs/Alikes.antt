@@ -78,6 +78,7 @@ alike_apart ok a b g k o es os h = each_both ok (IsClear a k) (IsClear b k) (λ 
 alike_begins : (ok : ℕ → Type 0) (a b : List Row) → GoesAlike ok a b → (u : Change) → ok (row_of u)
     → (es : List Entry) → OfEach ok es → BeginsRow a u es → BeginsRow b u es
 alike_begins ok a b g (change.Value k value verno stamp) o es os h = tt
+alike_begins ok a b g (change.Bytes k bytes verno stamp) o es os h = tt
 alike_begins ok a b g (change.Acl k acl verno stamp) o es os h = tt
 alike_begins ok a b g (change.Title k title verno stamp) o es os h = tt
 alike_begins ok a b g (change.Name k name verno stamp) o es os h = tt
@@ -114,6 +115,7 @@ held_ok : (ok : ℕ → Type 0) (u : Change) (k : ℕ) → ok (row_of u) → hel
 held_ok ok (change.PutIn j) k o e = subst ok (let s : j ≡ k = cc in s) o
 held_ok ok (change.TakeOut j) k o e = absurd (cc)
 held_ok ok (change.Value j value verno stamp) k o e = absurd (cc)
+held_ok ok (change.Bytes j bytes verno stamp) k o e = absurd (cc)
 held_ok ok (change.Acl j acl verno stamp) k o e = absurd (cc)
 held_ok ok (change.Title j title verno stamp) k o e = absurd (cc)
 held_ok ok (change.Name j name verno stamp) k o e = absurd (cc)

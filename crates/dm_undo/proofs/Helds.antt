@@ -46,6 +46,7 @@ other_before rows j r k d p =
 unparked : (rows : List Row) (u : Change) → row_of u < length rows → (k : ℕ) → IsParkedTop (flipped rows u) k
     → (held_by (turned rows u) ≡ Some k) ⊎ (IsParkedTop rows k × (held_by u ≡ Some k → ⊥))
 unparked rows (change.Value j value verno stamp) l k p = inr (set_before rows j _ l refl refl k p, λ e. absurd (cc))
+unparked rows (change.Bytes j bytes verno stamp) l k p = inr (set_before rows j _ l refl refl k p, λ e. absurd (cc))
 unparked rows (change.Acl j acl verno stamp) l k p = inr (set_before rows j _ l refl refl k p, λ e. absurd (cc))
 unparked rows (change.Title j title verno stamp) l k p = inr (set_before rows j _ l refl refl k p, λ e. absurd (cc))
 unparked rows (change.Name j name verno stamp) l k p = inr (set_before rows j _ l refl refl k p, λ e. absurd (cc))
@@ -132,6 +133,7 @@ goes rows (change.PutIn j) k s e =
     ∙ self_below rows (row_at rows j).depth j in cc)
 goes rows (change.TakeOut j) k s e = absurd (cc)
 goes rows (change.Value j value verno stamp) k s e = absurd (cc)
+goes rows (change.Bytes j bytes verno stamp) k s e = absurd (cc)
 goes rows (change.Acl j acl verno stamp) k s e = absurd (cc)
 goes rows (change.Title j title verno stamp) k s e = absurd (cc)
 goes rows (change.Name j name verno stamp) k s e = absurd (cc)

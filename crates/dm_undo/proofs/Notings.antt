@@ -20,6 +20,7 @@ use Rattle.dm_undo.proofs.Rolls.{sound_holds}
 begins : (u : Change) (es : List Entry) (old new : List Row) → Begins old new u → OfEach (IsUsed old) es
     → BeginsRow new u es
 begins (change.Value k value verno stamp) es old new f h = tt
+begins (change.Bytes k bytes verno stamp) es old new f h = tt
 begins (change.Acl k acl verno stamp) es old new f h = tt
 begins (change.Title k title verno stamp) es old new f h = tt
 begins (change.Name k name verno stamp) es old new f h = tt
@@ -31,6 +32,7 @@ holds_parked : (u : Change) (rows : List Row) (k : ℕ) → IsHeld rows u → he
 holds_parked (change.PutIn j) rows k h e = subst (IsParkedTop rows) (let s : j ≡ k = cc in s) h
 holds_parked (change.TakeOut j) rows k h e = absurd (cc)
 holds_parked (change.Value j value verno stamp) rows k h e = absurd (cc)
+holds_parked (change.Bytes j bytes verno stamp) rows k h e = absurd (cc)
 holds_parked (change.Acl j acl verno stamp) rows k h e = absurd (cc)
 holds_parked (change.Title j title verno stamp) rows k h e = absurd (cc)
 holds_parked (change.Name j name verno stamp) rows k h e = absurd (cc)
@@ -39,6 +41,7 @@ pub of_row : (u : Change) (k : ℕ) → held_by u ≡ Some k → row_of u ≡ k
 of_row (change.PutIn j) k e = cc
 of_row (change.TakeOut j) k e = absurd (cc)
 of_row (change.Value j value verno stamp) k e = absurd (cc)
+of_row (change.Bytes j bytes verno stamp) k e = absurd (cc)
 of_row (change.Acl j acl verno stamp) k e = absurd (cc)
 of_row (change.Title j title verno stamp) k e = absurd (cc)
 of_row (change.Name j name verno stamp) k e = absurd (cc)

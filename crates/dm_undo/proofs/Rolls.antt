@@ -75,6 +75,7 @@ TurnsOnto u es rows entries back = ((k : ℕ) → held_top (Record (turned rows 
 turns : (c : ℕ) (u : Change) (es : List Entry) (rows : List Row) → IsTree rows → Fits rows u → BeginsRow rows u es
     → TurnsOnto u es rows (flipped_back c es (flipped rows u)).entries (flipped_back c es (flipped rows u)).rows
 turns c (change.Value j value verno stamp) es rows tree f b = (λ k e. absurd (cc), λ k e. absurd (cc))
+turns c (change.Bytes j bytes verno stamp) es rows tree f b = (λ k e. absurd (cc), λ k e. absurd (cc))
 turns c (change.Acl j acl verno stamp) es rows tree f b = (λ k e. absurd (cc), λ k e. absurd (cc))
 turns c (change.Title j title verno stamp) es rows tree f b = (λ k e. absurd (cc), λ k e. absurd (cc))
 turns c (change.Name j name verno stamp) es rows tree f b = (λ k e. absurd (cc), λ k e. absurd (cc))

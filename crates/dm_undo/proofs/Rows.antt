@@ -10,6 +10,7 @@ use Rattle.dm_tree.proofs.UndoFlips.{length-flipped}
 
 other_row : (rows : List Row) (u : Change) (k : ℕ) → (row_of u ≡ k → ⊥) → row_at (flipped rows u) k ≡ row_at rows k
 other_row rows (change.Value j value verno stamp) k d = get_or-set_other rows j k _ blank (λ e. d (sym e))
+other_row rows (change.Bytes j bytes verno stamp) k d = get_or-set_other rows j k _ blank (λ e. d (sym e))
 other_row rows (change.Acl j acl verno stamp) k d = get_or-set_other rows j k _ blank (λ e. d (sym e))
 other_row rows (change.Title j title verno stamp) k d = get_or-set_other rows j k _ blank (λ e. d (sym e))
 other_row rows (change.Name j name verno stamp) k d = get_or-set_other rows j k _ blank (λ e. d (sym e))

@@ -31,6 +31,7 @@ holds_before new old rows h = record {
 begins_before : (rows : List Row) (u : Change) (new old : List Entry) → BeginsRow rows u (new ++ old)
     → BeginsRow rows u new
 begins_before rows (change.Value k value verno stamp) new old h = tt
+begins_before rows (change.Bytes k bytes verno stamp) new old h = tt
 begins_before rows (change.Acl k acl verno stamp) new old h = tt
 begins_before rows (change.Title k title verno stamp) new old h = tt
 begins_before rows (change.Name k name verno stamp) new old h = tt

@@ -13,6 +13,7 @@ use Rattle.dm_undo.specs.Trees.{flipped_back, flipped_forward, turned_in, flippe
 
 pub row_turned : (rows : List Row) (u : Change) → row_of (turned rows u) ≡ row_of u
 row_turned rows (change.Value k value verno stamp) = refl
+row_turned rows (change.Bytes k bytes verno stamp) = refl
 row_turned rows (change.Acl k acl verno stamp) = refl
 row_turned rows (change.Title k title verno stamp) = refl
 row_turned rows (change.Name k name verno stamp) = refl
@@ -127,6 +128,7 @@ held_row : (u : Change) (k : ℕ) → held_by u ≡ Some k → row_of u ≡ k
 held_row (change.PutIn j) k e = cc
 held_row (change.TakeOut j) k e = absurd (cc)
 held_row (change.Value j value verno stamp) k e = absurd (cc)
+held_row (change.Bytes j bytes verno stamp) k e = absurd (cc)
 held_row (change.Acl j acl verno stamp) k e = absurd (cc)
 held_row (change.Title j title verno stamp) k e = absurd (cc)
 held_row (change.Name j name verno stamp) k e = absurd (cc)

@@ -67,6 +67,7 @@ pub record Unwound (n0 : ℕ) (es0 : List Entry) (trees : List Maps) (items : Li
 each_left : (u : Change) (es : List Entry) (rows : List Row) → IsTree rows → Fits rows u → BeginsRow rows u es
     → OfEach (Stays (flipped rows u) (turned rows u)) es
 each_left (change.Value k value verno stamp) es rows tree f b = each_any _ (λ _. tt) es
+each_left (change.Bytes k bytes verno stamp) es rows tree f b = each_any _ (λ _. tt) es
 each_left (change.Acl k acl verno stamp) es rows tree f b = each_any _ (λ _. tt) es
 each_left (change.Title k title verno stamp) es rows tree f b = each_any _ (λ _. tt) es
 each_left (change.Name k name verno stamp) es rows tree f b = each_any _ (λ _. tt) es
@@ -198,6 +199,7 @@ may_give : (e : Entry) (rows : List Row) → IsTree rows → ((k : ℕ) → held
     → MayGiveUp e rows
 may_give (Flipped c) rows tree p = tree
 may_give (Record (change.Value k value verno stamp)) rows tree p = (tree, tt)
+may_give (Record (change.Bytes k bytes verno stamp)) rows tree p = (tree, tt)
 may_give (Record (change.Acl k acl verno stamp)) rows tree p = (tree, tt)
 may_give (Record (change.Title k title verno stamp)) rows tree p = (tree, tt)
 may_give (Record (change.Name k name verno stamp)) rows tree p = (tree, tt)
@@ -208,6 +210,7 @@ each_given : (e : Entry) (new : List Entry) (rows : List Row) → IsTree rows
     → ((k : ℕ) → held_top e ≡ Some k → IsParkedTop rows k × IsApart rows k new) → OfEach (LeavesRow rows e) new
 each_given (Flipped c) new rows tree p = each_any _ (λ _. tt) new
 each_given (Record (change.Value k value verno stamp)) new rows tree p = each_any _ (λ _. tt) new
+each_given (Record (change.Bytes k bytes verno stamp)) new rows tree p = each_any _ (λ _. tt) new
 each_given (Record (change.Acl k acl verno stamp)) new rows tree p = each_any _ (λ _. tt) new
 each_given (Record (change.Title k title verno stamp)) new rows tree p = each_any _ (λ _. tt) new
 each_given (Record (change.Name k name verno stamp)) new rows tree p = each_any _ (λ _. tt) new
@@ -218,6 +221,7 @@ each_given (Record (change.PutIn k)) new rows tree p = let q = p k refl in each_
 leaves : (e : Entry) (rows : List Row) (j : ℕ) → (held_top e ≡ Some j → ⊥) → IsParkedTop rows j → LeavesRow rows e j
 leaves (Flipped c) rows j p t = tt
 leaves (Record (change.Value k value verno stamp)) rows j p t = tt
+leaves (Record (change.Bytes k bytes verno stamp)) rows j p t = tt
 leaves (Record (change.Acl k acl verno stamp)) rows j p t = tt
 leaves (Record (change.Title k title verno stamp)) rows j p t = tt
 leaves (Record (change.Name k name verno stamp)) rows j p t = tt

@@ -32,6 +32,7 @@ abbrev pub BeginsRow : List Row → Change → List Entry → Type 0
 BeginsRow rows (change.TakeOut k) es = IsApart rows k es
 BeginsRow rows (change.PutIn k) es = ⊤
 BeginsRow rows (change.Value k value verno stamp) es = ⊤
+BeginsRow rows (change.Bytes k bytes verno stamp) es = ⊤
 BeginsRow rows (change.Acl k acl verno stamp) es = ⊤
 BeginsRow rows (change.Title k title verno stamp) es = ⊤
 BeginsRow rows (change.Name k name verno stamp) es = ⊤

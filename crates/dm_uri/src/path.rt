@@ -31,6 +31,7 @@ impl Model for Path {
 }
 
 impl Path {
+    /// The path of the root, which has no name. It takes no memory.
     pub fn new(alloc: Global) -> Path
         ensures { result ≡ [] }
     {

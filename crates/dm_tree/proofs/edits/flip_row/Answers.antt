@@ -17,6 +17,15 @@ returns-in-Value-clause-index c =
     c.index_mut-row.result.now l c.index_mut-row.ensures.value refl refl refl refl c.args.index.now.items
     c.requires.index
 
+pub returns-in-Bytes-clause-index : goal.returns-in-Bytes-clause-index
+returns-in-Bytes-clause-index c =
+    let l : c.in-Bytes.id < length c.args.rows.now.items =
+    subst (λ u. row_of u < length c.args.rows.now.items) c.in-Bytes.is c.requires.fits.inside in
+    index-set c.args.rows.now.items c.in-Bytes.id
+    (record c.index_mut-row-in-Bytes.result.now { node = c.swap_counts-in-Bytes.new.node })
+    c.index_mut-row-in-Bytes.result.now l c.index_mut-row-in-Bytes.ensures.value refl refl refl refl
+    c.args.index.now.items c.requires.index
+
 pub returns-in-Acl-clause-index : goal.returns-in-Acl-clause-index
 returns-in-Acl-clause-index c =
     let l : c.in-Acl.id < length c.args.rows.now.items =
