@@ -7,7 +7,7 @@ use Rattle.dm_tree.specs.declared.nodes.Node.{Node}
 use Rattle.dm_tree.specs.declared.nodes.Value.{Value}
 use Rattle.dm_tree.specs.declared.rows.Row.{Row}
 use Rattle.std.specs.Prelude.{List}
-use Rattle.dm_tree.specs.Nodes.{IsValue, IsWellFormed}
+use Rattle.dm_tree.specs.Nodes.{IsValue, IsWellFormed, with_value, with_bytes}
 use Rattle.dm_tree.specs.Rows.{blank_node, node_of, path_of, nodes, IsLive, IsTree}
 use Rattle.dm_tree.proofs.LiveRows.{node_there}
 use Rattle.dm_commands.specs.Outcomes.{Setting, first_refusal, node_at}
@@ -29,3 +29,18 @@ given_value s rows formed tree step uri id live path judged small value is =
     (replaced_is_value (node_of rows id) step (formed.each (path_of rows id) (node_of rows id) there)
     (ap (λ (x : Node). x.interior) (sym here) ∙ tests.1.1.0) tests.1.1.1.0
     (ap (λ (x : Node). has_bad_meta (kept_format x step) (kept_media x step)) (sym here) ∙ tests.1.1.1.1.1.0) small)
+
+-- a Replace that gives neither a Format nor a Type gives the bytes alone
+pub bytes_alone : (node : Node) (step : Step) → step.format ≡ None → step.media ≡ None
+    → with_bytes node step.value ≡ with_value node (replaced_value node step)
+bytes_alone node step format media =
+    ap (λ o. with_value node (record {
+      format = unwrap_or o node.value.format;
+      media = node.value.media;
+      bytes = step.value;
+    })) (sym format)
+    ∙ ap (λ o. with_value node (record {
+      format = kept_format node step;
+      media = unwrap_or o node.value.media;
+      bytes = step.value;
+    })) (sym media)

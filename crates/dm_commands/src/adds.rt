@@ -15,11 +15,11 @@ ghost use Rattle.dm_commands.specs.Places.{IsPlace};
 use crate::noting::put_in;
 use crate::outcome::{Outcome, refuse};
 use crate::targets::has_query;
-use crate::values::{given_or, has_bad_meta, is_node_format, value_of};
+use crate::values::{given_or, has_bad_meta, is_node_format, take_value};
 use dm_acl::Right;
 use dm_base::{Bytes, Memory};
 use dm_tree::edits::NODE_LIMIT;
-use dm_tree::{NewNode, NodeId, Role, Tree};
+use dm_tree::{NewNode, NodeId, Role, Tree, Value};
 use dm_undo::Journal;
 use dm_uri::{Name, Path, Uri};
 use std::alloc::Global;
@@ -48,19 +48,22 @@ fn added_media(step: &Step) -> &[u8]
     }
 }
 
-fn added_node(alloc: Global, step: &Step) -> Result<NewNode, Memory>
-    ensures { IfOk result (λ node. (node.permanent ≡ false)
-        × ((clock : Time) → made clock node ≡ node_for clock step.now)) }
+fn added_node(alloc: Global, step: &mut Step) -> Result<NewNode, Memory>
+    ensures node { IfOk result (λ node. (node.permanent ≡ false)
+        × ((clock : Time) → made clock node ≡ node_for clock step.old)) }
+    ensures step { step.new ≡ record step.old { value = step.new.value } }
 {
-    let value = value_of(
-        alloc,
-        added_format(step),
-        added_media(step),
-        step.value.as_slice(),
-    )?;
+    let interior = is_node_format(added_format(step));
+    let format = Bytes::of_slice(alloc, added_format(step))?;
+    let media = Bytes::of_slice(alloc, added_media(step))?;
+    let bytes = take_value(alloc, step);
     Ok(NewNode {
-        interior: is_node_format(added_format(step)),
-        value,
+        interior,
+        value: Value {
+            format,
+            media,
+            bytes,
+        },
         acl: None,
         title: Bytes::new(alloc),
         permanent: false,
@@ -130,15 +133,16 @@ fn add_at(
     tree: &mut Tree,
     journal: &mut Journal,
     place: Place,
-    step: &Step,
+    step: &mut Step,
 ) -> Result<Outcome, Memory>
     requires place { IsPlace tree.old.rows (path_of tree.old.rows place.parent ++ place.name ∷ []) place }
     requires within { IsTrue (is_within_limits (path_of tree.old.rows place.parent ++ place.name ∷ [])) }
-    requires passed { first_refusal (node_refusals (nodes tree.old.rows) step.now) ≡ None }
-    requires short { length step.now.value ≤ 4194304 }
+    requires passed { first_refusal (node_refusals (nodes tree.old.rows) step.old) ≡ None }
+    requires short { length step.old.value ≤ 4194304 }
     ensures ok { IfOk result (λ outcome. Ends (changed_to (map.insert (nodes tree.old.rows)
-        (path_of tree.old.rows place.parent ++ place.name ∷ []) (node_for tree.old.clock step.now))) none_moved
+        (path_of tree.old.rows place.parent ++ place.name ∷ []) (node_for tree.old.clock step.old))) none_moved
         journal.old tree.old journal.new tree.new outcome) }
+    ensures step { step.new ≡ record step.old { value = step.new.value } }
     ensures err { OnErr result (StaysAsBefore journal.old tree.old journal.new tree.new) }
 {
     let node = added_node(alloc, step)?;
@@ -152,14 +156,15 @@ pub(crate) fn add(
     tree: &mut Tree,
     journal: &mut Journal,
     caller: &[u8],
-    step: &Step,
+    step: &mut Step,
     uri: Uri,
 ) -> Result<Outcome, Memory>
     requires within { IsTrue (is_within_limits uri.path) }
-    requires short { length step.now.value ≤ 4194304 }
+    requires short { length step.old.value ≤ 4194304 }
     ensures ok { IfOk result (λ outcome. Ends
-        (added (asked_by caller.now tree.old.clock) (nodes tree.old.rows) step.now uri) none_moved
+        (added (asked_by caller.now tree.old.clock) (nodes tree.old.rows) step.old uri) none_moved
         journal.old tree.old journal.new tree.new outcome) }
+    ensures step { step.new ≡ record step.old { value = step.new.value } }
     ensures err { OnErr result (StaysAsBefore journal.old tree.old journal.new tree.new) }
 {
     match add_place(tree, caller, step, uri) {

@@ -3,8 +3,8 @@ ghost use Rattle.std.specs.Prelude.{◌≡◌, ◌≢◌, ◌≤◌, ◌<◌, �
 ghost use Rattle.std.specs.Prelude.{IsTrue, IsSome, IfSome, OnOk, OnErr};
 ghost use Rattle.std.specs.FinMap as map;
 ghost use Rattle.dm_uri.specs.Names.{is_within_limits};
-ghost use Rattle.dm_tree.specs.Nodes.{above, changed, made, with_value, with_acl, with_title, tree_order, is_below};
-ghost use Rattle.dm_tree.specs.Nodes.{IsValue, IsReadAgain, IsNewNode};
+ghost use Rattle.dm_tree.specs.Nodes.{above, changed, made, with_value, with_bytes, with_acl, with_title, tree_order};
+ghost use Rattle.dm_tree.specs.Nodes.{is_below, IsValue, IsReadAgain, IsNewNode};
 ghost use Rattle.dm_tree.specs.Rows.{nodes, ids, node_of, path_of, IsLive};
 ghost use Rattle.dm_tree.specs.Edits.{pruned, renamed, fits};
 ghost use Rattle.dm_undo.specs.Notes.{Notes};
@@ -46,6 +46,28 @@ pub(crate) fn put_value(
 {
     make_room(journal, 1)?;
     journal.note(tree.set_value(id, value));
+    Ok(())
+}
+
+/// Sets the bytes of a leaf, whose Format and Type stay.
+pub(crate) fn put_bytes(
+    tree: &mut Tree,
+    journal: &mut Journal,
+    id: NodeId,
+    bytes: Bytes,
+) -> Result<(), Memory>
+    requires live { IsLive tree.old.rows id }
+    requires leaf { (node_of tree.old.rows id).interior ≡ false }
+    requires short { length bytes ≤ 4194304 }
+    ensures nodes { OnOk result (nodes tree.new.rows ≡ map.insert (nodes tree.old.rows) (path_of tree.old.rows id)
+        (changed tree.old.clock (with_bytes (node_of tree.old.rows id) bytes))) }
+    ensures ids { OnOk result (ids tree.new.rows ≡ ids tree.old.rows) }
+    ensures clock { tree.new.clock ≡ tree.old.clock }
+    ensures notes { OnOk result (Notes journal.old tree.old.rows journal.new tree.new.rows) }
+    ensures err { OnErr result (StaysAsBefore journal.old tree.old journal.new tree.new) }
+{
+    make_room(journal, 1)?;
+    journal.note(tree.set_bytes(id, bytes));
     Ok(())
 }
 

@@ -16,12 +16,12 @@ ghost use Rattle.dm_commands.specs.Places.{IsAt};
 ghost use Rattle.dm_commands.specs.Promises.{Ends, none_moved, StaysAsBefore};
 
 use crate::execs::restated;
-use crate::noting::{put_value, put_values};
+use crate::noting::{put_bytes, put_value, put_values};
 use crate::outcome::{Outcome, refuse};
 use crate::updates::{state_above, state_written};
-use crate::values::{given_or, has_bad_meta, is_node_format, is_role, value_of};
+use crate::values::{given_or, has_bad_meta, is_node_format, is_role, take_value};
 use dm_acl::Right;
-use dm_base::Memory;
+use dm_base::{Bytes, Memory};
 use dm_fumo::PROGRESSING;
 use dm_tree::{NodeId, Role, Tree, Value};
 use dm_undo::Journal;
@@ -90,17 +90,20 @@ fn value_place(tree: &Tree, caller: &[u8], step: &Step, uri: &Uri) -> Result<Nod
     Ok(id)
 }
 
-fn replaced_value(alloc: Global, tree: &Tree, id: NodeId, step: &Step) -> Result<Value, Memory>
+fn replaced_value(alloc: Global, tree: &Tree, id: NodeId, step: &mut Step) -> Result<Value, Memory>
     requires { IsLive tree.now.rows id }
-    ensures { IfOk result (λ value. value ≡ value_with (node_of tree.now.rows id) step.now) }
+    ensures value { IfOk result (λ value. value ≡ value_with (node_of tree.now.rows id) step.old) }
+    ensures step { step.new ≡ record step.old { value = step.new.value } }
 {
     let kept = tree.view(id).value;
-    value_of(
-        alloc,
-        given_or(&step.format, kept.format.as_slice()),
-        given_or(&step.media, kept.media.as_slice()),
-        step.value.as_slice(),
-    )
+    let format = Bytes::of_slice(alloc, given_or(&step.format, kept.format.as_slice()))?;
+    let media = Bytes::of_slice(alloc, given_or(&step.media, kept.media.as_slice()))?;
+    let bytes = take_value(alloc, step);
+    Ok(Value {
+        format,
+        media,
+        bytes,
+    })
 }
 
 // Sets the package, and State where it changes.
@@ -139,20 +142,51 @@ fn put_package(
     put_values(tree, journal, (id, value), (state_id, restated))
 }
 
+// Sets what the step gives of a leaf's value. The rest stays, and isn't copied.
+#[tactic(auto, using(crate::proofs::GivenValues::bytes_alone))]
+fn put_given(
+    alloc: Global,
+    tree: &mut Tree,
+    journal: &mut Journal,
+    id: NodeId,
+    step: &mut Step,
+) -> Result<(), Memory>
+    requires live { IsLive tree.old.rows id }
+    requires leaf { (node_of tree.old.rows id).interior ≡ false }
+    requires value { IsValue false (value_with (node_of tree.old.rows id) step.old) }
+    ensures nodes { OnOk result (nodes tree.new.rows ≡ map.insert (nodes tree.old.rows) (path_of tree.old.rows id)
+        (changed tree.old.clock
+        (with_value (node_of tree.old.rows id) (value_with (node_of tree.old.rows id) step.old)))) }
+    ensures ids { OnOk result (ids tree.new.rows ≡ ids tree.old.rows) }
+    ensures clock { tree.new.clock ≡ tree.old.clock }
+    ensures notes { OnOk result (Notes journal.old tree.old.rows journal.new tree.new.rows) }
+    ensures err { OnErr result (StaysAsBefore journal.old tree.old journal.new tree.new) }
+    ensures step { step.new ≡ record step.old { value = step.new.value } }
+{
+    match (&step.format, &step.media) {
+        (None, None) => put_bytes(tree, journal, id, take_value(alloc, step)),
+        _ => {
+            let value = replaced_value(alloc, tree, id, step)?;
+            put_value(tree, journal, id, value)
+        }
+    }
+}
+
 /// The value of the target, where it is a leaf that may be written.
 pub(crate) fn replace_value(
     alloc: Global,
     tree: &mut Tree,
     journal: &mut Journal,
     caller: &[u8],
-    step: &Step,
+    step: &mut Step,
     uri: &Uri,
 ) -> Result<Outcome, Memory>
     requires update { IsUpdateInOrder (nodes tree.old.rows) }
-    requires short { length step.now.value ≤ 4194304 }
+    requires short { length step.old.value ≤ 4194304 }
     ensures ok { IfOk result (λ outcome. Ends
-        (value_replaced (asked_by caller.now tree.old.clock) (nodes tree.old.rows) step.now uri.now) none_moved
+        (value_replaced (asked_by caller.now tree.old.clock) (nodes tree.old.rows) step.old uri.now) none_moved
         journal.old tree.old journal.new tree.new outcome) }
+    ensures step { step.new ≡ record step.old { value = step.new.value } }
     ensures err { OnErr result (StaysAsBefore journal.old tree.old journal.new tree.new) }
 {
     let _ = tree.root();
@@ -160,11 +194,11 @@ pub(crate) fn replace_value(
         Ok(id) => id,
         Err(code) => return Ok(refuse(alloc, tree, journal, code)),
     };
-    let value = replaced_value(alloc, tree, id, step)?;
     if is_role(tree.view(id).role, Role::PkgData) {
+        let value = replaced_value(alloc, tree, id, step)?;
         put_package(alloc, tree, journal, id, value)?;
     } else {
-        put_value(tree, journal, id, value)?;
+        put_given(alloc, tree, journal, id, step)?;
     }
     Ok(Outcome::of_code(alloc, 200))
 }

@@ -58,15 +58,16 @@ fn replace(
     tree: &mut Tree,
     journal: &mut Journal,
     caller: &[u8],
-    step: &Step,
+    step: &mut Step,
     uri: &Uri,
 ) -> Result<Outcome, Memory>
     requires update { IsUpdateInOrder (nodes tree.old.rows) }
-    requires short { length step.now.value ≤ 4194304 }
+    requires short { length step.old.value ≤ 4194304 }
     ensures ok { IfOk result (λ outcome. Ends
-        (replaced (asked_by caller.now tree.old.clock) (nodes tree.old.rows) step.now uri.now uri.now.query)
+        (replaced (asked_by caller.now tree.old.clock) (nodes tree.old.rows) step.old uri.now uri.now.query)
         (is_moved_at verb.Replace (Ok uri.now)) journal.old tree.old journal.new tree.new outcome) }
     ensures err { OnErr result (StaysAsBefore journal.old tree.old journal.new tree.new) }
+    ensures step { step.new ≡ record step.old { value = step.new.value } }
 {
     match uri.query {
         Query::Plain => replace_value(alloc, tree, journal, caller, step, uri),
@@ -80,16 +81,17 @@ fn by_verb(
     tree: &mut Tree,
     journal: &mut Journal,
     caller: &[u8],
-    step: &Step,
+    step: &mut Step,
     uri: Uri,
 ) -> Result<Outcome, Memory>
     requires update { IsUpdateInOrder (nodes tree.old.rows) }
     requires within { IsTrue (is_within_limits uri.path) }
-    requires short { IsShortStep step.now }
+    requires short { IsShortStep step.old }
     ensures ok { IfOk result (λ outcome. Ends
-        (verb_of (asked_by caller.now tree.old.clock) (nodes tree.old.rows) step.now uri step.now.verb)
-        (is_moved_at step.now.verb (Ok uri)) journal.old tree.old journal.new tree.new outcome) }
+        (verb_of (asked_by caller.now tree.old.clock) (nodes tree.old.rows) step.old uri step.old.verb)
+        (is_moved_at step.old.verb (Ok uri)) journal.old tree.old journal.new tree.new outcome) }
     ensures err { OnErr result (StaysAsBefore journal.old tree.old journal.new tree.new) }
+    ensures step { step.new ≡ record step.old { value = step.new.value } }
 {
     match step.verb {
         Verb::Add => add(alloc, tree, journal, caller, step, uri),
@@ -106,24 +108,26 @@ fn by_verb(
 /// before it.
 ///
 /// A path is looked up once. A list and a rename go through the subtree of the node, a Get of an interior node through
-/// the names of its children, and a step of the update through the nodes beside State; a value is copied once.
-/// `Memory` is the only error; tree and journal are then as before.
+/// the names of its children, and a step of the update through the nodes beside State. The value that a step gives is
+/// moved into the tree, and not copied; all else of the step stays. `Memory` is the only error; tree and journal are
+/// then as before.
 #[tactic(auto, unfolding(crate::specs::Table::act))]
 pub fn act(
     alloc: Global,
     tree: &mut Tree,
     journal: &mut Journal,
     caller: &[u8],
-    step: &Step,
+    step: &mut Step,
 ) -> Result<Outcome, Memory>
     requires update { IsUpdateInOrder (nodes tree.old.rows) }
-    requires short { IsShortStep step.now }
+    requires short { IsShortStep step.old }
     ensures done { IfOk result (λ outcome. Does
-        (act_of (asked_by caller.now tree.old.clock) (nodes tree.old.rows) step.now) outcome (nodes tree.new.rows)) }
-    ensures ids { OnOk result (KeepsIds step.now (ids tree.old.rows) (ids tree.new.rows)) }
+        (act_of (asked_by caller.now tree.old.clock) (nodes tree.old.rows) step.old) outcome (nodes tree.new.rows)) }
+    ensures ids { OnOk result (KeepsIds step.old (ids tree.old.rows) (ids tree.new.rows)) }
     ensures notes { OnOk result (Notes journal.old tree.old.rows journal.new tree.new.rows) }
     ensures clock { tree.new.clock ≡ tree.old.clock }
     ensures err { OnErr result (StaysAsBefore journal.old tree.old journal.new tree.new) }
+    ensures step { step.new ≡ record step.old { value = step.new.value } }
 {
     match target_of(alloc, step) {
         Ok(Ok(uri)) => by_verb(alloc, tree, journal, caller, step, uri),

@@ -9,6 +9,8 @@ use dm_base::{Bytes, Memory};
 use dm_tree::{Role, Value};
 use itoa::Buffer;
 use std::alloc::Global;
+use std::mem;
+use syncml_types::Step;
 
 fn is_format(text: &[u8]) -> bool
     ensures { result ≡ is_one_of text.now }
@@ -62,6 +64,14 @@ pub(crate) fn value_of(
         media: Bytes::of_slice(alloc, media)?,
         bytes: Bytes::of_slice(alloc, bytes)?,
     })
+}
+
+/// The value that a step gives, moved out of it.
+pub(crate) fn take_value(alloc: Global, step: &mut Step) -> Bytes
+    ensures value { result ≡ step.old.value }
+    ensures step { step.new ≡ record step.old { value = step.new.value } }
+{
+    mem::replace(&mut step.value, Bytes::new(alloc))
 }
 
 /// A number in decimal digits.

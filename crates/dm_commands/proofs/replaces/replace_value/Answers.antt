@@ -1,3 +1,4 @@
+use Rattle.std.proofs.Common.{refl}
 use Rattle.dm_tree.specs.Rows.{nodes}
 use Rattle.dm_commands.specs.Outcomes.{asked_by, changed_to}
 use Rattle.dm_commands.specs.Table.{value_refusals, after_value}
@@ -21,12 +22,12 @@ put_package-requires-clause-value c =
     let at = c.in-Ok.ensures.place in
     given_value (asked_by c.args.caller.now before.clock) before.rows c.root.ensures.well_formed c.root.ensures.sound
     c.args.step.now c.args.uri.now c.in-Ok.id
-    at.live at.path c.in-Ok.ensures.judged c.requires.short c.in_ok-value.value c.in_ok-value.ensures
+    at.live at.path c.in-Ok.ensures.judged c.requires.short c.in_ok-value.value c.in_ok-value.ensures.value
 
-pub put_value-requires-clause-value : goal.put_value-requires-clause-value
-put_value-requires-clause-value c =
+pub put_given-requires-clause-value : goal.put_given-requires-clause-value
+put_given-requires-clause-value c =
     let before = c.args.tree.now in
     let at = c.in-Ok.ensures.place in
     given_value (asked_by c.args.caller.now before.clock) before.rows c.root.ensures.well_formed c.root.ensures.sound
     c.args.step.now c.args.uri.now c.in-Ok.id
-    at.live at.path c.in-Ok.ensures.judged c.requires.short c.in_ok-value.value c.in_ok-value.ensures
+    at.live at.path c.in-Ok.ensures.judged c.requires.short _ refl
