@@ -10,7 +10,7 @@ use Rattle.syncml_types.specs.declared.command.SeqMember.{SeqMember}
 use Rattle.dm_atomic.specs.declared.tasks.Origin.{Origin}
 use Rattle.dm_atomic.specs.declared.tasks.Post.{Post}
 use Rattle.dm_atomic.specs.declared.tasks.Task.{Task}
-use Rattle.dm_atomic.specs.Tasks.{item_post, item_tasks, plain_tasks, member_tasks, members_tasks}
+use Rattle.dm_atomic.specs.Tasks.{item_post, item_tasks, member_tasks, members_tasks}
 use Rattle.dm_atomic.specs.Made.{Made, Status}
 use Rattle.dm_atomic.specs.Posts.{task_posts, member_posts, members_posts}
 use Rattle.dm_atomic.specs.Answers.{statuses}

@@ -146,27 +146,28 @@ whole-gives notices w whole s out mid after e h is = record {
   told_is = told_both out mid after notices w.made e h.told_is ∙ ap (λ (n : Next). out ++ told n.made) is;
 }
 
-pub failed_in_group : (r : Running) (s m next : State) (g : Group) (post : Post) (ts : List Task) (done : List Report)
-    (report : Report) (ran : ℕ) (out mid after : List Command) → s.group ≡ Some g
-    → Tries (tried r s ts) m done ts (Some (report, ran)) out mid
-    → Gives (fails (opened m) post (failed_tries m done report (drop ran ts)) report) next mid after
+pub failed_in_group : (r : Running) (s m next : State) (g : Group) (post : Post) (ts left : List Task)
+    (done : List Report) (report : Report) (ran : ℕ) (out mid after : List Command) → s.group ≡ Some g
+    → Tries (tried r s ts) m done left (Some (report, ran)) out mid
+    → Gives (fails (opened m) post (failed_tries m done report (drop ran left)) report) next mid after
     → Gives (in_group r s post ts) next out after
-failed_in_group r s m next g post ts done report ran out mid after e t h =
+failed_in_group r s m next g post ts left done report ran out mid after e t h =
     let now = tried r s ts in
-    let same : fails (opened m) post (failed_tries m done report (drop ran ts)) report
+    let same : fails (opened m) post (failed_tries m done report (drop ran left)) report
     ≡ closes (opened s) post now (Some report) =
-    ap (λ x. fails x post (failed_tries m done report (drop ran ts)) report) (same-group r s m ts g e t.state_is)
-    ∙ ap (λ (x : State). fails (opened s) post (failed_tries x done report (drop ran ts)) report) t.state_is
-    ∙ ap (λ x. fails (opened s) post (failed_tries now.state x report (drop ran ts)) report) t.done_is
+    ap (λ x. fails x post (failed_tries m done report (drop ran left)) report) (same-group r s m ts g e t.state_is)
+    ∙ ap (λ (x : State). fails (opened s) post (failed_tries x done report (drop ran left)) report) t.state_is
+    ∙ ap (λ x. fails (opened s) post (failed_tries now.state x report (drop ran left)) report) t.done_is
     ∙ ap (λ x. fails (opened s) post (failed_tries now.state now.done report x) report) (sym t.stop.1.0) in
     whole-gives now.notices (closes (opened s) post now (Some report)) (in_group r s post ts) next out mid after
     t.told_is (subst (λ w. Gives w next mid after) same h) (in_group-is r s post ts (Some report) t.stop.0)
 
-pub done_in_group : (r : Running) (s m next : State) (g : Group) (post : Post) (ts : List Task) (done : List Report)
-    (out mid after : List Command) → s.group ≡ Some g → Tries (tried r s ts) m done ts None out mid
+pub done_in_group : (r : Running) (s m next : State) (g : Group) (post : Post) (ts left : List Task)
+    (done : List Report) (out mid after : List Command) → s.group ≡ Some g
+    → Tries (tried r s ts) m done left None out mid
     → Gives (closes (opened m) post (good_tries m done) None) next mid after
     → Gives (in_group r s post ts) next out after
-done_in_group r s m next g post ts done out mid after e t h =
+done_in_group r s m next g post ts left done out mid after e t h =
     let now = tried r s ts in
     let same : closes (opened m) post (good_tries m done) None ≡ closes (opened s) post now None =
     ap (λ x. closes x post (good_tries m done) None) (same-group r s m ts g e t.state_is)

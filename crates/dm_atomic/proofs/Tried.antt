@@ -155,6 +155,23 @@ pub trying_is_cut : (r : Running) (first s next : State) (ts rest : List Task) (
 trying_is_cut r first s next ts rest t report done before now after i h =
     some_more before now after i.notices i.told_is (told (notice (one_step r s t).broken), h.told_is)
 
+-- ---- tasks whose values were moved away, where those that are left are as they were
+
+pub stopped_left : (t : Tried) (s : State) (done : List Report) (ts left : List Task) (report : Report) (ran : ℕ)
+    (before after : List Command) → length left ≡ length ts → drop ran left ≡ drop ran ts
+    → Tries t s done ts (Some (report, ran)) before after → Tries t s done left (Some (report, ran)) before after
+stopped_left t s done ts left report ran before after long same h = record {
+  state_is = h.state_is;
+  done_is = h.done_is;
+  told_is = h.told_is;
+  stop = (h.stop.0, (h.stop.1.0 ∙ sym same, omega (arith, long, h.stop.1.1)));
+}
+
+pub ended_left : (t : Tried) (s : State) (done : List Report) (ts left : List Task) (before after : List Command)
+    → Tries t s done ts None before after → Tries t s done left None before after
+ended_left t s done ts left before after h =
+    record { state_is = h.state_is; done_is = h.done_is; told_is = h.told_is; stop = h.stop }
+
 -- ---- the tasks that are left
 
 pub next_continues : (object : Object) (ts : List Task) (k : ℕ) (t : Task) → k < length ts → t ≡ get_or ts k t

@@ -149,27 +149,28 @@ impl Engine {
         &mut self,
         caller: &[u8],
         post: Post,
-        tasks: &[Task],
+        tasks: &mut [Task],
         out: &mut List<Command>,
     ) -> Result<(), Memory>
         requires sound { IsSoundEngine self.old }
         requires is_open { self.old.is_open ≡ true }
         ensures gives { OnOk result (Gives
-            (in_group (running self.old caller.now) (state_of self.old) post tasks.now) (state_of self.new)
+            (in_group (running self.old caller.now) (state_of self.old) post tasks.old) (state_of self.new)
             out.old out.new) }
         ensures err { OnErr result (IsInFront out.old out.new) }
         ensures clock { self.new.tree.clock ≡ self.old.tree.clock }
         ensures max_obj { self.new.inbox.max_obj ≡ self.old.inbox.max_obj }
-        ensures ids { StayBut (tasks_cover tasks.now) (whole_of self.old) (whole_of self.new) }
+        ensures ids { StayBut (tasks_cover tasks.old) (whole_of self.old) (whole_of self.new) }
         ensures committed { OnOk result
-            (IsSome (tried (running self.old caller.now) (state_of self.old) tasks.now).failed
+            (IsSome (tried (running self.old caller.now) (state_of self.old) tasks.old).failed
             → (whole_of self.new).ids ≡ committed_ids (whole_of self.old)) }
         ensures marks { Holds self.old self.new }
         ensures sound { IsSoundEngine self.new }
     {
-        let mut done = List::new(self.alloc);
+        let mut done = List::with_room(self.alloc, tasks.len())?;
         match self.try_all(caller, tasks, &mut done, out)? {
             Some((failed, ran)) => {
+                let tasks: &[Task] = tasks;
                 self.fail(&post, &done, &failed, &tasks[ran..], out)?;
                 Ok(())
             }
@@ -218,18 +219,18 @@ impl Engine {
         &mut self,
         caller: &[u8],
         post: Post,
-        tasks: &[Task],
+        tasks: &mut [Task],
         out: &mut List<Command>,
     ) -> Result<(), Memory>
         requires sound { IsSoundEngine self.old }
         ensures gives { OnOk result (Gives
-            (atomically (running self.old caller.now) (state_of self.old) post tasks.now) (state_of self.new)
+            (atomically (running self.old caller.now) (state_of self.old) post tasks.old) (state_of self.new)
             out.old out.new) }
         ensures err { OnErr result (IsInFront out.old out.new) }
         ensures clock { self.new.tree.clock ≡ self.old.tree.clock }
         ensures max_obj { self.new.inbox.max_obj ≡ self.old.inbox.max_obj }
-        ensures ids { StayBut (tasks_cover tasks.now) (whole_of self.old) (whole_of self.new) }
-        ensures committed { OnOk result (IsSome (attempt (running self.old caller.now) (state_of self.old) tasks.now)
+        ensures ids { StayBut (tasks_cover tasks.old) (whole_of self.old) (whole_of self.new) }
+        ensures committed { OnOk result (IsSome (attempt (running self.old caller.now) (state_of self.old) tasks.old)
             → (whole_of self.new).ids ≡ committed_ids (whole_of self.old)) }
         ensures marks { Holds self.old self.new }
         ensures sound { IsSoundEngine self.new }

@@ -73,28 +73,29 @@ pub(crate) fn skip_left(inbox: &mut Inbox, unrun: &[Task]) -> Result<(), Memory>
 
 impl Engine {
     /// Runs tasks up to the first that fails: its report, and how many were run. `done` gets the reports of those
-    /// before it. None of the reports is told. After `Memory` a notice may be told.
+    /// before it. None of the reports is told. The values of tasks that were run may be moved into the tree. After
+    /// `Memory` a notice may be told.
     #[tactic(auto, using(crate::proofs::Held::holds_self, crate::proofs::Held::holds_then, crate::proofs::Engines::only_then, crate::proofs::Tried::runs_still, crate::proofs::Tried::trying_starts, crate::proofs::Tried::trying_stands, crate::proofs::Tried::trying_breaks, crate::proofs::Staying::stay_self, crate::proofs::Staying::stay_then))]
     pub(crate) fn try_all(
         &mut self,
         caller: &[u8],
-        tasks: &[Task],
+        tasks: &mut [Task],
         done: &mut List<Report>,
         out: &mut List<Command>,
     ) -> Result<Option<(Report, usize)>, Memory>
         requires sound { IsSoundEngine self.old }
         requires empty { done.old ≡ [] }
         ensures tried { IfOk result (λ failed. Tries
-            (tried (running self.old caller.now) (state_of self.old) tasks.now) (state_of self.new) done.new tasks.now
+            (tried (running self.old caller.now) (state_of self.old) tasks.old) (state_of self.new) done.new tasks.new
             failed out.old out.new) }
         ensures err { OnErr result (IsInFront out.old out.new) }
         ensures only { Only self.old self.new }
-        ensures ids { StayBut (tasks_cover tasks.now) (whole_of self.old) (whole_of self.new) }
+        ensures ids { StayBut (tasks_cover tasks.old) (whole_of self.old) (whole_of self.new) }
         ensures marks { Holds self.old self.new }
         ensures sound { IsSoundEngine self.new }
     {
-        for (place, task) in tasks.iter().enumerate() {
-            let report = self.one_step(caller, task, out)?;
+        for place in 0..tasks.len() {
+            let report = self.one_step(caller, &mut tasks[place], out)?;
             if !is_success(report.code) {
                 return Ok(Some((report, place + 1)));
             }

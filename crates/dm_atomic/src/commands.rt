@@ -51,16 +51,16 @@ impl Engine {
     fn one_alone(
         &mut self,
         caller: &[u8],
-        task: &Task,
+        task: &mut Task,
         out: &mut List<Command>,
     ) -> Result<(), Memory>
         requires sound { IsSoundEngine self.old }
-        ensures gives { OnOk result (Gives (alone_of (running self.old caller.now) (state_of self.old) task.now)
+        ensures gives { OnOk result (Gives (alone_of (running self.old caller.now) (state_of self.old) task.old)
             (state_of self.new) out.old out.new) }
         ensures err { OnErr result (IsInFront out.old out.new) }
         ensures clock { self.new.tree.clock ≡ self.old.tree.clock }
         ensures max_obj { self.new.inbox.max_obj ≡ self.old.inbox.max_obj }
-        ensures ids { StayBut (work_covers task.now.work) (whole_of self.old) (whole_of self.new) }
+        ensures ids { StayBut (work_covers task.old.work) (whole_of self.old) (whole_of self.new) }
         ensures marks { Holds self.old self.new }
         ensures sound { IsSoundEngine self.new }
     {
@@ -75,21 +75,21 @@ impl Engine {
     fn in_sequence(
         &mut self,
         caller: &[u8],
-        tasks: &[Task],
+        tasks: &mut [Task],
         out: &mut List<Command>,
     ) -> Result<(), Memory>
         requires sound { IsSoundEngine self.old }
-        ensures gives { OnOk result (Gives (sequence_of (running self.old caller.now) (state_of self.old) tasks.now)
+        ensures gives { OnOk result (Gives (sequence_of (running self.old caller.now) (state_of self.old) tasks.old)
             (state_of self.new) out.old out.new) }
         ensures err { OnErr result (IsInFront out.old out.new) }
         ensures clock { self.new.tree.clock ≡ self.old.tree.clock }
         ensures max_obj { self.new.inbox.max_obj ≡ self.old.inbox.max_obj }
-        ensures ids { StayBut (tasks_cover tasks.now) (whole_of self.old) (whole_of self.new) }
+        ensures ids { StayBut (tasks_cover tasks.old) (whole_of self.old) (whole_of self.new) }
         ensures marks { Holds self.old self.new }
         ensures sound { IsSoundEngine self.new }
     {
-        for task in tasks {
-            self.one_alone(caller, task, out)?;
+        for place in 0..tasks.len() {
+            self.one_alone(caller, &mut tasks[place], out)?;
         }
         Ok(())
     }
@@ -113,8 +113,8 @@ impl Engine {
         ensures marks { Holds self.old self.new }
         ensures sound { IsSoundEngine self.new }
     {
-        let tasks = plain_tasks(self.alloc, origin, false, command)?;
-        self.in_sequence(caller, tasks.as_slice(), out)?;
+        let mut tasks = plain_tasks(self.alloc, origin, false, command)?.into_vec();
+        self.in_sequence(caller, tasks.as_mut_slice(), out)?;
         Ok(())
     }
 
@@ -137,8 +137,8 @@ impl Engine {
         ensures marks { Holds self.old self.new }
         ensures sound { IsSoundEngine self.new }
     {
-        let task = alert_task(origin, alert);
-        self.one_alone(caller, &task, out)?;
+        let mut task = alert_task(origin, alert);
+        self.one_alone(caller, &mut task, out)?;
         Ok(())
     }
 
@@ -161,8 +161,8 @@ impl Engine {
         ensures marks { Holds self.old self.new }
         ensures sound { IsSoundEngine self.new }
     {
-        let tasks = member_tasks(self.alloc, origin, false, member)?;
-        self.in_sequence(caller, tasks.as_slice(), out)?;
+        let mut tasks = member_tasks(self.alloc, origin, false, member)?.into_vec();
+        self.in_sequence(caller, tasks.as_mut_slice(), out)?;
         Ok(())
     }
 
@@ -188,9 +188,9 @@ impl Engine {
         ensures marks { Holds self.old self.new }
         ensures sound { IsSoundEngine self.new }
     {
-        let tasks = members_tasks(self.alloc, origin, true, &block.members)?;
+        let mut tasks = members_tasks(self.alloc, origin, true, &block.members)?.into_vec();
         let post = container_post(origin, block.id, block.no_resp, Named::Atomic);
-        self.atomic(caller, post, tasks.as_slice(), out)?;
+        self.atomic(caller, post, tasks.as_mut_slice(), out)?;
         Ok(())
     }
 

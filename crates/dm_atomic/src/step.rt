@@ -83,14 +83,15 @@ pub(crate) fn report_of(alloc: Global, post: &Post, code: u32) -> Result<Report,
 }
 
 impl Engine {
-    fn act(&mut self, caller: &[u8], step: &Step) -> Result<Outcome, Memory>
+    fn act(&mut self, caller: &[u8], step: &mut Step) -> Result<Outcome, Memory>
         requires sound { IsSoundEngine self.old }
-        requires short { IsShortStep step.now }
-        ensures ok { IfOk result (λ outcome. Acts self.old self.new caller.now step.now outcome) }
+        requires short { IsShortStep step.old }
+        ensures ok { IfOk result (λ outcome. Acts self.old self.new caller.now step.old outcome) }
         ensures only { Only self.old self.new }
-        ensures ids { StayBut (is_moved step.now) (whole_of self.old) (whole_of self.new) }
+        ensures ids { StayBut (is_moved step.old) (whole_of self.old) (whole_of self.new) }
         ensures marks { Holds self.old self.new }
         ensures sound { IsSoundEngine self.new }
+        ensures step { step.new ≡ record step.old { value = step.new.value } }
     {
         // It tells that the tree is well formed.
         let _ = self.tree.root();
@@ -119,14 +120,14 @@ impl Engine {
 
     // A whole step, by the step table.
     #[tactic(auto, using(crate::proofs::Held::holds_self, crate::proofs::Held::holds_then, crate::proofs::Engines::only_then, crate::proofs::Engines::stepped, crate::proofs::Staying::stay_self, crate::proofs::Staying::then_none, crate::proofs::Staying::stay_more))]
-    fn whole_step(&mut self, caller: &[u8], post: &Post, step: &Step) -> Result<Report, Memory>
+    fn whole_step(&mut self, caller: &[u8], post: &Post, step: &mut Step) -> Result<Report, Memory>
         requires sound { IsSoundEngine self.old }
-        requires short { IsShortStep step.now }
+        requires short { IsShortStep step.old }
         ensures ok { IfOk result (λ report. Comes
-            (whole_run (running self.old caller.now) (state_of self.old) post.now None step.now) (state_of self.new)
+            (whole_run (running self.old caller.now) (state_of self.old) post.now None step.old) (state_of self.new)
             report) }
         ensures only { Only self.old self.new }
-        ensures ids { StayBut (is_moved step.now) (whole_of self.old) (whole_of self.new) }
+        ensures ids { StayBut (is_moved step.old) (whole_of self.old) (whole_of self.new) }
         ensures marks { Holds self.old self.new }
         ensures sound { IsSoundEngine self.new }
     {
@@ -145,21 +146,21 @@ impl Engine {
     }
 
     #[tactic(auto, using(crate::proofs::Held::holds_self, crate::proofs::Staying::stay_self, crate::proofs::Staying::then_none, crate::proofs::Staying::stay_more))]
-    fn by_what(&mut self, caller: &[u8], post: &Post, what: What) -> Result<Report, Memory>
+    fn by_what(&mut self, caller: &[u8], post: &Post, what: &mut What) -> Result<Report, Memory>
         requires sound { IsSoundEngine self.old }
-        requires short { IsShortWhat what }
+        requires short { IsShortWhat what.old }
         ensures ok { IfOk result (λ report. Comes
-            (what_run (running self.old caller.now) (state_of self.old) post.now None what) (state_of self.new)
+            (what_run (running self.old caller.now) (state_of self.old) post.now None what.old) (state_of self.new)
             report) }
         ensures only { Only self.old self.new }
-        ensures ids { StayBut (what_covers what) (whole_of self.old) (whole_of self.new) }
+        ensures ids { StayBut (what_covers what.old) (whole_of self.old) (whole_of self.new) }
         ensures marks { Holds self.old self.new }
         ensures sound { IsSoundEngine self.new }
     {
         match what {
-            What::Whole(step) => self.whole_step(caller, post, &step),
+            What::Whole(step) => self.whole_step(caller, post, step),
             What::Buffered => report_of(self.alloc, post, 213),
-            What::Refused(code) => report_of(self.alloc, post, code),
+            What::Refused(code) => report_of(self.alloc, post, *code),
         }
     }
 
@@ -169,24 +170,24 @@ impl Engine {
         &mut self,
         caller: &[u8],
         post: &Post,
-        piece: &Piece,
+        piece: &mut Piece,
         out: &mut List<Command>,
     ) -> Result<Report, Memory>
         requires sound { IsSoundEngine self.old }
         ensures ok { IfOk result (λ report. Runs
-            (piece_run (running self.old caller.now) (state_of self.old) post.now piece.now) (state_of self.new) report
+            (piece_run (running self.old caller.now) (state_of self.old) post.now piece.old) (state_of self.new) report
             out.old out.new) }
         ensures err { OnErr result (IsInFront out.old out.new) }
         ensures only { Only self.old self.new }
-        ensures ids { StayBut (is_moved piece.now.step) (whole_of self.old) (whole_of self.new) }
+        ensures ids { StayBut (is_moved piece.old.step) (whole_of self.old) (whole_of self.new) }
         ensures marks { Holds self.old self.new }
         ensures sound { IsSoundEngine self.new }
     {
         if self.inbox.passes(piece) {
-            return self.whole_step(caller, post, &piece.step);
+            return self.whole_step(caller, post, &mut piece.step);
         }
-        let what = self.gather(piece, out)?;
-        self.by_what(caller, post, what)
+        let mut what = self.gather(piece, out)?;
+        self.by_what(caller, post, &mut what)
     }
 
     // What a piece comes to; of an object that it broke is told.
@@ -213,25 +214,25 @@ impl Engine {
         Ok(what)
     }
 
-    /// One task. The report isn't told.
+    /// One task. The report isn't told. The task's value may be moved into the tree.
     #[tactic(auto, using(crate::proofs::Held::holds_self, crate::proofs::Staying::stay_self, crate::proofs::Staying::then_none, crate::proofs::Staying::stay_more), unfolding(crate::specs::Run::one_step))]
     pub(crate) fn one_step(
         &mut self,
         caller: &[u8],
-        task: &Task,
+        task: &mut Task,
         out: &mut List<Command>,
     ) -> Result<Report, Memory>
         requires sound { IsSoundEngine self.old }
         ensures ok { IfOk result (λ report. Runs
-            (step_run (running self.old caller.now) (state_of self.old) task.now) (state_of self.new) report
+            (step_run (running self.old caller.now) (state_of self.old) task.old) (state_of self.new) report
             out.old out.new) }
         ensures err { OnErr result (IsInFront out.old out.new) }
         ensures only { Only self.old self.new }
-        ensures ids { StayBut (work_covers task.now.work) (whole_of self.old) (whole_of self.new) }
+        ensures ids { StayBut (work_covers task.old.work) (whole_of self.old) (whole_of self.new) }
         ensures marks { Holds self.old self.new }
         ensures sound { IsSoundEngine self.new }
     {
-        match &task.work {
+        match &mut task.work {
             Work::Piece(piece) => self.one_piece(caller, &task.post, piece, out),
             Work::Alert(code) => report_of(self.alloc, &task.post, alert_code(*code)),
         }

@@ -1,5 +1,5 @@
 // A command as its tasks.
-ghost use Rattle.std.specs.Prelude.{◌≡◌, [], IfOk, unwrap_or, option_and_then};
+ghost use Rattle.std.specs.Prelude.{◌≡◌, ◌++◌, [], IfOk, OnOk, unwrap_or, option_and_then};
 ghost use Rattle.syncml_types.specs.declared.values.Meta.{Meta as AMeta};
 ghost use Rattle.dm_atomic.specs.Tasks.{meta_child, target_text, piece_of, item_post, item_task, plain_tasks};
 ghost use Rattle.dm_atomic.specs.Tasks.{alert_task, member_tasks, members_tasks, container_post};
@@ -150,8 +150,24 @@ fn item_task(
     })
 }
 
-/// A task for each item of the command.
+// Puts a task for each item of the command behind the others.
 #[tactic(auto, using(crate::proofs::TasksAhead::next_item))]
+fn put_plain_tasks(
+    alloc: Global,
+    origin: Origin,
+    in_atomic: bool,
+    command: &Plain,
+    tasks: &mut List<Task>,
+) -> Result<(), Memory>
+    ensures { OnOk result (tasks.new ≡ tasks.old ++ plain_tasks origin in_atomic command.now) }
+{
+    for (place, item) in command.items.as_slice().iter().enumerate() {
+        tasks.push(item_task(alloc, origin, in_atomic, command, place, item)?)?;
+    }
+    Ok(())
+}
+
+/// A task for each item of the command.
 pub(crate) fn plain_tasks(
     alloc: Global,
     origin: Origin,
@@ -161,9 +177,7 @@ pub(crate) fn plain_tasks(
     ensures { IfOk result (λ tasks. tasks ≡ plain_tasks origin in_atomic command.now) }
 {
     let mut tasks = List::with_room(alloc, command.items.len())?;
-    for (place, item) in command.items.as_slice().iter().enumerate() {
-        tasks.push(item_task(alloc, origin, in_atomic, command, place, item)?)?;
-    }
+    put_plain_tasks(alloc, origin, in_atomic, command, &mut tasks)?;
     Ok(tasks)
 }
 
@@ -203,6 +217,22 @@ pub(crate) fn member_tasks(
     }
 }
 
+// Puts the tasks of one command in a container behind the others.
+fn put_member_tasks(
+    alloc: Global,
+    origin: Origin,
+    in_atomic: bool,
+    member: &Member,
+    tasks: &mut List<Task>,
+) -> Result<(), Memory>
+    ensures { OnOk result (tasks.new ≡ tasks.old ++ member_tasks origin in_atomic member.now) }
+{
+    match member {
+        Member::One(command) => put_plain_tasks(alloc, origin, in_atomic, command, tasks),
+        Member::Alert(alert) => tasks.push(alert_task(origin, alert)),
+    }
+}
+
 /// The tasks of the commands in a container, in order.
 #[tactic(auto, using(crate::proofs::TasksAhead::next_member))]
 pub(crate) fn members_tasks(
@@ -215,7 +245,7 @@ pub(crate) fn members_tasks(
 {
     let mut tasks = List::with_room(alloc, members.len())?;
     for member in members.as_slice() {
-        tasks.append(member_tasks(alloc, origin, in_atomic, member)?)?;
+        put_member_tasks(alloc, origin, in_atomic, member, &mut tasks)?;
     }
     Ok(tasks)
 }

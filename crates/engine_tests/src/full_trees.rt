@@ -44,7 +44,7 @@ fn code_of(
         Some(_) => None,
         None => Some(Bytes::of_slice(alloc, b"node").ok()?),
     };
-    let step = Step {
+    let mut step = Step {
         verb,
         target: Some(target(alloc, place.0, place.1)?),
         format,
@@ -53,7 +53,7 @@ fn code_of(
         correlator: None,
         in_atomic: false,
     };
-    Some(acted(alloc, tree, journal, &step)?.code)
+    Some(acted(alloc, tree, journal, &mut step)?.code)
 }
 
 // Adds 256 leaves below a node.

@@ -77,10 +77,10 @@ pub(crate) fn acted(
     alloc: Global,
     tree: &mut Tree,
     journal: &mut Journal,
-    step: &Step,
+    step: &mut Step,
 ) -> Option<Outcome>
     requires update { IsUpdateInOrder (nodes tree.old.rows) }
-    requires short { IsShortStep step.now }
+    requires short { IsShortStep step.old }
     ensures { IfSome result (λ _. IsUpdateInOrder (nodes tree.new.rows)) }
 {
     let _ = tree.root();
@@ -101,8 +101,8 @@ fn is_right(
     requires { IsUpdateInOrder (nodes tree.old.rows) }
     ensures { IfSome result (λ _. IsUpdateInOrder (nodes tree.new.rows)) }
 {
-    let step = step_of(alloc, row, in_atomic)?;
-    let outcome = acted(alloc, tree, journal, &step)?;
+    let mut step = step_of(alloc, row, in_atomic)?;
+    let outcome = acted(alloc, tree, journal, &mut step)?;
     Some(is_told(alloc, &outcome, row)?)
 }
 

@@ -1,6 +1,6 @@
 use Rattle.std.proofs.Common.{rules, false, ◌+◌, drop, refl}
 use Rattle.dm_atomic.specs.Tasks.{member_tasks}
-use Rattle.dm_atomic.specs.Posts.{task_posts, member_posts}
+use Rattle.dm_atomic.specs.Posts.{task_posts}
 use Rattle.dm_atomic.specs.Answers.{statuses}
 use Rattle.dm_atomic.proofs.Telling.{telling_goes_on, telling_ends, telling_breaks}
 use Rattle.dm_atomic.proofs.MadeAhead.{none_ahead}

@@ -5,12 +5,12 @@ use Rattle.dm_atomic.proofs.engine.Engine.run_atomic.Goals as goal
 
 pub returns-in_err-atomic-clause-ids : goal.returns-in_err-atomic-clause-ids
 returns-in_err-atomic-clause-ids c =
-    atomic_stay c.args.origin true c.args.block.now c.as_slice.result.now (whole_of c.args.self.now)
+    atomic_stay c.args.origin true c.args.block.now c.as_mut_slice.result.now (whole_of c.args.self.now)
     (whole_of c.atomic.new.self)
-    (c.as_slice.ensures ∙ c.in_ok-tasks.ensures) c.atomic.ensures.ids
+    (c.as_mut_slice.ensures.value ∙ c.into_vec-tasks.ensures ∙ c.in_ok-members_tasks.ensures) c.atomic.ensures.ids
 
 pub returns-clause-ids : goal.returns-clause-ids
 returns-clause-ids c =
-    atomic_stay c.args.origin true c.args.block.now c.as_slice.result.now (whole_of c.args.self.now)
+    atomic_stay c.args.origin true c.args.block.now c.as_mut_slice.result.now (whole_of c.args.self.now)
     (whole_of c.atomic.new.self)
-    (c.as_slice.ensures ∙ c.in_ok-tasks.ensures) c.atomic.ensures.ids
+    (c.as_mut_slice.ensures.value ∙ c.into_vec-tasks.ensures ∙ c.in_ok-members_tasks.ensures) c.atomic.ensures.ids
