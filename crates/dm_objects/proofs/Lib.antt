@@ -1,2 +1,3 @@
 pub mod SeenObjects
 pub mod Takings
+mod Together

@@ -2,3 +2,4 @@ pub mod Gathering
 pub mod Seen
 pub mod Changes
 pub mod Inside
+pub mod Laws

@@ -4,6 +4,7 @@
 mod copies;
 mod inbox;
 mod keys;
+pub mod laws;
 mod log;
 mod object;
 mod piece;
