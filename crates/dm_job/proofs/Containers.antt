@@ -15,7 +15,7 @@ use Rattle.syncml_types.specs.Fitness.{command_texts}
 use Rattle.syncml_types.specs.Fitness.{member_data, seq_member_data, command_data, command_numbers, atomic_numbers}
 use Rattle.syncml_types.specs.Fitness.{member_filled, seq_member_filled, atomic_filled, command_filled}
 use Rattle.syncml_types.specs.Fitness.{member_correlates, seq_member_correlates, command_correlates}
-use Rattle.syncml_types.specs.Numbering.{ids_in, with_numbers}
+use Rattle.syncml_parts.specs.Numbering.{ids_in, with_numbers}
 use Rattle.dm_pack.specs.Entries.{IsReady, IsFitCommand, fresh, bare_length}
 use Rattle.dm_pack.proofs.Fit.{are_numbered, are_seq_numbered}
 use Rattle.dm_job.specs.Commands.{with_member, member_count, may_close}

@@ -2,8 +2,8 @@
 use Rattle.std.proofs.Common.{◌≡◌, List, [], ◌∷◌, ◌++◌, Option, Some, None, option_map, option_and_then, refl, sym}
 use Rattle.std.proofs.Common.{ap, subst}
 use Rattle.std.proofs.Common.{◌∙◌, IfSome}
-use Rattle.syncml_types.specs.Packing.{last_of, last_changed}
-use Rattle.syncml_types.proofs.Last.{last_next}
+use Rattle.syncml_parts.specs.Packing.{last_of, last_changed}
+use Rattle.syncml_parts.proofs.Last.{last_next}
 use Rattle.dm_job.specs.declared.job.JobEntry.{JobEntry}
 use Rattle.dm_job.specs.declared.draft.Place.{Place}
 use Rattle.dm_job.specs.declared.draft.Place.TheVariants as place

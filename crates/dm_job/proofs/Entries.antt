@@ -4,9 +4,9 @@ use Rattle.std.proofs.Common.{refl, sym, ap}
 use Rattle.std.proofs.Common.{◌∙◌, arith, append_assoc, append-nil, length-append, option_and_then}
 use Rattle.std.specs.Prelude.{⊤}
 use Rattle.std.specs.List.{AllByRecursion}
-use Rattle.syncml_types.specs.Numbering.{ids_in}
-use Rattle.syncml_types.specs.Packing.{last_of, last_changed}
-use Rattle.syncml_types.proofs.Last.{last_next}
+use Rattle.syncml_parts.specs.Numbering.{ids_in}
+use Rattle.syncml_parts.specs.Packing.{last_of, last_changed}
+use Rattle.syncml_parts.proofs.Last.{last_next}
 use Rattle.dm_pack.proofs.Numbers.{length_last}
 use Rattle.dm_job.specs.declared.job.JobEntry.{JobEntry}
 use Rattle.dm_job.specs.declared.draft.Place.{Place}

@@ -17,7 +17,7 @@ use Rattle.syncml_types.specs.declared.command.SeqMember.TheVariants as seq_memb
 use Rattle.syncml_types.specs.declared.command.Command.{Command}
 use Rattle.syncml_types.specs.declared.command.Command.TheVariants as command
 use Rattle.syncml_types.specs.Fitness.{is_short, item_data, member_data, seq_member_data, command_data}
-use Rattle.syncml_types.specs.Numbering.{ids_in, ids_in_seq_members}
+use Rattle.syncml_parts.specs.Numbering.{ids_in, ids_in_seq_members}
 use Rattle.dm_start.specs.Fields.{begins_with, account_in, limits_in}
 use Rattle.dm_start.proofs.Sections.{said, allowed, same_ok}
 use Rattle.dm_job.specs.declared.draft.Draft.{Draft}

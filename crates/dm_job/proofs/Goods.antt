@@ -24,8 +24,8 @@ use Rattle.syncml_types.specs.Fitness.{all_of, is_short, loc_texts, meta_texts, 
 use Rattle.syncml_types.specs.Fitness.{plain_texts, plain_filled}
 use Rattle.syncml_types.specs.Fitness.{plain_correlates, command_texts, command_data, command_numbers, command_filled}
 use Rattle.syncml_types.specs.Fitness.{command_correlates}
-use Rattle.syncml_types.specs.Numbering.{with_numbers}
-use Rattle.syncml_types.specs.Packing.{cut_changed}
+use Rattle.syncml_parts.specs.Numbering.{with_numbers}
+use Rattle.syncml_parts.specs.Packing.{cut_changed}
 use Rattle.syncml_types.specs.Message.{no_meta}
 use Rattle.dm_pack.specs.Entries.{IsReady, fresh, bare_length, without_value}
 use Rattle.dm_pack.proofs.Most.{Most, none, most_append, most_parent, most_element, most_text, most_number}

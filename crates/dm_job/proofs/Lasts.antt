@@ -2,8 +2,8 @@
 use Rattle.std.proofs.Common.{◌≡◌, ◌<◌, ◌-◌, ℕ, List, [], ◌∷◌, length, Some, None, slice_get, slice_set, refl}
 use Rattle.std.proofs.Common.{sym, ap}
 use Rattle.std.proofs.Common.{◌∙◌, arith}
-use Rattle.syncml_types.specs.Packing.{last_changed}
-use Rattle.syncml_types.proofs.Last.{less_one, last_set, last_is, last_same}
+use Rattle.syncml_parts.specs.Packing.{last_changed}
+use Rattle.syncml_parts.proofs.Last.{less_one, last_set, last_is, last_same}
 
 is_some_at : {A : Type 0} (xs : List A) (n : ℕ) (x : A) → Some x ≡ slice_get xs n → 0 < length xs
 is_some_at [] n x e = absurd (cc)

@@ -5,8 +5,8 @@ use Rattle.std.proofs.Common.{refl, sym, ap, subst, ◌∙◌, arith, append_ass
 use Rattle.std.proofs.lemmas.Grind.{flat_map-append}
 use Rattle.std.proofs.lemmas.List.Elements.{filter-append}
 use Rattle.syncml_types.specs.declared.command.Command.{Command}
-use Rattle.syncml_types.specs.Numbering.{ids_in}
-use Rattle.syncml_types.specs.Packing.{last_changed}
+use Rattle.syncml_parts.specs.Numbering.{ids_in}
+use Rattle.syncml_parts.specs.Packing.{last_changed}
 use Rattle.dm_job.specs.declared.job.JobEntry.{JobEntry}
 use Rattle.dm_job.specs.declared.draft.Place.{Place}
 use Rattle.dm_job.specs.declared.draft.Place.TheVariants as place

@@ -12,8 +12,8 @@ use Rattle.syncml_types.specs.declared.command.Command.TheVariants as command
 use Rattle.syncml_types.specs.Message.{HasShortItems}
 use Rattle.syncml_types.specs.Fitness.{is_short, item_data, command_data}
 use Rattle.syncml_types.specs.Lengths.{up_to_most}
-use Rattle.syncml_types.specs.Numbering.{ids_in, ids_in_seq_member, ids_in_seq_members}
-use Rattle.syncml_types.specs.Packing.{cut_item, cut_changed}
+use Rattle.syncml_parts.specs.Numbering.{ids_in, ids_in_seq_member, ids_in_seq_members}
+use Rattle.syncml_parts.specs.Packing.{cut_item, cut_changed}
 use Rattle.dm_pack.specs.Entries.{without_value, bare_length}
 use Rattle.dm_pack.proofs.Changing.{Agree, twice, unchanged}
 use Rattle.dm_pack.proofs.Fit.{Keeps, data_changed, short_items}

@@ -14,8 +14,8 @@ use Rattle.syncml_types.specs.declared.command.Verb.{Verb}
 use Rattle.syncml_types.specs.declared.command.Plain.{Plain}
 use Rattle.syncml_types.specs.declared.command.Command.{Command}
 use Rattle.syncml_types.specs.declared.command.Command.TheVariants as command
-use Rattle.syncml_types.specs.Numbering.{ids_in, ids_in_seq_members}
-use Rattle.syncml_types.specs.Packing.{last_of, last_changed}
+use Rattle.syncml_parts.specs.Numbering.{ids_in, ids_in_seq_members}
+use Rattle.syncml_parts.specs.Packing.{last_of, last_changed}
 use Rattle.dm_auth.specs.declared.accounts.Account.{Account}
 use Rattle.dm_start.specs.Fields.{begins_with, account_in, limits_in, are_limits}
 use Rattle.dm_start.specs.Laws.{IsAccount}

@@ -10,7 +10,7 @@ use Rattle.syncml_types.specs.declared.command.Verb.{Verb}
 use Rattle.syncml_types.specs.declared.command.Plain.{Plain}
 use Rattle.syncml_types.specs.declared.command.Command.{Command}
 use Rattle.syncml_types.specs.declared.command.Command.TheVariants as command
-use Rattle.syncml_types.specs.Packing.{last_changed, last_of}
+use Rattle.syncml_parts.specs.Packing.{last_changed, last_of}
 use Rattle.dm_auth.specs.declared.accounts.Account.{Account}
 use Rattle.dm_start.specs.Fields.{begins_with, account_in, limits_in}
 use Rattle.dm_start.specs.Growing.{or_refused}

@@ -3,8 +3,8 @@ ghost use Rattle.std.specs.Prelude.{◌≡◌, ◌≤◌, false, true, IfSome};
 ghost use Rattle.std.specs.Option.{option_map_or};
 ghost use Rattle.syncml_types.specs.Fitness.{is_short, command_data};
 ghost use Rattle.syncml_types.specs.Lengths.{up_to_most};
-ghost use Rattle.syncml_types.specs.Numbering.{ids_in};
-ghost use Rattle.syncml_types.specs.Packing.{cut_changed, cut_item, last_of};
+ghost use Rattle.syncml_parts.specs.Numbering.{ids_in};
+ghost use Rattle.syncml_parts.specs.Packing.{cut_changed, cut_item, last_of};
 ghost use Rattle.dm_pack.specs.Entries.{without_value, bare_length as length_of};
 ghost use Rattle.dm_job.specs.Commands as Spec;
 ghost use Rattle.dm_job.specs.Measures.{value_in, with_data, CanBeMeasured, CanClose};
@@ -13,7 +13,8 @@ ghost use Rattle.dm_job.specs.Reading.{last_may_close as may_last_close};
 use crate::job::JobEntry;
 use dm_base::{Bytes, List};
 use std::mem;
-use syncml_types::{Command, Item, numbered_length};
+use syncml_parts::{cut_item_mut, numbered_length};
+use syncml_types::{Command, Item};
 
 const BARE_LIMIT: u64 = 1000;
 
@@ -43,7 +44,7 @@ fn take_value(command: &mut Command) -> Option<Bytes>
     ensures value { result ≡ value_in (cut_item command.old) }
     ensures command { command.new ≡ cut_changed without_value command.old }
 {
-    match command.cut_item_mut() {
+    match cut_item_mut(command) {
         None => None,
         Some(item) => take_item_value(item),
     }
@@ -59,7 +60,7 @@ fn put_item_value(item: &mut Item, value: Option<Bytes>)
 fn put_value(command: &mut Command, value: Option<Bytes>)
     ensures { command.new ≡ cut_changed (with_data value) command.old }
 {
-    match command.cut_item_mut() {
+    match cut_item_mut(command) {
         None => drop(value),
         Some(item) => put_item_value(item, value),
     }

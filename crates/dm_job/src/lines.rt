@@ -3,7 +3,7 @@ ghost use Rattle.std.specs.Prelude.{◌≡◌, ◌++◌, ◌∷◌, [], None, On
 ghost use Rattle.dm_job.specs.Commands as Says;
 ghost use Rattle.dm_job.specs.Reading as Spec;
 ghost use Rattle.dm_job.specs.Reading.{joined, with_entry};
-ghost use Rattle.syncml_types.specs.Packing.{last_changed};
+ghost use Rattle.syncml_parts.specs.Packing.{last_changed};
 ghost use Rattle.dm_job.specs.Answers.{Does, Takes};
 ghost use Rattle.dm_job.specs.Measures.{CanClose};
 

@@ -19,9 +19,9 @@ fn put_field(out: &mut Bytes, text: &Option<Bytes>) -> Result<(), Memory> {
     }
 }
 
-fn put_hex(alloc: Global, out: &mut Bytes, bytes: &[u8]) -> Result<(), Memory> {
+fn put_hex(out: &mut Bytes, bytes: &[u8]) -> Result<(), Memory> {
     out.push(b' ')?;
-    hex_into(alloc, out, bytes)
+    hex_into(out, bytes)
 }
 
 fn put_meta(out: &mut Bytes, meta: &Option<Meta>) -> Result<(), Memory> {
@@ -35,14 +35,14 @@ fn put_meta(out: &mut Bytes, meta: &Option<Meta>) -> Result<(), Memory> {
     Ok(())
 }
 
-fn put_item(alloc: Global, out: &mut Bytes, item: &Item) -> Result<(), Memory> {
+fn put_item(out: &mut Bytes, item: &Item) -> Result<(), Memory> {
     if let Some(target) = &item.target {
         out.push(b' ')?;
         out.extend(target.uri.as_slice())?;
     }
     put_meta(out, &item.meta)?;
     if let Some(value) = &item.value {
-        put_hex(alloc, out, value.as_slice())?;
+        put_hex(out, value.as_slice())?;
     }
     if item.more {
         out.extend(b" more")?;
@@ -61,10 +61,10 @@ fn verb_word(verb: Verb) -> &'static [u8] {
     }
 }
 
-fn put_plain(alloc: Global, out: &mut Bytes, plain: &Plain) -> Result<(), Memory> {
+fn put_plain(out: &mut Bytes, plain: &Plain) -> Result<(), Memory> {
     out.extend(verb_word(plain.verb))?;
     for item in plain.items.as_slice() {
-        put_item(alloc, out, item)?;
+        put_item(out, item)?;
     }
     if let Some(correlator) = &plain.correlator {
         out.extend(b" ~")?;
@@ -73,34 +73,34 @@ fn put_plain(alloc: Global, out: &mut Bytes, plain: &Plain) -> Result<(), Memory
     out.push(b'\n')
 }
 
-fn put_member(alloc: Global, out: &mut Bytes, member: &Member) -> Result<(), Memory> {
+fn put_member(out: &mut Bytes, member: &Member) -> Result<(), Memory> {
     out.extend(b"  ")?;
     match member {
-        Member::One(plain) => put_plain(alloc, out, plain),
+        Member::One(plain) => put_plain(out, plain),
         Member::Alert(_) => out.extend(b"Alert\n"),
     }
 }
 
-fn put_seq_member(alloc: Global, out: &mut Bytes, member: &SeqMember) -> Result<(), Memory> {
+fn put_seq_member(out: &mut Bytes, member: &SeqMember) -> Result<(), Memory> {
     match member {
-        SeqMember::Single(member) => put_member(alloc, out, member),
+        SeqMember::Single(member) => put_member(out, member),
         SeqMember::Atomic(_) => out.extend(b"  Atomic\n"),
     }
 }
 
-fn put_command(alloc: Global, out: &mut Bytes, command: &Command) -> Result<(), Memory> {
+fn put_command(out: &mut Bytes, command: &Command) -> Result<(), Memory> {
     match command {
-        Command::Plain(plain) => put_plain(alloc, out, plain)?,
+        Command::Plain(plain) => put_plain(out, plain)?,
         Command::Atomic(block) => {
             out.extend(b"Atomic\n")?;
             for member in block.members.as_slice() {
-                put_member(alloc, out, member)?;
+                put_member(out, member)?;
             }
         }
         Command::Sequence(block) => {
             out.extend(b"Sequence\n")?;
             for member in block.members.as_slice() {
-                put_seq_member(alloc, out, member)?;
+                put_seq_member(out, member)?;
             }
         }
         Command::Alert(_) | Command::Status(_) | Command::Results(_) => out.extend(b"other\n")?,
@@ -108,36 +108,36 @@ fn put_command(alloc: Global, out: &mut Bytes, command: &Command) -> Result<(), 
     Ok(())
 }
 
-fn put_package(alloc: Global, out: &mut Bytes, package: &List<JobEntry>) -> Result<(), Memory> {
+fn put_package(out: &mut Bytes, package: &List<JobEntry>) -> Result<(), Memory> {
     out.extend(b"package\n")?;
     for entry in package.as_slice() {
         put_number(out, entry.number)?;
         out.push(b' ')?;
-        put_command(alloc, out, &entry.command)?;
+        put_command(out, &entry.command)?;
     }
     Ok(())
 }
 
-fn put_account(alloc: Global, out: &mut Bytes, account: &Account) -> Result<(), Memory> {
+fn put_account(out: &mut Bytes, account: &Account) -> Result<(), Memory> {
     out.extend(account.server.as_slice())?;
     put_field(out, &account.server_password)?;
-    put_hex(alloc, out, account.server_nonce.as_slice())?;
+    put_hex(out, account.server_nonce.as_slice())?;
     put_field(out, &account.user)?;
     put_field(out, &account.user_password)?;
-    put_hex(alloc, out, account.user_nonce.as_slice())
+    put_hex(out, account.user_nonce.as_slice())
 }
 
 /// The account and the limits, and each package with its commands and their numbers.
 pub fn job_text(alloc: Global, job: &Job) -> Result<Bytes, Memory> {
     let mut out = Bytes::new(alloc);
-    put_account(alloc, &mut out, &job.account)?;
+    put_account(&mut out, &job.account)?;
     out.push(b' ')?;
     put_number(&mut out, job.limits.max_msg as u64)?;
     out.push(b' ')?;
     put_number(&mut out, job.limits.max_obj as u64)?;
     out.push(b'\n')?;
     for package in job.packages.as_slice() {
-        put_package(alloc, &mut out, package)?;
+        put_package(&mut out, package)?;
     }
     Ok(out)
 }
