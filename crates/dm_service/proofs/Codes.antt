@@ -14,7 +14,7 @@ use Rattle.syncml_types.specs.Message.{Parts}
 use Rattle.dm_headers.specs.declared.checks.Side.TheVariants.{User}
 use Rattle.dm_headers.specs.declared.standings.Standing.{Standing}
 use Rattle.dm_headers.specs.Checks.{fault_of, is_denied, passes}
-use Rattle.dm_headers.specs.Standings.{Heard, hears}
+use Rattle.dm_headers.specs.Standings.{hears}
 use Rattle.dm_objects.specs.declared.piece.What.{What}
 use Rattle.dm_objects.specs.declared.piece.What.TheVariants.{Whole, Buffered, Refused}
 use Rattle.dm_objects.specs.Gathering.{gather}
@@ -24,10 +24,12 @@ use Rattle.dm_service.specs.declared.sent.Sent.{Sent}
 use Rattle.dm_service.specs.Service.{Told, Session, Service}
 use Rattle.dm_service.specs.Matching.{find_sent, untold, told_at, with_code, coded, with_found, result_piece, Finding}
 use Rattle.dm_service.specs.Matching.{found_in, takes_item, takes_items, takes_found, Matched, takes_command, matched}
-use Rattle.dm_service.specs.Packages.{holds_number, forgotten, queues_package, next_package, is_of_job, gives_up}
+use Rattle.dm_service.specs.Packages.{holds_number, not_sent, forgotten, queues_package, next_package, is_of_job}
+use Rattle.dm_service.specs.Packages.{gives_up}
 use Rattle.dm_service.specs.Sending.{sends}
 use Rattle.dm_service.specs.Messages.{ended, denies, after_status, matched_in, with_matched, tells, queues_answers}
 use Rattle.dm_service.specs.Messages.{in_session, answers_message, by_header, accepts}
+use Rattle.dm_service.specs.Pieces.{still_sent, is_read}
 use Rattle.dm_service.specs.Laws.{IsTold, code_at, CodesAreTold}
 use Rattle.dm_service.proofs.Steps.{either}
 use Rattle.dm_service.proofs.Gone.{found}
@@ -198,22 +200,22 @@ body-codes max sent x (c ∷ cs) place code h =
 
 -- ---- the machine
 
--- known before, or told by a message that passes
-abbrev Comes : List Sent → Parts → ℕ → List Told → ℕ → ℕ → Type 0
-Comes sent m header told place code =
-    (code_at told place ≡ Some code) ⊎ (IsTold sent m.body place code × (passes header ≡ true))
+-- known before, or told by a message that is read
+abbrev Comes : List Sent → Parts → Bool → List Told → ℕ → ℕ → Type 0
+Comes sent m read told place code =
+    (code_at told place ≡ Some code) ⊎ (IsTold sent m.body place code × (read ≡ true))
 
-passed : (sent : List Sent) (m : Parts) (header : ℕ) (told : List Told) (place code : ℕ) → passes header ≡ true
-    → From sent m.body told place code → Comes sent m header told place code
-passed sent m header told place code p (inl h) = inl h
-passed sent m header told place code p (inr h) = inr (h, p)
+passed : (sent : List Sent) (m : Parts) (read : Bool) (told : List Told) (place code : ℕ) → read ≡ true
+    → From sent m.body told place code → Comes sent m read told place code
+passed sent m read told place code p (inl h) = inl h
+passed sent m read told place code p (inr h) = inr (h, p)
 
-tells-codes : (v : Service) (s : Session) (m : Parts) (header : ℕ) (b : Bool) (place code : ℕ) → passes header ≡ b
+tells-codes : (v : Service) (s : Session) (m : Parts) (b : Bool) (place code : ℕ)
     → code_at (cond b (with_matched v s (matched_in v s m)) v).told place ≡ Some code
-    → Comes s.sent m header v.told place code
-tells-codes v s m header true place code p h =
-    passed s.sent m header v.told place code p (body-codes v.job.limits.max_obj s.sent _ m.body place code h)
-tells-codes v s m header false place code p h = inl h
+    → Comes s.sent m b v.told place code
+tells-codes v s m true place code h =
+    passed s.sent m true v.told place code refl (body-codes v.job.limits.max_obj s.sent _ m.body place code h)
+tells-codes v s m false place code h = inl h
 
 queues-told : (v : Service) (ps : List (List JobEntry)) → (queues_package v ps).told ≡ v.told
 queues-told v [] = refl
@@ -241,16 +243,18 @@ message_told v s m code nonce =
     let waits = queues_answers told m code nonce in
     sends-told (next_package waits t.progress.standing) t m code ∙ package-told waits t.progress.standing
 
-header-codes : (v : Service) (s : Session) (m : Parts) (h : Heard) (nonce : List ℕ) (place code : ℕ)
-    → code_at (by_header v s m h nonce).told place ≡ Some code → Comes s.sent m h.code v.told place code
-header-codes v s m h nonce place code =
-    let P : Service → Type 0 = λ w. code_at w.told place ≡ Some code → Comes s.sent m h.code v.told place code in
-    either P (not (is_some (fault_of m)) && list_any is_abort m.body) (ended v s)
-    (cond h.second (denies v s m h.code nonce) (answers_message v s m h.code nonce)) (λ k. inl k)
-    (either P h.second (denies v s m h.code nonce) (answers_message v s m h.code nonce)
-    (λ k. inl (subst (λ t. code_at t place ≡ Some code) (denies_told v s m h.code nonce) k))
-    (λ k. tells-codes v s m h.code (passes h.code) place code refl
-    (subst (λ t. code_at t place ≡ Some code) (message_told v s m h.code nonce) k)))
+header-by : (v : Service) (s : Session) (m : Parts) (header : ℕ) (nonce : List ℕ) (place code : ℕ)
+    (abort second : Bool)
+    → code_at
+    (cond abort (ended v s) (cond second (denies v s m header nonce) (answers_message v s m header nonce))).told
+    place ≡ Some code
+    → Comes s.sent m (not abort && not second && passes header) v.told place code
+header-by v s m header nonce place code true second h = inl h
+header-by v s m header nonce place code false true h =
+    inl (subst (λ t. code_at t place ≡ Some code) (denies_told v s m header nonce) h)
+header-by v s m header nonce place code false false h =
+    tells-codes v s m (passes header) place code
+    (subst (λ t. code_at t place ≡ Some code) (message_told v s m header nonce) h)
 
 -- ---- a package that is given up
 
@@ -274,27 +278,26 @@ pub filter_in : {A : Type 0} (p : A → Bool) (xs : List A) (x : A) → Contains
 filter_in p [] x h = h
 filter_in p (y ∷ ys) x h = filter-step x y (filter p ys) ys (p y) (filter_in p ys x) h
 
--- a machine in its session, of which no more was told and sent
+-- a machine in its session, of which no more was told, and which has these sent
 record Kept (told : List Told) (sent : List Sent) (w : Service) : Type 0 where
   session : Session
   is_it : w.session ≡ Some session
-  was_sent : (x : Sent) → Contains session.sent x → Contains sent x
+  same_sent : session.sent ≡ sent
   was_told : (place code : ℕ) → code_at w.told place ≡ Some code → code_at told place ≡ Some code
 
-gives-kept : (v : Service) (s : Session) → Kept v.told s.sent (gives_up v s)
+gives-kept : (v : Service) (s : Session) → Kept v.told (not_sent v.newest s.sent) (gives_up v s)
 unfolding gives_up
 gives-kept v s = record {
   session = _;
   is_it = refl;
-  was_sent = λ x h. filter_in (λ (y : Sent). not (holds_number v.newest y.number)) s.sent x h;
+  same_sent = refl;
   was_told = λ place code h. forgotten-code v.newest 1 v.told place code h;
 }
 
-status-kept : (v : Service) (s : Session) (failed : Bool) (status : ℕ) → v.session ≡ Some s
-    → Kept v.told s.sent (after_status v s failed status)
-status-kept v s failed status e =
-    either (Kept v.told s.sent) (not failed && is_denied status) (gives_up v s) v (gives-kept v s)
-    (record { session = s; is_it = e; was_sent = λ x h. h; was_told = λ place code h. h })
+status-kept : (v : Service) (s : Session) (b : Bool) → v.session ≡ Some s
+    → Kept v.told (cond b (not_sent v.newest s.sent) s.sent) (cond b (gives_up v s) v)
+status-kept v s true e = gives-kept v s
+status-kept v s false e = record { session = s; is_it = e; same_sent = refl; was_told = λ place code h. h }
 
 told-sent : (sent more : List Sent) (cs : List Command) (place code : ℕ)
     → ((x : Sent) → Contains sent x → Contains more x)
@@ -311,11 +314,29 @@ told-sent sent more cs place code up h = record {
   code_is = h.code_is;
 }
 
-comes-kept : (v : Service) (s : Session) (w : Service) (m : Parts) (header place code : ℕ) (k : Kept v.told s.sent w)
-    → Comes k.session.sent m header w.told place code → Comes s.sent m header v.told place code
-comes-kept v s w m header place code k (inl h) = inl (k.was_told place code h)
-comes-kept v s w m header place code k (inr h) =
-    inr (told-sent k.session.sent s.sent m.body place code k.was_sent h.0, h.1)
+still-within : (given : List JobEntry) (sent : List Sent) (b : Bool) (x : Sent)
+    → Contains (cond b (not_sent given sent) sent) x → Contains sent x
+still-within given sent true x h = filter_in (λ (y : Sent). not (holds_number given y.number)) sent x h
+still-within given sent false x h = h
+
+-- what is still sent was sent
+pub still_within : (v : Service) (s : Session) (m : Parts) (nonce : List ℕ) (x : Sent)
+    → Contains (still_sent v s m nonce) x → Contains s.sent x
+still_within v s m nonce x h =
+    let heard = hears User v.job.account s.progress.standing m nonce in
+    still-within v.newest s.sent (not s.progress.standing.we_failed && is_denied heard.status) x h
+
+pub told_still : (v : Service) (s : Session) (m : Parts) (nonce : List ℕ) (cs : List Command) (place code : ℕ)
+    → IsTold (still_sent v s m nonce) cs place code → IsTold s.sent cs place code
+told_still v s m nonce cs place code h =
+    told-sent (still_sent v s m nonce) s.sent cs place code (still_within v s m nonce) h
+
+comes-kept : (told : List Told) (sent : List Sent) (w : Service) (m : Parts) (read : Bool) (place code : ℕ)
+    (k : Kept told sent w)
+    → Comes k.session.sent m read w.told place code → Comes sent m read told place code
+comes-kept told sent w m read place code k (inl h) = inl (k.was_told place code h)
+comes-kept told sent w m read place code k (inr h) =
+    inr (subst (λ (l : List Sent). IsTold l m.body place code) k.same_sent h.0, h.1)
 
 pub codes_are_told : CodesAreTold
 unfolding accepts
@@ -325,8 +346,9 @@ codes_are_told v s m nonce place code h =
     let u : Service = record v { job = record v.job { account = heard.account }; session = Some t } in
     let failed = s.progress.standing.we_failed in
     let w = after_status u t failed heard.status in
-    let k = status-kept u t failed heard.status refl in
+    let k = status-kept u t (not failed && is_denied heard.status) refl in
     let is_x : in_session w t ≡ k.session = found w.session t k.session k.is_it in
-    comes-kept v s w m heard.code place code k
-    (header-codes w k.session m heard nonce place code
+    let abort = not (is_some (fault_of m)) && list_any is_abort m.body in
+    comes-kept v.told (still_sent v s m nonce) w m (is_read v s m nonce) place code k
+    (header-by w k.session m heard.code nonce place code abort heard.second
     (subst (λ y. code_at (by_header w y m heard nonce).told place ≡ Some code) is_x h))

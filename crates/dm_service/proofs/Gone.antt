@@ -7,7 +7,7 @@ use Rattle.std.specs.List.{filter, list_any}
 use Rattle.syncml_types.specs.Message.{Parts}
 use Rattle.syncml_types.specs.declared.command.Command.{Command}
 use Rattle.syncml_types.specs.declared.command.Command.TheVariants as command
-use Rattle.syncml_types.specs.Numbering.{ids_in}
+use Rattle.syncml_parts.specs.Numbering.{ids_in}
 use Rattle.dm_headers.specs.declared.checks.Side.TheVariants.{User}
 use Rattle.dm_headers.specs.declared.standings.Standing.{Standing}
 use Rattle.dm_headers.specs.Checks.{fault_of, is_denied, passes}

@@ -6,7 +6,7 @@ use Rattle.std.specs.Prelude.{Option, Result, Ok, Err, is_some, if◌then◌else
 use Rattle.std.specs.List.{filter, list_any}
 use Rattle.syncml_types.specs.Message.{Parts}
 use Rattle.syncml_types.specs.declared.command.Command.{Command}
-use Rattle.syncml_types.specs.Numbering.{ids_in}
+use Rattle.syncml_parts.specs.Numbering.{ids_in}
 use Rattle.wbxml_tokens.specs.declared.reason.Refusal.{Refusal}
 use Rattle.dm_headers.specs.declared.checks.Side.TheVariants.{User}
 use Rattle.dm_headers.specs.declared.standings.Standing.{Standing}

@@ -10,5 +10,7 @@ pub mod Codes
 pub mod Faultless
 pub mod First
 pub mod Idle
+pub mod Limits
 pub mod Values
+pub mod Read
 pub mod Order

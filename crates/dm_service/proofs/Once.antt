@@ -3,7 +3,7 @@
 use Rattle.std.proofs.Common.{None, Some, ◌≡◌, ◌<◌, ◌+◌, ◌-◌, ℕ, zero, suc, Bool, true, false, cond, List, [], ◌∷◌}
 use Rattle.std.proofs.Common.{◌++◌, map, drop, refl, sym, ap, ◌∙◌, arith, nat_lt}
 use Rattle.std.specs.Prelude.{Option, if◌then◌else◌}
-use Rattle.syncml_types.specs.Numbering.{ids_in}
+use Rattle.syncml_parts.specs.Numbering.{ids_in}
 use Rattle.dm_pack.specs.Entries.{rest_of}
 use Rattle.dm_pack.specs.Filling.{next_rest}
 use Rattle.dm_service.specs.declared.sent.Carried.{Carried}

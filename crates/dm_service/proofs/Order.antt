@@ -12,7 +12,7 @@ use Rattle.syncml_types.specs.declared.command.SeqMember.{SeqMember}
 use Rattle.syncml_types.specs.declared.command.SeqMember.TheVariants as seq_member
 use Rattle.syncml_types.specs.declared.command.Command.{Command}
 use Rattle.syncml_types.specs.declared.command.Command.TheVariants as command
-use Rattle.syncml_types.specs.Numbering.{ids_in_seq_member, ids_in_seq_members, ids_in}
+use Rattle.syncml_parts.specs.Numbering.{ids_in_seq_member, ids_in_seq_members, ids_in}
 use Rattle.wbxml_tokens.specs.declared.reason.Refusal.{Refusal}
 use Rattle.dm_headers.specs.declared.checks.Side.TheVariants.{User}
 use Rattle.dm_headers.specs.declared.standings.Standing.{Standing}

@@ -1,6 +1,6 @@
 -- What holds of the machine's runs and of its messages, over the definitions alone.
 use Rattle.std.specs.Prelude.{◌≡◌, ◌<◌, ◌≤◌, ◌+◌, ◌-◌, ◌⊎◌, ◌==◌, ℕ, true, false, length, get_or, if◌then◌else◌, List}
-use Rattle.std.specs.Prelude.{[], ◌∷◌, Option}
+use Rattle.std.specs.Prelude.{[], ◌∷◌, ◌++◌, map, Option}
 use Rattle.std.specs.Prelude.{Some, None, Result, Ok, Err, IfSome, ⊤}
 use Rattle.std.specs.List.{AllByRecursion, Contains}
 use Rattle.dm_base.specs.Limits.{least_room}
@@ -12,21 +12,22 @@ use Rattle.syncml_types.specs.declared.command.ResultsCmd.{ResultsCmd}
 use Rattle.syncml_types.specs.declared.command.StatusCmd.{StatusCmd}
 use Rattle.syncml_types.specs.declared.command.Step.{Step}
 use Rattle.dm_objects.specs.declared.object.Object.{Object}
+use Rattle.dm_objects.specs.declared.object.Object.TheVariants.{Nothing}
 use Rattle.dm_objects.specs.declared.piece.Piece.{Piece}
 use Rattle.dm_objects.specs.declared.piece.What.TheVariants.{Whole}
 use Rattle.dm_objects.specs.Gathering.{gather}
+use Rattle.dm_objects.specs.Laws.{gather_all}
 use Rattle.syncml_types.specs.declared.command.Command.{Command}
 use Rattle.syncml_types.specs.declared.command.Command.TheVariants as command
-use Rattle.dm_headers.specs.declared.checks.Side.TheVariants.{User}
 use Rattle.dm_headers.specs.Checks.{fault_of, passes}
-use Rattle.dm_headers.specs.Standings.{hears}
 use Rattle.dm_job.specs.declared.job.Job.{Job}
 use Rattle.dm_job.specs.Sound.{all_entries, AreNumbered, IsSound}
 use Rattle.dm_service.specs.declared.sent.Sent.{Sent}
 use Rattle.dm_service.specs.Service.{Told, Session, Service}
-use Rattle.dm_service.specs.Matching.{untold, result_piece}
+use Rattle.dm_service.specs.Matching.{untold, results_for, result_piece}
 use Rattle.dm_service.specs.Messages.{first_service, tells, accepts}
 use Rattle.dm_service.specs.Events.{Arrival, number_of, reply_of}
+use Rattle.dm_service.specs.Pieces.{still_sent, is_read, pieces_in, pieces_from}
 use Rattle.dm_service.specs.History.{fresh, reached, answers, answers_from, state_from, next}
 use Rattle.dm_service.specs.Ready.{IsReadyService, IsReadyArrival}
 
@@ -144,38 +145,31 @@ pub record IsTold (sent : List Sent) (cs : List Command) (place code : ℕ) : Ty
 abbrev pub code_at : List Told → ℕ → Option ℕ
 code_at told place = (get_or told place untold).code
 
--- each code was known before, or is that of a Status in a message that passes the checks of its header
+-- each code was known before, or is that of a Status in a message that is read, for what is still sent then
 abbrev pub CodesAreTold : Type 0
 CodesAreTold = (v : Service) (s : Session) (m : Parts) (nonce : List ℕ) (place code : ℕ)
     → code_at (accepts v s m nonce).told place ≡ Some code
-    → (code_at v.told place ≡ Some code) ⊎ (IsTold s.sent m.body place code
-    × (passes (hears User v.job.account s.progress.standing m nonce).code ≡ true))
+    → (code_at v.told place ≡ Some code)
+    ⊎ (IsTold (still_sent v s m nonce) m.body place code × (is_read v s m nonce ≡ true))
 
--- among these commands, Results with an Item that is this piece
-pub record IsPieceOf (cs : List Command) (piece : Piece) : Type 0 where
-  pub results : ResultsCmd
-  pub within : Contains cs (command.Results results)
-  pub item : Item
-  pub item_within : Contains results.items item
-  pub piece_is : piece ≡ result_piece results item
-
--- the object that pieces leave of one
-abbrev pub gather_all : ℕ → Object → List Piece → Object
-gather_all max object [] = object
-gather_all max object (p ∷ ps) = gather_all max (gather max object p).object ps
-
--- among these commands, Results for the command of the job at this place, with an Item by which this value came whole
--- behind the object before them and other pieces that came with them
-pub record IsFound (max : ℕ) (sent : List Sent) (before : Object) (cs : List Command) (place : ℕ) (value : Step)
+-- Among these commands, Results for the command of the job at this place, with an Item by which this value came whole.
+-- It did so behind an object and all pieces of the commands in front of the Results and of the Items in front of that
+-- one, in document order.
+pub record IsFound (max : ℕ) (sent : List Sent) (object : Object) (cs : List Command) (place : ℕ) (value : Step)
     : Type 0 where
+  pub front : List Command
   pub results : ResultsCmd
-  pub within : Contains cs (command.Results results)
+  pub behind : List Command
+  pub stands : cs ≡ front ++ command.Results results ∷ behind
+  pub earlier : List Item
   pub item : Item
-  pub item_within : Contains results.items item
-  pub earlier : List Piece
-  pub are_pieces : AllByRecursion (IsPieceOf cs) earlier
-  pub whole : (gather max (gather_all max before earlier) (result_piece results item)).what ≡ Whole value
+  pub later : List Item
+  pub items_are : results.items ≡ earlier ++ item ∷ later
+  pub whole :
+      (gather max (gather_all max object (pieces_in sent front ++ map (result_piece results) earlier))
+      (result_piece results item)).what ≡ Whole value
   pub command : Sent
+  pub is_for : results_for sent results ≡ Some command
   pub was_sent : Contains sent command
   pub msg_ref : results.msg_ref ≡ Some command.msg
   pub cmd_ref : command.command ≡ results.cmd_ref
@@ -184,14 +178,45 @@ pub record IsFound (max : ℕ) (sent : List Sent) (before : Object) (cs : List C
 abbrev pub found_at : List Told → ℕ → List Step
 found_at told place = (get_or told place untold).found
 
--- each value was known before, or came whole by Results in a message that passes the checks of its header, behind the
--- object that the session gathers
+-- each value was known before, or came whole by Results in a message that is read, behind the object that the session
+-- gathers
 abbrev pub ValuesAreFound : Type 0
 ValuesAreFound = (v : Service) (s : Session) (m : Parts) (nonce : List ℕ) (place : ℕ) (value : Step)
     → Contains (found_at (accepts v s m nonce).told place) value
     → Contains (found_at v.told place) value
-    ⊎ (IsFound v.job.limits.max_obj s.sent s.object m.body place value
-    × (passes (hears User v.job.account s.progress.standing m nonce).code ≡ true))
+    ⊎ (IsFound v.job.limits.max_obj (still_sent v s m nonce) s.object m.body place value
+    × (is_read v s m nonce ≡ true))
+
+-- A message among those that came, in whose session a command of the job was sent, and in it Results for that command,
+-- with an Item by whose piece this value came whole: it is what gathering makes of that piece behind all that were read
+-- in the session before it
+pub record IsRead (max : ℕ) (v : Service) (ps : List Piece) (es : List Arrival) (place : ℕ) (value : Step)
+    : Type 0 where
+  pub done : List Arrival
+  pub message : Arrival
+  pub later : List Arrival
+  pub came : es ≡ done ++ message ∷ later
+  pub parts : Parts
+  pub parts_are : message.read ≡ Ok parts
+  pub results : ResultsCmd
+  pub within : Contains parts.body (command.Results results)
+  pub item : Item
+  pub item_within : Contains results.items item
+  pub command : Sent
+  pub was_sent : Contains (sent_in (state_from v done).session) command
+  pub msg_ref : results.msg_ref ≡ Some command.msg
+  pub cmd_ref : command.command ≡ results.cmd_ref
+  pub number : command.number - 1 ≡ place
+  pub before : List Piece
+  pub behind : List Piece
+  pub pieces : pieces_from v ps (done ++ message ∷ []) ≡ before ++ result_piece results item ∷ behind
+  pub gathered : (gather max (gather_all max Nothing before) (result_piece results item)).what ≡ Whole value
+
+-- each value that a server holds is what gathering makes of the pieces that it read
+abbrev pub ValuesAreRead : Type 0
+ValuesAreRead = (job : Job) (es : List Arrival) (place : ℕ) (value : Step)
+    → Contains (found_at (state_from (first_service job) es).told place) value
+    → IsRead job.limits.max_obj (first_service job) [] es place value
 
 -- a message that doesn't pass the checks of its header tells nothing of the job
 abbrev pub UnacceptedTellsNothing : Type 0

@@ -8,4 +8,5 @@ pub mod Events
 pub mod History
 pub mod Report
 pub mod Ready
+pub mod Pieces
 pub mod Laws

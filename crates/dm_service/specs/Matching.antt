@@ -100,9 +100,13 @@ abbrev pub takes_found : ℕ → Option Sent → ResultsCmd → Finding → Find
 takes_found max None r x = x
 takes_found max (Some s) r x = takes_items max s.number r x r.items
 
+-- the command of the job, as it was sent in this session, that Results name
+abbrev pub results_for : List Sent → ResultsCmd → Option Sent
+results_for sent r = option_and_then (λ msg. find_sent msg r.cmd_ref sent) r.msg_ref
+
 -- Results that name no command of the job that was sent in this session are not gathered
 abbrev pub takes_results : ℕ → List Sent → Finding → ResultsCmd → Finding
-takes_results max sent x r = takes_found max (option_and_then (λ msg. find_sent msg r.cmd_ref sent) r.msg_ref) r x
+takes_results max sent x r = takes_found max (results_for sent r) r x
 
 -- ---- alerts
 

@@ -2,7 +2,7 @@
 use Rattle.std.specs.Prelude.{◌&&◌, ◌||◌, ◌+◌, ℕ, Bool, false, not, if◌then◌else◌, nat_lt, nat_le, List, [], ◌∷◌, ◌++◌}
 use Rattle.std.specs.Prelude.{map, Option, None, Some, is_some}
 use Rattle.std.specs.List.{list_any, filter}
-use Rattle.syncml_types.specs.Numbering.{ids_in}
+use Rattle.syncml_parts.specs.Numbering.{ids_in}
 use Rattle.dm_headers.specs.declared.standings.Standing.{Standing}
 use Rattle.dm_pack.specs.Entries.{fresh}
 use Rattle.dm_job.specs.declared.job.JobEntry.{JobEntry}

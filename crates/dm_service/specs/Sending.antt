@@ -7,7 +7,7 @@ use Rattle.syncml_types.specs.declared.values.Loc.{Loc}
 use Rattle.syncml_types.specs.declared.command.Command.{Command}
 use Rattle.syncml_types.specs.declared.command.Command.TheVariants as command
 use Rattle.syncml_types.specs.Message.{Parts}
-use Rattle.syncml_types.specs.Numbering.{ids_in}
+use Rattle.syncml_parts.specs.Numbering.{ids_in}
 use Rattle.dm_auth.specs.declared.accounts.Account.{Account}
 use Rattle.dm_headers.specs.declared.checks.Side.TheVariants.{Server}
 use Rattle.dm_headers.specs.declared.standings.Standing.{Standing}

@@ -2,7 +2,7 @@
 ghost use Rattle.dm_service.specs.Laws.{StateIsEnough, AcceptedNumbersRise, SendsOnce, RunsInOneSession};
 ghost use Rattle.dm_service.specs.Laws.{CodesAreTold, UnacceptedTellsNothing, FirstIsReady, StaysReady};
 ghost use Rattle.dm_service.specs.Laws.{SendsWithinRoom};
-ghost use Rattle.dm_service.specs.Laws.{SendsNoFault, JobKeepsItsSession, ValuesAreFound, SentInOrder};
+ghost use Rattle.dm_service.specs.Laws.{SendsNoFault, JobKeepsItsSession, ValuesAreFound, ValuesAreRead, SentInOrder};
 
 /// Law: a server that keeps the message which it sent last answers every list of messages as its whole history says.
 pub fn state_is_enough()
@@ -39,17 +39,23 @@ pub fn job_keeps_its_session()
 {}
 
 /// Law: where a message is accepted, each code that is known then was known before, or is that of a Status in that
-/// message for the command, as it was sent in this session, whole or by its last part; and the message passes the
-/// checks of its header.
+/// message for the command, as it was sent in this session, whole or by its last part, and not given up by the same
+/// message; and the commands of that message are read.
 pub fn codes_are_told()
     ensures { CodesAreTold }
 {}
 
 /// Law: where a message is accepted, each value that is known then was known before, or came whole by an Item of
-/// Results in that message for the command, as it was sent in this session. Its earlier pieces are those of the object
-/// that the session gathers, and of Results in that message. And the message passes the checks of its header.
+/// Results in that message for the command, as it was sent in this session; and the commands of that message are read.
+/// Its earlier pieces are those of the object that the session gathers, and all that stand in front in that message.
 pub fn values_are_found()
     ensures { ValuesAreFound }
+{}
+
+/// Law: each value that is known for a command is what gathering makes of a piece, an Item of Results for that command,
+/// behind all pieces that were read before it in the session in which the command was sent.
+pub fn values_are_read()
+    ensures { ValuesAreRead }
 {}
 
 /// Law: a message that doesn't pass the checks of its header tells neither codes nor values nor alerts.

@@ -17,8 +17,8 @@ use Rattle.syncml_types.specs.declared.command.SeqMember.TheVariants as seq_memb
 use Rattle.syncml_types.specs.declared.command.Command.{Command}
 use Rattle.syncml_types.specs.declared.command.Command.TheVariants as command
 use Rattle.syncml_types.specs.Message.{Parts}
-use Rattle.syncml_types.specs.Numbering.{with_number, numbered_members, ids_in_seq_member}
-use Rattle.syncml_types.specs.Numbering.{numbered_seq_members, ids_in, with_numbers}
+use Rattle.syncml_parts.specs.Numbering.{with_number, numbered_members, ids_in_seq_member}
+use Rattle.syncml_parts.specs.Numbering.{numbered_seq_members, ids_in, with_numbers}
 use Rattle.dm_headers.specs.Checks.{is_denied, header_status, code_read}
 use Rattle.dm_headers.specs.Headers.{is_withheld as header_withheld, header_answer}
 use Rattle.dm_atomic.specs.declared.tasks.Origin.{Origin}

@@ -11,8 +11,8 @@ use Rattle.syncml_types.specs.declared.values.Meta.{Meta}
 use Rattle.syncml_types.specs.declared.values.Item.{Item}
 use Rattle.syncml_types.specs.declared.command.Command.{Command}
 use Rattle.syncml_types.specs.declared.command.Command.TheVariants as command
-use Rattle.syncml_types.specs.Packing.{bytes_in, only_changed}
-use Rattle.syncml_types.specs.Numbering.{ids_in, with_numbers}
+use Rattle.syncml_parts.specs.Packing.{bytes_in, only_changed}
+use Rattle.syncml_parts.specs.Numbering.{ids_in, with_numbers}
 use Rattle.dm_commands.specs.declared.outcome.Found.{Found}
 use Rattle.dm_atomic.specs.declared.tasks.Post.{Post}
 use Rattle.dm_atomic.specs.Made.{Made, Status, Result, Broken, told, source_item, found_meta}

@@ -15,7 +15,7 @@ use Rattle.syncml_types.specs.declared.command.Step.{Step}
 use Rattle.syncml_types.specs.declared.command.ResultsCmd.{ResultsCmd}
 use Rattle.syncml_types.specs.declared.command.Command.{Command}
 use Rattle.syncml_types.specs.declared.command.Command.TheVariants as command
-use Rattle.syncml_types.specs.Packing.{bytes_in}
+use Rattle.syncml_parts.specs.Packing.{bytes_in}
 use Rattle.dm_objects.specs.declared.object.Begun.{Begun}
 use Rattle.dm_objects.specs.declared.object.Object.{Object}
 use Rattle.dm_objects.specs.declared.object.Object.TheVariants.{Nothing, Buffering, Skipping}

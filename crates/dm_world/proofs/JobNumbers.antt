@@ -15,7 +15,7 @@ use Rattle.syncml_types.specs.declared.command.Member.TheVariants as member
 use Rattle.syncml_types.specs.declared.command.SeqMember.TheVariants as seq_member
 use Rattle.syncml_types.specs.declared.command.Command.{Command}
 use Rattle.syncml_types.specs.declared.command.Command.TheVariants as command
-use Rattle.syncml_types.specs.Packing.{last_changed}
+use Rattle.syncml_parts.specs.Packing.{last_changed}
 use Rattle.syncml_codec.specs.Ranges.{MetaRange, PlainRange, MemberRange, SeqMemberRange, CommandRange}
 use Rattle.dm_auth.specs.declared.accounts.Account.{Account}
 use Rattle.dm_start.specs.Fields.{begins_with, opt_of, account_in, limits_in}

@@ -14,10 +14,10 @@ use Rattle.syncml_types.specs.declared.command.SeqMember.{SeqMember}
 use Rattle.syncml_types.specs.declared.command.SeqMember.TheVariants as seq_member
 use Rattle.syncml_types.specs.declared.command.Command.{Command}
 use Rattle.syncml_types.specs.declared.command.Command.TheVariants as command
-use Rattle.syncml_types.specs.Numbering.{with_number, numbered_members, numbered_seq_members, ids_in}
-use Rattle.syncml_types.specs.Numbering.{with_numbers}
-use Rattle.syncml_types.specs.Packing.{only_changed, write_changed, member_changed, seq_member_changed, last_changed}
-use Rattle.syncml_types.specs.Packing.{cut_changed}
+use Rattle.syncml_parts.specs.Numbering.{with_number, numbered_members, numbered_seq_members, ids_in}
+use Rattle.syncml_parts.specs.Numbering.{with_numbers}
+use Rattle.syncml_parts.specs.Packing.{only_changed, write_changed, member_changed, seq_member_changed, last_changed}
+use Rattle.syncml_parts.specs.Packing.{cut_changed}
 use Rattle.dm_atomic.specs.declared.tasks.Origin.{Origin}
 use Rattle.dm_atomic.specs.declared.tasks.Task.{Task}
 use Rattle.dm_atomic.specs.Tasks.{item_tasks, member_tasks, members_tasks}

@@ -18,12 +18,12 @@ use Rattle.syncml_types.specs.declared.command.SeqMember.{SeqMember}
 use Rattle.syncml_types.specs.declared.command.SeqMember.TheVariants as seq_member
 use Rattle.syncml_types.specs.declared.command.Command.{Command}
 use Rattle.syncml_types.specs.declared.command.Command.TheVariants as command
-use Rattle.syncml_types.specs.Numbering.{with_number, numbered_members, numbered_seq_member, ids_in_seq_member}
-use Rattle.syncml_types.specs.Numbering.{numbered_seq_members, ids_in, with_numbers}
-use Rattle.syncml_types.specs.Packing.{only_item, write_item, member_item, seq_member_item, last_of, cut_item}
-use Rattle.syncml_types.specs.Packing.{only_changed, write_changed, member_changed, seq_member_changed, last_changed}
-use Rattle.syncml_types.specs.Packing.{bytes_in, data_in}
-use Rattle.syncml_types.proofs.Last.{last_next}
+use Rattle.syncml_parts.specs.Numbering.{with_number, numbered_members, numbered_seq_member, ids_in_seq_member}
+use Rattle.syncml_parts.specs.Numbering.{numbered_seq_members, ids_in, with_numbers}
+use Rattle.syncml_parts.specs.Packing.{only_item, write_item, member_item, seq_member_item, last_of, cut_item}
+use Rattle.syncml_parts.specs.Packing.{only_changed, write_changed, member_changed, seq_member_changed, last_changed}
+use Rattle.syncml_parts.specs.Packing.{bytes_in, data_in}
+use Rattle.syncml_parts.proofs.Last.{last_next}
 use Rattle.syncml_types.specs.Message.{no_meta}
 use Rattle.dm_atomic.specs.declared.tasks.Named.{Named}
 use Rattle.dm_atomic.specs.declared.tasks.Named.TheVariants as named

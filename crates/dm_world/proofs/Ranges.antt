@@ -19,10 +19,10 @@ use Rattle.syncml_types.specs.declared.command.Command.TheVariants as command
 use Rattle.syncml_types.specs.Message.{Parts}
 use Rattle.syncml_types.specs.Canonical.{canonical, command_tokens, commands_tokens}
 use Rattle.syncml_types.specs.Fitness.{all_of, is_short, item_data, member_data, seq_member_data, command_data, IsFit}
-use Rattle.syncml_types.specs.Numbering.{with_number, numbered_members, numbered_seq_member, numbered_seq_members}
-use Rattle.syncml_types.specs.Numbering.{ids_in_seq_member, ids_in_seq_members, ids_in, with_numbers}
-use Rattle.syncml_types.specs.Packing.{bytes_in, only_changed, write_changed, member_changed, seq_member_changed}
-use Rattle.syncml_types.specs.Packing.{last_changed, cut_changed}
+use Rattle.syncml_parts.specs.Numbering.{with_number, numbered_members, numbered_seq_member, numbered_seq_members}
+use Rattle.syncml_parts.specs.Numbering.{ids_in_seq_member, ids_in_seq_members, ids_in, with_numbers}
+use Rattle.syncml_parts.specs.Packing.{bytes_in, only_changed, write_changed, member_changed, seq_member_changed}
+use Rattle.syncml_parts.specs.Packing.{last_changed, cut_changed}
 use Rattle.syncml_codec.specs.Ranges.{MetaRange, ItemRange, HeaderRange, MemberRange, SeqMemberRange, CommandRange}
 use Rattle.dm_pack.specs.declared.filled.Tail.{Tail}
 use Rattle.dm_pack.specs.declared.filled.Tail.TheVariants.{Final, NextMessage, Nothing}

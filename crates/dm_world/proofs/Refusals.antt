@@ -14,7 +14,7 @@ use Rattle.syncml_types.specs.declared.command.StatusCmd.{StatusCmd}
 use Rattle.syncml_types.specs.declared.command.Command.{Command}
 use Rattle.syncml_types.specs.declared.command.Command.TheVariants as command
 use Rattle.syncml_types.specs.Message.{Parts}
-use Rattle.syncml_types.specs.Numbering.{with_numbers}
+use Rattle.syncml_parts.specs.Numbering.{with_numbers}
 use Rattle.dm_auth.specs.declared.accounts.Account.{Account}
 use Rattle.dm_auth.specs.declared.credentials.Verdict.{Verdict}
 use Rattle.dm_auth.specs.declared.credentials.Verdict.TheVariants.{Missing, Accepted, Wrong}

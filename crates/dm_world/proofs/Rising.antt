@@ -6,7 +6,7 @@ use Rattle.syncml_types.specs.declared.values.Header.{Header}
 use Rattle.syncml_types.specs.declared.command.Command.{Command}
 use Rattle.syncml_types.specs.declared.command.Command.TheVariants as command
 use Rattle.syncml_types.specs.Message.{Parts}
-use Rattle.syncml_types.specs.Numbering.{ids_in, with_numbers}
+use Rattle.syncml_parts.specs.Numbering.{ids_in, with_numbers}
 use Rattle.dm_headers.specs.Headers.{header_answer}
 use Rattle.dm_atomic.specs.declared.tasks.Origin.{Origin}
 use Rattle.dm_pack.specs.declared.filled.Tail.{Tail}

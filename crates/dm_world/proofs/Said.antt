@@ -1,33 +1,30 @@
 -- What the server holds of codes and values was told in messages of the client.
 use Rattle.std.proofs.Common.{zero, suc, ◌≡◌, ◌==◌, ℕ, List, [], ◌∷◌, Option, None, Some}
 use Rattle.std.proofs.Common.{refl, ◌∙◌, ap, subst, arith, ◌⊎◌, inl, inr, get_or, replicate}
-use Rattle.std.specs.Prelude.{Ok, slice_get, is_some, not, ◌&&◌}
-use Rattle.std.specs.List.{list_any, Contains}
+use Rattle.std.specs.Prelude.{Ok, slice_get, ◌&&◌, ◌++◌, map}
+use Rattle.std.specs.List.{Contains}
 use Rattle.syncml_types.specs.declared.command.Step.{Step}
+use Rattle.syncml_types.specs.declared.command.Command.TheVariants as command
 use Rattle.syncml_types.specs.Message.{Parts}
 use Rattle.dm_base.specs.declared.values.Limits.{Limits}
-use Rattle.dm_headers.specs.declared.checks.Side.TheVariants.{User}
-use Rattle.dm_headers.specs.declared.standings.Standing.{Standing}
-use Rattle.dm_headers.specs.Checks.{fault_of, is_denied, passes}
-use Rattle.dm_headers.specs.Standings.{Heard, hears}
-use Rattle.dm_ends.specs.Commands.{is_abort}
 use Rattle.dm_job.specs.declared.job.Job.{Job}
-use Rattle.dm_job.specs.declared.job.JobEntry.{JobEntry}
 use Rattle.dm_job.specs.Sound.{all_entries}
 use Rattle.dm_machine.specs.Machine.{Machine}
 use Rattle.dm_machine.specs.Events as client
 use Rattle.dm_machine.specs.History as client_runs
 use Rattle.dm_service.specs.Service.{Told, Session, Service}
-use Rattle.dm_service.specs.Matching.{untold}
-use Rattle.dm_service.specs.Packages.{commands_in, is_of_job, queues_package, next_package, gives_up}
-use Rattle.dm_service.specs.Sending.{sends}
-use Rattle.dm_service.specs.Messages.{begins, first_session, denies, after_status, tells, queues_answers, in_session}
-use Rattle.dm_service.specs.Messages.{answers_message, by_header, accepts}
+use Rattle.dm_service.specs.Matching.{untold, result_piece}
+use Rattle.dm_service.specs.Packages.{commands_in}
+use Rattle.dm_service.specs.Messages.{begins, first_session}
+use Rattle.dm_service.specs.Messages.{accepts}
 use Rattle.dm_service.specs.Events as server
 use Rattle.dm_service.specs.History as server_runs
-use Rattle.dm_service.specs.Laws.{code_at, found_at, gather_all}
+use Rattle.dm_objects.specs.Laws.{gather_all}
+use Rattle.dm_service.specs.Pieces.{still_sent, pieces_in}
+use Rattle.dm_service.specs.Laws.{code_at, found_at}
 use Rattle.dm_service.proofs.Codes.{codes_are_told}
-use Rattle.dm_service.proofs.Values.{values_are_found}
+use Rattle.dm_service.proofs.Limits.{limit-stays}
+use Rattle.dm_service.proofs.Values.{values_are_found, stands-in}
 use Rattle.dm_world.specs.World.{World, Reply, Happening, opens, up_comes, down_comes, acts, clock_moves, is_lost}
 use Rattle.dm_world.specs.World.{finds_no_memory, with_new, said, client_has, arrival, down_delivered, up_delivered}
 use Rattle.dm_world.specs.World.{happens, run}
@@ -52,57 +49,6 @@ or-map : {A B D : Type 0} → A ⊎ B → (B → D) → A ⊎ D
 or-map (inl a) f = inl a
 or-map (inr b) f = inr (f b)
 
--- ---- limits stay
-
-abbrev SameLimits : Service → Service → Type 0
-SameLimits v x = x.job.limits ≡ v.job.limits
-
-sends-limits : (v : Service) (s : Session) (m : Parts) (code : ℕ) → SameLimits v (sends v s m code)
-unfolding sends
-sends-limits v s m code = refl
-
-denies-limits : (v : Service) (s : Session) (m : Parts) (code : ℕ) (nonce : List ℕ)
-    → SameLimits v (denies v s m code nonce)
-unfolding denies
-denies-limits v s m code nonce = refl
-
-gives-limits : (v : Service) (s : Session) → SameLimits v (gives_up v s)
-unfolding gives_up
-gives-limits v s = refl
-
-next-limits : (v : Service) (s : Standing) → SameLimits v (next_package v s)
-next-limits v s =
-    either (SameLimits v) (s.accepted && s.heard && not (list_any is_of_job v.queue)) (queued v.packages) refl
-  where
-    queued : (ps : List (List JobEntry)) → SameLimits v (queues_package v ps)
-    queued [] = refl
-    queued (p ∷ ps) = refl
-
-answers-limits : (v : Service) (s : Session) (m : Parts) (code : ℕ) (nonce : List ℕ)
-    → SameLimits v (answers_message v s m code nonce)
-answers-limits v s m code nonce =
-    let told = tells v s m code in
-    let t = in_session told s in
-    let queued = queues_answers told m code nonce in
-    sends-limits (next_package queued t.progress.standing) t m code ∙ next-limits queued t.progress.standing
-    ∙ either (SameLimits v) (passes code) refl refl
-
-header-limits : (v : Service) (s : Session) (m : Parts) (h : Heard) (nonce : List ℕ)
-    → SameLimits v (by_header v s m h nonce)
-header-limits v s m h nonce =
-    either (SameLimits v) (not (is_some (fault_of m)) && list_any is_abort m.body) refl
-    (either (SameLimits v) h.second (denies-limits v s m h.code nonce) (answers-limits v s m h.code nonce))
-
-limit-stays : (v : Service) (s : Session) (m : Parts) (nonce : List ℕ) → SameLimits v (accepts v s m nonce)
-unfolding accepts
-limit-stays v s m nonce =
-    let h = hears User v.job.account s.progress.standing m nonce in
-    let t : Session = record s { progress = record s.progress { standing = h.standing } } in
-    let heard : Service = record v { job = record v.job { account = h.account }; session = Some t } in
-    let w = after_status heard t s.progress.standing.we_failed h.status in
-    header-limits w (in_session w t) m h nonce
-    ∙ either (SameLimits v) (not s.progress.standing.we_failed && is_denied h.status) (gives-limits heard t) refl
-
 -- ---- what a message tells
 
 accepts-tells : (v : Service) (s : Session) (m : Parts) (nonce : List ℕ)
@@ -115,10 +61,11 @@ accepts-tells v s m nonce = record {
       or-map (values_are_found v s m nonce place value h)
       (λ t. record {
         results = t.0.results;
-        within = t.0.within;
+        within = stands-in t.0.front (command.Results t.0.results) t.0.behind m.body t.0.stands;
         item = t.0.item;
-        item_within = t.0.item_within;
-        object = gather_all v.job.limits.max_obj s.object t.0.earlier;
+        item_within = stands-in t.0.earlier t.0.item t.0.later t.0.results.items t.0.items_are;
+        object = gather_all v.job.limits.max_obj s.object
+            (pieces_in (still_sent v s m nonce) t.0.front ++ map (result_piece t.0.results) t.0.earlier);
         whole = t.0.whole;
       });
   limit = ap (λ (l : Limits). l.max_obj) (limit-stays v s m nonce);

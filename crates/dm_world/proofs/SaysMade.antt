@@ -15,9 +15,9 @@ use Rattle.syncml_types.specs.declared.command.Command.{Command}
 use Rattle.syncml_types.specs.declared.command.Command.TheVariants as command
 use Rattle.syncml_types.specs.declared.values.Meta.{Meta}
 use Rattle.syncml_types.specs.declared.values.Item.{Item}
-use Rattle.syncml_types.specs.Packing.{bytes_in, only_changed}
+use Rattle.syncml_parts.specs.Packing.{bytes_in, only_changed}
 use Rattle.syncml_types.specs.Message.{Parts}
-use Rattle.syncml_types.specs.Numbering.{with_numbers}
+use Rattle.syncml_parts.specs.Numbering.{with_numbers}
 use Rattle.dm_tree.specs.declared.nodes.Stamp.{Stamp}
 use Rattle.dm_tree.specs.Nodes.{Nodes}
 use Rattle.dm_auth.specs.declared.accounts.Account.{Account}

@@ -6,7 +6,7 @@ use Rattle.std.specs.Prelude.{slice_get, is_some}
 use Rattle.std.specs.List.{Contains, list_any, filter}
 use Rattle.std.proofs.lemmas.List.{append-nil}
 use Rattle.syncml_types.specs.Message.{Parts}
-use Rattle.syncml_types.specs.Numbering.{ids_in}
+use Rattle.syncml_parts.specs.Numbering.{ids_in}
 use Rattle.dm_headers.specs.declared.checks.Side.TheVariants.{User}
 use Rattle.dm_headers.specs.Checks.{fault_of, is_denied, passes}
 use Rattle.dm_headers.specs.Standings.{Heard, hears}
@@ -29,8 +29,9 @@ use Rattle.dm_service.specs.Messages.{tells}
 use Rattle.dm_service.specs.Messages.{queues_answers, session_or, in_session, answers_message, by_header, accepts}
 use Rattle.dm_service.specs.Events as server
 use Rattle.dm_service.specs.History as server_runs
+use Rattle.dm_service.specs.Pieces.{still_sent, is_read}
 use Rattle.dm_service.specs.Laws.{code_at, IsTold}
-use Rattle.dm_service.proofs.Codes.{codes_are_told}
+use Rattle.dm_service.proofs.Codes.{codes_are_told, still_within, told_still}
 use Rattle.dm_world.specs.World.{InSession, World, Happening, opens, up_comes, down_comes, acts, clock_moves, is_lost}
 use Rattle.dm_world.specs.World.{with_new, replied, finds_no_memory, arrival, made_by, up_delivered, down_delivered}
 use Rattle.dm_world.specs.World.{happens, run, Reply}
@@ -221,11 +222,17 @@ accepts-code : (v : Service) (s : Session) (m : Parts) (nonce : List ℕ) (place
     → Comes v (accepts v s m nonce) m place code
 accepts-code v s m nonce place code e f h = by (codes_are_told v s m nonce place code h)
   where
-    by : (code_at v.told place ≡ Some code) ⊎ (IsTold s.sent m.body place code
-        × (passes (hears User v.job.account s.progress.standing m nonce).code ≡ true))
+    by : (code_at v.told place ≡ Some code) ⊎ (IsTold (still_sent v s m nonce) m.body place code
+        × (is_read v s m nonce ≡ true))
         → (code_at v.told place ≡ Some code) ⊎ TellsNow v m place code
     by (inl k) = inl k
-    by (inr k) = inr (record { session = s; is_open = e; number = f; told = k.0 })
+    by (inr k) =
+        inr (record {
+          session = s;
+          is_open = e;
+          number = f;
+          told = told_still v s m nonce m.body place code k.0;
+        })
 
 -- a session that begins has sent nothing
 opens-code : (v : Service) (n : ℕ) (m : Parts) (nonce : List ℕ) (place code : ℕ)
@@ -233,11 +240,13 @@ opens-code : (v : Service) (n : ℕ) (m : Parts) (nonce : List ℕ) (place code 
 opens-code v n m nonce place code h =
     by (codes_are_told (begins v n) (first_session v.job.account n) m nonce place code h)
   where
-    by : (code_at v.told place ≡ Some code) ⊎ (IsTold [] m.body place code
-        × (passes (hears User v.job.account (first_session v.job.account n).progress.standing m nonce).code ≡ true))
+    by : (code_at v.told place ≡ Some code)
+        ⊎ (IsTold (still_sent (begins v n) (first_session v.job.account n) m nonce) m.body place code
+        × (is_read (begins v n) (first_session v.job.account n) m nonce ≡ true))
         → (code_at v.told place ≡ Some code) ⊎ TellsNow v m place code
     by (inl k) = inl k
-    by (inr k) = absurd (none k.0.was_sent)
+    by (inr k) =
+        absurd (none (still_within (begins v n) (first_session v.job.account n) m nonce k.0.command k.0.was_sent))
       where
         none : {x : Sent} → Contains [] x → ⊥
         none h = let low = h.1 in omega (arith, low)

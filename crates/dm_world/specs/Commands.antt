@@ -10,7 +10,7 @@ use Rattle.syncml_types.specs.declared.command.StatusCmd.{StatusCmd}
 use Rattle.syncml_types.specs.declared.command.Command.{Command}
 use Rattle.syncml_types.specs.declared.command.Command.TheVariants as command
 use Rattle.syncml_types.specs.Message.{Parts}
-use Rattle.syncml_types.specs.Packing.{bytes_in}
+use Rattle.syncml_parts.specs.Packing.{bytes_in}
 use Rattle.dm_atomic.specs.declared.tasks.Post.{Post}
 use Rattle.dm_commands.specs.declared.outcome.Found.{Found}
 use Rattle.dm_atomic.specs.Made.{Made, Status, Result}

@@ -8,7 +8,7 @@ use Rattle.syncml_types.specs.declared.command.Step.{Step}
 use Rattle.syncml_types.specs.declared.command.Verb.TheVariants.{Replace}
 use Rattle.syncml_types.specs.declared.command.Command.TheVariants as command
 use Rattle.syncml_types.specs.Message.{Parts}
-use Rattle.syncml_types.specs.Packing.{bytes_in}
+use Rattle.syncml_parts.specs.Packing.{bytes_in}
 use Rattle.dm_objects.specs.declared.object.Object.{Object}
 use Rattle.dm_objects.specs.declared.piece.What.TheVariants.{Whole}
 use Rattle.dm_objects.specs.Gathering.{gather}

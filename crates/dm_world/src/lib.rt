@@ -75,8 +75,8 @@ pub fn says_the_made()
     ensures { SaysTheMade }
 {}
 
-/// Law: on every schedule all Results that the client sent tell of a value that it found in that session, for what stood
-/// under these two numbers in a message: its URI, Format and Type, and its bytes or a part of them.
+/// Law: on every schedule all Results that the client sent tell of a value that it found in that session, for what
+/// stood under these two numbers in a message: its URI, Format and Type, and its bytes or a part of them.
 pub fn says_the_found()
     ensures { SaysTheFound }
 {}
