@@ -2,7 +2,7 @@
 use Rattle.std.proofs.Common.{◌≡◌, ◌+◌, ◌&&◌, ◌||◌, ℕ, false, List, [], ◌∷◌, refl}
 use Rattle.std.proofs.Common.{nat_lt, nat_le, arith}
 use Rattle.std.proofs.lemmas.Grind.{common_steps}
-use Rattle.syncml_types.specs.Numbering.{ids_in}
+use Rattle.syncml_parts.specs.Numbering.{ids_in}
 use Rattle.dm_job.specs.declared.job.JobEntry.{JobEntry}
 use Rattle.dm_job.specs.Sound.{AreNumbered}
 use Rattle.dm_service.specs.Service.{Told}

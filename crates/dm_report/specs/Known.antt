@@ -14,20 +14,21 @@ pub record Known : Type 0 where
   pub alerts : List KeptAlert
 
 -- the value that is being gathered in a session, with the greatest that is taken
-pub record Gathered : Type 0 where
+pub record GatheredSoFar : Type 0 where
   pub max_obj : ℕ
   pub object : Object
 
 -- ---- a message
 
-abbrev pub matched_of : Known → Gathered → Matched
+abbrev pub matched_of : Known → GatheredSoFar → Matched
 matched_of known gathered = record {
   finding = record { object = gathered.object; told = known.told };
   alerts = known.alerts;
 }
 
 -- a message with these commands tells what it matches
-pub record Tells (sent : List Sent) (body : List Command) (known next : Known) (before after : Gathered) : Type 0 where
+pub record Tells (sent : List Sent) (body : List Command) (known next : Known) (before after : GatheredSoFar)
+    : Type 0 where
   pub matched : matched_of next after ≡ matched before.max_obj sent (matched_of known before) body
   pub max_obj : after.max_obj ≡ before.max_obj
 

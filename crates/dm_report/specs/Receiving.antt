@@ -4,9 +4,9 @@ use Rattle.dm_objects.specs.declared.piece.Piece.{Piece}
 use Rattle.dm_objects.specs.declared.piece.What.{What}
 use Rattle.dm_objects.specs.Gathering.{gather}
 use Rattle.dm_objects.specs.Seen.{Seen, present}
-use Rattle.dm_report.specs.Known.{Gathered}
+use Rattle.dm_report.specs.Known.{GatheredSoFar}
 
-abbrev pub gathered_of : Seen → Gathered
+abbrev pub gathered_of : Seen → GatheredSoFar
 gathered_of s = record { max_obj = s.max_obj; object = present s.objects }
 
 -- the inbox can go back to what it was

@@ -13,10 +13,10 @@ pub struct Gathering {
 }
 
 impl Model for Gathering {
-    ghost use Rattle.dm_report.specs.Known.{Gathered};
+    ghost use Rattle.dm_report.specs.Known.{GatheredSoFar};
     ghost use Rattle.dm_report.specs.Receiving.{gathered_of};
 
-    ghost Value = { Gathered };
+    ghost Value = { GatheredSoFar };
 
     ghost view = { λ g. gathered_of g.inbox };
 }

@@ -24,18 +24,18 @@ fn put_number(out: &mut Bytes, number: u64) -> Result<(), Memory>
     out.extend(buffer.format(number).as_bytes())
 }
 
-fn put_hex(alloc: Global, out: &mut Bytes, bytes: &Bytes) -> Result<(), Memory>
+fn put_hex(out: &mut Bytes, bytes: &Bytes) -> Result<(), Memory>
     ensures { OnOk result (out.new ≡ out.old ++ Spec.hex_field (Some bytes.now)) }
 {
     out.extend(b" ")?;
-    hex_into(alloc, out, bytes.as_slice())
+    hex_into(out, bytes.as_slice())
 }
 
-fn put_hex_or_none(alloc: Global, out: &mut Bytes, bytes: &Option<Bytes>) -> Result<(), Memory>
+fn put_hex_or_none(out: &mut Bytes, bytes: &Option<Bytes>) -> Result<(), Memory>
     ensures { OnOk result (out.new ≡ out.old ++ Spec.hex_field bytes.now) }
 {
     match bytes {
-        Some(bytes) => put_hex(alloc, out, bytes),
+        Some(bytes) => put_hex(out, bytes),
         None => out.extend(b" -"),
     }
 }
@@ -49,20 +49,19 @@ fn put_status(out: &mut Bytes, number: u64, code: u32) -> Result<(), Memory>
     out.extend(b"\n")
 }
 
-fn put_result(alloc: Global, out: &mut Bytes, found: &Step) -> Result<(), Memory>
+fn put_result(out: &mut Bytes, found: &Step) -> Result<(), Memory>
     ensures { OnOk result (out.new ≡ out.old ++ Spec.result_line found.now) }
 {
     out.extend(b"result")?;
-    put_hex_or_none(alloc, out, &found.target)?;
-    put_hex_or_none(alloc, out, &found.format)?;
-    put_hex_or_none(alloc, out, &found.media)?;
-    put_hex(alloc, out, &found.value)?;
+    put_hex_or_none(out, &found.target)?;
+    put_hex_or_none(out, &found.format)?;
+    put_hex_or_none(out, &found.media)?;
+    put_hex(out, &found.value)?;
     out.extend(b"\n")
 }
 
 // The values of the command at a place, along its chain.
 fn put_values(
-    alloc: Global,
     out: &mut Bytes,
     found: &[FoundValue],
     first: &[usize],
@@ -75,14 +74,14 @@ fn put_values(
 {
     let mut at = first[place];
     while at < found.len() {
-        put_result(alloc, out, &found[at].value)?;
+        put_result(out, &found[at].value)?;
         at = next[at];
     }
     Ok(())
 }
 
 // The commands before the first one that has no code.
-fn put_told(alloc: Global, out: &mut Bytes, kept: &Kept, chains: &Chains) -> Result<(), Memory>
+fn put_told(out: &mut Bytes, kept: &Kept, chains: &Chains) -> Result<(), Memory>
     requires chained { IsChained kept.now.found 0 chains.now.first.items chains.now.next.items }
     requires within { vec_len chains.now.first ≡ length kept.now.codes }
     ensures { OnOk result (out.new ≡ out.old ++ Spec.told_text 1 (told_from 0 kept.now.codes kept.now.found)) }
@@ -93,7 +92,6 @@ fn put_told(alloc: Global, out: &mut Bytes, kept: &Kept, chains: &Chains) -> Res
         };
         put_status(out, place as u64 + 1, *code)?;
         put_values(
-            alloc,
             out,
             kept.found.as_slice(),
             chains.first.as_slice(),
@@ -104,20 +102,20 @@ fn put_told(alloc: Global, out: &mut Bytes, kept: &Kept, chains: &Chains) -> Res
     Ok(())
 }
 
-fn put_alert(alloc: Global, out: &mut Bytes, alert: &KeptAlert) -> Result<(), Memory>
+fn put_alert(out: &mut Bytes, alert: &KeptAlert) -> Result<(), Memory>
     ensures { OnOk result (out.new ≡ out.old ++ Spec.alert_line alert.now) }
 {
     out.extend(b"alert 1226")?;
-    put_hex(alloc, out, &alert.media)?;
-    put_hex(alloc, out, &alert.value)?;
+    put_hex(out, &alert.media)?;
+    put_hex(out, &alert.value)?;
     out.extend(b"\n")
 }
 
-fn put_alerts(alloc: Global, out: &mut Bytes, alerts: &[KeptAlert]) -> Result<(), Memory>
+fn put_alerts(out: &mut Bytes, alerts: &[KeptAlert]) -> Result<(), Memory>
     ensures { OnOk result (out.new ≡ out.old ++ flat_map Spec.alert_line alerts.now) }
 {
     for alert in alerts {
-        put_alert(alloc, out, alert)?;
+        put_alert(out, alert)?;
     }
     Ok(())
 }
@@ -138,8 +136,8 @@ pub(crate) fn report_text(alloc: Global, kept: &Kept, ran: bool) -> Result<Bytes
 {
     let chains = chains_of(alloc, kept.codes.len(), kept.found.as_slice())?;
     let mut out = Bytes::new(alloc);
-    put_told(alloc, &mut out, kept, &chains)?;
-    put_alerts(alloc, &mut out, kept.alerts.as_slice())?;
+    put_told(&mut out, kept, &chains)?;
+    put_alerts(&mut out, kept.alerts.as_slice())?;
     out.extend(b"state ")?;
     out.extend(state_word(ran, all_coded(kept)))?;
     out.extend(b"\n")?;

@@ -8,7 +8,7 @@ use Rattle.dm_job.specs.declared.job.Job.{Job}
 use Rattle.dm_pack.specs.declared.filled.Filled.{Filled}
 use Rattle.dm_pack.specs.Entries.{Entry}
 use Rattle.dm_pack.specs.Filling.{Filling, fill, left_after}
-use Rattle.dm_report.specs.Known.{Known, Gathered}
+use Rattle.dm_report.specs.Known.{Known, GatheredSoFar}
 use Rattle.dm_service.specs.declared.progress.Progress.{Progress}
 use Rattle.dm_service.specs.declared.sent.Sent.{Sent}
 use Rattle.dm_service.specs.Sending.{header_for, goes_out, carried_on, is_last, runs_in_after, standing_sent, sends}
@@ -31,7 +31,7 @@ left-is es header room heard = refl
 abbrev pub sent_progress : Progress → Filling → Bool → Progress
 sent_progress p f over = record p { standing = standing_sent p.standing f; answered = true; is_over = over }
 
-pub sent_is : (job : Job) (run : Run) (p next : Progress) (o now : Outbox) (g : Gathered) (k : Known)
+pub sent_is : (job : Job) (run : Run) (p next : Progress) (o now : Outbox) (g : GatheredSoFar) (k : Known)
     (before : Option Parts) (m : Parts) (code : ℕ) (filled : Filled) (runs : Option ℕ) (over : Bool) (f : Filling)
     → f ≡ filling_of (at_work job run p o g k before) p m
     → filled.message ≡ f.message → filled.whole ≡ f.whole → filled.cut ≡ f.cut

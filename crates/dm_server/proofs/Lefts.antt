@@ -6,7 +6,7 @@ use Rattle.std.specs.List.{filter}
 use Rattle.syncml_types.specs.Message.{Parts}
 use Rattle.dm_job.specs.declared.job.Job.{Job}
 use Rattle.dm_job.specs.declared.job.JobEntry.{JobEntry}
-use Rattle.dm_report.specs.Known.{Known, Gathered, forgotten_within}
+use Rattle.dm_report.specs.Known.{Known, GatheredSoFar, forgotten_within}
 use Rattle.dm_service.specs.declared.progress.Progress.{Progress}
 use Rattle.dm_service.specs.declared.sent.Sent.{Sent}
 use Rattle.dm_report.specs.Sending.{AreCommands}
@@ -32,7 +32,7 @@ outbox_left queue sent = record { queue = queue; sent = sent }
 abbrev pub known_left : ℕ → ℕ → Known → Known
 known_left first count k = record k { told = forgotten_within first count 1 k.told }
 
-pub given_up_is : (job : Job) (run : Run) (p : Progress) (o : Outbox) (g : Gathered) (k known : Known)
+pub given_up_is : (job : Job) (run : Run) (p : Progress) (o : Outbox) (g : GatheredSoFar) (k known : Known)
     (before : Option Parts) (next first count : ℕ) (runs : Option ℕ) (queue : List Waiting) (sent : List Sent)
     → IsNumberedJob job → IsPlace job run → IsRow (newest_of job.packages run) first count
     → next ≡ (if run.queued then run.next - 1 else run.next) → runs ≡ runs_after run.runs_in o.sent sent

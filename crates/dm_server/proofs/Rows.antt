@@ -2,7 +2,7 @@
 use Rattle.std.proofs.Common.{◌≡◌, ◌<◌, ◌≤◌, ◌+◌, ◌-◌, ℕ, zero, suc, Bool, true, false, cond, not, List, [], ◌∷◌}
 use Rattle.std.proofs.Common.{Some, ◌++◌, drop, length, get_or, refl, sym, ap, ◌∙◌, subst, arith}
 use Rattle.std.specs.List.{AllByRecursion, filter, slice_get}
-use Rattle.syncml_types.specs.Numbering.{ids_in}
+use Rattle.syncml_parts.specs.Numbering.{ids_in}
 use Rattle.dm_job.specs.declared.job.Job.{Job}
 use Rattle.dm_job.specs.declared.job.JobEntry.{JobEntry}
 use Rattle.dm_job.specs.Sound.{all_entries, AreNumbered}

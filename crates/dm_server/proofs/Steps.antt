@@ -25,7 +25,7 @@ use Rattle.dm_pack.specs.Filling.{IsReadyHeader}
 use Rattle.syncml_types.specs.Fitness.{IsFit}
 use Rattle.dm_service.proofs.Headers.{header_ready}
 use Rattle.dm_job.specs.declared.job.Job.{Job}
-use Rattle.dm_report.specs.Known.{Known, Gathered}
+use Rattle.dm_report.specs.Known.{Known, GatheredSoFar}
 use Rattle.dm_service.specs.declared.progress.Progress.{Progress}
 use Rattle.dm_service.specs.Messages.{first_service, after_status, ended, denies, by_header, accepts}
 use Rattle.dm_service.specs.Sending.{header_for}
@@ -62,7 +62,7 @@ denied_progress p = record p {
   is_over = true;
 }
 
-pub denied_sends : (job : Job) (run : Run) (p : Progress) (o : Outbox) (g : Gathered) (k : Known)
+pub denied_sends : (job : Job) (run : Run) (p : Progress) (o : Outbox) (g : GatheredSoFar) (k : Known)
     (before : Option Parts) (m : Parts) (code : ℕ) (nonce : List ℕ) (sent : Parts)
     → sent ≡ farewell (header_for (at_work job run p o g k before) p m) m code nonce
     → at_work job run (denied_progress p) o g k (Some sent)
@@ -141,7 +141,7 @@ with_standing p standing = record p { standing = standing }
 abbrev progress_heard : Progress → Heard → Progress
 progress_heard p h = with_standing p h.standing
 
-pub accepted_is : (job : Job) (run : Run) (p next : Progress) (o : Outbox) (g : Gathered) (k : Known)
+pub accepted_is : (job : Job) (run : Run) (p next : Progress) (o : Outbox) (g : GatheredSoFar) (k : Known)
     (before : Option Parts) (m : Parts) (nonce : List ℕ) (account : Account) (status : ℕ) (v : Service)
     → account ≡ (heard_of job p m nonce).account → status ≡ (heard_of job p m nonce).status
     → next ≡ progress_heard p (heard_of job p m nonce)

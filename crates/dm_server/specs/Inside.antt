@@ -8,7 +8,7 @@ use Rattle.dm_ends.specs.declared.farewells.LastMessage.{LastMessage}
 use Rattle.dm_job.specs.declared.job.Job.{Job}
 use Rattle.dm_job.specs.declared.job.JobEntry.{JobEntry}
 use Rattle.dm_job.specs.Sound.{all_entries, AreNumbered}
-use Rattle.dm_report.specs.Known.{Known, Gathered}
+use Rattle.dm_report.specs.Known.{Known, GatheredSoFar}
 use Rattle.dm_report.specs.Sending.{AreCommands}
 use Rattle.dm_service.specs.declared.progress.Progress.{Progress}
 use Rattle.dm_service.specs.Service.{Waiting, Session, Service}
@@ -44,11 +44,11 @@ service_of job run queue known session sent = record {
   sent = sent;
 }
 
-abbrev pub session_of : Progress → Outbox → Gathered → Session
+abbrev pub session_of : Progress → Outbox → GatheredSoFar → Session
 session_of p o g = record { progress = p; object = g.object; sent = o.sent }
 
 -- the machine in a session
-abbrev pub at_work : Job → Run → Progress → Outbox → Gathered → Known → Option Parts → Service
+abbrev pub at_work : Job → Run → Progress → Outbox → GatheredSoFar → Known → Option Parts → Service
 at_work job run p o g known sent = service_of job run o.queue known (Some (session_of p o g)) sent
 
 abbrev pub session_in : Held → Session
@@ -80,7 +80,7 @@ pub record IsPlace (job : Job) (run : Run) : Type 0 where
   pub behind : run.queued ≡ true → 0 < run.next
 
 -- what was sent are commands of the job, and no greater value is gathered than the limits say
-pub record Stands (job : Job) (run : Run) (o : Outbox) (g : Gathered) : Type 0 where
+pub record Stands (job : Job) (run : Run) (o : Outbox) (g : GatheredSoFar) : Type 0 where
   pub place : IsPlace job run
   pub commands : AreCommands o.sent
   pub max_obj : g.max_obj ≡ job.limits.max_obj

@@ -15,7 +15,7 @@ use Rattle.dm_ends.specs.Ready.{IsReadyAccount, IsReadyLimits}
 use Rattle.dm_job.specs.declared.job.Job.{Job}
 use Rattle.dm_job.specs.declared.job.JobEntry.{JobEntry}
 use Rattle.dm_job.specs.Sound.{AreNumbered}
-use Rattle.dm_report.specs.Known.{Known, Gathered, Tells as TellsOfJob, is_within}
+use Rattle.dm_report.specs.Known.{Known, GatheredSoFar, Tells as TellsOfJob, is_within}
 use Rattle.dm_report.specs.Sending.{AreCommands}
 use Rattle.dm_service.specs.declared.progress.Progress.{Progress}
 use Rattle.dm_service.specs.declared.sent.Sent.{Sent}
@@ -51,7 +51,7 @@ pub record Holds (job : Job) (run : Run) (o : Outbox) : Type 0 where
   pub commands : AreCommands o.sent
   pub order : AreInOrder o.sent
 
-pub record CanWork (job : Job) (account : Account) (run : Run) (p : Progress) (o : Outbox) (g : Gathered)
+pub record CanWork (job : Job) (account : Account) (run : Run) (p : Progress) (o : Outbox) (g : GatheredSoFar)
     : Type 0 where
   pub holds : Holds job run o
   pub max_obj : g.max_obj ≡ job.limits.max_obj
@@ -88,7 +88,7 @@ pub record CanAccept (job : Job) (run : Run) (s : Held) (msg : ℕ) : Type 0 whe
 -- ---- what it leaves
 
 -- the machine behind a message, where this one was sent last before
-abbrev pub behind : Job → Account → Next → Outbox → Gathered → Known → Option Parts → Service
+abbrev pub behind : Job → Account → Next → Outbox → GatheredSoFar → Known → Option Parts → Service
 behind job account next o g known before =
     at_work (with_account job account) next.run next.progress o g known
     (option_or (option_map message_in next.sent) before)
@@ -116,7 +116,7 @@ abbrev pub answer_with : Option LastMessage → Answer
 answer_with sent = if is_some sent then answer.Sent else answer.Ended
 
 -- the commands of a message that passes tell of the job; those of another tell nothing
-abbrev pub ToldBy : Bool → List Sent → List Command → Known → Known → Gathered → Gathered → Type 0
+abbrev pub ToldBy : Bool → List Sent → List Command → Known → Known → GatheredSoFar → GatheredSoFar → Type 0
 ToldBy true sent body known next before after = TellsOfJob sent body known next before after
 ToldBy false sent body known next before after = (next ≡ known) × (after ≡ before)
 

@@ -3,7 +3,7 @@ ghost use Rattle.std.specs.Prelude.{◌≡◌, ◌<◌, ◌-◌, true, if◌then
 ghost use Rattle.std.specs.List.{AllByRecursion};
 ghost use Rattle.syncml_types.specs.Message.{Parts};
 ghost use Rattle.dm_auth.specs.declared.accounts.Account.{Account as AnAccount};
-ghost use Rattle.dm_report.specs.Known.{Gathered, is_within};
+ghost use Rattle.dm_report.specs.Known.{GatheredSoFar, is_within};
 ghost use Rattle.dm_service.specs.declared.progress.Progress.{Progress as AProgress};
 ghost use Rattle.dm_service.specs.Packages.{gives_up, runs_after};
 ghost use Rattle.dm_service.specs.Ready.{IsReadyEntry, AreReadyPackages};
@@ -101,7 +101,7 @@ pub(crate) fn give_up(
     requires job { IsNumberedJob plan.now.job }
     requires packages { AreReadyPackages plan.now.job.packages }
     requires holds { Holds plan.now.job run outbox.now }
-    ensures given_up { IfOk result (λ left. (account : AnAccount) (p : AProgress) (g : Gathered)
+    ensures given_up { IfOk result (λ left. (account : AnAccount) (p : AProgress) (g : GatheredSoFar)
         (before : OptionOf Parts)
         → at_work (with_account plan.now.job account) left.run p left.outbox g left.findings before
         ≡ gives_up (at_work (with_account plan.now.job account) run p outbox.now g findings.now before)

@@ -6,7 +6,7 @@ ghost use Rattle.dm_ends.specs.Ready.{IsReadyAccount, IsReadyLimits, IsReadyMess
 ghost use Rattle.dm_headers.specs.Checks.{is_denied as denied, passes as passing};
 ghost use Rattle.dm_headers.specs.Standings as Standings;
 ghost use Rattle.dm_job.specs.declared.job.Job.{Job as AJob};
-ghost use Rattle.dm_report.specs.Known.{Known as AKnown, Gathered};
+ghost use Rattle.dm_report.specs.Known.{Known as AKnown, GatheredSoFar};
 ghost use Rattle.dm_service.specs.Messages as Spec;
 ghost use Rattle.dm_service.specs.Packages.{gives_up};
 ghost use Rattle.dm_server.specs.declared.held.Outbox.{Outbox as AnOutbox};
@@ -29,7 +29,7 @@ use syncml_types::Message;
 
 // The session is over without an answer.
 fn ended(run: Run, progress: &Progress) -> Next
-    ensures state { (job : AJob) (account : AnAccount) (o : AnOutbox) (g : Gathered) (known : AKnown)
+    ensures state { (job : AJob) (account : AnAccount) (o : AnOutbox) (g : GatheredSoFar) (known : AKnown)
         (before : OptionOf Parts) → behind job account result o g known before
         ≡ Spec.ended (at_work (with_account job account) run progress.now o g known before)
         (session_of progress.now o g) }
@@ -62,7 +62,7 @@ fn denied(
     requires number { progress.now.number < 2 ^ 32 }
     requires own { progress.now.standing.own + 1 < 2 ^ 32 }
     requires message { IsReadyMessage message.now nonce.now.bytes }
-    ensures state { IfOk result (λ next. (o : AnOutbox) (g : Gathered) (known : AKnown) (before : OptionOf Parts)
+    ensures state { IfOk result (λ next. (o : AnOutbox) (g : GatheredSoFar) (known : AKnown) (before : OptionOf Parts)
         → behind plan.now.job account.now next o g known before
         ≡ Spec.denies (at_work (with_account plan.now.job account.now) run progress.now o g known before)
         (session_of progress.now o g) message.now code nonce.now.bytes) }

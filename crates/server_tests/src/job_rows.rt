@@ -243,8 +243,8 @@ state over
         ],
     },
     // The code of its last part counts. A message of 2,048 bytes takes 1,873 bytes `a`, since all else of it takes 175:
-    // - An element around others takes 2 bytes, and one around a text of n bytes n + 4, a text at STR_I. Children of Meta
-    //   stand on page 1, and to go there and back takes 4.
+    // - An element around others takes 2 bytes, and one around a text of n bytes n + 4, a text at STR_I. Children of
+    //   Meta stand on page 1, and to go there and back takes 4.
     // - Before the header 5, and SyncML 2. The header 71: 2; VerDTD 7, VerProto 10, SessionID and MsgID 5 each; Target
     //   and Source 2 + 6 each; Meta 2 + 4 with MaxMsgSize 9 and MaxObjSize 11.
     // - SyncBody 2. The header's Status 35: 2; CmdID, MsgRef and CmdRef 5 each, Cmd 11, Data 7.
