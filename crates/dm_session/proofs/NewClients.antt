@@ -38,10 +38,11 @@ new_machine limits clock s q accounts results = record {
   farewell = None;
 }
 
-abbrev new_rest : Global → Limits → List Account → List UpdateResult → Rest
-new_rest alloc limits accounts results = record {
+abbrev new_rest : Global → Limits → Path → List Account → List UpdateResult → Rest
+new_rest alloc limits place accounts results = record {
   alloc = alloc;
   limits = limits;
+  place = place;
   accounts = accounts;
   session = None;
   begun = 0;
@@ -71,12 +72,12 @@ no_group : (m : Nodes) → (begun m).group ≡ None
 unfolding begun
 no_group m = refl
 
-module _ (e : Engine) (q : List Entry) (alloc : Global) (limits : Limits) (accounts : List Account)
-    (results : List UpdateResult)
+module _ (e : Engine) (q : List Entry) (alloc : Global) (limits : Limits) (place : Path)
+    (accounts : List Account) (results : List UpdateResult)
     (clock : Stamp) (m : Nodes) (state : state_of e ≡ begun m) (queue : q ≡ []) (untold : results ≡ [])
     (runs : (caller : List ℕ)
     → running e caller ≡ record { setting = asked_by caller clock; max_obj = limits.max_obj }) where
-  pub new_machine_is : machine_of e q (new_rest alloc limits accounts results)
+  pub new_machine_is : machine_of e q (new_rest alloc limits place accounts results)
       ≡ new_machine limits clock (begun m) [] accounts []
   new_machine_is =
       ap (λ s. new_machine limits (clock_of e) s q accounts results) state
@@ -89,7 +90,7 @@ module _ (e : Engine) (q : List Entry) (alloc : Global) (limits : Limits) (accou
 
   pub new_sound : IsSoundEngine e → past_of e ≡ no_past → IsReadyLimits limits → IsStamp clock → IsDevice m
       → AllByRecursion IsReadyAccount accounts
-      → IsSound (record { engine = e; queue = q; rest = new_rest alloc limits accounts results })
+      → IsSound (record { engine = e; queue = q; rest = new_rest alloc limits place accounts results })
   new_sound sound settled ready stamp device accounts_ready = record {
     goes_on = record {
       engine = sound;

@@ -8,7 +8,7 @@ use Rattle.syncml_types.specs.declared.values.Header.{Header}
 use Rattle.syncml_types.specs.declared.command.Command.{Command}
 use Rattle.syncml_types.specs.Message.{Parts}
 use Rattle.syncml_types.specs.Fitness.{IsFit}
-use Rattle.syncml_types.specs.Numbering.{ids_in}
+use Rattle.syncml_parts.specs.Numbering.{ids_in}
 use Rattle.dm_tree.specs.Nodes.{Nodes}
 use Rattle.dm_tree.specs.Devices.{device_id}
 use Rattle.dm_auth.specs.declared.accounts.Account.{Account}

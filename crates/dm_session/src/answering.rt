@@ -89,7 +89,14 @@ fn answer(
     ensures err { OnErr result (queue.new ≡ queue.old) }
 {
     let behind = pushed_back(progress, count_of(&status))?;
-    let header = header_from(rest.alloc, rest.limits, engine.tree(), progress, account)?;
+    let header = header_from(
+        rest.alloc,
+        rest.limits,
+        engine.tree(),
+        &rest.place,
+        progress,
+        account,
+    )?;
     let standing = &progress.standing;
     let filled = send(queue, status, made, header, standing.room, standing.heard)?;
     Ok(session_after(&behind, filled))

@@ -63,6 +63,7 @@ pub(crate) fn open(
         rest.alloc,
         rest.limits,
         engine.tree(),
+        &rest.place,
         &progress,
         &rest.accounts.as_slice()[account],
     )?;

@@ -1,6 +1,6 @@
 // The client, which is seen as its machine.
-ghost use Rattle.std.specs.Prelude.{◌≡◌, ◌≤◌, ◌<◌, ◌^◌, [], true, false, None, ℕ, get_or, length, is_some, option_map, IfOk};
-ghost use Rattle.std.specs.Prelude.{IsErrOf};
+ghost use Rattle.std.specs.Prelude.{◌≡◌, ◌≤◌, ◌<◌, ◌^◌, [], true, false, None, ℕ, get_or, length, is_some, option_map};
+ghost use Rattle.std.specs.Prelude.{IfOk, IsErrOf};
 ghost use Rattle.std.specs.Prelude.{OnOk, OnErr, Ok as Good};
 ghost use Rattle.std.specs.List.{AllByRecursion};
 ghost use Rattle.std.specs.Option.{option_copied};
@@ -24,6 +24,7 @@ ghost use Rattle.dm_session.specs.declared.answers.BeginError.TheVariants as err
 
 use crate::answers::{Acted, Answer, BeginError};
 use crate::beginning::open;
+use crate::device::IdPlace;
 use crate::hearing::answer_to_old;
 use crate::rest::Rest;
 use crate::working::accept;
@@ -119,6 +120,7 @@ impl Client {
         // It tells that the stamp is one.
         let _ = tree.clock();
         let _ = tree.root();
+        let place = IdPlace::new(alloc)?;
         let engine = Engine::new(alloc, tree, limits.max_obj)?;
         Ok(Client {
             engine,
@@ -126,6 +128,7 @@ impl Client {
             rest: Rest {
                 alloc,
                 limits,
+                place,
                 accounts,
                 session: None,
                 begun: 0,

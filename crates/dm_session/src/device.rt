@@ -11,6 +11,7 @@ use dm_base::{Bytes, Memory};
 use dm_tree::Tree;
 use dm_uri::{Path, Query, Uri, parse_name, print};
 use std::alloc::Global;
+use std::marker::Model;
 
 fn push_name(alloc: Global, name: &[u8], path: &mut Path) -> Result<(), Memory>
     requires name { parse_name_of name.now ≡ Good name.now }
@@ -48,13 +49,37 @@ pub(crate) fn value_at(alloc: Global, tree: &Tree, path: &Path) -> Result<Bytes,
     }
 }
 
-/// The device's id.
-#[tactic(auto, unfolding(dm_uri::specs::Reading::parse_name_of))]
-pub(crate) fn device_id(alloc: Global, tree: &Tree) -> Result<Bytes, Memory>
-    ensures { IfOk result (λ id. id ≡ id_of (nodes tree.now.rows)) }
-{
-    let path = device_path(alloc, b"DevId")?;
-    value_at(alloc, tree, &path)
+/// Where the device's id stands. Its path is made once, and not for each header.
+#[derive(Drop)]
+pub(crate) struct IdPlace {
+    path: Path,
+}
+
+impl Model for IdPlace {
+    ghost use Rattle.std.specs.Prelude.{◌≡◌, List, ℕ, codes};
+    ghost use Rattle.dm_tree.specs.Devices.{device_path};
+
+    ghost Value = { List (List ℕ) };
+
+    ghost view = { λ p. p.path };
+
+    ghost invariant = { λ p. p.path ≡ device_path (codes "DevId") };
+}
+
+impl IdPlace {
+    #[tactic(auto, unfolding(dm_uri::specs::Reading::parse_name_of))]
+    pub(crate) fn new(alloc: Global) -> Result<IdPlace, Memory> {
+        Ok(IdPlace {
+            path: device_path(alloc, b"DevId")?,
+        })
+    }
+
+    /// The device's id.
+    pub(crate) fn id(&self, alloc: Global, tree: &Tree) -> Result<Bytes, Memory>
+        ensures { IfOk result (λ id. id ≡ id_of (nodes tree.now.rows)) }
+    {
+        value_at(alloc, tree, &self.path)
+    }
 }
 
 /// The written form of a path.

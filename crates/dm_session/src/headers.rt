@@ -6,7 +6,7 @@ ghost use Rattle.dm_headers.specs.declared.checks.Side.TheVariants.{User};
 ghost use Rattle.dm_headers.specs.Checks.{login_of};
 ghost use Rattle.dm_headers.specs.Headers as Spec;
 
-use crate::device::device_id;
+use crate::device::IdPlace;
 use dm_auth::Account;
 use dm_base::{Bytes, Limits, Memory};
 use dm_headers::{Side, next_header};
@@ -21,6 +21,7 @@ pub(crate) fn header_from(
     alloc: Global,
     limits: Limits,
     tree: &Tree,
+    place: &IdPlace,
     progress: &Progress,
     account: &Account,
 ) -> Result<Header, Memory>
@@ -35,7 +36,7 @@ pub(crate) fn header_from(
         name: None,
     };
     let source = Loc {
-        uri: device_id(alloc, tree)?,
+        uri: place.id(alloc, tree)?,
         name: copy_bytes(alloc, &account.user)?,
     };
     next_header(

@@ -1,4 +1,5 @@
 // What a client keeps beside its engine and its queue.
+use crate::device::IdPlace;
 use dm_auth::Account;
 use dm_base::{Bytes, Limits, List};
 use dm_machine::{Progress, UpdateResult};
@@ -24,6 +25,7 @@ pub(crate) struct Session {
 pub(crate) struct Rest {
     pub alloc: Global,
     pub limits: Limits,
+    pub place: IdPlace,
     pub accounts: List<Account>,
     pub session: Option<Session>,
     /// The number of the session begun last.

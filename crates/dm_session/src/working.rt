@@ -52,7 +52,14 @@ fn denial(
         → sent.message ≡ Spec.farewell_of c progress.now account.now message.now code nonce.now.bytes) }
     ensures spelled { IfOk result IsSpelled }
 {
-    let header = header_from(rest.alloc, rest.limits, engine.tree(), progress, account)?;
+    let header = header_from(
+        rest.alloc,
+        rest.limits,
+        engine.tree(),
+        &rest.place,
+        progress,
+        account,
+    )?;
     let LastMessage { message, bytes } = farewell(rest.alloc, header, message, code, nonce)?;
     Ok(Sent { message, bytes })
 }

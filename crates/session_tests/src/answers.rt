@@ -28,7 +28,7 @@ fn told(alloc: Global, word: &[u8], bytes: Option<&[u8]>) -> Result<Bytes, Memor
 fn whole(alloc: Global, bytes: Option<&[u8]>) -> Result<Bytes, Memory> {
     let mut out = Bytes::new(alloc);
     match bytes {
-        Some(bytes) => hex_into(alloc, &mut out, bytes)?,
+        Some(bytes) => hex_into(&mut out, bytes)?,
         None => out.extend(b"none")?,
     }
     Ok(out)
