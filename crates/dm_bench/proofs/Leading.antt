@@ -6,7 +6,7 @@ use Rattle.std.proofs.lemmas.Bool.Decides.{nat_tests}
 use Rattle.std.specs.Prelude.{codes, if◌then◌else◌}
 use Rattle.dm_start.specs.declared.heads.Head.TheVariants.{First}
 use Rattle.dm_start.specs.declared.telling.Phase.TheVariants as phase
-use Rattle.dm_start.specs.Start.{Told, Section, opening, telling, after_line, behind_line, lines_after}
+use Rattle.dm_start.specs.Start.{Setup, Section, opening, telling, after_line, behind_line, lines_after}
 use Rattle.dm_bench.specs.Start.{Leads, Ends, head_lines, group_uri, group_lines, lines_at, leaf_lines, start_of}
 use Rattle.dm_bench.specs.Start.{told_in}
 
@@ -63,7 +63,7 @@ leads_more leaf s t u before now =
 
 -- ---- the whole section
 
-leads_to : (lines : List (List ℕ)) (n : ℕ) (s t : Section) (told : Told) → Leads s lines t → Ends t told
+leads_to : (lines : List (List ℕ)) (n : ℕ) (s t : Section) (told : Setup) → Leads s lines t → Ends t told
     → lines_after n s (lines ++ codes "begin" ∷ []) ≡ Ok (telling phase.Begun told)
 leads_to [] n s t told is ends =
     ap (λ r. behind_line n r (λ next. lines_after (n + 1) next [])) (subst (λ p. Ends p told) is ends)
@@ -71,7 +71,7 @@ leads_to (x ∷ xs) n s t told is ends =
     ap (λ r. behind_line n r (λ next. lines_after (n + 1) next (xs ++ codes "begin" ∷ []))) is.1
     ∙ leads_to xs (n + 1) is.0 t told is.2 ends
 
-pub told_is : (nodes : ℕ) (s t u : Section) (told : Told) → s ≡ opening First → Leads s head_lines t
+pub told_is : (nodes : ℕ) (s t u : Section) (told : Setup) → s ≡ opening First → Leads s head_lines t
     → Leads t (leaf_lines nodes) u → Ends u told → told ≡ start_of nodes
 unfolding start_of
 told_is nodes s t u told first head leaves ends =

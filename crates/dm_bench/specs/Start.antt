@@ -12,7 +12,7 @@ use Rattle.dm_machine.specs.Events.{opened}
 use Rattle.dm_machine.specs.History.{next}
 use Rattle.dm_start.specs.declared.telling.Phase.TheVariants as phase
 use Rattle.dm_start.specs.declared.telling.Start.{Start}
-use Rattle.dm_start.specs.Start.{Told, Section, opening, telling, after_line, section_of_lines}
+use Rattle.dm_start.specs.Start.{Setup, Section, opening, telling, after_line, section_of_lines}
 use Rattle.dm_replay.specs.From.{CanBegin}
 use Rattle.dm_replay.specs.Output.{client_of}
 
@@ -60,7 +60,7 @@ start_lines nodes = head_lines ++ leaf_lines nodes ++ codes "begin" ∷ []
 -- ---- what they tell
 
 -- nothing
-abbrev pub untold : Told
+abbrev pub untold : Setup
 untold = record {
   version = 1;
   limits = record { max_msg = 65536; max_obj = 4194304 };
@@ -70,13 +70,13 @@ untold = record {
 }
 
 -- what a whole section told; of lines that are none, nothing
-abbrev pub told_in : Result Section (ℕ × LineReason) → Told
+abbrev pub told_in : Result Section (ℕ × LineReason) → Setup
 told_in (Ok (telling p told)) = told
 told_in (Ok (opening h)) = untold
 told_in (Err why) = untold
 
 -- what the lines of a tree with so many leaves tell
-unfoldable pub start_of : ℕ → Told
+unfoldable pub start_of : ℕ → Setup
 start_of nodes = told_in (section_of_lines (start_lines nodes))
 
 -- the client with the account's session 1, which the client asks for
@@ -91,7 +91,7 @@ Leads s [] t = t ≡ s
 Leads s (line ∷ lines) t = (next : Section) × (after_line s line ≡ Ok next) × Leads next lines t
 
 -- the last line leads from here to its end
-abbrev pub Ends : Section → Told → Type 0
+abbrev pub Ends : Section → Setup → Type 0
 Ends s told = after_line s (codes "begin") ≡ Ok (telling phase.Begun told)
 
 -- a client can be made of the start, with an account

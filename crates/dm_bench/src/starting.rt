@@ -63,7 +63,7 @@ fn put_leaf(alloc: Global, line: &mut Bytes, leaf: u32) -> Result<(), Memory>
     line.extend(b"leaf ")?;
     add_leaf(line, leaf)?;
     line.extend(b" chr text/plain ")?;
-    hex_into(alloc, line, digits(alloc, leaf as u64)?.as_slice())?;
+    hex_into(line, digits(alloc, leaf as u64)?.as_slice())?;
     Ok(())
 }
 

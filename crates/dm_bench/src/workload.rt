@@ -41,7 +41,7 @@ fn summary(alloc: Global, messages: u32, tally: Tally, digest: &[u8]) -> Result<
     line.extend(b" failed ")?;
     add_number(&mut line, tally.failed as u64)?;
     line.extend(b" tree ")?;
-    hex_into(alloc, &mut line, digest)?;
+    hex_into(&mut line, digest)?;
     line.push(b'\n')?;
     Ok(line)
 }

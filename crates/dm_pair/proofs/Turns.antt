@@ -10,7 +10,7 @@ use Rattle.dm_start.specs.declared.telling.Phase.TheVariants as phase
 use Rattle.dm_start.specs.declared.errors.LineError.{LineError}
 use Rattle.dm_start.specs.declared.errors.LineError.TheVariants as line_error
 use Rattle.dm_start.specs.Laying.{Refuses}
-use Rattle.dm_start.specs.Start.{Told, Section, opening, telling, is_begun, after_line as section_after}
+use Rattle.dm_start.specs.Start.{Setup, Section, opening, telling, is_begun, after_line as section_after}
 use Rattle.dm_job.specs.declared.job.Job.{Job}
 use Rattle.dm_job.specs.declared.draft.Reading.{Reading}
 use Rattle.dm_job.specs.declared.draft.Reading.TheVariants as reading
@@ -101,7 +101,7 @@ start_goes_on n s next text line behind is short read more =
     turned : turn (starting s) line ≡ Ok (quietly (stage_after next (told_in next)))
     turned = ap start_turn read
 
-pub start_ends : (n : ℕ) (s next : Section) (told : Told) (text line behind : List ℕ)
+pub start_ends : (n : ℕ) (s next : Section) (told : Setup) (text line behind : List ℕ)
     → segments text ≡ line ∷ segments behind → is_long line ≡ false → section_after s line ≡ Ok next
     → told_in next ≡ Some told → rest_of n (starting s) text ≡ rest_of (n + 1) (jobbing told reading.First) behind
 unfolding turn
@@ -124,7 +124,7 @@ start_refused n s why text line behind is short read =
 
 -- ---- the job
 
-pub job_goes_on : (n : ℕ) (told : Told) (r next : Reading) (text line behind : List ℕ)
+pub job_goes_on : (n : ℕ) (told : Setup) (r next : Reading) (text line behind : List ℕ)
     → segments text ≡ line ∷ segments behind → is_long line ≡ false → job_after r line ≡ Ok next → job_in next ≡ None
     → rest_of n (jobbing told r) text ≡ rest_of (n + 1) (jobbing told next) behind
 unfolding turn
@@ -135,7 +135,7 @@ job_goes_on n told r next text line behind is short read more =
     turned : turn (jobbing told r) line ≡ Ok (quietly (stage_behind told next (job_in next)))
     turned = ap (job_turn told) read
 
-pub job_ends : (n : ℕ) (told : Told) (r next : Reading) (job : Job) (text line behind : List ℕ)
+pub job_ends : (n : ℕ) (told : Setup) (r next : Reading) (job : Job) (text line behind : List ℕ)
     → segments text ≡ line ∷ segments behind → is_long line ≡ false → job_after r line ≡ Ok next
     → job_in next ≡ Some job
     → rest_of n (jobbing told r) text ≡ rest_of (n + 1) (happening (ids_of told.accounts) (pairing_of told job)) behind
@@ -148,7 +148,7 @@ job_ends n told r next job text line behind is short read ended =
     turned : turn (jobbing told r) line ≡ Ok (quietly (stage_behind told next (job_in next)))
     turned = ap (job_turn told) read
 
-pub job_refused : (n : ℕ) (told : Told) (r : Reading) (why : LineReason) (text line behind : List ℕ)
+pub job_refused : (n : ℕ) (told : Setup) (r : Reading) (why : LineReason) (text line behind : List ℕ)
     → segments text ≡ line ∷ segments behind → is_long line ≡ false → job_after r line ≡ Err why
     → rest_of n (jobbing told r) text ≡ refuses (n, why)
 unfolding turn
@@ -247,7 +247,7 @@ no_job r e = none_of (job_in r) e
     none_of None h = refl
     none_of (Some job) h = cc
 
-pub job_halts : (n : ℕ) (told : Told) (r : Reading) (text line behind : List ℕ) (e : LineError)
+pub job_halts : (n : ℕ) (told : Setup) (r : Reading) (text line behind : List ℕ) (e : LineError)
     → segments text ≡ line ∷ segments behind → is_long line ≡ false → Refuses (job_after r line) e
     → HaltsAs (rest_of n (jobbing told r) text) (halt_for n e)
 job_halts n told r text line behind (line_error.Bad why) is short read =

@@ -1,5 +1,6 @@
 -- What the lines behind a job say to both ends.
-use Rattle.std.specs.Prelude.{◌&&◌, ◌<◌, ◌≤◌, ⊤, ℕ, if◌then◌else◌, nat_lt, nat_le, List, [], ◌∷◌, codes, Option, Some, None}
+use Rattle.std.specs.Prelude.{◌&&◌, ◌<◌, ◌≤◌, ⊤, ℕ, if◌then◌else◌, nat_lt, nat_le, List, [], ◌∷◌, codes, Option, Some}
+use Rattle.std.specs.Prelude.{None}
 use Rattle.std.specs.Prelude.{Result, Ok, Err}
 use Rattle.std.specs.Str.Parse.{digits_value}
 use Rattle.dm_base.specs.Fields.{parts, is_numeral, num_of}

@@ -5,7 +5,7 @@ use Rattle.std.specs.Prelude.{Option, Some, None, Result, Ok, Err}
 use Rattle.dm_base.specs.declared.lines.LineReason.{LineReason}
 use Rattle.dm_base.specs.declared.lines.LineReason.TheVariants as reason
 use Rattle.dm_start.specs.declared.heads.Head.TheVariants as head
-use Rattle.dm_start.specs.Start.{Told, Section, opening, after_line as section_after}
+use Rattle.dm_start.specs.Start.{Setup, Section, opening, after_line as section_after}
 use Rattle.dm_start.specs.TreeText.{tree_text}
 use Rattle.dm_job.specs.declared.job.Job.{Job}
 use Rattle.dm_job.specs.declared.draft.Reading.{Reading}
@@ -27,13 +27,13 @@ use Rattle.dm_pair.specs.Pairing.{Pairing, Step, step_of}
 pub data Stage : Type 0 where
   first : Stage
   starting : Section → Stage
-  jobbing : Told → Reading → Stage
+  jobbing : Setup → Reading → Stage
   happening : List (List ℕ) → Pairing → Stage
   -- `end` came
   over : Pairing → Stage
 
 -- both ends before the first event
-abbrev pub pairing_of : Told → Job → Pairing
+abbrev pub pairing_of : Setup → Job → Pairing
 pairing_of told job = record {
   client = client_of told;
   server = first_service job;
@@ -58,7 +58,7 @@ first_line line =
     if bytes_eq line (codes "dm-pair 1") then Ok (quietly (starting (opening (head.Device 1)))) else Err reason.Word
 
 -- behind `begin` comes the job
-abbrev pub stage_after : Section → Option Told → Stage
+abbrev pub stage_after : Section → Option Setup → Stage
 stage_after s None = starting s
 stage_after s (Some told) = jobbing told reading.First
 
@@ -67,11 +67,11 @@ start_turn (Ok s) = Ok (quietly (stage_after s (told_in s)))
 start_turn (Err why) = Err why
 
 -- behind the job's `end` come the events
-abbrev pub stage_behind : Told → Reading → Option Job → Stage
+abbrev pub stage_behind : Setup → Reading → Option Job → Stage
 stage_behind told r None = jobbing told r
 stage_behind told r (Some job) = happening (ids_of told.accounts) (pairing_of told job)
 
-abbrev pub job_turn : Told → Result Reading LineReason → Result Turn LineReason
+abbrev pub job_turn : Setup → Result Reading LineReason → Result Turn LineReason
 job_turn told (Ok r) = Ok (quietly (stage_behind told r (job_in r)))
 job_turn told (Err why) = Err why
 

@@ -130,7 +130,8 @@ fn round(pairing: &mut Pairing) -> Result<Option<&'static [u8]>, Memory>
 // At most so many rounds, and why they ended.
 fn rounds(pairing: &mut Pairing, count: u32) -> Result<&'static [u8], Memory>
     requires { pairing.old.deliveries + 2 * count < 2 ^ 128 }
-    ensures rounds { IfOk result (λ word. Spec.rounds count (seen pairing.old) ≡ Spec.stops (seen pairing.new) word.now) }
+    ensures rounds { IfOk result (λ word. Spec.rounds count (seen pairing.old)
+        ≡ Spec.stops (seen pairing.new) word.now) }
     ensures count { OnOk result (pairing.new.deliveries ≤ pairing.old.deliveries + 2 * count) }
 {
     let mut left = count;

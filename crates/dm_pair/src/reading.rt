@@ -1,7 +1,7 @@
 // The client's start section, and the server's job.
 ghost use Rattle.std.specs.Prelude.{◌≡◌, ◌<◌, ◌≤◌, ◌+◌, ◌^◌, length, IfOk, IfErr};
 ghost use Rattle.dm_start.specs.declared.heads.Head.TheVariants.{Device};
-ghost use Rattle.dm_start.specs.Start.{opening, told_of, Told};
+ghost use Rattle.dm_start.specs.Start.{opening, told_of, Setup};
 ghost use Rattle.dm_job.specs.declared.draft.Reading.TheVariants as reading;
 ghost use Rattle.dm_job.specs.Sound.{IsSound};
 ghost use Rattle.dm_replay.specs.From.{CanBegin};
@@ -87,11 +87,12 @@ pub fn read_start(alloc: Global, text: &[u8]) -> Result<Begun<'_>, Halt>
 /// Reads the server's job, behind the start section: from `dm-job 1` to its `end`.
 pub fn read_job<'a>(alloc: Global, text: &'a [u8], first: u64) -> Result<Given<'a>, Halt>
     requires { first + length text.now < 2 ^ 64 }
-    ensures job { IfOk result (λ g. (told : Told) → rest_of first (jobbing told reading.First) text.now
+    ensures job { IfOk result (λ g. (told : Setup) → rest_of first (jobbing told reading.First) text.now
         ≡ rest_of g.number (happening (ids_of told.accounts) (pairing_of told g.job)) g.rest.now) }
     ensures sound { IfOk result (λ g. IsSound g.job) }
     ensures number { IfOk result (λ g. g.number + length g.rest.now ≤ first + length text.now) }
-    ensures halt { IfErr result (λ h. (told : Told) → HaltsAs (rest_of first (jobbing told reading.First) text.now) h) }
+    ensures halt { IfErr result (λ h. (told : Setup)
+        → HaltsAs (rest_of first (jobbing told reading.First) text.now) h) }
 {
     let mut reader = JobReader::new(alloc);
     let mut number = first;

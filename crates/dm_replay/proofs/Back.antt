@@ -13,7 +13,7 @@ use Rattle.dm_base.specs.declared.lines.LineReason.TheVariants as reason
 use Rattle.dm_machine.specs.Events.{Event as Happening}
 use Rattle.dm_start.specs.declared.heads.Head.TheVariants.{First}
 use Rattle.dm_start.specs.declared.telling.Phase.TheVariants as phase
-use Rattle.dm_start.specs.Start.{Told, Section, opening, telling, after_line, lines_after, behind_line}
+use Rattle.dm_start.specs.Start.{Setup, Section, opening, telling, after_line, lines_after, behind_line}
 use Rattle.dm_exit.specs.declared.exit.Exit.TheVariants as exit
 use Rattle.dm_replay.specs.declared.events.Event.{Event}
 use Rattle.dm_replay.specs.declared.events.Event.TheVariants as event
@@ -237,7 +237,7 @@ events_back version ids n (line ∷ lines) tail more h =
 pub record Beginning (n : ℕ) (s : Section) (lines : List (List ℕ)) (tail : List ℕ) (more : Bool) : Type 0 where
   pub start : List (List ℕ)
   pub behind : List (List ℕ)
-  pub told : Told
+  pub told : Setup
   pub are : lines ≡ start ++ behind
   pub tells : lines_after n s start ≡ Ok (telling phase.Begun told)
   pub short : AreShort start
@@ -248,7 +248,7 @@ after_read : (n : ℕ) (s next : Section) (line : List ℕ) (start : List (List 
 after_read n s next line start is =
     ap (λ (r : Result Section LineReason). behind_line n r (λ x. lines_after (n + 1) x start)) is
 
-last_read : (n : ℕ) (s next : Section) (told : Told) (line : List ℕ) (lines : List (List ℕ)) (tail : List ℕ)
+last_read : (n : ℕ) (s next : Section) (told : Setup) (line : List ℕ) (lines : List (List ℕ)) (tail : List ℕ)
     (more : Bool) → length line ≤ 8400000
     → after_line s line ≡ Ok next → told_in next ≡ Some told
     → begun_exit (began (n + 1) told (record { lines = lines; tail = tail; more = more })) ≡ exit.Done
@@ -276,7 +276,7 @@ more_read n s next line lines tail more short is rest = record {
   happenings = rest.happenings;
 }
 
-told_next : (o : Option Told) (n : ℕ) (s next : Section) (line : List ℕ) (lines : List (List ℕ)) (tail : List ℕ)
+told_next : (o : Option Setup) (n : ℕ) (s next : Section) (line : List ℕ) (lines : List (List ℕ)) (tail : List ℕ)
     (more : Bool) → length line ≤ 8400000
     → after_line s line ≡ Ok next → told_in next ≡ o
     → (begun_exit (start_from (n + 1) next lines tail more) ≡ exit.Done → Beginning (n + 1) next lines tail more)

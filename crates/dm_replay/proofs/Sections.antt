@@ -8,7 +8,7 @@ use Rattle.dm_start.specs.declared.heads.Head.TheVariants.{First}
 use Rattle.dm_start.specs.declared.telling.Phase.TheVariants as phase
 use Rattle.dm_start.specs.declared.errors.LineError.{LineError}
 use Rattle.dm_start.specs.declared.errors.LineError.TheVariants as line_error
-use Rattle.dm_start.specs.Start.{Told, Section, opening, telling, after_line, is_begun, Reads}
+use Rattle.dm_start.specs.Start.{Setup, Section, opening, telling, after_line, is_begun, Reads}
 use Rattle.dm_replay.specs.Input.{Input}
 use Rattle.dm_replay.specs.Trace.{bad, began, unbegun, is_long, start_line, behind_begin, told_in}
 use Rattle.dm_replay.specs.From.{OfInput, Between, Leads, OfStop, with_front, begun_at, halt_for}
@@ -33,11 +33,11 @@ behind_line n s next line j short is more =
     stepped n s line j short ∙ ap (λ (r : Result Section LineReason). start_line n r j (λ p. begun_at (n + 1) p j)) is
     ∙ goes (told_in next) (not_told next more)
   where
-    goes : (o : Option Told) → o ≡ None → behind_begin n o j (begun_at (n + 1) next j) ≡ begun_at (n + 1) next j
+    goes : (o : Option Setup) → o ≡ None → behind_begin n o j (begun_at (n + 1) next j) ≡ begun_at (n + 1) next j
     goes None e = refl
     goes (Some told) e = cc
 
-behind_last : (n : ℕ) (s next : Section) (told : Told) (line : List ℕ) (j : Input) → is_long line ≡ false
+behind_last : (n : ℕ) (s next : Section) (told : Setup) (line : List ℕ) (j : Input) → is_long line ≡ false
     → after_line s line ≡ Ok next
     → next ≡ telling phase.Begun told → begun_at n s (with_front line j) ≡ began (n + 1) told j
 behind_last n s next told line j short is last =
@@ -61,7 +61,7 @@ section_more (Some i) (Some j) (Some k) n at next line looked is read before lea
     before ∙ ap (begun_at n at) leads.0 ∙ behind_line n at next line k leads.1 (ap (after_line at) (sym is) ∙ read.0)
     (sym read.1)
 
-pub section_whole : (a b c : Option Input) (n : ℕ) (at next : Section) (told : Told) (line looked : List ℕ)
+pub section_whole : (a b c : Option Input) (n : ℕ) (at next : Section) (told : Setup) (line looked : List ℕ)
     → looked ≡ line
     → Reads (after_line at looked) at next (Ok true) → next ≡ telling phase.Begun told
     → Between a b (λ i j. begun_at 1 (opening First) i ≡ begun_at n at j) → Between b c (λ i j. Leads line i j)

@@ -10,7 +10,7 @@ use Rattle.dm_machine.specs.History.{fresh, reached, answers_from}
 use Rattle.dm_machine.specs.Laws.{IsUnused}
 use Rattle.dm_machine.proofs.History.{state_is_enough}
 use Rattle.dm_start.specs.declared.heads.Head.TheVariants.{First}
-use Rattle.dm_start.specs.Start.{Told, opening, told_of}
+use Rattle.dm_start.specs.Start.{Setup, opening, told_of}
 use Rattle.dm_exit.specs.declared.exit.Exit.{Exit}
 use Rattle.dm_exit.specs.declared.exit.Exit.TheVariants as exit
 use Rattle.dm_exit.specs.Puts.{Ends}
@@ -51,7 +51,7 @@ unfolding replay_text replay_exit
 begun_replays bytes b old new e is h =
     replays bytes old new e (subst (λ x. Ends (begun_text x) (begun_exit x) old new e) (sym is) h)
 
-events_replay : (bytes : List ℕ) (n : ℕ) (told : Told) (i : Input) (old new : Option (List ℕ)) (e : Exit)
+events_replay : (bytes : List ℕ) (n : ℕ) (told : Setup) (i : Input) (old new : Option (List ℕ)) (e : Exit)
     → begun_at 1 (opening First) (input_of 67108864 bytes) ≡ began n told i
     → EndsTrace told.version (client_of told) (trace_of n told i) old new e
     → Replays bytes old new e

@@ -11,7 +11,7 @@ use Rattle.dm_base.specs.declared.lines.LineReason.TheVariants as reason
 use Rattle.dm_machine.specs.Events.{Event as Happening}
 use Rattle.dm_start.specs.declared.heads.Head.TheVariants.{First}
 use Rattle.dm_start.specs.declared.telling.Phase.TheVariants as phase
-use Rattle.dm_start.specs.Start.{Told, Section, opening, telling, after_line, lines_after, behind_line}
+use Rattle.dm_start.specs.Start.{Setup, Section, opening, telling, after_line, lines_after, behind_line}
 use Rattle.dm_replay.specs.declared.events.Event.{Event}
 use Rattle.dm_replay.specs.declared.events.Event.TheVariants as event
 use Rattle.dm_replay.specs.Input.{Input, input_of, split}
@@ -58,7 +58,7 @@ line_read n s line lines is =
     ap (λ c. if c then unbegun (bad n reason.Long) else start_line n (after_line s line) (rest_of lines)
     (λ p. start_from (n + 1) p lines [] false)) (not_long line is)
 
-pub of_told : (s : Section) (told : Told) → told_in s ≡ Some told → s ≡ telling phase.Begun told
+pub of_told : (s : Section) (told : Setup) → told_in s ≡ Some told → s ≡ telling phase.Begun told
 of_told (opening h) told e = cc
 of_told (telling phase.Accounts t) told e = cc
 of_told (telling phase.Nodes t) told e = cc
@@ -69,7 +69,7 @@ section_value s (Ok x) = x
 section_value s (Err why) = s
 
 -- nothing follows `begin`
-none_behind : (n : ℕ) (told : Told) (lines : List (List ℕ)) (x : Section)
+none_behind : (n : ℕ) (told : Setup) (lines : List (List ℕ)) (x : Section)
     → lines_after n (telling phase.Begun told) lines ≡ Ok x → lines ≡ []
 unfolding after_line
 none_behind n told [] x h = refl
@@ -81,15 +81,15 @@ behind_one n k = omega arith
 same_section : (s t : Section) (r : Result Section (ℕ × LineReason)) → r ≡ Ok s → r ≡ Ok t → s ≡ t
 same_section s t r h k = ap (section_value s) (sym h ∙ k)
 
-none_told : (told : Told) → None ≡ Some told → ⊥
+none_told : (told : Setup) → None ≡ Some told → ⊥
 none_told told h = cc
 
-nothing_passes : (n : ℕ) (s : Section) (rest : List (List ℕ)) (told : Told) → told_in s ≡ None
+nothing_passes : (n : ℕ) (s : Section) (rest : List (List ℕ)) (told : Setup) → told_in s ≡ None
     → s ≡ telling phase.Begun told
     → start_from n s rest [] false ≡ began (n + 0) told (rest_of rest)
 nothing_passes n s rest told new last = absurd (none_told told (sym new ∙ ap told_in last))
 
-told_passes : (o : Option Told) (n : ℕ) (next : Section) (start rest : List (List ℕ)) (told : Told)
+told_passes : (o : Option Setup) (n : ℕ) (next : Section) (start rest : List (List ℕ)) (told : Setup)
     → (told_in next ≡ None → lines_after (n + 1) next start ≡ Ok (telling phase.Begun told)
     → start_from (n + 1) next (start ++ rest) [] false ≡ began (n + 1 + length start) told (rest_of rest))
     → told_in next ≡ o → lines_after (n + 1) next start ≡ Ok (telling phase.Begun told)
@@ -112,7 +112,7 @@ told_passes (Some other) n next start rest told rec is g =
     ∙ ap (λ l. began (n + 1) told (rest_of (l ++ rest))) none
     ∙ ap (λ l. began (n + suc (length l)) told (rest_of rest)) (sym none)
 
-line_passes : (r : Result Section LineReason) (n : ℕ) (start rest : List (List ℕ)) (told : Told)
+line_passes : (r : Result Section LineReason) (n : ℕ) (start rest : List (List ℕ)) (told : Setup)
     → ((next : Section) → told_in next ≡ None → lines_after (n + 1) next start ≡ Ok (telling phase.Begun told)
     → start_from (n + 1) next (start ++ rest) [] false ≡ began (n + 1 + length start) told (rest_of rest))
     → behind_line n r (λ next. lines_after (n + 1) next start) ≡ Ok (telling phase.Begun told)
@@ -121,7 +121,7 @@ line_passes : (r : Result Section LineReason) (n : ℕ) (start rest : List (List
 line_passes (Ok next) n start rest told rec g = told_passes (told_in next) n next start rest told (rec next) refl g
 line_passes (Err why) n start rest told rec g = cc
 
-pub start_passes : (n : ℕ) (s : Section) (start rest : List (List ℕ)) (told : Told) → told_in s ≡ None
+pub start_passes : (n : ℕ) (s : Section) (start rest : List (List ℕ)) (told : Setup) → told_in s ≡ None
     → lines_after n s start ≡ Ok (telling phase.Begun told)
     → AreLines (start ++ rest) → start_from n s (start ++ rest) [] false ≡ began (n + length start) told (rest_of rest)
 start_passes n s [] rest told new h are =
@@ -167,7 +167,7 @@ lines_behind : (front rest : List (List ℕ)) → AreLines (front ++ rest) → A
 lines_behind [] rest h = h
 lines_behind (line ∷ front) rest h = lines_behind front rest h.1
 
-begun_found : (lines : List (List ℕ)) (told : Told) (events : List Happening) → (f : IsWholeTrace lines told events)
+begun_found : (lines : List (List ℕ)) (told : Setup) (events : List Happening) → (f : IsWholeTrace lines told events)
     → length (text_of lines) ≤ 67108864
     → begun_of (text_of lines) ≡ began (1 + length f.start) told (rest_of (f.happenings ++ codes "end" ∷ []))
 begun_found lines told events f fits =
@@ -176,7 +176,7 @@ begun_found lines told events f fits =
     ∙ ap (λ l. start_from 1 (opening First) l [] false) f.in_order
     ∙ start_passes 1 (opening First) f.start rest told refl f.begins (subst AreLines f.in_order f.are_lines)
 
-trace_passes : (n : ℕ) (lines : List (List ℕ)) (told : Told) (events : List Happening)
+trace_passes : (n : ℕ) (lines : List (List ℕ)) (told : Setup) (events : List Happening)
     → (f : IsWholeTrace lines told events)
     → trace_of n told (rest_of (f.happenings ++ codes "end" ∷ [])) ≡ record { events = events; ending = whole }
 trace_passes n lines told events f =

@@ -7,7 +7,7 @@ use Rattle.dm_machine.specs.Machine.{Machine}
 use Rattle.dm_machine.specs.Events.{Event as Happening}
 use Rattle.dm_machine.specs.History.{answers, fresh, reached}
 use Rattle.dm_start.specs.declared.telling.Phase.TheVariants as phase
-use Rattle.dm_start.specs.Start.{Told, telling, section_of_lines}
+use Rattle.dm_start.specs.Start.{Setup, telling, section_of_lines}
 use Rattle.dm_exit.specs.declared.exit.Exit.TheVariants as exit
 use Rattle.dm_replay.specs.declared.events.Event.{Event}
 use Rattle.dm_replay.specs.Events.{event_of, happening_of}
@@ -41,7 +41,7 @@ AreEvents version ids (line ∷ lines) events =
     × AreEvents version ids lines rest
 
 -- the lines of a whole trace, with what its start section tells and the events that it holds
-pub record IsWholeTrace (lines : List (List ℕ)) (told : Told) (events : List Happening) : Type 0 where
+pub record IsWholeTrace (lines : List (List ℕ)) (told : Setup) (events : List Happening) : Type 0 where
   pub start : List (List ℕ)
   pub happenings : List (List ℕ)
   pub in_order : lines ≡ start ++ (happenings ++ codes "end" ∷ [])
@@ -57,7 +57,7 @@ whole_text version c events =
 -- each whole trace is answered whole
 abbrev pub WholeTracesAreAnswered : Type 0
 WholeTracesAreAnswered =
-    (lines : List (List ℕ)) (told : Told) (events : List Happening) → IsWholeTrace lines told events
+    (lines : List (List ℕ)) (told : Setup) (events : List Happening) → IsWholeTrace lines told events
     → length (text_of lines) ≤ 67108864
     → (replay_text (text_of lines) ≡ whole_text told.version (client_of told) events)
     × (replay_exit (text_of lines) ≡ exit.Done)
@@ -65,7 +65,7 @@ WholeTracesAreAnswered =
 -- the bytes are the text of a whole trace
 pub record IsTrace (bytes : List ℕ) : Type 0 where
   pub lines : List (List ℕ)
-  pub told : Told
+  pub told : Setup
   pub events : List Happening
   pub whole : IsWholeTrace lines told events
   pub text : bytes ≡ text_of lines

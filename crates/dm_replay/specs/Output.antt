@@ -17,7 +17,7 @@ use Rattle.dm_machine.specs.Machine.{Machine}
 use Rattle.dm_machine.specs.Events.{Answer, clocked, sent, kept, again, stale, stranger, no_session, refused, exhausted}
 use Rattle.dm_machine.specs.Events.{ended, acted, not_now}
 use Rattle.dm_machine.specs.History.{answers, fresh, reached, answers_from, state_from}
-use Rattle.dm_start.specs.Start.{Told}
+use Rattle.dm_start.specs.Start.{Setup}
 use Rattle.dm_start.specs.TreeText.{tree_text}
 use Rattle.dm_exit.specs.declared.exit.Exit.{Exit}
 use Rattle.dm_exit.specs.declared.exit.Exit.TheVariants as exit
@@ -106,7 +106,7 @@ ending_exit (stopped stop) = stop_exit stop
 -- ---- the whole run
 
 -- the client before its first session
-abbrev pub client_of : Told → Machine
+abbrev pub client_of : Setup → Machine
 client_of told = record {
   limits = told.limits;
   clock = told.clock;

@@ -7,7 +7,7 @@ use Rattle.dm_auth.specs.declared.accounts.Account.{Account}
 use Rattle.dm_machine.specs.Events.{Event as Happening}
 use Rattle.dm_start.specs.declared.heads.Head.TheVariants as head
 use Rattle.dm_start.specs.declared.telling.Phase.TheVariants as phase
-use Rattle.dm_start.specs.Start.{Told, Section, opening, telling, after_line}
+use Rattle.dm_start.specs.Start.{Setup, Section, opening, telling, after_line}
 use Rattle.dm_replay.specs.declared.events.Event.{Event}
 use Rattle.dm_replay.specs.Input.{Input, input_of}
 use Rattle.dm_replay.specs.Events.{event_of, happening_of}
@@ -38,18 +38,18 @@ tail_stop n tail more = if is_long tail then bad n reason.Long else if more then
 
 -- it is whole and line n comes next, or the run stops
 pub data Begun : Type 0 where
-  began : ℕ → Told → Input → Begun
+  began : ℕ → Setup → Input → Begun
   unbegun : Stop → Begun
 
 -- what was told, where `begin` came
-abbrev pub told_in : Section → Option Told
+abbrev pub told_in : Section → Option Setup
 told_in (opening h) = None
 told_in (telling phase.Accounts told) = None
 told_in (telling phase.Nodes told) = None
 told_in (telling phase.Begun told) = Some told
 
 -- the lines behind line n, which made this section
-abbrev pub behind_begin : ℕ → Option Told → Input → Begun → Begun
+abbrev pub behind_begin : ℕ → Option Setup → Input → Begun → Begun
 behind_begin n None input rest = rest
 behind_begin n (Some told) input rest = began (n + 1) told input
 
@@ -113,5 +113,5 @@ abbrev pub ids_of : List Account → List (List ℕ)
 ids_of accounts = map (λ (a : Account). a.server) accounts
 
 -- the events behind a start section
-abbrev pub trace_of : ℕ → Told → Input → Trace
+abbrev pub trace_of : ℕ → Setup → Input → Trace
 trace_of n told i = events_from told.version (ids_of told.accounts) n i.lines i.tail i.more

@@ -35,12 +35,14 @@ pub fn add_number(line: &mut Bytes, number: u64) -> Result<(), Memory>
     line.extend(buffer.format(number).as_bytes())
 }
 
-// A word and the bytes of a message.
+// A word and the bytes of a message, in room that is taken once, and that a line feed has too.
 fn message_line(alloc: Global, word: &[u8], message: &[u8]) -> Result<Bytes, Memory>
     ensures { IfOk result (λ t. t ≡ word.now ++ hex_text message.now) }
 {
-    let mut line = Bytes::of_slice(alloc, word)?;
-    hex_into(alloc, &mut line, message)?;
+    let mut line = Bytes::new(alloc);
+    line.reserve(message.len().saturating_add(word.len()).saturating_mul(2))?;
+    line.extend(word)?;
+    hex_into(&mut line, message)?;
     Ok(line)
 }
 

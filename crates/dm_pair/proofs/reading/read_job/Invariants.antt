@@ -1,5 +1,5 @@
 use Rattle.std.proofs.Common.{◌≡◌, ◌≤◌, ◌+◌, false, length}
-use Rattle.dm_start.specs.Start.{Told}
+use Rattle.dm_start.specs.Start.{Setup}
 use Rattle.dm_job.specs.declared.draft.Reading.TheVariants as reading
 use Rattle.dm_job.specs.Texts.{is_ended}
 use Rattle.dm_pair.specs.Texts.{jobbing}
@@ -10,7 +10,7 @@ abbrev pub invariant-lines : goal.invariant-lines
 invariant-lines l = record {
   few : l.number + length l.rest ≤ l.fn.first + length l.fn.text;
   open_ : is_ended l.reader ≡ false;
-  rest : (told : Told) → rest_of l.fn.first (jobbing told reading.First) l.fn.text
+  rest : (told : Setup) → rest_of l.fn.first (jobbing told reading.First) l.fn.text
       ≡ rest_of l.number (jobbing told l.reader) l.rest;
 }
 
