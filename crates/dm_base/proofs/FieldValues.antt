@@ -8,11 +8,11 @@ use Rattle.std.specs.Result.{result_ok}
 use Rattle.std.proofs.lemmas.Bool.{lt-ltb}
 use Rattle.std.proofs.lemmas.Slice.Eq.{bytes_eq-Decides}
 use Rattle.std.proofs.lemmas.List.Sums.{AllPass-from_list_all, list_all-from_AllPass}
-use Rattle.hex.specs.Hex.{IsBytes, decode_of, decode_sized, encode_lower, lower_digits, is_hex_digit}
+use Rattle.hex.specs.Hex.{decode_of, decode_sized, encode_lower, lower_digits, is_hex_digit}
 use Rattle.hex.specs.declared.error.FromHexError.{FromHexError}
 use Rattle.hex.proofs.HexLemmas.{decode_of-ok, decode_of-digits, decode_sized-ok, decode_sized-twice}
 use Rattle.hex.proofs.HexLemmas.{decode_of-encode_lower, length-encode_with}
-use Rattle.dm_base.specs.Fields.{is_hex, hex_of, hex_text, is_nonce, nonce_of, is_num, num_of}
+use Rattle.dm_base.specs.Fields.{is_nonce, is_num}
 use Rattle.dm_base.specs.Laws.{HexHasBytes, NonceHasBytes, NumHasNumber, HexIsReadAgain}
 
 -- a test that holds exactly where an answer is a value

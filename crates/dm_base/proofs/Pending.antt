@@ -4,6 +4,7 @@ use Rattle.std.proofs.Common.{◌∷◌, ◌++◌, refl, sym, ap, subst, ◌∙�
 use Rattle.std.proofs.Common.{take-append-drop, append_assoc, MatchOption, is_some}
 use Rattle.std.proofs.lemmas.List.{drop_more, get_or_append_left, get_or-drop, get_or-take, length-drop, length-take-le}
 use Rattle.std.proofs.lemmas.List.{take_all}
+use Rattle.std.proofs.Math.Seq.{take-append_seam}
 use Rattle.std.proofs.lemmas.Bool.{cases_lt, eq-eqb, eqb-true}
 use Rattle.memchr.specs.Find.{IsFirstByte, Nowhere, Passes, is_byte}
 use Rattle.std.proofs.KnownBytes.{Consumes-trans, Consumes-kept}
@@ -15,7 +16,7 @@ use Rattle.dm_base.specs.declared.lines.LineOut.TheVariants as line_out
 use Rattle.dm_base.specs.declared.lines.LineReason.TheVariants as reason
 use Rattle.dm_base.specs.Outside.{OfKnown}
 use Rattle.dm_base.specs.Lines.{LinesState, FillsPending, ReadsLine, ahead, behind, IsFeedless, IsLongLine, CountsTaken}
-use Rattle.dm_base.specs.Lines.{room}
+use Rattle.dm_base.specs.Lines.{AskedForMore, HasFeed, IsPastRoom, room}
 
 -- no line feed among the first n bytes
 abbrev pub IsClear : List ℕ → ℕ → Type 0
@@ -121,6 +122,43 @@ taken_at_error a left rest old new Read first h taken =
 taken_at_error a left rest old new TooLong first h taken = taken_more a left rest first _ _ taken h.0
 taken_at_error a left rest old new Memory first h taken = taken_more a left rest first _ _ taken h
 
+-- the pending bytes are all that a run looks at, without a line feed, and another byte comes
+pub past_room : (a b : Option (List ℕ)) (bytes : List ℕ) (r : ℕ) → Keeps a (prepend_known bytes b)
+    → OfKnown b (λ s. 0 < length s) → r ≡ length bytes → length bytes ≤ 8400000 → IsClear bytes (length bytes)
+    → OfKnown a (IsPastRoom r)
+past_room None b bytes r kept more all short clear = tt
+past_room (Some x) None bytes r kept more all short clear = absurd kept
+past_room (Some x) (Some y) bytes r kept more all short clear =
+    let e = ap length kept in
+    let joined = length-append bytes y in
+    let front = take-append_seam bytes y in
+    record {
+      more = omega (arith, e, joined, more, all);
+      short = omega (arith, all, short);
+      feedless = subst (λ n. IsFeedless (take n x)) (sym all)
+          (subst (λ l. IsFeedless (take (length bytes) l)) kept (subst IsFeedless (sym front) clear));
+    }
+
+-- what is to come stays where the source kept what it had left
+pub kept_ahead : (a left rest : Option (List ℕ)) (s : LinesState) → Keeps a (ahead s left) → Keeps left rest
+    → Keeps a (ahead s rest)
+kept_ahead None left rest s kept stays = tt
+kept_ahead (Some x) None rest s kept stays = absurd kept
+kept_ahead (Some x) (Some y) None s kept stays = absurd stays
+kept_ahead (Some x) (Some y) (Some z) s kept stays = ap (λ l. s.pending ++ (s.past ++ l)) stays ∙ kept
+
+-- the pending bytes hold no whole line, and no piece came
+pub line_stops : (a left rest : Option (List ℕ)) (first old new : LinesState) (n : ℕ) (error : TakeError)
+    → FillsPending old new left rest (Err error) → n ≡ length old.pending → n ≤ 8400000 → IsClear old.pending n
+    → room old ≡ room first → Keeps a (ahead old left) → ReadsLine (room first) a (ahead new rest) (Err error)
+line_stops a left rest first old new n Read fill all short clear same kept =
+    subst (λ s. Keeps a (ahead s rest)) (sym fill.0) (kept_ahead a left rest old kept fill.1)
+line_stops a left rest first old new n TooLong fill all short clear same kept =
+    let full = fill.1 in
+    past_room a (behind old left) old.pending (room first) kept fill.2 (omega (arith, same, full))
+    (omega (arith, all, short)) (subst (λ m. IsClear old.pending m) all clear)
+line_stops a left rest first old new n Memory fill all short clear same kept = tt
+
 -- after a piece more, by what `fill` says of it
 pub filled_within : (old new : LinesState) (left rest : Option (List ℕ)) (b : Bool) (n : ℕ) → b ≡ true
     → FillsPending old new left rest (Ok b) → n ≡ length old.pending → n ≤ length new.pending
@@ -214,6 +252,23 @@ pub none_found : (bytes looked : List ℕ) (n m : ℕ) → looked ≡ bytes → 
 none_found bytes looked n m was all clear none =
     clear_to bytes looked n m was clear
     (λ k low below feed. none k low (let e = ap length was in omega (arith, e, all, below)) feed)
+
+-- where nothing was asked for before and no line feed is pending, none was pending at first
+pub feed_missed : (first now : LinesState) (n : ℕ) {A : Type 0} {Same : Type 0} → HasFeed first.pending
+    → n ≡ length now.pending → IsClear now.pending n → (HasFeed first.pending → (now ≡ first) × Same) → A
+feed_missed first now n feed all clear unasked =
+    let same = ap (λ s. s.pending) (unasked feed).0 in
+    let within = ap length same in
+    absurd (clear feed.0 (omega (arith, all, within, feed.1)) (ap (λ l. get_or l feed.0 0) same ∙ feed.2))
+
+-- so a source that fails was asked where none is pending
+pub asked_for_more : (first now : LinesState) (n : ℕ) {Same : Type 0} (error : TakeError)
+    → n ≡ length now.pending → IsClear now.pending n → (HasFeed first.pending → (now ≡ first) × Same)
+    → AskedForMore first.pending (Err error)
+asked_for_more first now n Read all clear unasked =
+    λ k low feed. feed_missed first now n (k, low, feed) all clear unasked
+asked_for_more first now n TooLong all clear unasked = tt
+asked_for_more first now n Memory all clear unasked = tt
 
 -- what a search from the front says where it found a place
 pub line_there : (bytes looked : List ℕ) (r : Option ℕ) → looked ≡ bytes

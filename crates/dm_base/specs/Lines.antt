@@ -38,6 +38,10 @@ room state = length state.pending + (run_limit - state.taken)
 abbrev pub IsFeedless : List ℕ → Type 0
 IsFeedless bytes = (k : ℕ) → k < length bytes → slice_index bytes k ≢ 10
 
+-- a line feed stands among the bytes
+abbrev pub HasFeed : List ℕ → Type 0
+HasFeed bytes = (at : ℕ) × (at < length bytes) × (slice_index bytes at ≡ 10)
+
 -- all that is to come is the front of a line
 pub record IsCutLine (room : ℕ) (bytes : List ℕ) : Type 0 where
   pub some : 0 < length bytes
@@ -74,6 +78,11 @@ abbrev pub StaysUnlessLine : Option (List ℕ) → Option (List ℕ) → ℕ →
 StaysUnlessLine old new before now (Ok (line_out.Line line)) = ⊤
 StaysUnlessLine old new before now (Err take_error.Memory) = ⊤
 StaysUnlessLine old new before now other = Keeps old new × (now ≡ before)
+
+-- a source that failed was asked for more where no line feed is pending
+abbrev pub AskedForMore : List ℕ → Result LineOut TakeError → Type 0
+AskedForMore pending (Err take_error.Read) = IsFeedless pending
+AskedForMore pending other = ⊤
 
 -- bytes that were taken are counted
 abbrev pub CountsTaken : Option (List ℕ) → Option (List ℕ) → ℕ → ℕ → Type 0

@@ -3,7 +3,7 @@ ghost use Rattle.std.specs.Prelude.{◌≡◌, ◌≢◌, ◌<◌, ◌≤◌, �
 ghost use Rattle.std.specs.Prelude.{MatchOption, IfOk, OnOk, OnErr, IsErrOf, true, false};
 ghost use Rattle.dm_base.specs.Outside.{ReadCounts};
 ghost use Rattle.dm_base.specs.Lines.{LinesState, ReadsLine, StaysUnlessLine, CountsTaken, FillsPending, ahead};
-ghost use Rattle.dm_base.specs.Lines.{IsFeedless, room, bytes_given, run_limit};
+ghost use Rattle.dm_base.specs.Lines.{AskedForMore, HasFeed, IsFeedless, room, bytes_given, run_limit};
 
 use crate::bytes::{Bytes, Memory};
 use crate::outside::{Failed, Source, TakeError};
@@ -103,8 +103,7 @@ impl Lines {
 
     /// Whether a line feed is pending, so that `next` gives a line, or refuses it, without asking the source.
     pub fn has_line(&self) -> bool
-        ensures some { result ≡ true → (at : ℕ) × (at < length self.now.pending)
-            × (slice_index self.now.pending at ≡ 10) }
+        ensures some { result ≡ true → HasFeed self.now.pending }
         ensures none { result ≡ false → IsFeedless self.now.pending }
     {
         feed_from(self.pending.as_slice(), 0).is_some()
@@ -158,12 +157,14 @@ impl Lines {
         Ok(line)
     }
 
-    /// The next line. A line that is whole within the first 67,108,864 bytes is given before another byte is asked
-    /// for; `TooLong` comes exactly where no whole line is left in them and another byte comes. After an answer other
+    /// The next line. Where a line feed is pending the source isn't asked. A line that is whole within the first
+    /// 67,108,864 bytes is given before another byte is asked for; `TooLong` comes exactly where no whole line is left in them and another byte comes. After an answer other
     /// than a line the same comes again; after `Read` nothing is lost, and after `Memory` what was taken may be.
     pub fn next<S: Source>(&mut self, src: &mut S) -> Result<LineOut, TakeError>
         ensures line { ReadsLine (room self.old) (ahead self.old (S.left src.old))
             (ahead self.new (S.left src.new)) result }
+        ensures pending { HasFeed self.old.pending → src.new ≡ src.old }
+        ensures asked { AskedForMore self.old.pending result }
         ensures again { StaysUnlessLine (ahead self.old (S.left src.old)) (ahead self.new (S.left src.new))
             (room self.old) (room self.new) result }
         ensures taken { CountsTaken (S.left src.old) (S.left src.new) self.old.taken self.new.taken }

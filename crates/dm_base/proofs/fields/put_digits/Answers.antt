@@ -9,7 +9,8 @@ loop-rest-preserved c =
       digits = digits_more _ c.loop-rest.out c.extend.new.self c.loop-rest.rest.now c.split_at.result.0.now
           c.split_at.result.1.now c.encode_to_slice.new.output _ c.loop-rest.invariant.digits c.split_at.ensures.front
           c.split_at.ensures.back c.in-Ok.ensures.written c.in_ok-extend-in-Ok.ensures.ok;
-      front = front_stays _ c.loop-rest.out _ c.extend.new.self c.loop-rest.invariant.front c.in_ok-extend-in-Ok.ensures.ok;
+      front = front_stays _ c.loop-rest.out _ c.extend.new.self c.loop-rest.invariant.front
+          c.in_ok-extend-in-Ok.ensures.ok;
     }
 
 pub returns-clause-ok : goal.returns-clause-ok

@@ -1,6 +1,7 @@
 use Rattle.std.proofs.Common.{arith, ap, ◌∙◌, length}
 use Rattle.dm_base.proofs.Pending.{filled_within, filled_clear, filled_ahead, filled_taken, filled_room, found_at}
-use Rattle.dm_base.proofs.Pending.{none_found, line_given, long_line, taken_at_error}
+use Rattle.dm_base.proofs.Pending.{none_found, asked_for_more, feed_missed, line_given, long_line, line_stops}
+use Rattle.dm_base.proofs.Pending.{taken_at_error}
 use Rattle.dm_base.proofs.lines.Lines.next.Goals as goal
 
 pub pieces-preserved : goal.pieces-preserved
@@ -18,6 +19,7 @@ pieces-preserved g c =
       taken = filled_taken _ _ _ _ _ _ _ more filled c.pieces.invariant.taken;
       room = filled_room _ _ _ _ _ more filled ∙ c.pieces.invariant.room;
       count = c.in-Ok-true.ensures.count ∙ c.pieces.invariant.count;
+      unasked = λ feed. feed_missed _ c.pieces.self _ feed all clear c.pieces.invariant.unasked;
       sink = c.fill.ensures.sink ∙ c.pieces.invariant.sink;
     }
 
@@ -36,6 +38,23 @@ returns-in-Ok-clause-line g c =
     found_at c.pieces.self.pending _ c.pieces.scanned c.in-Some.at looked c.pieces.invariant.clear c.in-Some.ensures in
     line_given _ _ c.pieces.self c.give.new.self c.in-Ok.line c.in-Some.at _ found c.if-at-gt-LINE_LIMIT.false
     c.pieces.invariant.room c.in-Ok.ensures.given c.in-Ok.ensures.rest c.pieces.invariant.kept
+
+pub returns-in-Err-fill-clause-line : goal.returns-in-Err-fill-clause-line
+returns-in-Err-fill-clause-line g c =
+    let looked = c.as_slice.ensures ∙ ap (λ s. s.pending) c.self.view_is in
+    let all = c.len-scanned.ensures ∙ ap (λ s. length s.pending) c.self.view_is in
+    let clear =
+    none_found c.pieces.self.pending _ c.pieces.scanned _ looked all c.pieces.invariant.clear c.in-None.ensures in
+    line_stops _ _ _ c.args.self.now c.pieces.self _ _ _ c.in-Err-fill.ensures.bytes all c.if-scanned-gt-LINE_LIMIT.false
+    clear c.pieces.invariant.room c.pieces.invariant.kept
+
+pub returns-in-Err-fill-clause-asked : goal.returns-in-Err-fill-clause-asked
+returns-in-Err-fill-clause-asked g c =
+    let looked = c.as_slice.ensures ∙ ap (λ s. s.pending) c.self.view_is in
+    let all = c.len-scanned.ensures ∙ ap (λ s. length s.pending) c.self.view_is in
+    let clear =
+    none_found c.pieces.self.pending _ c.pieces.scanned _ looked all c.pieces.invariant.clear c.in-None.ensures in
+    asked_for_more c.args.self.now c.pieces.self _ c.in-Err-fill.error all clear c.pieces.invariant.unasked
 
 pub returns-in-Err-fill-clause-taken : goal.returns-in-Err-fill-clause-taken
 returns-in-Err-fill-clause-taken g c = taken_at_error _ _ _ _ _ _ _ c.in-Err-fill.ensures.bytes c.pieces.invariant.taken
