@@ -1,3 +1,3 @@
 pub mod SeenObjects
 pub mod Takings
-mod Together
+pub mod Together

@@ -1,6 +1,6 @@
 -- How the objects seen follow from the present one and the changes.
-use Rattle.std.proofs.Common.{◌≡◌, ℕ, ◌+◌, false, not, ◌&&◌, if◌then◌else◌, List, [], ◌∷◌, ◌++◌, length, take, refl}
-use Rattle.std.proofs.Common.{sym, ◌∙◌, ap, subst, arith, append_assoc}
+use Rattle.std.proofs.Common.{◌≡◌, ℕ, ◌+◌, Bool, true, false, not, ◌&&◌, if◌then◌else◌, List, [], ◌∷◌, ◌++◌, length}
+use Rattle.std.proofs.Common.{take, refl, sym, ◌∙◌, ap, subst, arith, append_assoc}
 use Rattle.std.proofs.lemmas.List.{take_at, append-nil}
 use Rattle.dm_objects.specs.declared.object.Object.{Object}
 use Rattle.dm_objects.specs.declared.log.Past.{Past}
@@ -47,6 +47,17 @@ pub nothing_new : (objects : List Object) (next : Object) → is_unfinished (pre
 nothing_new objects next e f =
     ap (λ b. if not b && not (is_unfinished next) then objects else objects ++ next ∷ []) e
     ∙ ap (λ b. if not b then objects else objects ++ next ∷ []) f
+
+and-false : (b : Bool) → b && false ≡ false
+and-false true = refl
+and-false false = refl
+
+-- an object that is unfinished is one more
+pub something_new : (objects : List Object) (next : Object) → is_unfinished next ≡ true
+    → now_holding objects next ≡ objects ++ next ∷ []
+something_new objects next e =
+    ap (λ b. if not (is_unfinished (present objects)) && not b then objects else objects ++ next ∷ []) e
+    ∙ ap (λ b. if b then objects else objects ++ next ∷ []) (and-false (not (is_unfinished (present objects))))
 
 -- ---- the way back
 

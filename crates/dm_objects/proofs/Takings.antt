@@ -3,16 +3,20 @@ use Rattle.std.proofs.Common.{◌≡◌, ℕ, ◌&&◌, Bool, true, false, not, 
 use Rattle.std.proofs.Common.{refl, sym, ◌∙◌, ap, subst, arith}
 use Rattle.std.specs.Prelude.{is_some}
 use Rattle.std.proofs.lemmas.Bool.Decides.{nat_tests}
+use Rattle.syncml_types.specs.declared.command.Step.{Step}
 use Rattle.dm_objects.specs.declared.object.Object.{Object}
 use Rattle.dm_objects.specs.declared.object.Object.TheVariants.{Nothing, Buffering, Skipping}
 use Rattle.dm_objects.specs.declared.piece.Piece.{Piece}
 use Rattle.dm_objects.specs.declared.piece.Taken.{Taken}
+use Rattle.dm_objects.specs.declared.piece.TakenOver.{TakenOver}
 use Rattle.dm_objects.specs.declared.piece.What.TheVariants.{Whole, Refused}
 use Rattle.dm_objects.specs.Gathering.{gather, gathered_by, Gathered, Came, came, continues, is_write}
 use Rattle.dm_objects.specs.Gathering.{first_of_several, single, write_piece, by_rules, buffered_target}
 use Rattle.dm_objects.specs.declared.log.Past.{Past}
-use Rattle.dm_objects.specs.declared.rules.Change.{Change}
-use Rattle.dm_objects.specs.Changes.{IsCame, changed}
+use Rattle.dm_objects.specs.declared.rules.Verdict.{Verdict}
+use Rattle.dm_objects.specs.declared.rules.Verdict.TheVariants as verdicts
+use Rattle.dm_objects.specs.Changes.{IsCame, object_by, what_by}
+use Rattle.dm_objects.specs.InPlace.{what_of, taken_of, sort_of, step_by}
 use Rattle.dm_objects.specs.Seen.{Seen, present, is_unfinished, passes, holding, seen_of, Takes}
 use Rattle.dm_objects.proofs.SeenObjects.{present_seen, nothing_new}
 
@@ -51,16 +55,16 @@ other_takes old new piece taken object c came broken now =
 
 pub next_taken : (old : Seen) (max : ℕ) (past : List Past) (o : Object)
     → old ≡ record { max_obj = max; objects = seen_of past o }
-    → (piece : Piece) (taken : Taken) (change : Change) (new : Seen) → continues (present old.objects) piece ≡ true
-    → IsCame (by_rules max o piece) (changed change o piece) taken.what → taken.broken ≡ None
-    → new ≡ holding old (changed change (present old.objects) piece) → Takes old new piece taken
-next_taken old max past o e piece taken change new =
+    → (piece : Piece) (taken : Taken) (verdict : Verdict) (new : Seen) → continues (present old.objects) piece ≡ true
+    → IsCame (by_rules max o piece) (object_by verdict o piece) taken.what → taken.broken ≡ None
+    → new ≡ holding old (object_by verdict (present old.objects) piece) → Takes old new piece taken
+next_taken old max past o e piece taken verdict new =
     let here : Seen = record { max_obj = max; objects = seen_of past o } in
     subst (λ (s : Seen). continues (present s.objects) piece ≡ true
-    → IsCame (by_rules max o piece) (changed change o piece) taken.what → taken.broken ≡ None
-    → new ≡ holding s (changed change (present s.objects) piece) → Takes s new piece taken) (sym e)
-    (λ c came broken now. next_takes here new piece taken (changed change (present (seen_of past o)) piece) c
-    (subst (λ x. IsCame (by_rules max x piece) (changed change x piece) taken.what) (sym (present_seen past o)) came)
+    → IsCame (by_rules max o piece) (object_by verdict o piece) taken.what → taken.broken ≡ None
+    → new ≡ holding s (object_by verdict (present s.objects) piece) → Takes s new piece taken) (sym e)
+    (λ c came broken now. next_takes here new piece taken (object_by verdict (present (seen_of past o)) piece) c
+    (subst (λ x. IsCame (by_rules max x piece) (object_by verdict x piece) taken.what) (sym (present_seen past o)) came)
     broken now)
 
 pub other_taken : (old : Seen) (max : ℕ) (past : List Past) (o : Object)
@@ -75,6 +79,58 @@ other_taken old max past o e piece taken object new =
     → new ≡ holding s object → Takes s new piece taken) (sym e)
     (λ c came broken now. other_takes here new piece taken object c came
     (broken ∙ ap buffered_target (sym (present_seen past o))) now)
+
+-- ---- a piece that is taken over
+
+same-what : (v : Verdict) (o : Object) (piece : Piece)
+    → what_of (sort_of v) (step_by v o piece.step) ≡ what_by v o piece
+same-what (verdicts.Refuses code) o piece = refl
+same-what verdicts.Passes o piece = refl
+same-what (verdicts.Ends code) o piece = refl
+same-what (verdicts.Skips code) o piece = refl
+same-what (verdicts.GivesUp code) o piece = refl
+same-what (verdicts.Begins size) o piece = refl
+same-what verdicts.Grows o piece = refl
+same-what verdicts.Completes o piece = refl
+
+-- a step that was made whole makes no other object
+same-object : (v : Verdict) (o x : Object) (piece : Piece)
+    → object_by v x (record piece { step = step_by v o piece.step }) ≡ object_by v x piece
+same-object (verdicts.Refuses code) o x piece = refl
+same-object verdicts.Passes o x piece = refl
+same-object (verdicts.Ends code) o x piece = refl
+same-object (verdicts.Skips code) o x piece = refl
+same-object (verdicts.GivesUp code) o x piece = refl
+same-object (verdicts.Begins size) o x piece = refl
+same-object verdicts.Grows o x piece = refl
+same-object verdicts.Completes o x piece = refl
+
+pub next_taken_over : (old : Seen) (max : ℕ) (past : List Past) (o : Object)
+    → old ≡ record { max_obj = max; objects = seen_of past o }
+    → (piece : Piece) (step : Step) (over : TakenOver) (verdict : Verdict) (new : Seen)
+    → continues (present old.objects) piece ≡ true
+    → IsCame (by_rules max o piece) (object_by verdict o piece) (what_by verdict o piece)
+    → step ≡ step_by verdict o piece.step → over.broken ≡ None → over.sort ≡ sort_of verdict
+    → new ≡ holding old (object_by verdict (present old.objects) (record piece { step = step }))
+    → Takes old new piece (taken_of over step)
+next_taken_over old max past o e piece step over verdict new c came whole broken sort now =
+    let what = ap (λ s. what_of s step) sort ∙ ap (what_of (sort_of verdict)) whole ∙ same-what verdict o piece in
+    next_taken old max past o e piece (taken_of over step) verdict new c
+    (record { object_is = came.object_is; what_is = what ∙ came.what_is }) broken
+    (now ∙ ap (λ s. holding old (object_by verdict (present old.objects) (record piece { step = s }))) whole
+    ∙ ap (holding old) (same-object verdict o (present old.objects) piece))
+
+pub other_taken_over : (old : Seen) (max : ℕ) (past : List Past) (o : Object)
+    → old ≡ record { max_obj = max; objects = seen_of past o }
+    → (piece : Piece) (step : Step) (over : TakenOver) (verdict : Verdict) (new : Seen)
+    → continues (present old.objects) piece ≡ false
+    → IsCame (by_rules max Nothing piece) (object_by verdict Nothing piece) (what_by verdict Nothing piece)
+    → over.broken ≡ buffered_target o → over.sort ≡ sort_of verdict
+    → what_of (sort_of verdict) step ≡ what_by verdict Nothing piece
+    → new ≡ holding old (object_by verdict Nothing piece) → Takes old new piece (taken_of over step)
+other_taken_over old max past o e piece step over verdict new c came broken sort what now =
+    other_taken old max past o e piece (taken_of over step) (object_by verdict Nothing piece) new c
+    (record { object_is = came.object_is; what_is = ap (λ s. what_of s step) sort ∙ what ∙ came.what_is }) broken now
 
 -- the present object is the one that a piece is held against
 pub same_way : (old : Seen) (max : ℕ) (past : List Past) (o : Object)

@@ -9,7 +9,8 @@ use std::alloc::Global;
 use syncml_types::Step;
 use syncml_types::copies::copy_bytes;
 
-pub(crate) fn copy_step(alloc: Global, step: &Step) -> Result<Step, Memory>
+/// A copy of a step with its own texts and value. After `Memory` there is none.
+pub fn copy_step(alloc: Global, step: &Step) -> Result<Step, Memory>
     ensures { IfOk result (λ copy. copy ≡ step.now) }
 {
     Ok(Step {
@@ -55,8 +56,8 @@ pub(crate) fn begun_by(alloc: Global, piece: &Piece, size: u64) -> Result<Begun,
     })
 }
 
-// Both one behind the other, in room that is taken once.
-fn joined(alloc: Global, first: &Bytes, second: &Bytes) -> Result<Bytes, Memory>
+/// Both one behind the other, in room that is taken once.
+pub(crate) fn joined(alloc: Global, first: &Bytes, second: &Bytes) -> Result<Bytes, Memory>
     ensures { IfOk result (λ bytes. bytes ≡ first.now ++ second.now) }
 {
     let mut bytes = Vec::new(alloc);

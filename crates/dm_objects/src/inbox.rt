@@ -2,19 +2,17 @@
 ghost use Rattle.std.specs.Prelude.{◌≡◌, [], ◌∷◌, ◌++◌, ◌+◌, ◌<◌, length, take, is_some, true, false, OnOk, OnErr};
 ghost use Rattle.std.specs.Prelude.{None, IfOk};
 ghost use Rattle.dm_objects.specs.declared.object.Object.TheVariants.{Nothing, Skipping};
-ghost use Rattle.dm_objects.specs.declared.piece.Piece.{Piece as APiece};
 ghost use Rattle.dm_objects.specs.declared.piece.What.TheVariants.{Whole};
 ghost use Rattle.dm_objects.specs.Gathering.{key_of, continues, buffered_target};
-ghost use Rattle.dm_objects.specs.Changes.{changed};
 ghost use Rattle.dm_objects.specs.Inside.{is_buffering_inside, stays, failed};
 ghost use Rattle.dm_objects.specs.Seen.{Seen, present, is_unfinished, passes, holding, extended, Takes};
 
-use crate::copies::{copy_key, key_of};
+use crate::actions::{buffered_target, given_up};
+use crate::copies::key_of;
 use crate::keys::{continues, is_unfinished};
 use crate::log::{Past, extend_value, go_back};
 use crate::object::Object;
-use crate::piece::{Piece, Taken};
-use crate::rules::{Change, buffered_target, by_rules};
+use crate::piece::Piece;
 use dm_base::{Bytes, Memory};
 use std::alloc::Global;
 use std::marker::Model;
@@ -24,10 +22,10 @@ use std::mem;
 /// objects that it has held since then, the present one last.
 #[derive(Drop)]
 pub struct Inbox {
-    alloc: Global,
-    max_obj: u32,
-    object: Object,
-    past: Vec<Past>,
+    pub(crate) alloc: Global,
+    pub(crate) max_obj: u32,
+    pub(crate) object: Object,
+    pub(crate) past: Vec<Past>,
 }
 
 impl Model for Inbox {
@@ -165,7 +163,7 @@ impl Inbox {
     }
 
     #[tactic(auto, using(crate::proofs::SeenObjects::present_seen, crate::proofs::SeenObjects::nothing_new))]
-    fn hold(&mut self, next: Object) -> Result<(), Memory>
+    pub(crate) fn hold(&mut self, next: Object) -> Result<(), Memory>
         ensures ok { OnOk result (self.new ≡ holding self.old next) }
         ensures err { OnErr result (self.new ≡ self.old) }
     {
@@ -175,9 +173,9 @@ impl Inbox {
         self.push(next)
     }
 
-    // The unfinished object stays.
+    /// The unfinished object stays.
     #[tactic(auto, using(crate::proofs::SeenObjects::same_seen, crate::proofs::SeenObjects::present_seen))]
-    fn stay(&mut self) -> Result<(), Memory>
+    pub(crate) fn stay(&mut self) -> Result<(), Memory>
         ensures ok { OnOk result
             (self.new ≡ record self.old { objects = self.old.objects ++ present self.old.objects ∷ [] }) }
         ensures err { OnErr result (self.new ≡ self.old) }
@@ -187,9 +185,9 @@ impl Inbox {
         Ok(())
     }
 
-    // The object that is being buffered gets more bytes, which are copied once; what stood here is had by cutting.
+    /// The object that is being buffered gets more bytes, which are copied once; what stood here is had by cutting.
     #[tactic(auto, using(crate::proofs::SeenObjects::grew_seen, crate::proofs::SeenObjects::present_seen))]
-    fn grow(&mut self, bytes: &[u8]) -> Result<(), Memory>
+    pub(crate) fn grow(&mut self, bytes: &[u8]) -> Result<(), Memory>
         ensures ok { OnOk result (self.new ≡ record self.old {
           objects = self.old.objects ++ extended (present self.old.objects) bytes.now ∷ [];
         }) }
@@ -199,65 +197,6 @@ impl Inbox {
         let length_before = extend_value(&mut self.object, bytes)?;
         self.past.push_reserved(Past::Grew(length_before));
         Ok(())
-    }
-
-    fn change(&mut self, change: Change, piece: &Piece) -> Result<(), Memory>
-        requires unfinished { is_unfinished (present self.old.objects) ≡ true }
-        ensures ok { OnOk result (self.new ≡ holding self.old (changed change (present self.old.objects) piece.now)) }
-        ensures err { OnErr result (self.new ≡ self.old) }
-    {
-        match change {
-            Change::Stays => self.stay(),
-            Change::Grows => self.grow(piece.step.value.as_slice()),
-            Change::Becomes(next) => self.hold(next),
-        }
-    }
-
-    // A piece that continues the unfinished object.
-    fn take_next(&mut self, piece: &Piece) -> Result<Taken, Memory>
-        requires continues { continues (present self.old.objects) piece.now ≡ true }
-        ensures ok { IfOk result (λ taken. Takes self.old self.new piece.now taken) }
-        ensures err { OnErr result (self.new ≡ self.old) }
-    {
-        let (change, what) = by_rules(self.alloc, self.max_obj, &self.object, piece)?;
-        self.change(change, piece)?;
-        Ok(Taken { broken: None, what })
-    }
-
-    // A piece that doesn't, and ends it.
-    fn take_other(&mut self, piece: &Piece) -> Result<Taken, Memory>
-        requires continues { continues (present self.old.objects) piece.now ≡ false }
-        ensures ok { IfOk result (λ taken. Takes self.old self.new piece.now taken) }
-        ensures err { OnErr result (self.new ≡ self.old) }
-    {
-        let broken = buffered_target(self.alloc, &self.object)?;
-        let (change, what) = by_rules(self.alloc, self.max_obj, &Object::Nothing, piece)?;
-        self.hold(from_nothing(change))?;
-        Ok(Taken { broken, what })
-    }
-
-    /// Takes a piece. After `Memory` all is as before.
-    ///
-    /// A piece continues the unfinished object where both have the same verb and target and are both inside an Atomic
-    /// or both outside; any other ends it, and `broken` tells its target where it was being buffered. Then comes the
-    /// first of these that holds:
-    /// - a verb other than Add and Replace: refused with 400 where more follows, else whole;
-    /// - no target, and more follows: refused with 400;
-    /// - it continues an object that is skipped: refused with the same code; the last one ends it;
-    /// - it is the first of several: refused with 411 without a Size, 416 where that passes `max_obj`, 424 where its
-    ///   bytes pass it, and what continues it is skipped; else buffered;
-    /// - it continues: refused with 424 where the bytes so far pass the Size, or where it is the last and they are
-    ///   fewer; else buffered, or whole;
-    /// - it is the only one: refused with 416 where its bytes pass `max_obj`, else whole.
-    pub fn take(&mut self, piece: &Piece) -> Result<Taken, Memory>
-        ensures ok { IfOk result (λ taken. Takes self.old self.new piece.now taken) }
-        ensures err { OnErr result (self.new ≡ self.old) }
-    {
-        if continues(&self.object, piece) {
-            self.take_next(piece)
-        } else {
-            self.take_other(piece)
-        }
     }
 
     /// Drops what is unfinished, and answers the target of an object that was being buffered; none exactly where none
@@ -294,7 +233,7 @@ impl Inbox {
         if !is_inside(&self.object) {
             return Ok(());
         }
-        let next = skipped(self.alloc, &self.object)?;
+        let next = given_up(self.alloc, &self.object, 500)?;
         self.hold(next)
     }
 
@@ -315,28 +254,5 @@ fn is_inside(object: &Object) -> bool
         Object::Nothing => false,
         Object::Buffering(begun) => begun.key.in_atomic,
         Object::Skipping(_, _) => false,
-    }
-}
-
-// The object that stands here after a failure.
-fn skipped(alloc: Global, object: &Object) -> Result<Object, Memory>
-    requires { is_buffering_inside object.now ≡ true }
-    ensures { IfOk result (λ next. next ≡ stays object.now) }
-{
-    match object {
-        Object::Nothing => Ok(Object::Nothing),
-        Object::Buffering(begun) => Ok(Object::Skipping(copy_key(alloc, &begun.key)?, 500)),
-        Object::Skipping(key, code) => Ok(Object::Skipping(copy_key(alloc, key)?, *code)),
-    }
-}
-
-// What a change makes of no object.
-fn from_nothing(change: Change) -> Object
-    ensures { (piece : APiece) → result ≡ changed change Nothing piece }
-{
-    match change {
-        Change::Stays => Object::Nothing,
-        Change::Grows => Object::Nothing,
-        Change::Becomes(next) => next,
     }
 }

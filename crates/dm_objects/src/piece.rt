@@ -24,3 +24,19 @@ pub struct Taken {
     pub broken: Option<Bytes>,
     pub what: What,
 }
+
+/// What a piece comes to that was taken over: a whole step, which then stands in the piece itself, one that is buffered
+/// (code 213), or one that is refused with a code.
+#[derive(Clone, Copy, Debug, PartialEq, Eq)]
+pub enum Sort {
+    Whole,
+    Buffered,
+    Refused(u32),
+}
+
+/// A piece was taken over: the target of the object that it broke, where one was being buffered, and what it comes to.
+#[derive(Drop)]
+pub struct TakenOver {
+    pub broken: Option<Bytes>,
+    pub sort: Sort,
+}

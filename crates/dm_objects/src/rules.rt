@@ -1,162 +1,122 @@
 // What a piece comes to, by the object that it meets.
-ghost use Rattle.std.specs.Prelude.{◌≡◌, if◌then◌else◌, IfOk};
-ghost use Rattle.dm_objects.specs.declared.object.Object.TheVariants.{Nothing, Buffering, Skipping};
-ghost use Rattle.dm_objects.specs.declared.piece.What.TheVariants.{Whole, Refused};
-ghost use Rattle.dm_objects.specs.Gathering.{key_of, first_of_several, single, next_piece, write_piece, by_rules};
-ghost use Rattle.dm_objects.specs.Gathering.{buffered_target};
-ghost use Rattle.dm_objects.specs.Changes.{IsCame, changed};
+ghost use Rattle.dm_objects.specs.declared.object.Object.TheVariants.{Nothing, Buffering};
+ghost use Rattle.dm_objects.specs.Gathering.{first_of_several, single, next_piece, write_piece, by_rules};
+ghost use Rattle.dm_objects.specs.Changes.{IsCame, object_by, what_by};
 
-use crate::copies::{begun_by, copy_key, copy_step, key_of, whole_step};
 use crate::keys::is_write;
-use crate::object::{Begun, Key, Object};
-use crate::piece::{Piece, What};
-use dm_base::{Bytes, Memory};
-use std::alloc::Global;
-use syncml_types::copies::copy_bytes;
+use crate::object::{Begun, Object};
+use crate::piece::Piece;
 
-/// How a piece changes the object that it meets. With `Grows` the piece's bytes come behind the object's own.
-#[derive(Drop)]
-pub enum Change {
-    Stays,
+/// What the rules decide. It is a small value, so that objects and steps are made where they are to stand.
+#[derive(Clone, Copy)]
+pub enum Verdict {
+    /// The piece is refused with this code, and the object stays.
+    Refuses(u32),
+    /// The piece is a whole step as it stands, and the object stays.
+    Passes,
+    /// The piece is refused with this code, and no more comes of the object.
+    Ends(u32),
+    /// The piece is refused with this code, and so is what continues it.
+    Skips(u32),
+    /// The piece is refused with this code, and so is what continues the object.
+    GivesUp(u32),
+    /// The piece is the first of an object of this Size.
+    Begins(u64),
+    /// The piece's bytes come behind the object's own.
     Grows,
-    Becomes(Object),
+    /// The piece is the last of the object.
+    Completes,
 }
 
-fn skipped(alloc: Global, piece: &Piece, code: u32) -> Result<Object, Memory>
-    ensures { IfOk result (λ object. object ≡ Skipping (key_of piece.now.step) code) }
-{
-    Ok(Object::Skipping(key_of(alloc, &piece.step)?, code))
-}
-
-fn first_of_several(alloc: Global, max: u32, piece: &Piece) -> Result<(Object, What), Memory>
-    ensures { IfOk result (λ r. IsCame (first_of_several max piece.now piece.now.size) r.0 r.1) }
+fn first_of_several(max: u32, piece: &Piece) -> Verdict
+    ensures { IsCame (first_of_several max piece.now piece.now.size)
+        (object_by result Nothing piece.now) (what_by result Nothing piece.now) }
 {
     let Some(size) = piece.size else {
-        return Ok((skipped(alloc, piece, 411)?, What::Refused(411)));
+        return Verdict::Skips(411);
     };
     if u64::from(max) < size {
-        return Ok((skipped(alloc, piece, 416)?, What::Refused(416)));
+        return Verdict::Skips(416);
     }
     if size < piece.step.value.len() as u64 {
-        return Ok((skipped(alloc, piece, 424)?, What::Refused(424)));
+        return Verdict::Skips(424);
     }
-    Ok((
-        Object::Buffering(begun_by(alloc, piece, size)?),
-        What::Buffered,
-    ))
+    Verdict::Begins(size)
 }
 
-fn single(alloc: Global, max: u32, piece: &Piece) -> Result<(Object, What), Memory>
-    ensures { IfOk result (λ r. IsCame (single max piece.now) r.0 r.1) }
+fn single(max: u32, piece: &Piece) -> Verdict
+    ensures { IsCame (single max piece.now) (object_by result Nothing piece.now) (what_by result Nothing piece.now) }
 {
     if u64::from(max) < piece.step.value.len() as u64 {
-        return Ok((Object::Nothing, What::Refused(416)));
+        return Verdict::Ends(416);
     }
-    Ok((Object::Nothing, What::Whole(copy_step(alloc, &piece.step)?)))
+    Verdict::Passes
 }
 
-fn met_nothing(alloc: Global, max: u32, piece: &Piece) -> Result<(Object, What), Memory>
-    ensures { IfOk result (λ r. IsCame (write_piece max Nothing piece.now) r.0 r.1) }
+fn met_nothing(max: u32, piece: &Piece) -> Verdict
+    ensures { IsCame (write_piece max Nothing piece.now)
+        (object_by result Nothing piece.now) (what_by result Nothing piece.now) }
 {
     if piece.more {
-        first_of_several(alloc, max, piece)
+        first_of_several(max, piece)
     } else {
-        single(alloc, max, piece)
+        single(max, piece)
     }
 }
 
-// What is left to come of a refused object is skipped, where more comes.
-fn refused(alloc: Global, more: bool, key: &Key, code: u32) -> Result<Object, Memory>
-    ensures { IfOk result (λ object. object ≡ (if more then Skipping key.now code else Nothing)) }
-{
-    if more {
-        Ok(Object::Skipping(copy_key(alloc, key)?, code))
-    } else {
-        Ok(Object::Nothing)
-    }
-}
-
-fn next_piece(alloc: Global, begun: &Begun, piece: &Piece) -> Result<(Change, What), Memory>
-    ensures { IfOk result (λ r. IsCame (next_piece begun.now piece.now)
-        (changed r.0 (Buffering begun.now) piece.now) r.1) }
+fn next_piece(begun: &Begun, piece: &Piece) -> Verdict
+    ensures { IsCame (next_piece begun.now piece.now)
+        (object_by result (Buffering begun.now) piece.now) (what_by result (Buffering begun.now) piece.now) }
 {
     let total = begun.value.len() as u128 + piece.step.value.len() as u128;
     if u128::from(begun.size) < total {
-        let object = refused(alloc, piece.more, &begun.key, 424)?;
-        return Ok((Change::Becomes(object), What::Refused(424)));
+        return if piece.more {
+            Verdict::GivesUp(424)
+        } else {
+            Verdict::Ends(424)
+        };
     }
     if piece.more {
-        return Ok((Change::Grows, What::Buffered));
+        return Verdict::Grows;
     }
     if total == u128::from(begun.size) {
-        let whole = whole_step(alloc, begun, &piece.step)?;
-        return Ok((Change::Becomes(Object::Nothing), What::Whole(whole)));
+        return Verdict::Completes;
     }
-    Ok((Change::Becomes(Object::Nothing), What::Refused(424)))
+    Verdict::Ends(424)
 }
 
-fn write_piece(
-    alloc: Global,
-    max: u32,
-    object: &Object,
-    piece: &Piece,
-) -> Result<(Change, What), Memory>
-    ensures { IfOk result (λ r. IsCame (write_piece max object.now piece.now)
-        (changed r.0 object.now piece.now) r.1) }
+fn write_piece(max: u32, object: &Object, piece: &Piece) -> Verdict
+    ensures { IsCame (write_piece max object.now piece.now)
+        (object_by result object.now piece.now) (what_by result object.now piece.now) }
 {
     match object {
-        Object::Nothing => {
-            let (object, what) = met_nothing(alloc, max, piece)?;
-            Ok((Change::Becomes(object), what))
+        Object::Nothing => met_nothing(max, piece),
+        Object::Buffering(begun) => next_piece(begun, piece),
+        Object::Skipping(_, code) => {
+            if piece.more {
+                Verdict::Refuses(*code)
+            } else {
+                Verdict::Ends(*code)
+            }
         }
-        Object::Buffering(begun) => next_piece(alloc, begun, piece),
-        Object::Skipping(key, code) => {
-            let object = refused(alloc, piece.more, key, *code)?;
-            Ok((Change::Becomes(object), What::Refused(*code)))
-        }
-    }
-}
-
-// A verb that has no pieces.
-fn no_write(alloc: Global, piece: &Piece) -> Result<What, Memory>
-    ensures { IfOk result (λ what. what ≡ (if piece.now.more then Refused 400 else Whole piece.now.step)) }
-{
-    if piece.more {
-        Ok(What::Refused(400))
-    } else {
-        Ok(What::Whole(copy_step(alloc, &piece.step)?))
     }
 }
 
 /// What a piece comes to, where the object that it meets is the one that it continues, or none.
-pub(crate) fn by_rules(
-    alloc: Global,
-    max: u32,
-    object: &Object,
-    piece: &Piece,
-) -> Result<(Change, What), Memory>
-    ensures { IfOk result (λ r. IsCame (by_rules max object.now piece.now)
-        (changed r.0 object.now piece.now) r.1) }
+pub(crate) fn by_rules(max: u32, object: &Object, piece: &Piece) -> Verdict
+    ensures { IsCame (by_rules max object.now piece.now)
+        (object_by result object.now piece.now) (what_by result object.now piece.now) }
 {
     if !is_write(piece.step.verb) {
-        return Ok((Change::Stays, no_write(alloc, piece)?));
+        // Such a verb has no pieces.
+        return if piece.more {
+            Verdict::Refuses(400)
+        } else {
+            Verdict::Passes
+        };
     }
     if piece.more && piece.step.target.is_none() {
-        return Ok((Change::Stays, What::Refused(400)));
+        return Verdict::Refuses(400);
     }
-    write_piece(alloc, max, object, piece)
-}
-
-/// The target of an object that is being buffered.
-pub(crate) fn buffered_target(alloc: Global, object: &Object) -> Result<Option<Bytes>, Memory>
-    ensures { IfOk result (λ target. target ≡ buffered_target object.now) }
-{
-    match object {
-        Object::Nothing => Ok(None),
-        Object::Skipping(_, _) => Ok(None),
-        Object::Buffering(begun) => match copy_bytes(alloc, &begun.key.target)? {
-            Some(target) => Ok(Some(target)),
-            None => Ok(Some(Bytes::new(alloc))),
-        },
-    }
+    write_piece(max, object, piece)
 }

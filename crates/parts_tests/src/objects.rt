@@ -3,7 +3,7 @@ ghost use Rattle.std.specs.Prelude.{◌≤◌, length};
 
 use crate::object_rows::{SENT, Sent};
 use dm_base::{Bytes, Memory};
-use dm_objects::{Inbox, Piece, Taken, What};
+use dm_objects::{Inbox, Piece, Sort, Taken, TakenOver, What};
 use std::alloc::Global;
 use std::test::Fail;
 use syncml_types::{Step, Verb};
@@ -76,9 +76,31 @@ fn is_taken(alloc: Global, inbox: &mut Inbox, sent: &Sent) -> Result<bool, Memor
     Ok(is_told)
 }
 
-fn first_wrong(alloc: Global, inbox: &mut Inbox) -> Result<Option<usize>, Memory> {
+// What a piece is that was taken over, by the step that stands in it now.
+fn what_of(sort: Sort, step: Step) -> What {
+    match sort {
+        Sort::Whole => What::Whole(step),
+        Sort::Buffered => What::Buffered,
+        Sort::Refused(code) => What::Refused(code),
+    }
+}
+
+fn is_taken_over(alloc: Global, inbox: &mut Inbox, sent: &Sent) -> Result<bool, Memory> {
+    let mut next = piece(alloc, sent.0, sent.1, sent.2, sent.3, sent.4)?;
+    let TakenOver { broken, sort } = inbox.take_over(&mut next)?;
+    let what = what_of(sort, next.step);
+    Ok(is_told(&Taken { broken, what }, sent))
+}
+
+// Each piece is taken over, or only read.
+fn first_wrong(alloc: Global, inbox: &mut Inbox, over: bool) -> Result<Option<usize>, Memory> {
     for (row, sent) in SENT.iter().enumerate() {
-        if !is_taken(alloc, inbox, sent)? {
+        let is_right = if over {
+            is_taken_over(alloc, inbox, sent)?
+        } else {
+            is_taken(alloc, inbox, sent)?
+        };
+        if !is_right {
             return Ok(Some(row));
         }
     }
@@ -86,9 +108,9 @@ fn first_wrong(alloc: Global, inbox: &mut Inbox) -> Result<Option<usize>, Memory
 }
 
 // The number of the first row that comes to something else.
-fn wrong_row(alloc: Global) -> Result<Option<usize>, Memory> {
+fn wrong_row(alloc: Global, over: bool) -> Result<Option<usize>, Memory> {
     let mut inbox = Inbox::new(alloc, 10);
-    let wrong = first_wrong(alloc, &mut inbox);
+    let wrong = first_wrong(alloc, &mut inbox, over);
     drop(inbox);
     wrong
 }
@@ -272,7 +294,8 @@ fn large(alloc: Global, size: Option<u64>, last: usize) -> Result<(u32, u32, usi
 
 #[test]
 fn pieces_come_to_what_the_rules_say(rt: HostRuntime) -> Result<(), Fail> {
-    assert_eq!(rt; wrong_row(rt.alloc())?, None);
+    assert_eq!(rt; wrong_row(rt.alloc(), false)?, None);
+    assert_eq!(rt; wrong_row(rt.alloc(), true)?, None);
     Ok(())
 }
 
