@@ -33,9 +33,13 @@ named_text named.Alert = codes "Alert"
 named_text named.Atomic = codes "Atomic"
 named_text named.Sequence = codes "Sequence"
 
+-- a child of the first Meta, or else of the second
+abbrev pub child_of_either : {X : Type 0} → (Meta → Option X) → Option Meta → Option Meta → Option X
+child_of_either child own other = option_or (option_and_then child own) (option_and_then child other)
+
 -- a child of the item's Meta, or else of the command's
 abbrev pub meta_child : {X : Type 0} → (Meta → Option X) → Item → Plain → Option X
-meta_child child item command = option_or (option_and_then child item.meta) (option_and_then child command.meta)
+meta_child child item command = child_of_either child item.meta command.meta
 
 abbrev pub target_text : Item → Option (List ℕ)
 target_text item = option_map (λ (l : Loc). l.uri) item.target

@@ -12,6 +12,7 @@ mod entries;
 mod groups;
 pub mod laws;
 pub mod marks;
+pub mod metas;
 pub mod reports;
 mod step;
 mod task_lists;

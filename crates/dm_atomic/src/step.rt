@@ -3,6 +3,7 @@ ghost use Rattle.std.specs.Prelude.{◌≡◌, ◌++◌, [], None, Some, IfOk, O
 ghost use Rattle.dm_uri.specs.Reading.{parse_of};
 ghost use Rattle.dm_objects.specs.Gathering.{gather as gathered};
 ghost use Rattle.dm_objects.specs.Seen.{present, holding};
+ghost use Rattle.dm_objects.specs.InPlace.{what_of};
 ghost use Rattle.dm_commands.specs.Promises.{IsShortStep, is_moved, none_moved};
 ghost use Rattle.dm_atomic.specs.Made.{IsInFront, told, notice};
 ghost use Rattle.dm_atomic.specs.Run.{one_step as step_run, one_piece as piece_run, by_what as what_run};
@@ -18,7 +19,7 @@ use crate::reports::{Report, Started};
 use crate::tasks::{Post, Task, Work};
 use dm_base::{Bytes, List, Memory};
 use dm_commands::{Outcome, act};
-use dm_objects::{Piece, Taken, What};
+use dm_objects::{Piece, Sort, TakenOver};
 use dm_uri::{Path, UriError, parse};
 use std::alloc::Global;
 use syncml_types::copies::copy_bytes;
@@ -146,21 +147,27 @@ impl Engine {
     }
 
     #[tactic(auto, using(crate::proofs::Held::holds_self, crate::proofs::Staying::stay_self, crate::proofs::Staying::then_none, crate::proofs::Staying::stay_more))]
-    fn by_what(&mut self, caller: &[u8], post: &Post, what: &mut What) -> Result<Report, Memory>
+    fn by_sort(
+        &mut self,
+        caller: &[u8],
+        post: &Post,
+        sort: Sort,
+        step: &mut Step,
+    ) -> Result<Report, Memory>
         requires sound { IsSoundEngine self.old }
-        requires short { IsShortWhat what.old }
+        requires short { IsShortWhat (what_of sort step.old) }
         ensures ok { IfOk result (λ report. Comes
-            (what_run (running self.old caller.now) (state_of self.old) post.now None what.old) (state_of self.new)
-            report) }
+            (what_run (running self.old caller.now) (state_of self.old) post.now None (what_of sort step.old))
+            (state_of self.new) report) }
         ensures only { Only self.old self.new }
-        ensures ids { StayBut (what_covers what.old) (whole_of self.old) (whole_of self.new) }
+        ensures ids { StayBut (what_covers (what_of sort step.old)) (whole_of self.old) (whole_of self.new) }
         ensures marks { Holds self.old self.new }
         ensures sound { IsSoundEngine self.new }
     {
-        match what {
-            What::Whole(step) => self.whole_step(caller, post, step),
-            What::Buffered => report_of(self.alloc, post, 213),
-            What::Refused(code) => report_of(self.alloc, post, *code),
+        match sort {
+            Sort::Whole => self.whole_step(caller, post, step),
+            Sort::Buffered => report_of(self.alloc, post, 213),
+            Sort::Refused(code) => report_of(self.alloc, post, code),
         }
     }
 
@@ -186,32 +193,32 @@ impl Engine {
         if self.inbox.passes(piece) {
             return self.whole_step(caller, post, &mut piece.step);
         }
-        let mut what = self.gather(piece, out)?;
-        self.by_what(caller, post, &mut what)
+        let sort = self.gather(piece, out)?;
+        self.by_sort(caller, post, sort, &mut piece.step)
     }
 
     // What a piece comes to; of an object that it broke is told.
     #[tactic(auto, using(crate::proofs::Held::holds_inbox, crate::proofs::Staying::stay_self, crate::proofs::Staying::then_none, crate::proofs::Staying::stay_more))]
-    fn gather(&mut self, piece: &Piece, out: &mut List<Command>) -> Result<What, Memory>
+    fn gather(&mut self, piece: &mut Piece, out: &mut List<Command>) -> Result<Sort, Memory>
         requires sound { IsSoundEngine self.old }
         ensures object { OnOk result (self.new ≡ record self.old {
           inbox = holding self.old.inbox
-              (gathered self.old.inbox.max_obj (present self.old.inbox.objects) piece.now).object;
+              (gathered self.old.inbox.max_obj (present self.old.inbox.objects) piece.old).object;
         }) }
-        ensures what { IfOk result (λ what.
-            what ≡ (gathered self.old.inbox.max_obj (present self.old.inbox.objects) piece.now).what) }
+        ensures what { IfOk result (λ sort. what_of sort piece.new.step
+            ≡ (gathered self.old.inbox.max_obj (present self.old.inbox.objects) piece.old).what) }
         ensures told { OnOk result (out.new ≡ out.old
-            ++ told (notice (gathered self.old.inbox.max_obj (present self.old.inbox.objects) piece.now).broken)) }
-        ensures short { IfOk result IsShortWhat }
+            ++ told (notice (gathered self.old.inbox.max_obj (present self.old.inbox.objects) piece.old).broken)) }
+        ensures short { IfOk result (λ sort. IsShortWhat (what_of sort piece.new.step)) }
         ensures err { OnErr result (out.new ≡ out.old) }
         ensures only { Only self.old self.new }
         ensures ids { StayBut none_moved (whole_of self.old) (whole_of self.new) }
         ensures marks { Holds self.old self.new }
         ensures sound { IsSoundEngine self.new }
     {
-        let Taken { broken, what } = self.inbox.take(piece)?;
+        let TakenOver { broken, sort } = self.inbox.take_over(piece)?;
         put_notice(self.alloc, &broken, out)?;
-        Ok(what)
+        Ok(sort)
     }
 
     /// One task. The report isn't told. The task's value may be moved into the tree.

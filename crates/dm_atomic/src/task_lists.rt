@@ -1,69 +1,15 @@
 // A command as its tasks.
-ghost use Rattle.std.specs.Prelude.{◌≡◌, ◌++◌, [], IfOk, OnOk, unwrap_or, option_and_then};
-ghost use Rattle.syncml_types.specs.declared.values.Meta.{Meta as AMeta};
-ghost use Rattle.dm_atomic.specs.Tasks.{meta_child, target_text, piece_of, item_post, item_task, plain_tasks};
+ghost use Rattle.std.specs.Prelude.{◌≡◌, ◌++◌, [], IfOk, OnOk, unwrap_or};
+ghost use Rattle.dm_atomic.specs.Tasks.{target_text, piece_of, item_post, item_task, plain_tasks};
 ghost use Rattle.dm_atomic.specs.Tasks.{alert_task, member_tasks, members_tasks, container_post};
 
+use crate::metas::{format_of, media_of, size_of};
 use crate::tasks::{Named, Origin, Post, Task, Work};
 use dm_base::{Bytes, List, Memory};
 use dm_objects::Piece;
 use std::alloc::Global;
 use syncml_types::copies::copy_bytes;
-use syncml_types::{AlertCmd, Item, Member, Meta, Plain, Step};
-
-fn format_in(alloc: Global, meta: &Option<Meta>) -> Result<Option<Bytes>, Memory>
-    ensures { IfOk result (λ format. format ≡ option_and_then (λ (m : AMeta). m.format) meta.now) }
-{
-    match meta {
-        None => Ok(None),
-        Some(meta) => copy_bytes(alloc, &meta.format),
-    }
-}
-
-fn media_in(alloc: Global, meta: &Option<Meta>) -> Result<Option<Bytes>, Memory>
-    ensures { IfOk result (λ media. media ≡ option_and_then (λ (m : AMeta). m.media) meta.now) }
-{
-    match meta {
-        None => Ok(None),
-        Some(meta) => copy_bytes(alloc, &meta.media),
-    }
-}
-
-fn size_in(meta: &Option<Meta>) -> Option<u64>
-    ensures { result ≡ option_and_then (λ (m : AMeta). m.size) meta.now }
-{
-    match meta {
-        None => None,
-        Some(meta) => meta.size,
-    }
-}
-
-fn format_of(alloc: Global, command: &Plain, item: &Item) -> Result<Option<Bytes>, Memory>
-    ensures { IfOk result (λ format. format ≡ meta_child (λ m. m.format) item.now command.now) }
-{
-    match format_in(alloc, &item.meta)? {
-        Some(format) => Ok(Some(format)),
-        None => format_in(alloc, &command.meta),
-    }
-}
-
-fn media_of(alloc: Global, command: &Plain, item: &Item) -> Result<Option<Bytes>, Memory>
-    ensures { IfOk result (λ media. media ≡ meta_child (λ m. m.media) item.now command.now) }
-{
-    match media_in(alloc, &item.meta)? {
-        Some(media) => Ok(Some(media)),
-        None => media_in(alloc, &command.meta),
-    }
-}
-
-fn size_of(command: &Plain, item: &Item) -> Option<u64>
-    ensures { result ≡ meta_child (λ m. m.size) item.now command.now }
-{
-    match size_in(&item.meta) {
-        Some(size) => Some(size),
-        None => size_in(&command.meta),
-    }
-}
+use syncml_types::{AlertCmd, Item, Member, Plain, Step};
 
 fn target_text(alloc: Global, item: &Item) -> Result<Option<Bytes>, Memory>
     ensures { IfOk result (λ text. text ≡ target_text item.now) }
@@ -89,8 +35,8 @@ fn step_of(alloc: Global, in_atomic: bool, command: &Plain, item: &Item) -> Resu
     Ok(Step {
         verb: command.verb,
         target: target_text(alloc, item)?,
-        format: format_of(alloc, command, item)?,
-        media: media_of(alloc, command, item)?,
+        format: format_of(alloc, &item.meta, &command.meta)?,
+        media: media_of(alloc, &item.meta, &command.meta)?,
         value: value_of(alloc, item)?,
         correlator: copy_bytes(alloc, &command.correlator)?,
         in_atomic,
@@ -102,7 +48,7 @@ fn piece_of(alloc: Global, in_atomic: bool, command: &Plain, item: &Item) -> Res
 {
     Ok(Piece {
         step: step_of(alloc, in_atomic, command, item)?,
-        size: size_of(command, item),
+        size: size_of(&item.meta, &command.meta),
         more: item.more,
     })
 }

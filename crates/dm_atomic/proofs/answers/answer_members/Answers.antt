@@ -23,7 +23,8 @@ loop-member-preserved c =
     (members_made c.args.code c.args.origin c.args.members.now)
     c.loop-member.invariant
     (next_member_made c.args.code c.args.origin c.args.members.now c.as_slice-member-items.result.now
-    c.loop-member.member-index c.member-item.result c.as_slice-member-items.ensures c.loop-member-test.true c.member-item.is)
+    c.loop-member.member-index c.member-item.result c.as_slice-member-items.ensures c.loop-member-test.true
+    c.member-item.is)
     c.in_ok-answer_member.ensures.ok
 
 pub returns-clause-ok : goal.returns-clause-ok

@@ -3,6 +3,7 @@ use Rattle.dm_atomic.specs.Engine.{state_of, IsShortWhat}
 use Rattle.dm_atomic.proofs.Engines.{pieced_ok, passed_ok}
 use Rattle.dm_atomic.proofs.Gathers.{gather-short}
 use Rattle.dm_objects.specs.Seen.{present}
+use Rattle.dm_objects.specs.InPlace.{what_of}
 use Rattle.dm_atomic.proofs.Staying.{a_piece_stays}
 use Rattle.dm_atomic.proofs.engine.Engine.one_piece.Goals as goal
 
@@ -24,13 +25,14 @@ returns-then-passes-clause-ok c =
 
 pub returns-clause-ok : goal.returns-clause-ok
 returns-clause-ok c =
-    let g = c.in_ok-what.ensures in
-    pieced_ok c.by_what.result c.args.self.now c.gather.new.self c.args.caller.now c.args.post.now c.args.piece.now
-    c.in_ok-what.what (state_of c.by_what.new.self) c.args.out.now c.gather.new.out g.object g.what g.told
-    c.by_what.ensures.ok
+    let g = c.in_ok-sort.ensures in
+    pieced_ok c.by_sort.result c.args.self.now c.gather.new.self c.args.caller.now c.args.post.now c.args.piece.now
+    (what_of c.in_ok-sort.sort c.gather.new.piece.step) (state_of c.by_sort.new.self) c.args.out.now c.gather.new.out
+    g.object g.what g.told c.by_sort.ensures.ok
 
 pub returns-clause-ids : goal.returns-clause-ids
 returns-clause-ids c =
     let e = c.args.self.now in
-    a_piece_stays e c.gather.new.self c.by_what.new.self c.args.piece.now c.in_ok-what.what (present e.inbox.objects)
-    c.in_ok-what.ensures.what c.gather.ensures.ids c.by_what.ensures.ids
+    a_piece_stays e c.gather.new.self c.by_sort.new.self c.args.piece.now
+    (what_of c.in_ok-sort.sort c.gather.new.piece.step) (present e.inbox.objects)
+    c.in_ok-sort.ensures.what c.gather.ensures.ids c.by_sort.ensures.ids
