@@ -20,3 +20,4 @@ pub mod Ready
 pub mod Fixtures
 pub mod Asking
 pub mod Moving
+pub mod Listed

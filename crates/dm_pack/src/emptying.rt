@@ -100,7 +100,7 @@ fn push_first(
     }
 }
 
-fn tail_behind(queue: &Queue, heard: bool) -> Tail
+pub(crate) fn tail_behind(queue: &Queue, heard: bool) -> Tail
     ensures { result ≡ Spec.tail_of queue.now heard }
 {
     if queue.len() > 0 {

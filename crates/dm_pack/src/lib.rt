@@ -1,6 +1,7 @@
 //! One message packed from the entries that wait: as many as fit, and a part of the next one.
 #![tactic(auto)]
 
+pub mod at_once;
 pub mod emptying;
 pub mod filled;
 mod fitting;
@@ -10,6 +11,7 @@ mod place;
 pub mod queue;
 mod waiting;
 
+pub use at_once::fill_at_once;
 pub use emptying::fill_out;
 pub use filled::{Filled, Tail, fill};
 pub use queue::Queue;

@@ -1,23 +1,23 @@
 // How far a message has come.
-ghost use Rattle.std.specs.Prelude.{◌≡◌, ◌<◌, ◌≤◌, ◌+◌, ◌^◌, length, [], true};
+ghost use Rattle.std.specs.Prelude.{◌≡◌, ◌<◌, ◌≤◌, ◌+◌, ◌^◌, length, [], true, IfSome, Some};
 ghost use Rattle.wbxml_tokens.specs.Spelling.{spelled, page_behind};
 ghost use Rattle.syncml_types.specs.Message.{IsShortData};
 ghost use Rattle.syncml_types.specs.Canonical.{command_tokens};
 ghost use Rattle.syncml_types.specs.Lengths.{up_to_most, spelled_length};
 ghost use Rattle.syncml_parts.specs.Numbering.{with_numbers};
 ghost use Rattle.syncml_parts.specs.Packing.{body_tag, tail_tokens};
-ghost use Rattle.dm_pack.specs.Entries.{IsReady, data_left, part_of};
+ghost use Rattle.dm_pack.specs.Entries.{IsReady, data_left, fresh, part_of};
 ghost use Rattle.dm_pack.specs.Filling as Filling;
 ghost use Rattle.dm_pack.specs.Filling.{IsReadyHeader};
 ghost use Rattle.dm_pack.specs.Measures as Spec;
-ghost use Rattle.dm_pack.specs.Measures.{behind_hollow, within, with_cost, place_of, marks_of};
+ghost use Rattle.dm_pack.specs.Measures.{behind, behind_hollow, within, with_cost, place_of, marks_of};
 
 use crate::filled::Tail;
 use crate::marks::decimal_length;
 use crate::waiting::Waiting;
 use dm_base::List;
 use std::alloc::Global;
-use syncml_parts::{data_length, numbered_length};
+use syncml_parts::{data_length, ids_in, numbered_length};
 use syncml_types::{AlertCmd, Command, Header, head_length};
 
 /// The bytes of a message up to the end of its commands, the page behind them, and the next CmdID.
@@ -149,6 +149,22 @@ impl Place {
                 next: self.next,
             }),
         }
+    }
+
+    // With one more command, where the message fits then.
+    pub(crate) fn with_command(self, command: &Command, room: u64) -> Option<Place>
+        requires ready { IsReady (fresh command.now) }
+        requires room { room ≤ 65536 }
+        requires low { (self.used ≤ 65536) × (self.next ≤ 1 + self.used) }
+        ensures { IfSome result (λ next. Some next ≡ within room (behind self command.now)) }
+    {
+        let (bytes, page) = numbered_length(self.page, self.next, command);
+        let used = self.used.saturating_add(bytes);
+        let next = self.next + ids_in(command);
+        if used.saturating_add(end_length(page, next)) > room {
+            return None;
+        }
+        Some(Place { used, page, next })
     }
 
     // With the entry's next part in place of the whole entry, both without Data.

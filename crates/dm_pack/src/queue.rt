@@ -1,12 +1,12 @@
 // The entries that wait.
-ghost use Rattle.std.specs.Prelude.{◌≡◌, ◌<◌, ◌≤◌, ◌+◌, ◌∷◌, ◌++◌, [], length, take, drop, OnOk, OnErr, IfOk};
+ghost use Rattle.std.specs.Prelude.{◌≡◌, ◌<◌, ◌≤◌, ◌+◌, ◌∷◌, ◌++◌, [], length, map, take, drop, OnOk, OnErr, IfOk};
 ghost use Rattle.std.specs.Prelude.{MatchOption};
 ghost use Rattle.dm_pack.specs.Entries.{fresh};
 ghost use Rattle.dm_pack.specs.Filling.{next_rest, left_after, HasMore, CanBeTaken};
 
 use crate::filled::Filled;
 use crate::waiting::Waiting;
-use dm_base::Memory;
+use dm_base::{List, Memory};
 use std::alloc::Global;
 use std::collections::VecDeque;
 use std::marker::Model;
@@ -57,6 +57,16 @@ impl Queue {
         ensures err { OnErr result (self.new ≡ self.old) }
     {
         self.entries.push_back(Waiting::new(self.alloc, entry))?;
+        Ok(())
+    }
+
+    // Adds entries behind all others. After `Memory` some of them may stand there.
+    pub(crate) fn push_all(&mut self, entries: List<Command>) -> Result<(), Memory>
+        ensures { OnOk result (self.new ≡ self.old ++ map fresh entries) }
+    {
+        for entry in entries.into_vec() {
+            self.push_back(entry)?;
+        }
         Ok(())
     }
 
