@@ -1,6 +1,6 @@
 -- A queue to which entries are put, and out of which a message is filled.
 use Rattle.std.proofs.Common.{◌≡◌, ◌≤◌, ℕ, Bool, List, [], ◌∷◌, ◌++◌, length, map, take, drop, Option, None, Some, refl}
-use Rattle.std.proofs.Common.{◌∙◌, append_assoc, sym, ap, arith}
+use Rattle.std.proofs.Common.{◌∙◌, ap, arith}
 use Rattle.std.specs.Option.{option_to_list}
 use Rattle.std.proofs.Math.Seq.{take-append_seam}
 use Rattle.syncml_types.specs.declared.command.Command.{Command}
@@ -41,19 +41,6 @@ pub left_is : (es new : List Entry) (header : Header) (room : ℕ) (heard : Bool
 unfolding fill left_after
 left_is es new header room heard whole cut w c is =
     is ∙ ap (λ n. left_after es n cut) w ∙ ap (left_after es (fill es header room heard).whole) c
-
--- what was put around a queue
-pub all_put : (front : List Entry) (old now new behind : List Entry) → now ≡ front ++ old → new ≡ now ++ behind
-    → new ≡ front ++ (old ++ behind)
-all_put front old now new behind was is = is ∙ ap (λ l. l ++ behind) was ∙ append_assoc front old behind
-
--- nothing is left of it
-pub nothing_left : (old new now : List Entry) → old ≡ [] → now ≡ take 0 new → now ≡ old
-nothing_left old new now none is = is ∙ none_of new ∙ sym none
-  where
-    none_of : (l : List Entry) → take 0 l ≡ []
-    none_of [] = refl
-    none_of (x ∷ l) = refl
 
 pub none_waits : (q : List Entry) → length q ≡ 0 → q ≡ []
 none_waits [] none = refl

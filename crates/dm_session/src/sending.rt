@@ -10,7 +10,7 @@ ghost use Rattle.dm_machine.specs.Sending.{moved_on as moved};
 use crate::rest::{Sent, Session};
 use dm_base::{List, Memory};
 use dm_machine::Progress;
-use dm_pack::{Filled, Queue, Tail, fill, fill_out};
+use dm_pack::{Filled, Queue, Tail, fill, fill_at_once};
 use syncml_types::{Command, Header};
 
 // How many entries it is.
@@ -68,74 +68,6 @@ fn send_behind(
     Ok(filled)
 }
 
-// Out of a queue in which nothing waited. After `Memory` some of the entries may stand there.
-#[tactic(auto, using(crate::proofs::Queues::all_put))]
-fn send_out(
-    queue: &mut Queue,
-    front: Option<Command>,
-    entries: List<Command>,
-    header: Header,
-    room: u64,
-    heard: bool,
-) -> Result<Filled, Memory>
-    requires ready { AllByRecursion IsReady (map fresh (option_to_list front) ++ (queue.old ++ map fresh entries)) }
-    requires header { IsReadyHeader header }
-    requires room { (2048 ≤ room) × (room ≤ 65536) }
-    ensures message { IfOk result (λ f. f.message
-        ≡ (fill_of (map fresh (option_to_list front) ++ (queue.old ++ map fresh entries)) header room
-        heard).message) }
-    ensures bytes { IfOk result (λ f. f.bytes ≡ canonical f.message) }
-    ensures whole { IfOk result (λ f. f.whole
-        ≡ (fill_of (map fresh (option_to_list front) ++ (queue.old ++ map fresh entries)) header room
-        heard).whole) }
-    ensures tail { IfOk result (λ f. f.tail
-        ≡ (fill_of (map fresh (option_to_list front) ++ (queue.old ++ map fresh entries)) header room heard).tail) }
-    ensures within { IfOk result (λ f. length f.bytes ≤ room) }
-    ensures ok { OnOk result (queue.new
-        ≡ (fill_of (map fresh (option_to_list front) ++ (queue.old ++ map fresh entries)) header room heard).left) }
-{
-    push_front(queue, front)?;
-    push_all(queue, entries)?;
-    fill_out(queue, header, room, heard)
-}
-
-// The same where nothing waits, so that what is sent is moved and not copied.
-#[tactic(auto, using(crate::proofs::Queues::nothing_left))]
-fn send_at_once(
-    queue: &mut Queue,
-    front: Option<Command>,
-    entries: List<Command>,
-    header: Header,
-    room: u64,
-    heard: bool,
-) -> Result<Filled, Memory>
-    requires none { queue.old ≡ [] }
-    requires ready { AllByRecursion IsReady (map fresh (option_to_list front) ++ (queue.old ++ map fresh entries)) }
-    requires header { IsReadyHeader header }
-    requires room { (2048 ≤ room) × (room ≤ 65536) }
-    ensures message { IfOk result (λ f. f.message
-        ≡ (fill_of (map fresh (option_to_list front) ++ (queue.old ++ map fresh entries)) header room
-        heard).message) }
-    ensures bytes { IfOk result (λ f. f.bytes ≡ canonical f.message) }
-    ensures whole { IfOk result (λ f. f.whole
-        ≡ (fill_of (map fresh (option_to_list front) ++ (queue.old ++ map fresh entries)) header room
-        heard).whole) }
-    ensures tail { IfOk result (λ f. f.tail
-        ≡ (fill_of (map fresh (option_to_list front) ++ (queue.old ++ map fresh entries)) header room heard).tail) }
-    ensures within { IfOk result (λ f. length f.bytes ≤ room) }
-    ensures ok { OnOk result (queue.new
-        ≡ (fill_of (map fresh (option_to_list front) ++ (queue.old ++ map fresh entries)) header room heard).left) }
-    ensures err { OnErr result (queue.new ≡ queue.old) }
-{
-    match send_out(queue, front, entries, header, room, heard) {
-        Ok(filled) => Ok(filled),
-        Err(memory) => {
-            queue.cut_to(0);
-            Err(memory)
-        }
-    }
-}
-
 /// Puts an entry in front of the queue, where there is one, and others behind it, and takes the next message out. After
 /// `Memory` the queue is as before.
 #[tactic(auto, using(crate::proofs::Queues::front_gone, crate::proofs::Queues::front_long, crate::proofs::Queues::none_waits))]
@@ -165,7 +97,7 @@ pub(crate) fn send(
     ensures err { OnErr result (queue.new ≡ queue.old) }
 {
     if queue.len() == 0 {
-        return send_at_once(queue, front, entries, header, room, heard);
+        return fill_at_once(queue, front, entries, header, room, heard);
     }
     let fronts = push_front(queue, front)?;
     let waiting = queue.len();
