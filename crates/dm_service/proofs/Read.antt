@@ -1,4 +1,5 @@
--- Each value that a server holds is what gathering makes of the pieces that it read in one session.
+-- Each value that a server holds is what gathering makes of the pieces that it read in one session, put together from
+-- the whole run of those of its object.
 use Rattle.std.proofs.Common.{None, Some, ◌≡◌, ◌-◌, ◌==◌, ◌&&◌, ◌⊎◌, ℕ, zero, suc, Bool, true, false, cond, not, inl}
 use Rattle.std.proofs.Common.{inr}
 use Rattle.std.proofs.Common.{List, [], ◌∷◌, ◌++◌, refl, sym, ap, subst, ◌∙◌, arith, get_or, replicate, append_assoc}
@@ -21,6 +22,7 @@ use Rattle.dm_objects.specs.declared.piece.Piece.{Piece}
 use Rattle.dm_objects.specs.declared.piece.What.TheVariants.{Whole}
 use Rattle.dm_objects.specs.Gathering.{gather}
 use Rattle.dm_objects.specs.Laws.{gather_all}
+use Rattle.dm_objects.proofs.Together.{wholes_are_put_together}
 use Rattle.dm_ends.specs.Commands.{is_abort}
 use Rattle.dm_job.specs.Sound.{all_entries}
 use Rattle.dm_service.specs.declared.sent.Sent.{Sent}
@@ -364,6 +366,8 @@ is-read max v ps e es place value limit t (inr (m, read, r)) =
       pieces = ap (λ (b : Bool). cond b (pieces_told v ps e.read e.nonce) ps) t ∙ r.pieces;
       gathered = ap (λ (i : ℕ). (gather i (gather_all i Nothing r.before) (result_piece r.results r.item)).what)
           (sym limit) ∙ r.gathered;
+      together = wholes_are_put_together v.job.limits.max_obj r.before (result_piece r.results r.item) value
+          r.gathered;
     })
 
 next-reads : (max : ℕ) (v : Service) (ps : List Piece) (e : Arrival) (es : List Arrival) (place : ℕ) (value : Step)
@@ -399,6 +403,7 @@ later-read max v ps e es place value r = record {
   behind = r.behind;
   pieces = r.pieces;
   gathered = r.gathered;
+  together = r.together;
 }
 
 all-read : (max : ℕ) (v : Service) (ps : List Piece) (es : List Arrival) (place : ℕ) (value : Step) → Sound max ps v

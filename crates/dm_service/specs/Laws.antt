@@ -16,7 +16,7 @@ use Rattle.dm_objects.specs.declared.object.Object.TheVariants.{Nothing}
 use Rattle.dm_objects.specs.declared.piece.Piece.{Piece}
 use Rattle.dm_objects.specs.declared.piece.What.TheVariants.{Whole}
 use Rattle.dm_objects.specs.Gathering.{gather}
-use Rattle.dm_objects.specs.Laws.{gather_all}
+use Rattle.dm_objects.specs.Laws.{gather_all, IsPutTogether}
 use Rattle.syncml_types.specs.declared.command.Command.{Command}
 use Rattle.syncml_types.specs.declared.command.Command.TheVariants as command
 use Rattle.dm_headers.specs.Checks.{fault_of, passes}
@@ -189,7 +189,8 @@ ValuesAreFound = (v : Service) (s : Session) (m : Parts) (nonce : List ℕ) (pla
 
 -- A message among those that came, in whose session a command of the job was sent, and in it Results for that command,
 -- with an Item by whose piece this value came whole: it is what gathering makes of that piece behind all that were read
--- in the session before it
+-- in the session before it. So it is put together from that piece and all earlier ones of the same object, which is a
+-- matter of their Source, and not of the commands that the Results are for.
 pub record IsRead (max : ℕ) (v : Service) (ps : List Piece) (es : List Arrival) (place : ℕ) (value : Step)
     : Type 0 where
   pub done : List Arrival
@@ -211,8 +212,10 @@ pub record IsRead (max : ℕ) (v : Service) (ps : List Piece) (es : List Arrival
   pub behind : List Piece
   pub pieces : pieces_from v ps (done ++ message ∷ []) ≡ before ++ result_piece results item ∷ behind
   pub gathered : (gather max (gather_all max Nothing before) (result_piece results item)).what ≡ Whole value
+  pub together : IsPutTogether before (result_piece results item) value
 
--- each value that a server holds is what gathering makes of the pieces that it read
+-- each value that a server holds is what gathering makes of the pieces that it read, put together from the whole run of
+-- those of its object
 abbrev pub ValuesAreRead : Type 0
 ValuesAreRead = (job : Job) (es : List Arrival) (place : ℕ) (value : Step)
     → Contains (found_at (state_from (first_service job) es).told place) value

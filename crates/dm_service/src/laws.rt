@@ -47,13 +47,14 @@ pub fn codes_are_told()
 
 /// Law: where a message is accepted, each value that is known then was known before, or came whole by an Item of
 /// Results in that message for the command, as it was sent in this session; and the commands of that message are read.
-/// Its earlier pieces are those of the object that the session gathers, and all that stand in front in that message.
+/// It came so behind the object that the session gathers and all pieces that stand in front in that message.
 pub fn values_are_found()
     ensures { ValuesAreFound }
 {}
 
 /// Law: each value that is known for a command is what gathering makes of a piece, an Item of Results for that command,
-/// behind all pieces that were read before it in the session in which the command was sent.
+/// behind all pieces that were read before it in the session in which the command was sent. So it is the bytes of that
+/// piece behind those of all earlier pieces of the same Source, which have MoreData and stand right in front of it.
 pub fn values_are_read()
     ensures { ValuesAreRead }
 {}
