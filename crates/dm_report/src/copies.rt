@@ -3,24 +3,9 @@ ghost use Rattle.std.specs.Prelude.{◌≡◌, IfOk};
 
 use crate::kept::FoundValue;
 use dm_base::{List, Memory};
+use dm_objects::copy_step;
 use dm_service::KeptAlert;
 use std::alloc::Global;
-use syncml_types::Step;
-use syncml_types::copies::copy_bytes;
-
-fn copy_step(alloc: Global, step: &Step) -> Result<Step, Memory>
-    ensures { IfOk result (λ copied. copied ≡ step.now) }
-{
-    Ok(Step {
-        verb: step.verb,
-        target: copy_bytes(alloc, &step.target)?,
-        format: copy_bytes(alloc, &step.format)?,
-        media: copy_bytes(alloc, &step.media)?,
-        value: step.value.copy(alloc)?,
-        correlator: copy_bytes(alloc, &step.correlator)?,
-        in_atomic: step.in_atomic,
-    })
-}
 
 pub(crate) fn copy_found(alloc: Global, found: &FoundValue) -> Result<FoundValue, Memory>
     ensures { IfOk result (λ copied. copied ≡ found.now) }

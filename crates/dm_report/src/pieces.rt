@@ -1,70 +1,14 @@
 // The pieces of values that Results bring, and the alerts, as they are kept.
-ghost use Rattle.std.specs.Prelude.{◌≡◌, [], IfOk, unwrap_or, option_and_then};
-ghost use Rattle.syncml_types.specs.declared.values.Meta.{Meta as AMeta};
-ghost use Rattle.dm_atomic.specs.Tasks.{meta_child, target_text};
+ghost use Rattle.std.specs.Prelude.{◌≡◌, [], IfOk, unwrap_or};
+ghost use Rattle.dm_atomic.specs.Tasks.{target_text};
 ghost use Rattle.dm_service.specs.Matching as Spec;
 
+use dm_atomic::metas::{format_of, media_of, size_of};
 use dm_base::{Bytes, Memory};
 use dm_objects::Piece;
 use dm_service::KeptAlert;
 use std::alloc::Global;
-use syncml_types::copies::copy_bytes;
-use syncml_types::{Item, Meta, ResultsCmd, Step, Verb};
-
-fn format_in(alloc: Global, meta: &Option<Meta>) -> Result<Option<Bytes>, Memory>
-    ensures { IfOk result (λ format. format ≡ option_and_then (λ (m : AMeta). m.format) meta.now) }
-{
-    match meta {
-        None => Ok(None),
-        Some(meta) => copy_bytes(alloc, &meta.format),
-    }
-}
-
-fn media_in(alloc: Global, meta: &Option<Meta>) -> Result<Option<Bytes>, Memory>
-    ensures { IfOk result (λ media. media ≡ option_and_then (λ (m : AMeta). m.media) meta.now) }
-{
-    match meta {
-        None => Ok(None),
-        Some(meta) => copy_bytes(alloc, &meta.media),
-    }
-}
-
-fn size_in(meta: &Option<Meta>) -> Option<u64>
-    ensures { result ≡ option_and_then (λ (m : AMeta). m.size) meta.now }
-{
-    match meta {
-        None => None,
-        Some(meta) => meta.size,
-    }
-}
-
-// The item's own goes before that of the Results.
-fn format_of(alloc: Global, results: &ResultsCmd, item: &Item) -> Result<Option<Bytes>, Memory>
-    ensures { IfOk result (λ format. format ≡ meta_child (λ m. m.format) item.now (Spec.as_replace results.now)) }
-{
-    match format_in(alloc, &item.meta)? {
-        Some(format) => Ok(Some(format)),
-        None => format_in(alloc, &results.meta),
-    }
-}
-
-fn media_of(alloc: Global, results: &ResultsCmd, item: &Item) -> Result<Option<Bytes>, Memory>
-    ensures { IfOk result (λ media. media ≡ meta_child (λ m. m.media) item.now (Spec.as_replace results.now)) }
-{
-    match media_in(alloc, &item.meta)? {
-        Some(media) => Ok(Some(media)),
-        None => media_in(alloc, &results.meta),
-    }
-}
-
-fn size_of(results: &ResultsCmd, item: &Item) -> Option<u64>
-    ensures { result ≡ meta_child (λ m. m.size) item.now (Spec.as_replace results.now) }
-{
-    match size_in(&item.meta) {
-        Some(size) => Some(size),
-        None => size_in(&results.meta),
-    }
-}
+use syncml_types::{Item, ResultsCmd, Step, Verb};
 
 fn source_text(alloc: Global, item: &Item) -> Result<Option<Bytes>, Memory>
     ensures { IfOk result (λ text. text ≡ target_text (Spec.to_source item.now)) }
@@ -90,8 +34,8 @@ fn step_of(alloc: Global, results: &ResultsCmd, item: &Item) -> Result<Step, Mem
     Ok(Step {
         verb: Verb::Replace,
         target: source_text(alloc, item)?,
-        format: format_of(alloc, results, item)?,
-        media: media_of(alloc, results, item)?,
+        format: format_of(alloc, &item.meta, &results.meta)?,
+        media: media_of(alloc, &item.meta, &results.meta)?,
         value: bytes_or_none(alloc, &item.value)?,
         correlator: None,
         in_atomic: false,
@@ -108,7 +52,7 @@ pub(crate) fn result_piece(
 {
     Ok(Piece {
         step: step_of(alloc, results, item)?,
-        size: size_of(results, item),
+        size: size_of(&item.meta, &results.meta),
         more: item.more,
     })
 }

@@ -15,7 +15,8 @@ use crate::held::{Plan, Run};
 use dm_base::{List, Memory};
 use dm_headers::Standing;
 use dm_job::JobEntry;
-use dm_waiting::{WaitingList, ids_in};
+use dm_waiting::WaitingList;
+use syncml_parts::ids_in;
 
 /// How many commands entries hold.
 pub(crate) fn commands_in(entries: &[JobEntry]) -> Result<u64, Memory>
@@ -25,7 +26,7 @@ pub(crate) fn commands_in(entries: &[JobEntry]) -> Result<u64, Memory>
     let mut count = 0u64;
     for entry in entries {
         // As many commands as that can't be held.
-        let Some(next) = count.checked_add(ids_in(&entry.command)) else {
+        let Some(next) = count.checked_add(u64::from(ids_in(&entry.command))) else {
             return Err(Memory);
         };
         count = next;

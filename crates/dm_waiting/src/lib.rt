@@ -2,10 +2,9 @@
 //! commands of the job a message holds.
 #![tactic(auto)]
 
-mod counting;
 mod holding;
+mod ids;
 mod loads;
 pub mod waiting_list;
 
-pub use counting::ids_in;
 pub use waiting_list::WaitingList;

@@ -14,8 +14,8 @@ ghost use Rattle.dm_waiting.specs.Held.{IsSmall, IsNumbered};
 ghost use Rattle.dm_waiting.specs.Inside.{IsOf, TellsAt};
 ghost use Rattle.dm_waiting.specs.View.{IsNumberedEntry, entries_of};
 
-use crate::counting::{id_at, ids_in};
 use crate::holding::push_held;
+use crate::ids::id_at;
 use crate::loads::{Load, any_carries, begin, drop_between, drop_front};
 use dm_base::{List, Memory};
 use dm_job::JobEntry;
@@ -24,6 +24,7 @@ use dm_service::{Carried, Sent};
 use std::alloc::Global;
 use std::collections::VecDeque;
 use std::marker::Model;
+use syncml_parts::ids_in;
 use syncml_types::{Command, Header};
 
 // An answer carries nothing of the job.
@@ -131,7 +132,7 @@ impl WaitingList {
         ensures ok { OnOk result (self.new ≡ self.old ++ job_waiting entry.now ∷ []) }
         ensures err { OnErr result (self.new ≡ self.old) }
     {
-        let count = ids_in(&entry.command);
+        let count = u64::from(ids_in(&entry.command));
         // As many commands as that can't be held.
         let Some(_) = entry.number.checked_add(count) else {
             return Err(Memory);
