@@ -10,10 +10,12 @@ use Rattle.dm_base.specs.declared.outside.TakeError.TheVariants as take_error
 use Rattle.dm_base.specs.declared.lines.LineReason.{LineReason}
 use Rattle.dm_base.specs.declared.lines.LineReason.TheVariants as reason
 use Rattle.dm_base.specs.declared.lines.LineOut.TheVariants as line_out
-use Rattle.dm_base.specs.Lines.{ReadsLine}
+use Rattle.dm_base.specs.Lines.{AskedForMore, IsFeedless, ReadsLine}
+use Rattle.dm_replay.specs.declared.reading.Halt.{Halt}
+use Rattle.dm_replay.specs.declared.reading.Halt.TheVariants as halt
 use Rattle.dm_replay.specs.Input.{Input, input_of, split}
 use Rattle.dm_replay.specs.Trace.{bad, too_long, stopped, tail_stop, whole, end_at}
-use Rattle.dm_replay.specs.From.{OfInput, Between, Leads, stop_at, ending_at, OfStop, halt_after}
+use Rattle.dm_replay.specs.From.{OfInput, Between, Leads, stop_at, ending_at, OfStop, HaltsAsking, halt_after}
 use Rattle.dm_replay.proofs.Splits.{not_lt, is_lt, input_line, input_cut, input_past, input_led, input_long}
 
 pub line_leads : (a b : Option (List ℕ)) (r r' : ℕ) (line : List ℕ) → ReadsLine r a b (Ok (line_out.Line line))
@@ -157,3 +159,15 @@ error_behind (Some xs) b r n take_error.Read h = tt
 error_behind (Some xs) b r n take_error.Memory h = tt
 error_behind (Some xs) b r n take_error.TooLong h =
     ap (ending_at n) (input_past r xs h.feedless h.more) ∙ end_tail_short n (take r xs) true (short_front r xs h.short)
+
+pub asked_halts : (pending : List ℕ) (error : TakeError) → AskedForMore pending (Err error)
+    → HaltsAsking pending (halt_after error)
+asked_halts pending take_error.Read h = h
+asked_halts pending take_error.TooLong h = tt
+asked_halts pending take_error.Memory h = tt
+
+pub feedless_at_read : (pending : List ℕ) (h : Halt) → HaltsAsking pending h → h ≡ halt.Read → IsFeedless pending
+feedless_at_read pending (halt.Bad n why) h is = cc
+feedless_at_read pending halt.TooLong h is = cc
+feedless_at_read pending halt.Read h is = h
+feedless_at_read pending halt.Memory h is = cc

@@ -9,7 +9,7 @@ use Rattle.dm_base.specs.declared.outside.Fault.{Fault}
 use Rattle.dm_base.specs.declared.outside.Fault.TheVariants as fault
 use Rattle.dm_base.specs.declared.outside.TakeError.{TakeError}
 use Rattle.dm_base.specs.declared.outside.TakeError.TheVariants as take_error
-use Rattle.dm_base.specs.Lines.{LinesState, ahead, room}
+use Rattle.dm_base.specs.Lines.{IsFeedless, LinesState, ahead, room}
 use Rattle.dm_tree.specs.Devices.{IsDeviceTree}
 use Rattle.dm_tree.specs.Rows.{nodes}
 use Rattle.dm_machine.specs.Machine.{Machine}
@@ -94,6 +94,11 @@ HaltCounts before now (Err (halt.Bad n why)) = now ≡ before
 HaltCounts before now (Err halt.TooLong) = now ≡ before
 HaltCounts before now (Err halt.Read) = Rose before now
 HaltCounts before now (Err halt.Memory) = now ≡ before
+
+-- a run halts for a fault of the source only where no line is pending
+abbrev pub HaltsAsking : List ℕ → Halt → Type 0
+HaltsAsking pending halt.Read = IsFeedless pending
+HaltsAsking pending other = ⊤
 
 abbrev pub halt_after : TakeError → Halt
 halt_after take_error.Read = halt.Read

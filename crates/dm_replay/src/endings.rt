@@ -1,7 +1,7 @@
 // What a run puts, and how it ends.
-ghost use Rattle.std.specs.Prelude.{◌≡◌, ◌≢◌, ◌≤◌, ◌++◌, IfOk, MatchResult};
+ghost use Rattle.std.specs.Prelude.{◌≡◌, ◌≢◌, ◌≤◌, ◌++◌, [], IfOk, OnOk, MatchResult};
 ghost use Rattle.std.specs.Io.KnownBytes.{Appends};
-ghost use Rattle.dm_base.specs.Lines.{CountsTaken};
+ghost use Rattle.dm_base.specs.Lines.{CountsTaken, IsFeedless};
 ghost use Rattle.dm_tree.specs.Rows.{nodes};
 ghost use Rattle.dm_exit.specs.Causes.{SourceCause, SinkCause};
 ghost use Rattle.dm_exit.specs.Puts.{PutsPart, PutsEnd, Ends};
@@ -24,6 +24,7 @@ const PIECE: usize = 65_536;
 /// Puts the answers that are due: where the source would be asked for more bytes, and where they are many.
 pub(crate) fn put_due<K: Sink>(lines: &Lines, out: &mut K, due: &mut Bytes) -> Result<(), Exit>
     ensures bytes { PutsOn (K.got out.old) (K.got out.new) due.old due.new result }
+    ensures all { OnOk result (IsFeedless lines.now.pending → due.new ≡ []) }
     ensures count { MatchResult result (λ _. K.faults out.new ≡ K.faults out.old)
         (λ e. SinkCause (K.faults out.old) (K.faults out.new) e) }
 {
@@ -120,6 +121,7 @@ pub(crate) fn put_halt<K: Sink>(alloc: Global, out: &mut K, halt: Halt) -> Exit
 /// Ends a run that halted, behind the answers that are due. Where the source failed there are none: it is asked where
 /// no line is pending.
 pub(crate) fn put_due_and_halt<K: Sink>(alloc: Global, out: &mut K, due: &[u8], halt: Halt) -> Exit
+    requires asking { halt ≡ Halt.Read → due.now ≡ [] }
     ensures bytes { PutsDueAndHalt due.now halt (K.got out.old) (K.got out.new) result }
     ensures count { SinkCause (K.faults out.old) (K.faults out.new) result }
 {

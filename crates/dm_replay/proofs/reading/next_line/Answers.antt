@@ -1,4 +1,4 @@
-use Rattle.dm_replay.proofs.Fronts.{line_leads, bad_stops, error_stops}
+use Rattle.dm_replay.proofs.Fronts.{line_leads, bad_stops, error_stops, asked_halts}
 use Rattle.dm_replay.proofs.reading.next_line.Goals as goal
 
 pub returns-in-Ok-Line-clause-line : goal.returns-in-Ok-Line-clause-line
@@ -13,3 +13,7 @@ returns-in-Ok-Bad-clause-halt g c =
 pub returns-in-Err-clause-halt : goal.returns-in-Err-clause-halt
 returns-in-Err-clause-halt g c =
     rw c.halt_of.ensures (error_stops _ _ _ c.args.number c.in-Err.error c.in-Err.ensures.line)
+
+pub returns-in-Err-clause-asked : goal.returns-in-Err-clause-asked
+returns-in-Err-clause-asked g c =
+    rw c.halt_of.ensures (asked_halts _ c.in-Err.error c.in-Err.ensures.asked)

@@ -3,6 +3,7 @@ use Rattle.dm_base.proofs.Pending.{taken_more}
 use Rattle.dm_exit.specs.declared.exit.Exit.TheVariants as exit
 use Rattle.dm_replay.specs.From.{ending_at, events_at}
 use Rattle.dm_replay.proofs.Accounts.{said_many}
+use Rattle.dm_replay.proofs.Fronts.{feedless_at_read}
 use Rattle.dm_replay.proofs.Running.{so_far_ends, so_far_put, said_more, due_breaks, due_stays, end_ends, halt_ends}
 use Rattle.dm_replay.proofs.Running.{due_source}
 use Rattle.dm_replay.proofs.trace.answer_events.Goals as goal
@@ -96,3 +97,9 @@ returns-in-Err-answer-clause-output g c =
 pub returns-in-Err-answer-clause-taken : goal.returns-in-Err-answer-clause-taken
 returns-in-Err-answer-clause-taken g c =
     taken_more _ _ _ _ c.events.lines.taken _ c.events.invariant.taken c.in-Ok-Some.ensures.taken
+
+pub put_due_and_halt-requires : goal.put_due_and_halt-requires
+put_due_and_halt-requires g c = record {
+  asking = λ read. c.as_slice-in-Err-next_event.ensures
+      ∙ c.in-Ok.ensures.all (feedless_at_read _ c.in-Err-next_event.halt c.in-Err-next_event.ensures.asked read);
+}
