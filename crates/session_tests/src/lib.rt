@@ -10,6 +10,8 @@ mod credential_rows;
 #[cfg(test)]
 mod group_rows;
 #[cfg(test)]
+mod header_rows;
+#[cfg(test)]
 mod order_rows;
 #[cfg(test)]
 mod room_rows;

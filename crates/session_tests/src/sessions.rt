@@ -4,6 +4,7 @@ ghost use Rattle.std.specs.Prelude.{◌<◌, length};
 use crate::answers::answer_to;
 use crate::credential_rows::CREDENTIALS;
 use crate::group_rows::GROUPS;
+use crate::header_rows::HEADER;
 use crate::order_rows::ORDER;
 use crate::room_rows::ROOM;
 use crate::rows::{Call, Row};
@@ -54,6 +55,7 @@ fn each_row_is_answered(rt: HostRuntime) -> Result<(), Fail> {
     let alloc = rt.alloc();
     for rows in [
         ORDER.as_slice(),
+        HEADER.as_slice(),
         CREDENTIALS.as_slice(),
         ROOM.as_slice(),
         GROUPS.as_slice(),

@@ -11,3 +11,5 @@ mod refusals;
 mod starts;
 #[cfg(test)]
 mod texts;
+#[cfg(test)]
+mod tree_refusals;
