@@ -1,9 +1,13 @@
 // A list of bytes, which contracts see as a list of numbers.
 ghost use Rattle.std.specs.Prelude.{◌≡◌, ◌==◌, ◌∷◌, ◌++◌, [], List, ℕ, length, take, drop, OnOk, OnErr, IfOk};
 
+use smallvec::SmallVec;
 use std::alloc::{AllocError, AllocFailed, Global};
 use std::marker::Model;
 use thiserror::Error;
+
+// How many bytes stand in the list itself: most names, URIs, texts of a Meta and values are as short.
+const INLINE: usize = 16;
 
 /// Want of memory. It is merged with no other error.
 #[derive(Clone, Copy, Debug, PartialEq, Eq, Error)]
@@ -22,10 +26,18 @@ impl<T: Drop> From<AllocFailed<T>> for Memory {
     }
 }
 
-/// A list of bytes. Its calls are those of a list; after `Memory` it is as before.
-#[derive(Drop)]
+/// A list of bytes. Its calls are those of a list; after `Memory` it is as before. One that never had room for more than
+/// 16 bytes takes no block.
 pub struct Bytes {
-    items: Vec<u8>,
+    items: SmallVec<u8, INLINE>,
+}
+
+// By hand, so that what drops a value of many texts calls this for each, and none tells both places of its bytes.
+impl Drop for Bytes {
+    fn drop(self) {
+        let Bytes { items } = self;
+        drop(items);
+    }
 }
 
 impl Model for Bytes {
@@ -42,22 +54,17 @@ impl Bytes {
         ensures { result ≡ [] }
     {
         Bytes {
-            items: Vec::new(alloc),
+            items: SmallVec::new(alloc),
         }
     }
 
-    /// The bytes of a vector, which isn't copied.
+    /// The bytes of a vector. It isn't copied, but where it has room for 16 bytes or fewer.
     pub fn of_vec(items: Vec<u8>) -> Bytes
         ensures { result ≡ items.items }
     {
-        Bytes { items }
-    }
-
-    /// The vector of these bytes, which aren't copied.
-    pub fn into_vec(self) -> Vec<u8>
-        ensures { result.items ≡ self }
-    {
-        self.items
+        Bytes {
+            items: SmallVec::from_vec(items),
+        }
     }
 
     /// A list of the bytes of a slice.
@@ -65,7 +72,7 @@ impl Bytes {
         ensures { IfOk result (λ b. b ≡ bytes.now) }
     {
         Ok(Bytes {
-            items: Vec::from_slice(alloc, bytes)?,
+            items: SmallVec::from_slice(alloc, bytes)?,
         })
     }
 
@@ -120,8 +127,13 @@ impl Bytes {
     pub fn drop_front(&mut self, count: usize)
         ensures { self.new ≡ drop count self.old }
     {
+        if count == 0 {
+            return;
+        }
         let count = count.min(self.items.len());
-        self.items.drain(..count);
+        let left = self.items.len() - count;
+        self.items.as_mut_slice().copy_within(count.., 0);
+        self.items.truncate(left);
     }
 
     /// Keeps the first `count` bytes, or all where there are fewer. It takes no memory.

@@ -2,6 +2,7 @@
 //! memory, and the readers of lines and fields.
 #![tactic(auto)]
 
+pub mod boxed;
 pub mod bytes;
 pub mod fields;
 pub mod laws;
@@ -13,6 +14,7 @@ mod pending_bytes;
 pub mod values;
 pub mod wholes;
 
+pub use boxed::Boxed;
 pub use bytes::{Bytes, Memory};
 pub use fields::{Form, field, hex_bytes, hex_into, is_field, nonce, num};
 pub use lines::{LineOut, LineReason, Lines};

@@ -158,8 +158,9 @@ impl Lines {
     }
 
     /// The next line. Where a line feed is pending the source isn't asked. A line that is whole within the first
-    /// 67,108,864 bytes is given before another byte is asked for; `TooLong` comes exactly where no whole line is left in them and another byte comes. After an answer other
-    /// than a line the same comes again; after `Read` nothing is lost, and after `Memory` what was taken may be.
+    /// 67,108,864 bytes is given before another byte is asked for; `TooLong` comes exactly where no whole line is left
+    /// in them and another byte comes. After an answer other than a line the same comes again; after `Read` nothing is
+    /// lost, and after `Memory` what was taken may be.
     pub fn next<S: Source>(&mut self, src: &mut S) -> Result<LineOut, TakeError>
         ensures line { ReadsLine (room self.old) (ahead self.old (S.left src.old))
             (ahead self.new (S.left src.new)) result }

@@ -110,8 +110,8 @@ impl<T: Drop> List<T> {
         ensures ok { OnOk result (self.new ≡ self.old ++ value ∷ []) }
         ensures err { OnErr result (self.new ≡ self.old) }
     {
-        // Room first: a vector's own push hands the value back inside its error, which moves it twice. A list of one takes
-        // room for one, not for the four that a vector begins with; then room doubles.
+        // Room first: a vector's own push hands the value back inside its error, which moves it twice. A list of one
+        // takes room for one, not for the four that a vector begins with; then room doubles.
         if self.items.len() == self.items.capacity() {
             self.items.reserve_exact(self.items.len().max(1))?;
         }

@@ -7,7 +7,7 @@ ghost use Rattle.dm_uri.specs.declared.uri.UriError.TheVariants as error;
 
 use crate::name::Name;
 use crate::uri::{Prop, Query, Uri, UriError};
-use dm_base::{Bytes, Memory};
+use dm_base::Memory;
 use std::alloc::Global;
 
 fn prop_text(prop: Prop) -> &'static [u8]
@@ -37,24 +37,24 @@ pub(crate) fn query_text(query: Query) -> &'static [u8]
 }
 
 // Appends the written form of the path with these names.
-fn put_path(out: &mut Bytes, names: &[Name]) -> Result<(), Memory>
-    ensures { OnOk result (out.new ≡ out.old ++ printed_path names.now) }
+fn put_path(out: &mut Vec<u8>, names: &[Name]) -> Result<(), Memory>
+    ensures { OnOk result (out.new.items ≡ out.old.items ++ printed_path names.now) }
 {
     // The slash in front of the first name is that of `./`.
     out.push(b'.')?;
     for name in names {
         out.push(b'/')?;
-        out.extend(name.as_slice())?;
+        out.extend_from_slice(name.as_slice())?;
     }
     Ok(())
 }
 
-fn written(alloc: Global, uri: &Uri) -> Result<Bytes, Memory>
-    ensures { IfOk result (λ text. text ≡ printed uri.now) }
+fn written(alloc: Global, uri: &Uri) -> Result<Vec<u8>, Memory>
+    ensures { IfOk result (λ text. text.items ≡ printed uri.now) }
 {
-    let mut out = Bytes::new(alloc);
+    let mut out = Vec::new(alloc);
     put_path(&mut out, uri.path.as_slice())?;
-    out.extend(query_text(uri.query))?;
+    out.extend_from_slice(query_text(uri.query))?;
     Ok(out)
 }
 
@@ -67,5 +67,5 @@ pub fn print(alloc: Global, uri: &Uri) -> Result<Vec<u8>, UriError>
 {
     // Its contract says that the path keeps to the limits.
     let _ = uri.path.as_slice();
-    Ok(written(alloc, uri)?.into_vec())
+    Ok(written(alloc, uri)?)
 }

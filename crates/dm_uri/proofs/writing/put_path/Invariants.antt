@@ -5,4 +5,4 @@ use Rattle.dm_uri.proofs.writing.put_path.Given as goal
 
 -- a `.`, and each name so far behind a slash
 abbrev pub invariant-loop-name : goal.invariant-loop-name
-invariant-loop-name l = l.out ≡ l.fn.out ++ 46 ∷ flat_map slashed (take l.name-index l.names)
+invariant-loop-name l = l.out.items ≡ l.fn.out.items ++ 46 ∷ flat_map slashed (take l.name-index l.names)

@@ -45,8 +45,8 @@ returns-in-Err-fill-clause-line g c =
     let all = c.len-scanned.ensures ∙ ap (λ s. length s.pending) c.self.view_is in
     let clear =
     none_found c.pieces.self.pending _ c.pieces.scanned _ looked all c.pieces.invariant.clear c.in-None.ensures in
-    line_stops _ _ _ c.args.self.now c.pieces.self _ _ _ c.in-Err-fill.ensures.bytes all c.if-scanned-gt-LINE_LIMIT.false
-    clear c.pieces.invariant.room c.pieces.invariant.kept
+    line_stops _ _ _ c.args.self.now c.pieces.self _ _ _ c.in-Err-fill.ensures.bytes all
+    c.if-scanned-gt-LINE_LIMIT.false clear c.pieces.invariant.room c.pieces.invariant.kept
 
 pub returns-in-Err-fill-clause-asked : goal.returns-in-Err-fill-clause-asked
 returns-in-Err-fill-clause-asked g c =
