@@ -17,7 +17,7 @@ use Rattle.dm_uri.proofs.Limits.{limits_of_path, all_forms}
 use Rattle.dm_uri.proofs.PathParts.{spelled, only_names}
 use Rattle.dm_uri.proofs.Cuts.{whole_text, no_question, path_part-whole, query_part-whole, query_again, query_found}
 
-abbrev uri_of : List (List ℕ) → Query → Uri
+abbrev pub uri_of : List (List ℕ) → Query → Uri
 uri_of path query = record { path = path; query = query }
 
 -- what is answered, by what the tests say

@@ -4,6 +4,7 @@ pub mod Limits
 pub mod PathParts
 pub mod Cuts
 pub mod BothWays
+pub mod AtOnce
 pub mod Refusals
 pub mod Answered
 pub mod Orders

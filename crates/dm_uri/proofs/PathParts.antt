@@ -33,7 +33,7 @@ front_or_none [] true e = cc
 front_or_none (x ∷ []) true e = grind (arith, common_steps)
 front_or_none (x ∷ y ∷ rest) true e = inr (grind (arith, common_steps))
 
-by_front : (part : List ℕ) → (part ≡ without_front part) ⊎ (part ≡ codes "./" ++ without_front part)
+pub by_front : (part : List ℕ) → (part ≡ without_front part) ⊎ (part ≡ codes "./" ++ without_front part)
 by_front part = front_or_none part (starts_with nat_eq part (codes "./")) refl
 
 spells_root : (part : List ℕ) (b c : Bool) → bytes_eq part (codes ".") ≡ b → bytes_eq part (codes "./") ≡ c
@@ -80,7 +80,7 @@ without_slash : (name : List ℕ) → list_all is_name_byte name ≡ true → (k
     → is_slash (get_or name k d) ≡ false
 without_slash name h k d inside = grind (arith, common_steps, apart name h k d inside)
 
-split-joined : (n : List ℕ) (ns : List (List ℕ)) → list_all has_name_form (n ∷ ns) ≡ true
+pub split-joined : (n : List ℕ) (ns : List (List ℕ)) → list_all has_name_form (n ∷ ns) ≡ true
     → slice_split is_slash (joined (n ∷ ns)) ≡ n ∷ ns
 split-joined n [] h =
     let first = form n (and_parts (has_name_form n) true h).0 in

@@ -6,7 +6,7 @@ use Rattle.dm_uri.specs.Names.{joined, printed_path}
 abbrev pub slashed : List ℕ → List ℕ
 slashed name = 0x2F ∷ name
 
-joined-slashed : (n : List ℕ) (ns : List (List ℕ)) → 0x2F ∷ joined (n ∷ ns) ≡ flat_map slashed (n ∷ ns)
+pub joined-slashed : (n : List ℕ) (ns : List (List ℕ)) → 0x2F ∷ joined (n ∷ ns) ≡ flat_map slashed (n ∷ ns)
 joined-slashed n [] = ap (λ rest. 0x2F ∷ rest) (sym (append-nil n))
 joined-slashed n (m ∷ ms) = ap (λ rest. 0x2F ∷ n ++ rest) (joined-slashed m ms)
 

@@ -1,8 +1,8 @@
 -- How a text is read: the value, or the first refusal.
-use Rattle.std.specs.Prelude.{◌≡◌, ◌<◌, ◌==◌, ◌||◌, ℕ, Bool, not, nat_lt, nat_eq, if◌then◌else◌, List, [], ◌∷◌, length}
-use Rattle.std.specs.Prelude.{drop, bytes_eq, codes, Option, Some, None, Result, Ok, Err, IsOk}
-use Rattle.std.specs.List.{list_all, slice_split, starts_with, find}
-use Rattle.dm_uri.specs.Names.{has_name_form, is_short, is_within_limits}
+use Rattle.std.specs.Prelude.{◌≡◌, ◌<◌, ◌++◌, ◌==◌, ◌||◌, ℕ, Bool, not, nat_lt, nat_eq, if◌then◌else◌, List, [], ◌∷◌}
+use Rattle.std.specs.Prelude.{length, drop, bytes_eq, codes, Option, Some, None, Result, Ok, Err, IsOk, IsTrue}
+use Rattle.std.specs.List.{list_all, slice_split, starts_with, find, flat_map}
+use Rattle.dm_uri.specs.Names.{has_name_form, is_short, is_name, is_within_limits, IsPath}
 use Rattle.dm_uri.specs.Grammar.{query_text}
 use Rattle.dm_uri.specs.Refusals.{path_part, query_part}
 use Rattle.dm_uri.specs.declared.uri.Prop.TheVariants as prop
@@ -19,6 +19,14 @@ is_slash b = b == 0x2F
 pub record FirstPart (text front behind : List ℕ) : Type 0 where
   pub parts : slice_split is_slash text ≡ front ∷ slice_split is_slash behind
   pub shorter : length behind < length text
+
+-- a text is so many names with a `/` between each two, and then what stands behind them; a `/` more in front of it
+-- gives each name one
+pub record BeginsWithNames (text : List ℕ) (count : ℕ) (behind : List ℕ) : Type 0 where
+  pub names : List (List ℕ)
+  pub whole : 0x2F ∷ text ≡ flat_map (λ name. 0x2F ∷ name) names ++ behind
+  pub formed : IsTrue (list_all is_name names)
+  pub many : length names ≡ count
 
 abbrev pub is_root : List ℕ → Bool
 is_root part = bytes_eq part (codes ".") || bytes_eq part (codes "./")
@@ -57,6 +65,11 @@ unfoldable pub parse_of : List ℕ → Result Uri UriError
 parse_of text =
     if nat_lt 255 (length text) then Err error.TooLong
     else with_query (read_path (names_in (path_part text))) (query_of (query_part text))
+
+-- a text is read as the path of the names between the slashes of a part, and a query
+pub record ReadsAs (text part : List ℕ) (query : Query) : Type 0 where
+  pub path : IsPath (slice_split is_slash part)
+  pub is : parse_of text ≡ Ok (record { path = slice_split is_slash part; query = query })
 
 -- the name that a text is, or the first reason why it is none
 unfoldable pub parse_name_of : List ℕ → Result (List ℕ) UriError

@@ -1,8 +1,8 @@
 // The name of a node, which contracts see as a list of bytes.
-ghost use Rattle.std.specs.Prelude.{◌≡◌, ◌↔◌, IsTrue, IfOk, Result, Ok, bytes_eq, length};
+ghost use Rattle.std.specs.Prelude.{◌≡◌, ◌↔◌, IsTrue, IfOk, Result, Ok, bytes_eq, length, not};
 ghost use Rattle.std.specs.Ordering.{nat_cmp};
 ghost use Rattle.std.specs.Cmp.Lexicographic.{slice_cmp};
-ghost use Rattle.std.specs.List.{list_all};
+ghost use Rattle.std.specs.List.{list_all, position_or_len};
 ghost use Rattle.dm_uri.specs.Names.{is_name_byte, has_name_form, is_short, is_name};
 ghost use Rattle.dm_uri.specs.Reading.{Gives, parse_name_of};
 
@@ -35,6 +35,15 @@ fn is_name_byte(byte: u8) -> bool
     0x21 <= byte && byte <= 0x7E && byte != b'/' && byte != b'?'
 }
 
+// Where the name bytes at the front of a text end.
+pub(crate) fn name_end(text: &[u8]) -> usize
+    ensures { result ≡ position_or_len (λ b. not (is_name_byte b)) text.now }
+{
+    text.iter()
+        .position(|b| !is_name_byte(*b))
+        .unwrap_or(text.len())
+}
+
 fn all_name_bytes(text: &[u8]) -> bool
     ensures { result ≡ list_all is_name_byte text.now }
 {
@@ -51,6 +60,14 @@ pub(crate) fn is_short(text: &[u8]) -> bool
     ensures { result ≡ is_short text.now }
 {
     text.len() <= 64
+}
+
+// Whether a text of name bytes alone, which aren't looked at again, is a name.
+pub(crate) fn is_name_of_bytes(text: &[u8]) -> bool
+    requires { IsTrue (list_all is_name_byte text.now) }
+    ensures { result ≡ is_name text.now }
+{
+    !text.is_empty() && text != b".".as_slice() && text != b"..".as_slice() && is_short(text)
 }
 
 /// The name that a text is. Malformed comes exactly where it isn't of the form, its length aside; TooLong exactly

@@ -1,16 +1,16 @@
 // A text is read.
-ghost use Rattle.std.specs.Prelude.{◌≡◌, ◌≢◌, ◌≤◌, ◌&&◌, ◌∷◌, [], IsTrue, Ok, IfOk, IfErr, MatchOption, is_ok, nat_le};
-ghost use Rattle.std.specs.Prelude.{length};
+ghost use Rattle.std.specs.Prelude.{◌≡◌, ◌≢◌, ◌≤◌, ◌&&◌, ◌∷◌, [], IsTrue, Ok, IfOk, IfErr, IfSome, MatchOption};
+ghost use Rattle.std.specs.Prelude.{is_ok, nat_le, length};
 ghost use Rattle.std.specs.List.{list_all, slice_split, position_or_len};
 ghost use Rattle.dm_uri.specs.Names.{has_name_form, is_short, is_name, is_within_limits};
 ghost use Rattle.dm_uri.specs.Grammar.{IsUriText};
 ghost use Rattle.dm_uri.specs.Refusals.{is_question, IsRefused};
 ghost use Rattle.dm_uri.specs.Reading.{is_slash, is_root, without_front, names_in, query_of, read_path, parse_of};
-ghost use Rattle.dm_uri.specs.Reading.{Gives, FirstPart};
+ghost use Rattle.dm_uri.specs.Reading.{Gives, FirstPart, BeginsWithNames, ReadsAs};
 ghost use Rattle.dm_uri.specs.declared.uri.Uri.{Uri};
 ghost use Rattle.dm_uri.specs.declared.uri.UriError.TheVariants as error;
 
-use crate::name::{Name, has_name_form, is_short};
+use crate::name::{Name, has_name_form, is_name_of_bytes, is_short, name_end};
 use crate::path::Path;
 use crate::uri::{Prop, Query, Uri, UriError};
 use crate::writing::query_text;
@@ -88,13 +88,12 @@ fn around_slash(text: &[u8]) -> Option<(&[u8], &[u8])>
     }
 }
 
-// The names between the slashes of a text.
-fn names_of(alloc: Global, text: &[u8]) -> Result<List<Name>, Memory>
+// The names between the slashes of a text. Room for `count` is taken at once.
+fn names_of(alloc: Global, text: &[u8], count: usize) -> Result<List<Name>, Memory>
     requires { IsTrue (list_all is_name (slice_split is_slash text.now)) }
     ensures { IfOk result (λ names. names ≡ slice_split is_slash text.now) }
 {
-    // Most paths have no more names.
-    let mut names = List::with_room(alloc, 4)?;
+    let mut names = List::with_room(alloc, count)?;
     let mut rest = text;
     while let Some((front, behind)) = around_slash(rest) {
         names.push(Name::of(alloc, front)?)?;
@@ -140,12 +139,14 @@ fn path_of(alloc: Global, part: &[u8]) -> Result<Path, Memory>
     if is_root(part) {
         return Ok(Path::new(alloc));
     }
-    Ok(Path::of(names_of(alloc, without_front(part))?))
+    let text = without_front(part);
+    Ok(Path::of(names_of(alloc, text, count_of(text))?))
 }
 
-// The value of a text, or its first refusal.
+// The value of a text, or its first refusal. Each rule has a pass of its own, so that the refusals come in their order.
+#[cold]
 #[tactic(auto, unfolding(crate::specs::Reading::parse_of))]
-fn read(alloc: Global, text: &[u8]) -> Result<Uri, UriError>
+fn read_by_rules(alloc: Global, text: &[u8]) -> Result<Uri, UriError>
     ensures { Gives result (parse_of text.now) }
 {
     if text.len() > 255 {
@@ -164,13 +165,72 @@ fn read(alloc: Global, text: &[u8]) -> Result<Uri, UriError>
     }
 }
 
-/// Whether a text is read as a URI. It takes no memory.
+// Whether a text keeps to the rules.
+#[cold]
 #[tactic(auto, unfolding(crate::specs::Reading::parse_of))]
-pub fn is_uri(text: &[u8]) -> bool
+fn keeps_rules(text: &[u8]) -> bool
     ensures { result ≡ is_ok (parse_of text.now) }
 {
     let (part, query) = text.split_at(path_end(text));
     text.len() <= 255 && path_refusal(part).is_none() && query_of(query).is_some()
+}
+
+// How many names stand at the front of a text, and what stands behind them, found in one pass. None comes where what
+// stands there is no name, or where a 17th would follow.
+fn behind_names(text: &[u8]) -> Option<(usize, &[u8])>
+    ensures names { IfSome result (λ found. BeginsWithNames text.now found.0 found.1.now) }
+    ensures count { IfSome result (λ found. (1 ≤ found.0) × (found.0 ≤ 16)) }
+{
+    let mut rest = text;
+    for before in 0..16 {
+        let (name, behind) = rest.split_at(name_end(rest));
+        if !is_name_of_bytes(name) {
+            return None;
+        }
+        if behind.is_empty() || behind[0] != b'/' {
+            return Some((before + 1, behind));
+        }
+        rest = &behind[1..];
+    }
+    None
+}
+
+// The part of a text with the names, their number, and the query. None comes for each text that is refused, and for a
+// few others, as the root: those are left to the rules.
+fn parts_at_once(text: &[u8]) -> Option<(&[u8], usize, Query)>
+    ensures { IfSome result (λ parts. ReadsAs text.now parts.0.now parts.2) }
+{
+    let text = without_front(text);
+    // With two bytes more, for a `./`, it is still short enough, and so is the written form of its path.
+    if text.len() > 253 {
+        return None;
+    }
+    let (count, behind) = behind_names(text)?;
+    let query = query_of(behind)?;
+    Some((text.split_at(text.len() - behind.len()).0, count, query))
+}
+
+// The value of a text, or its first refusal.
+fn read(alloc: Global, text: &[u8]) -> Result<Uri, UriError>
+    ensures { Gives result (parse_of text.now) }
+{
+    let Some((part, count, query)) = parts_at_once(text) else {
+        return read_by_rules(alloc, text);
+    };
+    match names_of(alloc, part, count) {
+        Ok(names) => Ok(Uri {
+            path: Path::of(names),
+            query,
+        }),
+        Err(Memory) => Err(UriError::Memory),
+    }
+}
+
+/// Whether a text is read as a URI. It takes no memory.
+pub fn is_uri(text: &[u8]) -> bool
+    ensures { result ≡ is_ok (parse_of text.now) }
+{
+    parts_at_once(text).is_some() || keeps_rules(text)
 }
 
 /// The URI that a text spells, or the first refusal that holds.
