@@ -1,7 +1,7 @@
 -- A tree with the root and what a device tells of itself is a device's.
-use Rattle.std.proofs.Common.{◌≡◌, ℕ, ◌<◌, Bool, true, false, List, [], ◌∷◌, Option, None, Some, refl, sym, ◌∙◌, subst}
+use Rattle.std.proofs.Common.{◌≡◌, ℕ, ◌<◌, false, List, [], ◌∷◌, None, Some, refl, sym, ◌∙◌, subst}
 use Rattle.std.proofs.Common.{inl, inr, lit≤}
-use Rattle.std.specs.Prelude.{codes, IsTrue, ◌⊎◌}
+use Rattle.std.specs.Prelude.{codes, IsTrue}
 use Rattle.std.specs.Str.{IsAscii}
 use Rattle.std.proofs.lemmas.Str.{IsUtf8-from_ascii}
 use Rattle.std.proofs.lemmas.Str.Ascii.{IsAscii-nil, IsAscii-cons}
@@ -10,10 +10,9 @@ use Rattle.std.specs.FinMap.{empty, get, insert, get-empty, get-insert}
 use Rattle.dm_base.specs.Fields.{is_short}
 use Rattle.dm_acl.specs.declared.values.Entries.{Entries}
 use Rattle.dm_tree.specs.declared.nodes.Node.{Node}
-use Rattle.dm_tree.specs.declared.nodes.Role.TheVariants as role
 use Rattle.dm_tree.specs.Nodes.{Path, Nodes, tree_order, root_node}
-use Rattle.dm_tree.specs.Devices.{is_of_update, device_path, device_node, device_leaf, bare_device, Stands}
-use Rattle.dm_tree.specs.Devices.{IsDeviceLeaf, IsDeviceTree, IsText}
+use Rattle.dm_tree.specs.Devices.{is_of_update, device_path, device_node, device_leaf, bare_device}
+use Rattle.dm_tree.specs.Devices.{IsDeviceLeaf, IsText}
 use Rattle.dm_tree.specs.Laws.{BareDeviceIsDevice}
 use Rattle.dm_tree.proofs.NodesKept.{at_insert, here_insert}
 use Rattle.dm_tree.proofs.Paths.{tree_total}

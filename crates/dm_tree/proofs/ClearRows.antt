@@ -1,18 +1,17 @@
 -- Rows that don't lie below a row, and wouldn't if they were put in.
-use Rattle.std.proofs.Common.{◌≡◌, ◌≢◌, ℕ, zero, suc, ◌<◌, ◌≤◌, Bool, true, false, cond, nat_eq, List, [], ◌∷◌, ◌++◌}
-use Rattle.std.proofs.Common.{length, Option, None, Some, refl, sym, ◌∙◌, ap, subst, arith, ◌⊎◌, inl, inr}
-use Rattle.std.proofs.Math.ListN.{set, length-set}
+use Rattle.std.proofs.Common.{◌≡◌, ◌≢◌, ℕ, zero, suc, ◌<◌, Bool, true, false, cond, nat_eq, List, [], ◌∷◌, ◌++◌}
+use Rattle.std.proofs.Common.{length, Option, None, Some, refl, sym, ◌∙◌, ap, subst, arith, inl, inr}
+use Rattle.std.proofs.Math.ListN.{set}
 use Rattle.std.proofs.lemmas.List.{get_or-set_same, get_or-set_other}
 use Rattle.std.specs.Option.{option_map}
-use Rattle.dm_tree.specs.declared.nodes.Node.{Node}
 use Rattle.dm_tree.specs.declared.rows.Row.{Row}
 use Rattle.dm_tree.specs.declared.rows.Change.{Change}
 use Rattle.dm_tree.specs.Nodes.{Path}
-use Rattle.dm_tree.specs.Rows.{blank, row_at, walk, path_below, path_of, IsShaped, IsTree, IsLive, IsParkedTop}
+use Rattle.dm_tree.specs.Rows.{blank, row_at, walk, path_below, IsShaped, IsTree, IsLive, IsParkedTop}
 use Rattle.dm_tree.specs.Undos.{row_of, flipped}
 use Rattle.dm_tree.specs.Reuse.{IsFreeRow, IsUsed, IsOff, IsClear}
 use Rattle.dm_tree.proofs.Paths.{same_or_not}
-use Rattle.dm_tree.proofs.RowPaths.{attached_row, not_zero, same_number, at_bottom, walk_up}
+use Rattle.dm_tree.proofs.RowPaths.{not_zero}
 use Rattle.dm_tree.proofs.SubtreeCuts.{live_attached}
 use Rattle.dm_tree.proofs.LiveRows.{has_parent}
 use Rattle.dm_tree.proofs.FlippedRows.{other_row, kin-flipped}

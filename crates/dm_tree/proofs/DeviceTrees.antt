@@ -1,6 +1,6 @@
 -- Edits keep the parts of a device's tree.
-use Rattle.std.proofs.Common.{◌≡◌, ℕ, Bool, List, [], ◌∷◌, ◌++◌, Some, refl, sym, ◌∙◌, ap, subst, inl, inr}
-use Rattle.std.specs.Prelude.{unwrap_or, ◌⊎◌}
+use Rattle.std.proofs.Common.{◌≡◌, ℕ, List, [], ◌∷◌, ◌++◌, Some, refl, sym, ◌∙◌, ap, subst, inl, inr}
+use Rattle.std.specs.Prelude.{unwrap_or}
 use Rattle.std.specs.Option.{option_map}
 use Rattle.std.specs.FinMap.{get, insert}
 use Rattle.dm_base.specs.Fields.{is_short}
@@ -13,7 +13,7 @@ use Rattle.dm_tree.specs.Devices.{device_path, value_at, IsDeviceLeaf, IsDeviceT
 use Rattle.dm_tree.specs.Devices.{KeepsDevice}
 use Rattle.dm_tree.specs.Laws.{ChangedKeepsDevice, AddedKeepsDevice, PrunedKeepsDevice, RenamedKeepsDevice}
 use Rattle.dm_tree.proofs.MapKeys.{moved_from}
-use Rattle.dm_tree.proofs.NodesKept.{Keeps, some_node, at_insert, was_there, keeps_changed, keeps_added, keeps_pruned}
+use Rattle.dm_tree.proofs.NodesKept.{Keeps, at_insert, was_there, keeps_changed, keeps_added, keeps_pruned}
 use Rattle.dm_tree.proofs.NodesKept.{keeps_renamed}
 use Rattle.dm_tree.proofs.UpdateParts.{stands, in_order, has_update, has_no_update}
 

@@ -1,5 +1,5 @@
 -- Where the update node of a tree is, PkgData and State.
-use Rattle.std.proofs.Common.{◌≡◌, ℕ, Bool, true, false, cond, List, [], ◌∷◌, ◌++◌, length, Option, None, Some, refl}
+use Rattle.std.proofs.Common.{◌≡◌, ℕ, Bool, true, false, cond, List, [], ◌∷◌, ◌++◌, Option, None, Some, refl}
 use Rattle.std.proofs.Common.{sym, ◌∙◌, ap, inl, inr, append_assoc}
 use Rattle.std.specs.Prelude.{◌&&◌, ◌⊎◌, codes, option_and_then}
 use Rattle.std.specs.List.{find, filter}
@@ -10,7 +10,7 @@ use Rattle.dm_tree.specs.declared.nodes.Node.{Node}
 use Rattle.dm_tree.specs.declared.nodes.Role.{Role}
 use Rattle.dm_tree.specs.declared.nodes.Role.TheVariants as role
 use Rattle.dm_tree.specs.Nodes.{Path, Nodes, above}
-use Rattle.dm_tree.specs.Order.{is_child_of, is_before, children}
+use Rattle.dm_tree.specs.Order.{is_child_of, is_before}
 use Rattle.dm_tree.specs.Devices.{is_role, is_update_node, is_of_update, has_role, child_of_role, update_node, pkg_data}
 use Rattle.dm_tree.specs.Devices.{state_node, Stands, HasUpdate}
 use Rattle.dm_tree.specs.Laws.{UpdateIsFound}

@@ -1,9 +1,8 @@
 -- Flips beside a row that is another one.
-use Rattle.std.proofs.Common.{◌≡◌, ◌≢◌, ℕ, zero, suc, ◌<◌, ◌≤◌, Bool, true, false, nat_eq, List, [], ◌∷◌, ◌++◌, length}
-use Rattle.std.proofs.Common.{Option, None, Some, refl, sym, ◌∙◌, ap, subst, arith, ◌⊎◌, inl, inr}
+use Rattle.std.proofs.Common.{◌≡◌, ℕ, true, false, List, [], ◌∷◌, ◌++◌}
+use Rattle.std.proofs.Common.{refl, sym, ◌∙◌, ap, subst, arith}
 use Rattle.std.proofs.Math.ListN.{set, length-set}
-use Rattle.std.proofs.lemmas.List.{get_or-set_same, get_or-set_other}
-use Rattle.dm_tree.specs.declared.nodes.Node.{Node}
+use Rattle.std.proofs.lemmas.List.{get_or-set_other}
 use Rattle.dm_tree.specs.declared.rows.Row.{Row}
 use Rattle.dm_tree.specs.declared.rows.Change.{Change}
 use Rattle.dm_tree.specs.declared.rows.Change.TheVariants as change
@@ -11,8 +10,6 @@ use Rattle.dm_tree.specs.Nodes.{counted, with_value, with_bytes, with_acl, with_
 use Rattle.dm_tree.specs.Rows.{blank, row_at, nodes, ids, IsTree, IsParkedTop}
 use Rattle.dm_tree.specs.Undos.{row_of, flipped, turned, Fits, FitAll, all_flipped, IsReady}
 use Rattle.dm_tree.specs.Notes.{AreAt, GoesAlike}
-use Rattle.dm_tree.proofs.NodeEdits.{of_both}
-use Rattle.dm_tree.proofs.UndoFlips.{length-flipped}
 use Rattle.dm_tree.proofs.FlippedRows.{sets_apart}
 use Rattle.dm_tree.specs.Reuse.{IsUsed, IsClear}
 

@@ -1,5 +1,5 @@
 -- A subtree is freed: down where a row is left, and up where none is.
-use Rattle.std.proofs.Common.{◌≡◌, ◌≢◌, ℕ, zero, suc, ◌<◌, ◌≤◌, ◌+◌, ◌-◌, ◌*◌, Bool, true, false, cond, List, [], ◌∷◌}
+use Rattle.std.proofs.Common.{◌≡◌, ◌≢◌, ℕ, zero, suc, ◌<◌, ◌+◌, ◌-◌, ◌*◌, Bool, true, false, cond, List, [], ◌∷◌}
 use Rattle.std.proofs.Common.{◌++◌, length, get_or, Option, None, Some, refl, sym, ◌∙◌, ap, subst, arith, ◌⊎◌, inl, inr}
 use Rattle.std.specs.Prelude.{slice_get, sum_by}
 use Rattle.std.proofs.Math.ListN.{set, length-set}
@@ -11,10 +11,10 @@ use Rattle.dm_tree.specs.Nodes.{Path}
 use Rattle.dm_tree.specs.Rows.{blank, row_at, node_of, walk, path_below, IsShaped, IsTree, IsParkedTop}
 use Rattle.dm_tree.specs.Edits.{emptied, attached_as, without_content}
 use Rattle.dm_tree.specs.Reuse.{IsLeftOver, freed}
-use Rattle.dm_tree.specs.Frees.{spent, AreSpent, IsFreed}
+use Rattle.dm_tree.specs.Frees.{spent, IsFreed}
 use Rattle.dm_tree.specs.Index.{ChildList, no_children, children_at, IsChildList, IsIndex}
 use Rattle.dm_tree.proofs.Paths.{below_or_not, same_or_not}
-use Rattle.dm_tree.proofs.RowPaths.{Way, Up, way, attached_row, attached_falls}
+use Rattle.dm_tree.proofs.RowPaths.{Way, way, attached_row, attached_falls}
 use Rattle.dm_tree.proofs.NodeEdits.{of_both}
 use Rattle.dm_tree.proofs.GivenUpRows.{self_below}
 use Rattle.dm_tree.proofs.RowReuse.{no_way}

@@ -1,14 +1,13 @@
 -- What is kept beside the rows, where a free one is filled.
-use Rattle.std.proofs.Common.{◌≡◌, ◌≢◌, ℕ, zero, suc, ◌+◌, ◌<◌, ◌≤◌, Bool, true, false, nat_eq, List, [], ◌∷◌, length}
-use Rattle.std.proofs.Common.{get_or, Option, None, Some, refl, sym, ◌∙◌, ap, subst, arith, ◌⊎◌, inl, inr, not}
+use Rattle.std.proofs.Common.{◌≡◌, ◌≢◌, ℕ, zero, suc, ◌+◌, ◌<◌, ◌≤◌, Bool, true, false, nat_eq, List, length}
+use Rattle.std.proofs.Common.{get_or, refl, sym, ◌∙◌, ap, subst, arith, ◌⊎◌, inl, inr, not}
 use Rattle.std.specs.Prelude.{nat_lt, ◌&&◌}
 use Rattle.std.proofs.Math.ListN.{set, length-set}
 use Rattle.std.proofs.lemmas.Bool.Decides.{nat_tests}
 use Rattle.std.proofs.lemmas.List.{get_or-set_same, get_or-set_other}
 use Rattle.dm_tree.specs.declared.rows.Row.{Row}
-use Rattle.dm_tree.specs.Nodes.{Path}
-use Rattle.dm_tree.specs.Rows.{blank, row_at, path_below, placed, ids_below, IsShaped, IsTree}
-use Rattle.dm_tree.specs.Index.{ChildList, no_children, children_at, is_before, is_parked_below, parked_below}
+use Rattle.dm_tree.specs.Rows.{blank, row_at, path_below, ids_below, IsShaped, IsTree}
+use Rattle.dm_tree.specs.Index.{ChildList, no_children, children_at, is_parked_below, parked_below}
 use Rattle.dm_tree.specs.Index.{IsInOrder, IsChildList, IsIndex, IsSized, IsPut}
 use Rattle.dm_tree.specs.Edits.{attached_as}
 use Rattle.dm_tree.specs.Reuse.{IsFreeRow}
@@ -17,7 +16,7 @@ use Rattle.dm_tree.proofs.Paths.{same_or_not, below_or_not}
 use Rattle.std.proofs.lemmas.List.{get_or_past}
 use Rattle.dm_tree.proofs.IndexLinks.{parked-same, parked-more, parked-some, is_parked, parked_elsewhere}
 use Rattle.dm_tree.proofs.GivenUpRows.{self_below}
-use Rattle.dm_tree.proofs.RowReuse.{Childless, childless, no_way, path_beside}
+use Rattle.dm_tree.proofs.RowReuse.{childless, no_way, path_beside}
 
 -- a row that was given up and has no list is free
 pub free-bare : (rows : List Row) → IsTree rows → (index : List ChildList) → IsIndex rows index → (k : ℕ) → 0 < k

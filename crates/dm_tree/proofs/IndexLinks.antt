@@ -1,21 +1,20 @@
 -- The index of children, when a row is put in, taken out, added, given up or renamed.
-use Rattle.std.proofs.Common.{◌≡◌, ◌≢◌, ℕ, zero, suc, ◌+◌, ◌-◌, ◌<◌, ◌≤◌, ◌^◌, Bool, true, false, nat_eq, List, [], ◌∷◌}
-use Rattle.std.proofs.Common.{◌++◌, length, get_or, refl, sym, ◌∙◌, ap, subst, arith, inl, inr}
+use Rattle.std.proofs.Common.{◌≡◌, ◌≢◌, ℕ, zero, suc, ◌+◌, ◌-◌, ◌<◌, Bool, true, false, nat_eq, List}
+use Rattle.std.proofs.Common.{length, get_or, refl, sym, ◌∙◌, ap, subst, arith, inl, inr}
 use Rattle.std.specs.Prelude.{◌&&◌, not, nat_lt, if◌then◌else◌}
-use Rattle.std.specs.List.{insert, remove}
+use Rattle.std.specs.List.{insert}
 use Rattle.std.proofs.Math.ListN.{set, length-set}
 use Rattle.std.proofs.lemmas.Bool.Decides.{nat_tests}
 use Rattle.std.proofs.lemmas.List.{get_or-set_same, get_or-set_other, get_or_past, get_or_default}
 use Rattle.std.proofs.lemmas.List.Edits.{length-insert, get_or-insert_below, get_or-insert_at, get_or-insert_above}
-use Rattle.std.proofs.lemmas.List.Edits.{length-remove}
 use Rattle.dm_tree.specs.declared.rows.Row.{Row}
 use Rattle.dm_tree.specs.Rows.{blank, row_at}
 use Rattle.dm_tree.specs.Edits.{attached_as}
-use Rattle.dm_tree.specs.Index.{ChildList, no_children, children_at, is_before, is_parked_below, parked_below}
+use Rattle.dm_tree.specs.Index.{ChildList, no_children, children_at, is_parked_below, parked_below}
 use Rattle.dm_tree.specs.Index.{IsInOrder, IsChildList, IsIndex, IsPlace, IsPut}
 use Rattle.dm_tree.proofs.Paths.{below_or_not, same_or_not}
 use Rattle.dm_tree.proofs.RowPaths.{same_number}
-use Rattle.dm_tree.proofs.NameOrder.{Stands, stands, insert_order, stood, remove_order}
+use Rattle.dm_tree.proofs.NameOrder.{Stands, stands, insert_order}
 
 -- ---- how many are parked
 

@@ -11,7 +11,7 @@ use Rattle.dm_tree.specs.declared.nodes.Node.{Node}
 use Rattle.dm_tree.specs.declared.rows.Row.{Row}
 use Rattle.dm_tree.specs.declared.rows.Change.{Change}
 use Rattle.dm_tree.specs.declared.rows.Change.TheVariants as change
-use Rattle.dm_tree.specs.Rows.{blank, row_at, node_of, IsShaped, IsTree, IsParkedTop}
+use Rattle.dm_tree.specs.Rows.{blank, row_at, node_of, IsShaped, IsParkedTop}
 use Rattle.dm_tree.specs.Edits.{attached_as, with_node, with_name, emptied, without_content}
 use Rattle.dm_tree.specs.Index.{ChildList, no_children, children_at, is_before, is_parked_below, parked_below}
 use Rattle.dm_tree.specs.Index.{IsInOrder, IsChildList, IsIndex, IsPlace, IsPut, IsTaken}

@@ -1,13 +1,10 @@
 -- What is kept beside the rows stays right with each edit.
-use Rattle.std.proofs.Common.{◌≡◌, ◌∙◌, ℕ, ◌+◌, ◌<◌, ◌++◌, ◌∷◌, [], zero, suc, true, false, List, length, length-append}
+use Rattle.std.proofs.Common.{◌≡◌, ◌∙◌, ℕ, ◌<◌, ◌++◌, ◌∷◌, [], zero, suc, true, false, List, length, length-append}
 use Rattle.std.proofs.Common.{refl, sym, ap, subst, arith, inl, inr}
 use Rattle.dm_tree.specs.declared.nodes.Node.{Node}
 use Rattle.dm_tree.specs.declared.rows.Row.{Row}
-use Rattle.dm_tree.specs.declared.rows.Change.{Change}
-use Rattle.dm_tree.specs.declared.rows.Change.TheVariants as change
 use Rattle.dm_tree.specs.Rows.{blank, row_at, node_of, IsShaped, IsTree, IsLive, IsParkedTop}
 use Rattle.dm_tree.specs.Edits.{with_node, with_name, attached_as, without_content}
-use Rattle.dm_tree.specs.Undos.{Fits, flipped}
 use Rattle.dm_tree.specs.Index.{ChildList, no_children, children_at, IsChildList, IsIndex, IsSized, IsPut, IsTaken}
 use Rattle.dm_tree.specs.Index.{IsKept}
 use Rattle.std.proofs.Math.ListN.{set}

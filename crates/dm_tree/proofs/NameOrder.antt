@@ -1,5 +1,5 @@
 -- A list of rows in the order of their names: one more, and one fewer.
-use Rattle.std.proofs.Common.{◌≡◌, ◌≢◌, ℕ, zero, suc, ◌+◌, ◌-◌, ◌<◌, ◌≤◌, Bool, true, false, List, length, get_or, refl}
+use Rattle.std.proofs.Common.{◌≡◌, ◌≢◌, ℕ, zero, suc, ◌+◌, ◌<◌, ◌≤◌, true, false, List, length, get_or, refl}
 use Rattle.std.proofs.Common.{sym, ◌∙◌, ap, subst, arith, inl, inr}
 use Rattle.std.specs.List.{insert, remove}
 use Rattle.std.specs.Ordering.{is_lt, ordering_reverse}
@@ -11,7 +11,7 @@ use Rattle.dm_tree.specs.declared.rows.Row.{Row}
 use Rattle.dm_tree.specs.Rows.{row_at}
 use Rattle.dm_tree.specs.Index.{is_before, IsInOrder, IsPlace}
 use Rattle.dm_tree.proofs.Paths.{below_or_not, same_or_not}
-use Rattle.dm_tree.proofs.PathOrder.{name_order, name_total, name_exact, is_less}
+use Rattle.dm_tree.proofs.PathOrder.{name_order, name_total, name_exact}
 
 -- of two names that differ, one stands before the other
 pub other_side : (a b : List ℕ) → is_lt (name_order a b) ≡ false → (a ≡ b → ⊥) → is_lt (name_order b a) ≡ true

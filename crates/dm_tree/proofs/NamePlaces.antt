@@ -43,6 +43,20 @@ from_not false e = refl
 lt_yes : (a b : ℕ) → a < b → nat_lt a b ≡ true
 lt_yes a b h = grind (arith, nat_tests)
 
+-- behind a child
+pub past_child : (rows : List Row) (ids : List ℕ) → IsInOrder rows ids → (place : ℕ) → place < length ids
+    → IsPlacePast rows ids (row_at rows (get_or ids place 0)).name (place + 1)
+past_child rows ids order place l = record {
+  within = omega (arith, l);
+  before = λ i m. elim (same_or_not i place) [
+    | inl h ↦ ap (λ k. is_behind rows (row_at rows (get_or ids place 0)).name (get_or ids k 0)) h
+        ∙ itself_not_less (row_at rows (get_or ids place 0)).name
+    | inr d ↦ not_less_back (row_at rows (get_or ids i 0)).name (row_at rows (get_or ids place 0)).name
+        (order i place (omega (arith, m, d)) l)
+  ];
+  behind = λ i g m. order place i (omega (arith, g)) m;
+}
+
 -- ---- the search by halves
 
 module _ (rows : List Row) (ids : List ℕ) (name : List ℕ) (inside : AreRows rows ids) (order : IsInOrder rows ids) where
@@ -113,27 +127,13 @@ module _ (rows : List Row) (ids : List ℕ) (name : List ℕ) (inside : AreRows 
   earlier place at i l = not_less_back (row_at rows (get_or ids i 0)).name name (at.before i l)
 
   -- behind the child that bears the name
-  pub past_named : (place id : ℕ) → IsPlace rows ids name place → slice_get ids place ≡ Some id
-      → bytes_eq (row_at rows id).name name ≡ true → IsPlacePast rows ids name (place + 1)
-  past_named place id at e same = record {
-    within = omega (arith, l);
-    before = λ i m. elim (same_or_not i place) [
-      | inl h ↦ ap (λ k. is_behind rows name (get_or ids k 0)) h ∙ ap (λ n. is_lt (name_order name n)) named
-          ∙ itself_not_less name
-      | inr d ↦ earlier place at i (omega (arith, m, d))
-    ];
-    behind = λ i g m.
-        ap (λ n. is_lt (name_order n (row_at rows (get_or ids i 0)).name)) (sym named)
-        ∙ order place i (omega (arith, g)) m;
-  }
-    where
-      l : place < length ids
-      l = slice_get_within ids place id e
-
-      named : (row_at rows (get_or ids place 0)).name ≡ name
-      named =
-          ap (λ k. (row_at rows k).name) (get_or_from_slice_get ids place id 0 e)
-          ∙ same_text (row_at rows id).name name (sym same)
+  pub past_named : (place id : ℕ) → slice_get ids place ≡ Some id → bytes_eq (row_at rows id).name name ≡ true
+      → IsPlacePast rows ids name (place + 1)
+  past_named place id e same =
+      subst (λ n. IsPlacePast rows ids n (place + 1))
+      (ap (λ k. (row_at rows k).name) (get_or_from_slice_get ids place id 0 e)
+      ∙ same_text (row_at rows id).name name (sym same))
+      (past_child rows ids order place (slice_get_within ids place id e))
 
   -- no child bears it
   unnamed : (place : ℕ) → IsPlace rows ids name place

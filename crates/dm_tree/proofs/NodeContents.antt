@@ -1,5 +1,5 @@
 -- What a node holds once it was changed.
-use Rattle.std.proofs.Common.{◌≡◌, ◌≤◌, ◌<◌, ◌^◌, ◌%◌, ◌+◌, ℕ, length, arith}
+use Rattle.std.proofs.Common.{◌≤◌, ◌<◌, ◌^◌, ◌%◌, ◌+◌, ℕ, length, arith}
 use Rattle.std.specs.Prelude.{IfSome}
 use Rattle.dm_tree.specs.declared.nodes.Node.{Node}
 use Rattle.dm_tree.specs.declared.nodes.NewNode.{NewNode}

@@ -1,6 +1,6 @@
 -- The first node of a role, sought through the whole tree.
-use Rattle.std.proofs.Common.{◌≡◌, ℕ, Bool, true, false, cond, List, [], ◌∷◌, ◌++◌, length, Option, None, Some, refl}
-use Rattle.std.proofs.Common.{sym, ◌∙◌, ap}
+use Rattle.std.proofs.Common.{◌≡◌, ℕ, ◌+◌, ◌<◌, Bool, true, false, cond, List, [], ◌∷◌, ◌++◌, length, Option, None}
+use Rattle.std.proofs.Common.{Some, refl, sym, ◌∙◌, ap, arith, inl, inr}
 use Rattle.std.specs.List.{find, filter}
 use Rattle.std.specs.Option.{option_map, option_map_or}
 use Rattle.std.specs.FinMap.{get, keys, entries, is_sorted, entries_sorted, get-entries}
@@ -10,18 +10,21 @@ use Rattle.dm_tree.specs.declared.nodes.Node.{Node}
 use Rattle.dm_tree.specs.declared.rows.Row.{Row}
 use Rattle.std.specs.Prelude.{option_and_then}
 use Rattle.dm_tree.specs.Nodes.{Path, Nodes, tree_order, above, last_name, is_below}
-use Rattle.dm_tree.specs.Order.{below, behind, children, children_behind}
+use Rattle.dm_tree.specs.Order.{is_before, below, behind, children_behind}
 use Rattle.dm_tree.specs.declared.nodes.Role.{Role}
 use Rattle.dm_tree.specs.declared.nodes.Role.TheVariants as role
 use Rattle.dm_tree.specs.Rows.{row_at, node_of, nodes, ids, path_of, IsLive, IsShaped, IsTree}
 use Rattle.dm_tree.specs.Devices.{is_role, is_update_node, update_node, has_role, child_of_role}
+use Rattle.dm_tree.specs.Devices.{IsUpdateRow, HaveOtherRoles}
 use Rattle.dm_tree.proofs.NodesBehind.{below-is}
-use Rattle.dm_tree.proofs.FirstKeys.{value_of, names_of, is_true, behind_first}
+use Rattle.dm_tree.proofs.FirstKeys.{value_of, names_of, is_true, behind_first, first_key, no_key}
 use Rattle.dm_tree.proofs.MapKeys.{tied}
 use Rattle.dm_tree.proofs.RenamedLengths.{still_to_come}
 use Rattle.dm_tree.proofs.RowMaps.{get_nodes}
-use Rattle.dm_tree.proofs.Paths.{Ends, ends, none, last}
-use Rattle.dm_tree.proofs.LiveRows.{above-append, last_name-append, node_there, well_formed}
+use Rattle.dm_tree.proofs.Paths.{Ends, ends, none, last, below_or_not, same_or_not}
+use Rattle.dm_tree.proofs.LiveRows.{above-append, last_name-append, node_there, row_there}
+use Rattle.dm_tree.proofs.LiveRows.{live_at, well_formed}
+use Rattle.dm_tree.proofs.PathOrder.{not_before_itself}
 use Rattle.dm_tree.proofs.NextNodes.{Shows}
 
 abbrev is_update_at : Nodes → Path → Bool
@@ -84,6 +87,47 @@ sought_on rows shape root here live role sought next rest =
     (ap (λ b. cond b (Some (path_of rows here))
     (find (is_update_at (nodes rows)) (behind (nodes rows) (path_of rows root) (path_of rows here) false)))
     (role_here rows shape here live ∙ role)) ∙ sought
+
+role_of : (rows : List Row) (q : Path) (node : Node) (there : get (nodes rows) q ≡ Some node)
+    → is_update_node (node_of rows (row_there rows q node there).row).role ≡ is_update_at (nodes rows) q
+role_of rows q node there =
+    ap (λ (n : Node). is_update_node n.role) (row_there rows q node there).node_is
+    ∙ sym (ap (λ o. option_map_or (λ (n : Node). is_update_node n.role) o false) there)
+
+-- no row has it
+pub nowhere : (rows : List Row) → HaveOtherRoles rows 0 (length rows) → Shows rows None (update_node (nodes rows))
+nowhere rows no_row =
+    update_key (nodes rows) ∙ no_key (nodes rows) (is_update_at (nodes rows)) (λ q node there.
+    let at = row_there rows q node there in
+    sym (role_of rows q node there) ∙ no_row at.row (omega arith) at.inside)
+
+-- one row has it alone
+pub lone_update : (rows : List Row) → IsShaped rows → (k : ℕ) → IsLive rows k → IsUpdateRow rows k
+    → HaveOtherRoles rows 0 k → HaveOtherRoles rows (k + 1) (length rows)
+    → Shows rows (Some k) (update_node (nodes rows))
+lone_update rows shape k live is before later = (
+  live,
+  update_key (nodes rows) ∙ first_key (nodes rows) (is_update_at (nodes rows)) (path_of rows k)
+      (record {
+        value = node_of rows k;
+        there = node_there rows shape k live;
+        passes = role_here rows shape k live ∙ is.1;
+        least = λ q node there passes.
+            let at = row_there rows q node there in
+            let alone : at.row ≡ k = same_row at.row at.inside (role_of rows q node there ∙ passes) in
+            let here : path_of rows k ≡ q = ap (path_of rows) (sym alone) ∙ (live_at rows at.row q at.lies).1 in
+            ap (is_before q) here ∙ not_before_itself q;
+      }),
+)
+  where
+    same_row : (j : ℕ) → j < length rows → is_update_node (node_of rows j).role ≡ true → j ≡ k
+    same_row j l has_it = elim (same_or_not j k) [
+      | inl e ↦ e
+      | inr d ↦ elim (below_or_not j k) [
+        | inl early ↦ let no = before j (omega arith) early in absurd (cc)
+        | inr late ↦ let no = later j (omega (arith, late, d)) l in absurd (cc)
+      ]
+    ]
 
 pub is_update : (r : Role) → is_role r role.UpdateNode ≡ is_update_node r
 is_update role.Plain = refl

@@ -1,23 +1,21 @@
 -- A row below one that was given up is freed.
-use Rattle.std.proofs.Common.{◌≡◌, ◌≢◌, ℕ, zero, suc, ◌<◌, ◌≤◌, Bool, true, false, cond, nat_eq, List, [], ◌∷◌, length}
-use Rattle.std.proofs.Common.{Option, None, Some, refl, sym, ◌∙◌, ap, subst, arith, ◌⊎◌, inl, inr}
+use Rattle.std.proofs.Common.{◌≡◌, ◌≢◌, ℕ, zero, suc, ◌<◌, Bool, true, false, nat_eq, List, length}
+use Rattle.std.proofs.Common.{None, refl, sym, ◌∙◌, ap, subst, arith, inl, inr}
 use Rattle.std.proofs.Math.ListN.{set, length-set}
-use Rattle.std.proofs.lemmas.List.{get_or-set_same, get_or-set_other, set-get_or}
-use Rattle.std.specs.Option.{option_map}
+use Rattle.std.proofs.lemmas.List.{get_or-set_same, get_or-set_other}
 use Rattle.std.specs.FinMap.{len}
 use Rattle.dm_uri.specs.Names.{is_within_limits}
-use Rattle.dm_tree.specs.declared.nodes.Node.{Node}
 use Rattle.dm_tree.specs.declared.rows.Row.{Row}
 use Rattle.dm_tree.specs.declared.rows.Change.{Change}
-use Rattle.dm_tree.specs.Nodes.{Path, IsRoot, IsChildOf}
-use Rattle.dm_tree.specs.Rows.{blank, row_at, node_of, walk, path_below, path_of, ids, nodes, IsRow, IsShaped, IsTree}
-use Rattle.dm_tree.specs.Rows.{IsLive, IsParked, IsParkedTop, IsFree}
-use Rattle.dm_tree.specs.Edits.{attached_as, without_content}
+use Rattle.dm_tree.specs.Nodes.{IsRoot, IsChildOf}
+use Rattle.dm_tree.specs.Rows.{blank, row_at, node_of, walk, path_below, path_of, ids, nodes, IsRow, IsTree}
+use Rattle.dm_tree.specs.Rows.{IsParkedTop}
+use Rattle.dm_tree.specs.Edits.{attached_as}
 use Rattle.dm_tree.specs.Undos.{row_of, flipped, Fits}
 use Rattle.dm_tree.specs.Notes.{GoesAlike}
 use Rattle.dm_tree.specs.Reuse.{IsLeftOver, IsClear, freed}
 use Rattle.dm_tree.proofs.Paths.{same_or_not}
-use Rattle.dm_tree.proofs.RowPaths.{attached_row, not_zero}
+use Rattle.dm_tree.proofs.RowPaths.{attached_row}
 use Rattle.dm_tree.proofs.NodeEdits.{of_both}
 use Rattle.dm_tree.proofs.LiveRows.{live_at}
 use Rattle.dm_tree.proofs.SubtreeCuts.{still_attached, shaped-detached}

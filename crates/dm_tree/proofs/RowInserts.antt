@@ -1,6 +1,6 @@
 -- A new node takes a row that nobody holds.
-use Rattle.std.proofs.Common.{◌≡◌, ◌≢◌, ℕ, zero, suc, ◌+◌, ◌<◌, ◌≤◌, Bool, true, false, cond, nat_eq, List, [], ◌∷◌}
-use Rattle.std.proofs.Common.{◌++◌, length, Option, None, Some, refl, sym, ◌∙◌, ap, subst, arith, ◌⊎◌, inl, inr}
+use Rattle.std.proofs.Common.{◌≡◌, ◌≢◌, ℕ, ◌+◌, ◌<◌, ◌≤◌, true, false, cond, nat_eq, List, [], ◌∷◌}
+use Rattle.std.proofs.Common.{◌++◌, length, None, Some, refl, sym, ◌∙◌, ap, subst, arith, inl}
 use Rattle.std.specs.Prelude.{is_some, nat_lt, unwrap_or}
 use Rattle.std.proofs.Math.ListN.{set, length-set}
 use Rattle.std.proofs.lemmas.Bool.Decides.{nat_tests}
@@ -14,12 +14,12 @@ use Rattle.dm_tree.specs.declared.rows.Change.{Change}
 use Rattle.dm_tree.specs.declared.rows.Change.TheVariants as change
 use Rattle.dm_tree.specs.Nodes.{Path, IsNode}
 use Rattle.dm_tree.specs.Rows.{blank, row_at, node_of, walk, path_below, path_of, ids, nodes, IsRow, IsShaped, IsTree}
-use Rattle.dm_tree.specs.Rows.{IsLive, IsParked, IsParkedTop, IsFree, StayLive}
+use Rattle.dm_tree.specs.Rows.{IsLive, IsParked, IsParkedTop, StayLive}
 use Rattle.dm_tree.specs.Edits.{attached_as, new_row, with_row, IsGrown}
 use Rattle.dm_tree.specs.Undos.{row_of, flipped, Fits, IsInserted}
 use Rattle.dm_tree.specs.Notes.{GoesAlike, TakesEditBack}
 use Rattle.dm_tree.specs.Reuse.{IsFreeRow, IsUsed}
-use Rattle.dm_tree.proofs.Paths.{same_or_not, tree_total}
+use Rattle.dm_tree.proofs.Paths.{tree_total}
 use Rattle.dm_tree.proofs.RowPaths.{not_zero}
 use Rattle.dm_tree.proofs.RowMaps.{get_nodes}
 use Rattle.dm_tree.proofs.NodeEdits.{live_row}

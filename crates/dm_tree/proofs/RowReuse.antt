@@ -1,21 +1,19 @@
 -- A row is put in place of one right below which nothing stands.
-use Rattle.std.proofs.Common.{◌≡◌, ◌≢◌, ℕ, zero, suc, ◌<◌, ◌≤◌, Bool, true, false, cond, nat_eq, List, [], ◌∷◌, ◌++◌}
-use Rattle.std.proofs.Common.{length, Option, None, Some, refl, sym, ◌∙◌, ap, subst, arith, ◌⊎◌, inl, inr}
+use Rattle.std.proofs.Common.{◌≡◌, ◌≢◌, ℕ, zero, suc, ◌<◌, ◌≤◌, Bool, true, false, cond, nat_eq, List}
+use Rattle.std.proofs.Common.{length, Option, None, Some, refl, sym, ◌∙◌, ap, subst, arith, inl, inr}
 use Rattle.std.proofs.Math.ListN.{set, length-set}
 use Rattle.std.proofs.lemmas.List.{get_or-set_same, get_or-set_other}
-use Rattle.std.specs.Prelude.{unwrap_or}
 use Rattle.std.specs.Option.{option_map}
 use Rattle.std.specs.Ordering.{eq_by_cmp}
-use Rattle.std.specs.FinMap.{get, insert, len, len-insert, contains_key, from_entries, get-insert, same_map}
+use Rattle.std.specs.FinMap.{get, insert, len, from_entries, get-insert, same_map}
 use Rattle.dm_uri.specs.Names.{is_within_limits}
-use Rattle.dm_tree.specs.declared.nodes.Node.{Node}
 use Rattle.dm_tree.specs.declared.rows.Row.{Row}
 use Rattle.dm_tree.specs.Nodes.{Path, tree_order, IsRoot, IsChildOf}
 use Rattle.dm_tree.specs.Rows.{blank, row_at, node_of, walk, path_below, ids_below, ids, nodes, path_of, IsShaped}
-use Rattle.dm_tree.specs.Rows.{IsRow, IsTree, IsLive}
+use Rattle.dm_tree.specs.Rows.{IsRow, IsTree}
 use Rattle.dm_tree.specs.Reuse.{IsFreeRow}
 use Rattle.dm_tree.proofs.Paths.{other_path, same_or_not, same_path, tree_exact, tree_total}
-use Rattle.dm_tree.proofs.RowPaths.{attached_row, not_zero, some_path}
+use Rattle.dm_tree.proofs.RowPaths.{attached_row, some_path}
 use Rattle.dm_tree.proofs.RowMaps.{get_nodes, id_is, id_of}
 use Rattle.dm_tree.proofs.LiveRows.{live_at}
 

@@ -1,24 +1,23 @@
 -- A subtree is freed, row by row.
-use Rattle.std.proofs.Common.{◌≡◌, ◌≢◌, ℕ, zero, suc, ◌<◌, Bool, true, false, nat_eq, List, [], ◌∷◌, ◌++◌, length}
-use Rattle.std.proofs.Common.{Option, None, Some, refl, sym, ◌∙◌, ap, subst, arith, inl, inr}
-use Rattle.std.proofs.Math.ListN.{set, length-set}
+use Rattle.std.proofs.Common.{◌≡◌, ◌≢◌, ℕ, ◌<◌, true, false, List, [], ◌∷◌, ◌++◌, length}
+use Rattle.std.proofs.Common.{None, Some, refl, sym, ◌∙◌, ap, arith}
+use Rattle.std.proofs.Math.ListN.{length-set}
 use Rattle.std.proofs.lemmas.List.{get_or-set_same, get_or-set_other}
 use Rattle.dm_tree.specs.declared.rows.Row.{Row}
 use Rattle.dm_tree.specs.Nodes.{Path}
-use Rattle.dm_tree.specs.Rows.{blank, row_at, walk, path_below, path_of, IsTree, IsLive, IsParked, IsParkedTop, IsFree}
+use Rattle.dm_tree.specs.Rows.{blank, row_at, walk, path_below, path_of, IsTree, IsLive, IsParked, IsParkedTop}
 use Rattle.dm_tree.specs.Edits.{emptied, attached_as, without_content, IsGivenUp}
 use Rattle.dm_tree.specs.Notes.{GoesAlike}
 use Rattle.dm_tree.specs.Reuse.{IsUsed, IsLeftOver, freed}
-use Rattle.dm_tree.proofs.Paths.{same_or_not}
 use Rattle.dm_tree.proofs.RowPaths.{attached_row, attached_falls}
-use Rattle.dm_tree.proofs.NodeEdits.{IsAlike, of_both, walk_alike}
+use Rattle.dm_tree.proofs.NodeEdits.{of_both, walk_alike}
 use Rattle.dm_tree.proofs.LiveRows.{live_at}
 use Rattle.dm_tree.proofs.SubtreeCuts.{still_attached}
 use Rattle.dm_tree.proofs.GivenUpRows.{one_top, self_below, alike as given-alike, tree-given_up, given_up}
 use Rattle.dm_tree.proofs.UndoPromises.{alike-given_up, parked-given_up}
 use Rattle.dm_tree.proofs.RowReuse.{no_way}
 use Rattle.dm_tree.proofs.FlipsBeside.{alike-then, alike-fewer}
-use Rattle.dm_tree.proofs.RowFreeing.{not_same, path-out, tree-left, parked-left, tree-freed, alike-freed}
+use Rattle.dm_tree.proofs.RowFreeing.{not_same, path-out, parked-left, tree-freed, alike-freed}
 
 -- what has been done so far of a discard: rows below the top were freed, all else is as it was
 pub record IsFreeing (old : List Row) (top : ℕ) (rows : List Row) : Type 0 where

@@ -1,17 +1,17 @@
 -- What an edit promises of its Undo, and what a discard leaves to the others.
-use Rattle.std.proofs.Common.{◌≡◌, ◌≢◌, ℕ, zero, suc, ◌<◌, true, false, List, [], ◌∷◌, ◌++◌, length, None, refl, sym}
+use Rattle.std.proofs.Common.{◌≡◌, ◌≢◌, ℕ, ◌<◌, true, false, List, [], ◌∷◌, ◌++◌, length, None, refl, sym}
 use Rattle.std.proofs.Common.{◌∙◌, ap, subst, arith, length-append}
 use Rattle.std.proofs.Math.ListN.{set, length-set}
 use Rattle.std.proofs.lemmas.List.{get_or-set_same, get_or-set_other}
 use Rattle.std.proofs.Common.{inl, inr, Some}
-use Rattle.std.specs.Prelude.{⊤, ◌⊎◌}
+use Rattle.std.specs.Prelude.{◌⊎◌}
 use Rattle.dm_tree.proofs.Paths.{same_or_not}
 use Rattle.dm_tree.specs.declared.nodes.Node.{Node}
 use Rattle.dm_tree.specs.declared.rows.Row.{Row}
 use Rattle.dm_tree.specs.declared.rows.Change.{Change}
 use Rattle.dm_tree.specs.declared.rows.Change.TheVariants as change
 use Rattle.dm_tree.specs.Nodes.{counted, with_value, with_bytes, with_acl, with_title}
-use Rattle.dm_tree.specs.Rows.{blank, row_at, walk, nodes, ids, path_of, IsTree, IsLive, IsParkedTop}
+use Rattle.dm_tree.specs.Rows.{blank, row_at, walk, nodes, ids, IsTree, IsLive, IsParkedTop}
 use Rattle.dm_tree.specs.Edits.{with_node, with_name, attached_as, new_row, without_content}
 use Rattle.dm_tree.specs.Undos.{row_of, flipped, turned, Fits, FitAll, all_flipped, IsReady, IsHeld, TakesBack}
 use Rattle.dm_tree.specs.Notes.{AreAt, GoesAlike, IsFresh, Begins, TakesEditBack, held_by}
@@ -23,7 +23,7 @@ use Rattle.dm_tree.proofs.NodeEdits.{of_both, live_row}
 use Rattle.dm_tree.proofs.RowAppends.{at_end_of, before_end, nodes-parked, ids-parked}
 use Rattle.dm_tree.proofs.UndoFlips.{length-flipped}
 use Rattle.dm_tree.proofs.TreeEdits.{MayCome, IsSpare, tree-append, tree-spare}
-use Rattle.dm_tree.proofs.GivenUpRows.{tree-given_up, nodes-given_up, ids-given_up, not_live}
+use Rattle.dm_tree.proofs.GivenUpRows.{tree-given_up, nodes-given_up, ids-given_up}
 use Rattle.dm_tree.proofs.SpareRows.{parked, spare-parked, unparked, all_fit, all_flipped-spare, tree-flipped}
 use Rattle.dm_tree.proofs.SpareRows.{takes_out}
 

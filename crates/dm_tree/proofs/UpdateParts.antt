@@ -1,6 +1,5 @@
 -- What keeps its permanent nodes alike keeps the update part.
-use Rattle.std.proofs.Common.{◌≡◌, ℕ, Bool, true, false, List, [], ◌∷◌, ◌++◌, Some, refl, sym, ◌∙◌, ap, inl, inr}
-use Rattle.std.specs.Prelude.{codes, ◌⊎◌}
+use Rattle.std.proofs.Common.{◌≡◌, Bool, true, false, refl, sym, ◌∙◌, ap, inl, inr}
 use Rattle.std.specs.FinMap.{get, insert}
 use Rattle.dm_tree.specs.declared.nodes.Node.{Node}
 use Rattle.dm_tree.specs.declared.nodes.Value.{Value}
@@ -10,7 +9,7 @@ use Rattle.dm_tree.specs.Nodes.{Path, Nodes}
 use Rattle.dm_tree.specs.Devices.{is_of_update, is_update_state, Stands, HasUpdate, HasNoUpdate, IsUpdateInOrder}
 use Rattle.dm_tree.specs.Devices.{StaysForUpdate, KeepsUpdate}
 use Rattle.dm_tree.specs.Laws.{ChangedKeepsUpdate, AddedKeepsUpdate, PrunedKeepsUpdate, RenamedKeepsUpdate}
-use Rattle.dm_tree.proofs.NodesKept.{Was, Still, Keeps, some_node, keeps_changed, keeps_added, keeps_pruned}
+use Rattle.dm_tree.proofs.NodesKept.{Was, Keeps, some_node, keeps_changed, keeps_added, keeps_pruned}
 use Rattle.dm_tree.proofs.NodesKept.{keeps_renamed}
 
 module _ (alike : Node → Node → Type 0) (stays : (x y : Node) → alike x y → StaysForUpdate x y) (m n : Nodes)

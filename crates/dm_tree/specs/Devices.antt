@@ -1,6 +1,7 @@
 -- The parts of a tree that have a role: the device's information and its update.
-use Rattle.std.specs.Prelude.{◌≡◌, ◌⊎◌, ◌==◌, ℕ, Bool, true, false, not, IsTrue, List, [], ◌∷◌, ◌++◌, map, codes}
-use Rattle.std.specs.Prelude.{bytes_eq, Option, Some, None, unwrap_or, option_map, option_and_then, find}
+use Rattle.std.specs.Prelude.{◌≡◌, ◌⊎◌, ◌==◌, ◌≤◌, ◌<◌, ℕ, Bool, true, false, not, IsTrue, List, [], ◌∷◌, ◌++◌}
+use Rattle.std.specs.Prelude.{length, map, find, codes, bytes_eq, Option, Some, None, unwrap_or, option_map}
+use Rattle.std.specs.Prelude.{option_and_then}
 use Rattle.std.specs.Option.{option_map_or}
 use Rattle.std.specs.List.{list_any, list_all}
 use Rattle.std.specs.Str.{IsUtf8}
@@ -12,6 +13,8 @@ use Rattle.dm_tree.specs.declared.nodes.Role.{Role}
 use Rattle.dm_tree.specs.declared.nodes.Value.{Value}
 use Rattle.dm_tree.specs.declared.nodes.Role.TheVariants as role
 use Rattle.dm_tree.specs.Nodes.{Path, Nodes, above, first_stamp, root_node}
+use Rattle.dm_tree.specs.declared.rows.Row.{Row}
+use Rattle.dm_tree.specs.Rows.{node_of}
 use Rattle.dm_tree.specs.Order.{children}
 
 -- ---- the update
@@ -45,6 +48,14 @@ is_of_update role.ReadOnly = false
 -- the path of the first node whose role is that of an update node
 abbrev pub update_node : Nodes → Option Path
 update_node m = option_map (λ e. e.0) (find (λ e. is_update_node e.1.role) (entries m))
+
+-- a row, in the tree or not, has the role of an update node
+abbrev pub IsUpdateRow : List Row → ℕ → Type 0
+IsUpdateRow rows k = (k < length rows) × (is_update_node (node_of rows k).role ≡ true)
+
+-- none of the rows from one on, up to another, has it
+abbrev pub HaveOtherRoles : List Row → ℕ → ℕ → Type 0
+HaveOtherRoles rows from to = (k : ℕ) → from ≤ k → k < to → is_update_node (node_of rows k).role ≡ false
 
 -- a node of this role stands at the path
 abbrev pub has_role : Nodes → Role → Path → Bool

@@ -1,6 +1,6 @@
 -- What the searches through the rows find, row by row.
 use Rattle.std.specs.Prelude.{◌&&◌, ◌-◌, ℕ, zero, suc, Bool, true, false, if◌then◌else◌, nat_eq, nat_lt, bytes_eq, List}
-use Rattle.std.specs.Prelude.{[], ◌∷◌, ◌++◌, length, is_some, Option, Some, None, option_and_then}
+use Rattle.std.specs.Prelude.{[], ◌∷◌, ◌++◌, length, Option, Some, None, option_and_then}
 use Rattle.std.specs.Option.{option_map_or, option_or}
 use Rattle.std.specs.Ordering.{nat_cmp, is_lt}
 use Rattle.std.specs.Cmp.Lexicographic.{slice_cmp}
@@ -9,7 +9,7 @@ use Rattle.dm_acl.specs.declared.values.Right.{Right}
 use Rattle.dm_acl.specs.Grammar.{has_entry, allowed}
 use Rattle.dm_tree.specs.declared.rows.Row.{Row}
 use Rattle.dm_tree.specs.Nodes.{Path}
-use Rattle.dm_tree.specs.Rows.{row_at, node_of, path_below}
+use Rattle.dm_tree.specs.Rows.{row_at}
 
 abbrev pub is_child : ℕ → List ℕ → Row → Bool
 is_child id name r = r.attached && (nat_eq r.parent id && bytes_eq r.name name)

@@ -17,13 +17,15 @@ use std::cmp::Ordering;
 use std::marker::Model;
 use std::mem;
 
-/// The rows right below a row, with the keys of their names beside them, and how many may be put in there again.
+/// The rows right below a row, with the keys of their names beside them, and how many may be put in there again; where
+/// the row is free, the next free one, and the place at which the row itself was put in.
 #[derive(Drop)]
 pub struct Children {
     ids: Vec<u32>,
     keys: Vec<u64>,
     parked: u32,
     next: u32,
+    place: usize,
 }
 
 impl Model for Children {
@@ -44,6 +46,7 @@ impl Children {
             keys: Vec::new(alloc),
             parked: 0,
             next: 0,
+            place: 0,
         }
     }
 
@@ -58,6 +61,12 @@ impl Children {
     // The free row behind this one. No clause speaks of it: a row is looked at before it is used again.
     pub(crate) fn next(&self) -> u32 {
         self.next
+    }
+
+    // Where this row was put in among its parent's children: there it stands, unless others came in or went before it.
+    // No clause speaks of it: who is at that place is looked at.
+    pub(crate) fn place(&self) -> usize {
+        self.place
     }
 
     // The list of a free row. What it took is freed.
@@ -132,7 +141,7 @@ impl Children {
 
 // The first eight bytes of a name, as a number. Names stand in the order of these numbers, but for those that begin
 // alike.
-fn key_of(name: &Name) -> u64 {
+pub(crate) fn key_of(name: &Name) -> u64 {
     let mut key = 0u64;
     for at in 0..8 {
         let byte = name.as_slice().get(at).copied().unwrap_or(0);
@@ -175,13 +184,12 @@ fn precedes(rows: &[Row], ids: &[u32], place: usize, name: &Name) -> bool
 
 /// Where a name stands among the children of a row, or where it would. The keys tell the place, and two names confirm
 /// it; where other names begin alike, the names alone tell it.
-pub(crate) fn place_of(rows: &[Row], ids: &[u32], keys: &[u64], name: &Name) -> usize
+pub(crate) fn place_of(rows: &[Row], ids: &[u32], keys: &[u64], key: u64, name: &Name) -> usize
     requires inside { AreRows rows.now ids.now }
     requires order { IsInOrder rows.now ids.now }
     ensures { IsPlace rows.now ids.now name.now result }
 {
-    let wanted = key_of(name);
-    let guess = keys.partition_point(|key| *key < wanted);
+    let guess = keys.partition_point(|other| *other < key);
     let within = guess <= ids.len();
     if within && follows(rows, ids, guess, name) && precedes(rows, ids, guess, name) {
         return guess;
@@ -195,7 +203,7 @@ pub(crate) fn place_past(rows: &[Row], ids: &[u32], keys: &[u64], name: &Name) -
     requires order { IsInOrder rows.now ids.now }
     ensures { IsPlacePast rows.now ids.now name.now result }
 {
-    let place = place_of(rows, ids, keys, name);
+    let place = place_of(rows, ids, keys, key_of(name), name);
     match id_at(ids, place) {
         Some(id) if is_named(rows, id, name) => place + 1,
         _ => place,
@@ -209,21 +217,32 @@ pub(crate) fn id_at(ids: &[u32], place: usize) -> Option<u32>
     ids.get(place).copied()
 }
 
-// Puts a row among its parent's children. It takes no memory.
-fn link(rows: &[Row], index: &mut Vec<Children>, id: u32)
+// Puts a row among its parent's children, and tells the place. It takes no memory.
+fn link(rows: &[Row], index: &mut Vec<Children>, id: u32) -> usize
     requires out { IsPut rows.now id }
     requires index { IsIndex rows.now index.old.items }
     ensures { IsIndex (attached_as rows.now id true) index.new.items }
 {
     let row = &rows[id as usize];
     let parent = row.parent as usize;
+    let key = key_of(&row.name);
     let place = place_of(
         rows,
         index[parent].as_slice(),
         index[parent].keys(),
+        key,
         &row.name,
     );
-    index[parent].put_in(place, id, key_of(&row.name));
+    index[parent].put_in(place, id, key);
+    place
+}
+
+fn note_place(index: &mut Vec<Children>, id: u32, place: usize)
+    requires { id < length index.old.items }
+    ensures { index.new.items ≡ index.old.items }
+{
+    let own = &mut index[id as usize];
+    own.place = place;
 }
 
 // Takes a row out from among its parent's children. It takes no memory, and leaves room for it.
@@ -238,6 +257,7 @@ fn unlink(rows: &[Row], index: &mut Vec<Children>, id: u32)
         rows,
         index[parent].as_slice(),
         index[parent].keys(),
+        key_of(&row.name),
         &row.name,
     );
     index[parent].take_out(place);
@@ -258,7 +278,8 @@ pub(crate) fn put_in(rows: &mut Vec<Row>, index: &mut Vec<Children>, id: u32)
     ensures rows { rows.new.items ≡ attached_as rows.old.items id true }
     ensures index { IsIndex rows.new.items index.new.items }
 {
-    link(rows, index, id);
+    let place = link(rows, index, id);
+    note_place(index, id, place);
     set_attached(rows, id, true);
 }
 

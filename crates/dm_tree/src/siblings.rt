@@ -10,13 +10,27 @@ ghost use Rattle.dm_tree.specs.Order.{first_child as first_child_of, next_siblin
 ghost use Rattle.dm_tree.specs.Order.{next_below as next_path_below, children, children_behind, child_names, behind};
 ghost use Rattle.dm_tree.specs.Walks.{least_child as least_child_of, next_past as next_row_past};
 ghost use Rattle.dm_tree.specs.Walks.{next_row as next_row_of};
-ghost use Rattle.dm_tree.specs.Index.{IsIndex};
+ghost use Rattle.dm_tree.specs.Index.{IsIndex, AreRows, IsInOrder, IsPlacePast};
 
 use crate::index::{Children, id_at, place_past};
 use crate::rows::{NodeId, Row};
 use crate::tree::Tree;
 use dm_base::{Bytes, Memory};
 use std::alloc::Global;
+
+// The place of the first child whose name stands behind that of a row. Where the row itself stands at the place that
+// was noted of it, no name is looked at.
+fn place_behind(rows: &[Row], ids: &[u32], keys: &[u64], row: u32, noted: usize) -> usize
+    requires inside { AreRows rows.now ids.now }
+    requires order { IsInOrder rows.now ids.now }
+    requires row { row < length rows.now }
+    ensures { IsPlacePast rows.now ids.now (row_at rows.now row).name result }
+{
+    if noted < ids.len() && ids[noted] == row {
+        return noted + 1;
+    }
+    place_past(rows, ids, keys, &rows[row as usize].name)
+}
 
 // Of the children of `id` behind a row, the first by name.
 fn least_child(rows: &[Row], index: &[Children], id: u32, after: Option<u32>) -> Option<u32>
@@ -31,11 +45,12 @@ fn least_child(rows: &[Row], index: &[Children], id: u32, after: Option<u32>) ->
         None => id_at(ids, 0),
         Some(row) => id_at(
             ids,
-            place_past(
+            place_behind(
                 rows,
                 ids,
                 index[id as usize].keys(),
-                &rows[row as usize].name,
+                row,
+                index[row as usize].place(),
             ),
         ),
     }

@@ -1,14 +1,15 @@
 // Where the update stands.
-ghost use Rattle.std.specs.Prelude.{◌≡◌, ◌↔◌, ◌⊎◌, None, Some, IfSome, option_and_then};
+ghost use Rattle.std.specs.Prelude.{◌≡◌, ◌<◌, ◌^◌, ◌↔◌, ◌⊎◌, length, None, Some, IfSome, option_and_then};
 ghost use Rattle.std.specs.FinMap as map;
 ghost use Rattle.dm_tree.specs.declared.nodes.Role.TheVariants as role;
 ghost use Rattle.dm_tree.specs.Rows.{nodes, ids, node_of, path_of, IsLive};
 ghost use Rattle.dm_tree.specs.Devices.{update_node as update_path, pkg_data, state_node, child_of_role};
-ghost use Rattle.dm_tree.specs.Devices.{is_role as is_one};
+ghost use Rattle.dm_tree.specs.Devices.{is_role as is_one, IsUpdateRow, HaveOtherRoles};
 
 use crate::nodes::Role;
-use crate::rows::NodeId;
+use crate::rows::{NodeId, Row};
 use crate::tree::Tree;
+use crate::walks::is_in;
 
 /// The nodes of the update: the update node, PkgData right below it, and State right beside it.
 #[derive(Clone, Copy, Debug, PartialEq, Eq)]
@@ -22,6 +23,22 @@ fn is_role(role: Role, wanted: Role) -> bool
     ensures { result ≡ is_one role wanted }
 {
     role == wanted
+}
+
+// The first row from one on that has the role of an update node, in the tree or not.
+fn update_row_from(rows: &[Row], from: u32) -> Option<u32>
+    requires { length rows.now < 2 ^ 32 }
+    ensures found { IfSome result (λ row. IsUpdateRow rows.now row × HaveOtherRoles rows.now from row) }
+    ensures none { result ≡ None → HaveOtherRoles rows.now from (length rows.now) }
+{
+    let mut row = from;
+    while (row as usize) < rows.len() {
+        if is_role(rows[row as usize].node.role, Role::UpdateNode) {
+            return Some(row);
+        }
+        row += 1;
+    }
+    None
 }
 
 impl Tree {
@@ -71,9 +88,25 @@ impl Tree {
     }
 
     /// The first node in the order of the tree text whose role is that of an update node; where the update part is in
-    /// order, there is at most one. None comes exactly where there is none. It goes through the tree up to there, and
-    /// takes no memory.
+    /// order, there is at most one. None comes exactly where there is none. It takes no memory.
     pub fn update_node(&self) -> Option<NodeId>
+        ensures found { result ≡ option_and_then (map.get (ids self.now.rows)) (update_path (nodes self.now.rows)) }
+        ensures live { IfSome result (λ id. IsLive self.now.rows id
+            × (update_path (nodes self.now.rows) ≡ Some (path_of self.now.rows id))
+            × ((node_of self.now.rows id).role ≡ role.UpdateNode)) }
+        ensures none { (result ≡ None) ↔ (update_path (nodes self.now.rows) ≡ None) }
+    {
+        let rows = self.rows.as_slice();
+        let first = update_row_from(rows, 0)?;
+        // Where no other row has the role, be it in the tree or not, none has to be looked for before this one.
+        if update_row_from(rows, first + 1).is_none() && is_in(rows, first) {
+            return Some(NodeId::of(first));
+        }
+        self.walk_to_update()
+    }
+
+    // The same, by going through the tree.
+    fn walk_to_update(&self) -> Option<NodeId>
         ensures found { result ≡ option_and_then (map.get (ids self.now.rows)) (update_path (nodes self.now.rows)) }
         ensures live { IfSome result (λ id. IsLive self.now.rows id
             × (update_path (nodes self.now.rows) ≡ Some (path_of self.now.rows id))

@@ -5,7 +5,7 @@ ghost use Rattle.dm_tree.specs.Index.{IsIndex};
 ghost use Rattle.dm_tree.specs.Walks.{child_of, find_from, path_up, row_names as names_right};
 ghost use Rattle.dm_tree.specs.Walks.{row_allows as row_allows_it, deciding_row};
 
-use crate::index::{Children, id_at, place_of};
+use crate::index::{Children, id_at, key_of, place_of};
 use crate::rows::Row;
 use dm_acl::Right;
 use dm_base::Memory;
@@ -27,7 +27,8 @@ pub(crate) fn child_row(rows: &[Row], index: &[Children], id: u32, name: &Name) 
     ensures { result ≡ child_of rows.now id name.now }
 {
     let ids = index[id as usize].as_slice();
-    match id_at(ids, place_of(rows, ids, index[id as usize].keys(), name)) {
+    let keys = index[id as usize].keys();
+    match id_at(ids, place_of(rows, ids, keys, key_of(name), name)) {
         Some(child) if is_named(rows, child, name) => Some(child),
         _ => None,
     }

@@ -22,6 +22,11 @@ restated-requires-clause-leaf c =
     state_leaf c.args.tree.now.rows c.root.ensures.sound c.requires.update c.requires.running c.in-Some.found
     (record { live = c.in-Some.ensures.live; paths = c.in-Some.ensures.found })
 
+pub put_value-requires-clause-leaf : goal.put_value-requires-clause-leaf
+put_value-requires-clause-leaf c =
+    state_leaf c.args.tree.now.rows c.root.ensures.sound c.requires.update c.requires.running c.in-Some.found
+    (record { live = c.in-Some.ensures.live; paths = c.in-Some.ensures.found })
+
 pub returns-then-not-ok-clause-nodes : goal.returns-then-not-ok-clause-nodes
 returns-then-not-ok-clause-nodes c =
     let rows = c.args.tree.now.rows in

@@ -1,7 +1,7 @@
 use Rattle.std.proofs.Common.{◌≡◌, true, sym, refl, subst}
 use Rattle.dm_tree.specs.Rows.{IsTree, IsParkedTop}
 use Rattle.dm_tree.specs.Edits.{attached_as}
-use Rattle.dm_tree.specs.Index.{IsIndex, IsSized, IsKept}
+use Rattle.dm_tree.specs.Index.{IsIndex, IsSized}
 use Rattle.dm_tree.proofs.RowPaths.{attached_row}
 use Rattle.dm_tree.proofs.GivenUpRows.{tree-given_up}
 use Rattle.dm_tree.proofs.RowFreeing.{tree-left, parked-left}

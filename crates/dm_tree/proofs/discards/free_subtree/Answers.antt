@@ -1,8 +1,8 @@
-use Rattle.std.proofs.Common.{◌≡◌, ◌≢◌, ◌∙◌, ◌<◌, ℕ, true, refl, ap, sym, subst, arith, length}
+use Rattle.std.proofs.Common.{◌≡◌, ◌∙◌, ◌<◌, refl, ap, sym, subst, arith}
 use Rattle.std.proofs.lemmas.List.{get_or_default}
 use Rattle.dm_tree.specs.declared.rows.Row.{Row}
 use Rattle.dm_tree.specs.Rows.{blank, row_at}
-use Rattle.dm_tree.specs.Index.{IsIndex, IsKept}
+use Rattle.dm_tree.specs.Index.{IsIndex}
 use Rattle.dm_tree.proofs.GivenUpRows.{tree-given_up}
 use Rattle.dm_tree.proofs.InvariantKept.{kept-given_up}
 use Rattle.dm_tree.proofs.FreeingWalk.{IsGoing, to_go, going-begins, going-inside, child-read, none-read, left-below}

@@ -1,6 +1,4 @@
-use Rattle.std.proofs.Common.{◌≡◌, ◌<◌, refl, ap, subst, length}
-use Rattle.dm_tree.specs.declared.rows.Change.{Change}
-use Rattle.dm_tree.specs.declared.rows.Change.TheVariants as change
+use Rattle.std.proofs.Common.{◌<◌, refl, subst, length}
 use Rattle.dm_tree.specs.Undos.{Fits, row_of}
 use Rattle.dm_tree.proofs.IndexUnlinks.{index-set, may_put}
 use Rattle.dm_tree.proofs.edits.flip_row.Goals as goal

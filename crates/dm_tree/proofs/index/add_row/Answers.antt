@@ -1,4 +1,4 @@
-use Rattle.std.proofs.Common.{◌≡◌, ◌∙◌, ◌<◌, ◌+◌, ◌^◌, ◌∷◌, ◌++◌, [], ap, sym, subst, arith, length, slice_index_or}
+use Rattle.std.proofs.Common.{◌≡◌, ◌∙◌, ◌+◌, ◌∷◌, ◌++◌, [], ap, sym, subst, arith, slice_index_or}
 use Rattle.std.proofs.Math.ListN.{set}
 use Rattle.dm_tree.specs.Index.{ChildList, no_children, children_at, IsIndex}
 use Rattle.dm_tree.proofs.IndexLinks.{read}

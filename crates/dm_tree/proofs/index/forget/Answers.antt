@@ -1,4 +1,4 @@
-use Rattle.std.proofs.Common.{◌≡◌, ◌∙◌, ◌-◌, ap, arith}
+use Rattle.std.proofs.Common.{◌∙◌, ◌-◌, ap}
 use Rattle.dm_tree.specs.Edits.{without_content}
 use Rattle.dm_tree.specs.Index.{ChildList}
 use Rattle.dm_tree.proofs.IndexLinks.{HasRead, siblings, read_children, written}

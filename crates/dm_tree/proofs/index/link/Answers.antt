@@ -1,4 +1,4 @@
-use Rattle.std.proofs.Common.{◌≡◌, ◌∙◌, true, ap, arith}
+use Rattle.std.proofs.Common.{◌∙◌, true, ap, arith}
 use Rattle.dm_tree.specs.Edits.{attached_as}
 use Rattle.dm_tree.proofs.IndexLinks.{parent_inside, put_list, put_index, one_parked, ids_inside, HasRead, siblings}
 use Rattle.dm_tree.proofs.IndexLinks.{read_above, read_list, read_children, read_place, read_ids, written}

@@ -1,5 +1,4 @@
-use Rattle.std.proofs.Common.{◌≡◌, ◌∙◌, true, ap}
-use Rattle.dm_tree.specs.Edits.{attached_as}
+use Rattle.std.proofs.Common.{◌∙◌}
 use Rattle.dm_tree.proofs.IndexUnlinks.{back_in, put_again, renamed_index}
 use Rattle.dm_tree.proofs.index.move_name.Goals as goal
 

@@ -1,4 +1,4 @@
-use Rattle.std.proofs.Common.{rules, of_calls, ◌∙◌, sym}
+use Rattle.std.proofs.Common.{rules, of_calls}
 use Rattle.std.proofs.lemmas.Fn.{always_returns_same}
 use Rattle.dm_tree.proofs.NamePlaces.{before, before_parted, place_is, confirmed}
 use Rattle.dm_tree.proofs.index.place_of.Goals as goal

@@ -1,6 +1,6 @@
-use Rattle.std.proofs.Common.{◌≡◌, ◌∙◌, true, false, ap, sym, subst, arith}
+use Rattle.std.proofs.Common.{◌∙◌, ap, sym, subst}
 use Rattle.dm_tree.specs.declared.rows.Row.{Row}
-use Rattle.dm_tree.specs.Rows.{blank, row_at, node_of}
+use Rattle.dm_tree.specs.Rows.{blank, node_of}
 use Rattle.dm_tree.specs.Edits.{with_name}
 use Rattle.dm_tree.specs.Index.{IsIndex}
 use Rattle.dm_tree.proofs.IndexLinks.{read, index-alike}

@@ -1,4 +1,4 @@
-use Rattle.std.proofs.Common.{◌≡◌, ◌∙◌, ◌<◌, false, ap, arith, refl}
+use Rattle.std.proofs.Common.{◌∙◌, false, ap, refl}
 use Rattle.dm_tree.specs.Edits.{attached_as}
 use Rattle.dm_tree.proofs.IndexLinks.{ids_inside, HasRead, siblings, read_list, read_children, read_place, read_ids}
 use Rattle.dm_tree.proofs.IndexLinks.{written}

@@ -1,7 +1,7 @@
-use Rattle.std.proofs.Common.{◌≡◌, ◌∙◌, ◌<◌, ◌++◌, ◌∷◌, [], ℕ, true, false, ap, sym, subst, length}
+use Rattle.std.proofs.Common.{◌≡◌, ◌∙◌, ◌++◌, ◌∷◌, [], ℕ, true, false, ap, sym, subst}
 use Rattle.dm_tree.specs.Rows.{IsShaped, IsTree}
 use Rattle.dm_tree.specs.Edits.{attached_as}
-use Rattle.dm_tree.specs.Index.{IsPut, IsSized, IsKept}
+use Rattle.dm_tree.specs.Index.{IsPut, IsSized}
 use Rattle.dm_tree.proofs.InvariantKept.{new_parent, new_put, new_sizes, put_last}
 use Rattle.dm_tree.proofs.new_rows.insert_row.Goals as goal
 

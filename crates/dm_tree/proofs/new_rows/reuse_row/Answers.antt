@@ -1,7 +1,6 @@
-use Rattle.std.proofs.Common.{◌≡◌, ◌∙◌, ap, sym, subst}
+use Rattle.std.proofs.Common.{◌≡◌, ◌∙◌, sym, subst}
 use Rattle.std.proofs.Math.ListN.{set}
 use Rattle.dm_tree.specs.Rows.{IsShaped, IsTree}
-use Rattle.dm_tree.specs.Edits.{attached_as}
 use Rattle.dm_tree.specs.Index.{IsSized}
 use Rattle.dm_tree.proofs.IndexFills.{put_filled, may_put, sizes_before}
 use Rattle.dm_tree.proofs.new_rows.reuse_row.Goals as goal

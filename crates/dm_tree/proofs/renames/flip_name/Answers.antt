@@ -1,7 +1,6 @@
-use Rattle.std.proofs.Common.{◌≡◌, ◌∙◌, ◌<◌, refl, ap, arith, length}
+use Rattle.std.proofs.Common.{◌∙◌, ◌<◌, refl, ap, arith, length}
 use Rattle.std.proofs.Math.ListN.{length-set}
 use Rattle.dm_tree.specs.declared.nodes.Node.{Node}
-use Rattle.dm_tree.specs.declared.rows.Row.{Row}
 use Rattle.dm_tree.specs.Nodes.{counted}
 use Rattle.dm_tree.specs.Rows.{row_at, node_of}
 use Rattle.dm_tree.specs.Edits.{with_name}

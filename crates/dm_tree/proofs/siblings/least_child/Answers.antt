@@ -1,23 +1,21 @@
-use Rattle.std.proofs.Common.{◌∙◌, ◌<◌, ap, sym, subst, None, Some, length}
-use Rattle.std.specs.Prelude.{slice_get, IfSome}
-use Rattle.std.proofs.lemmas.List.{get_or_default}
-use Rattle.dm_tree.specs.declared.rows.Row.{Row}
-use Rattle.dm_tree.specs.Rows.{blank, row_at}
+use Rattle.std.proofs.Common.{◌∙◌, ap, sym, subst, None, Some, length}
+use Rattle.std.specs.Prelude.{slice_get}
+use Rattle.dm_tree.specs.Rows.{row_at}
 use Rattle.dm_tree.specs.Index.{IsPlacePast}
 use Rattle.dm_tree.specs.Walks.{least_child}
 use Rattle.dm_tree.proofs.NamePlaces.{list_read, inside_read, order_read, first_place, past_place, least_found}
 use Rattle.dm_tree.proofs.siblings.least_child.Goals as goal
 
-pub place_past-requires-clause-inside : goal.place_past-requires-clause-inside
-place_past-requires-clause-inside c =
+pub place_behind-requires-clause-inside : goal.place_behind-requires-clause-inside
+place_behind-requires-clause-inside c =
     let list =
     list_read c.args.rows.now c.args.index.now c.requires.index c.args.id c.requires.inside c.index-index-id.result
     c.index-index-id.is in
     inside_read c.args.rows.now c.requires.shaped c.args.id c.index-index-id.result list c.as_slice-ids.result.now
     c.as_slice-ids.ensures
 
-pub place_past-requires-clause-order : goal.place_past-requires-clause-order
-place_past-requires-clause-order c =
+pub place_behind-requires-clause-order : goal.place_behind-requires-clause-order
+place_behind-requires-clause-order c =
     let list =
     list_read c.args.rows.now c.args.index.now c.requires.index c.args.id c.requires.inside c.index-index-id.result
     c.index-index-id.is in
@@ -38,17 +36,11 @@ returns-in-Some c =
     let list =
     list_read c.args.rows.now c.args.index.now c.requires.index c.args.id c.requires.inside c.index-index-id.result
     c.index-index-id.is in
-    let inside = subst (λ o. IfSome o (λ row. row < length c.args.rows.now)) c.in-Some.is c.requires.after in
-    let named =
-    ap (λ (r : Row). r.name) (get_or_default c.args.rows.now c.in-Some.row c.index-rows-row.result blank inside) in
-    let past =
-    subst (λ n. IsPlacePast c.args.rows.now c.as_slice-ids.result.now n c.place_past.result) named
-    c.place_past.ensures in
-    c.id_at-in-Some.ensures ∙ ap (λ l. slice_get l c.place_past.result) c.as_slice-ids.ensures
+    c.id_at-in-Some.ensures ∙ ap (λ l. slice_get l c.place_behind.result) c.as_slice-ids.ensures
     ∙ least_found c.args.rows.now c.requires.shaped c.args.id c.index-index-id.result list (Some c.in-Some.row)
-    c.place_past.result
+    c.place_behind.result
     (past_place c.args.rows.now c.requires.shaped c.args.id c.index-index-id.result list c.in-Some.row
-    c.place_past.result
-    (subst (λ l. IsPlacePast c.args.rows.now l (row_at c.args.rows.now c.in-Some.row).name c.place_past.result)
-    c.as_slice-ids.ensures past))
+    c.place_behind.result
+    (subst (λ l. IsPlacePast c.args.rows.now l (row_at c.args.rows.now c.in-Some.row).name c.place_behind.result)
+    c.as_slice-ids.ensures c.place_behind.ensures))
     ∙ ap (λ after. least_child c.args.rows.now c.args.id after (length c.args.rows.now)) (sym c.in-Some.is)

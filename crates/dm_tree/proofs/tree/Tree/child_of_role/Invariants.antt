@@ -1,4 +1,4 @@
-use Rattle.std.proofs.Common.{◌≡◌, length}
+use Rattle.std.proofs.Common.{length}
 use Rattle.std.specs.Prelude.{IfSome}
 use Rattle.dm_tree.specs.Rows.{IsLive}
 use Rattle.dm_tree.proofs.RoleSearch.{children_from, SoughtAmong}

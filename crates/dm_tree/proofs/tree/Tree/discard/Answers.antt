@@ -1,6 +1,5 @@
 use Rattle.std.proofs.Common.{◌≡◌, ℕ, [], sym, subst, ap, arith, length}
-use Rattle.dm_tree.specs.declared.rows.Change.TheVariants as change
-use Rattle.dm_tree.specs.Rows.{Tree, IsTree, IsParkedTop, nodes, ids}
+use Rattle.dm_tree.specs.Rows.{Tree, IsTree, IsParkedTop}
 use Rattle.dm_tree.specs.Undos.{IsHeld, IsDiscarded}
 use Rattle.dm_tree.specs.Index.{IsIndex}
 use Rattle.dm_tree.specs.Notes.{GoesAlike, Stays}

@@ -1,4 +1,4 @@
-use Rattle.std.proofs.Common.{◌≡◌, ◌∙◌, sym, subst, ap, refl, arith, ◌<◌, ◌+◌, ℕ, ◌∷◌, ◌++◌, [], length, cond}
+use Rattle.std.proofs.Common.{◌≡◌, ◌∙◌, sym, subst, ap, refl, arith, ◌<◌, ℕ, ◌∷◌, ◌++◌, [], length, cond}
 use Rattle.std.proofs.Common.{refl, None, Option, Some}
 use Rattle.std.proofs.Math.ListN.{set}
 use Rattle.std.specs.Option.{option_map}

@@ -1,10 +1,10 @@
-use Rattle.std.proofs.Common.{◌≡◌, length}
+use Rattle.std.proofs.Common.{length}
 use Rattle.std.specs.Prelude.{IsTrue, IfSome}
 use Rattle.dm_tree.specs.Nodes.{is_below}
 use Rattle.dm_tree.specs.Rows.{path_of, IsLive}
 use Rattle.dm_tree.proofs.RenamedLengths.{still_to_come}
 use Rattle.dm_tree.proofs.RoleSearch.{SoughtFrom}
-use Rattle.dm_tree.proofs.tree.Tree.update_node.Given as goal
+use Rattle.dm_tree.proofs.tree.Tree.walk_to_update.Given as goal
 
 abbrev pub invariant-loop-at : goal.invariant-loop-at
 invariant-loop-at l = record {
