@@ -1,5 +1,5 @@
 // The messages that are spelled: one of many small commands, and one of a single large item.
-use dm_base::{Bytes, List, Memory};
+use dm_base::{Boxed, Bytes, List, Memory};
 use std::alloc::Global;
 use syncml_types::{Command, Header, Item, Loc, Message, Meta, Plain, Unfit, Verb};
 
@@ -31,12 +31,13 @@ fn header(alloc: Global) -> Result<Header, Memory> {
     })
 }
 
-fn text_meta(alloc: Global) -> Result<Meta, Memory> {
-    Ok(Meta {
+fn text_meta(alloc: Global) -> Result<Boxed<Meta>, Memory> {
+    let meta = Meta {
         format: Some(Bytes::of_slice(alloc, b"chr")?),
         media: Some(Bytes::of_slice(alloc, b"text/plain")?),
         ..Meta::empty()
-    })
+    };
+    Boxed::new(alloc, meta)
 }
 
 fn small_item(alloc: Global, at: u32) -> Result<Item, Memory> {

@@ -6,7 +6,7 @@ ghost use Rattle.syncml_parts.specs.Packing.{cut_data};
 ghost use Rattle.syncml_parts.specs.Numbering.{ids_in, ids_in_seq_members};
 
 use crate::values::{get, items, spelling_of};
-use dm_base::{Bytes, List, Memory};
+use dm_base::{Boxed, Bytes, List, Memory};
 use std::alloc::Global;
 use std::test::Fail;
 use syncml_parts::{cut_item, cut_item_mut, data_length, numbered_length, rest_length, set_ids};
@@ -14,11 +14,12 @@ use syncml_types::{
     AlertCmd, Block, Command, Member, Meta, Plain, ResultsCmd, SeqMember, Verb, command_length,
 };
 
-fn format(alloc: Global) -> Result<Meta, Memory> {
-    Ok(Meta {
+fn format(alloc: Global) -> Result<Boxed<Meta>, Memory> {
+    let meta = Meta {
         format: Some(Bytes::of_slice(alloc, b"chr")?),
         ..Meta::empty()
-    })
+    };
+    Boxed::new(alloc, meta)
 }
 
 fn alert(alloc: Global) -> Member

@@ -6,7 +6,7 @@ ghost use Rattle.dm_atomic.specs.Made.{source_item, uri_in, entry_of, told, IsIn
 
 use crate::reports::Report;
 use crate::tasks::{Post, name_of};
-use dm_base::{Bytes, List, Memory};
+use dm_base::{Boxed, Bytes, List, Memory};
 use dm_commands::Found;
 use dm_uri::is_uri;
 use std::alloc::Global;
@@ -57,7 +57,7 @@ pub(crate) fn put_status(
     out.push(Command::Status(status_of(alloc, post, code)?))
 }
 
-fn source_item(uri: Bytes, meta: Option<Meta>, value: Option<Bytes>) -> Item
+fn source_item(uri: Bytes, meta: Option<Boxed<Meta>>, value: Option<Bytes>) -> Item
     ensures { result ≡ source_item uri meta value }
 {
     Item {
@@ -69,8 +69,8 @@ fn source_item(uri: Bytes, meta: Option<Meta>, value: Option<Bytes>) -> Item
     }
 }
 
-fn found_item(found: Found) -> Item
-    ensures { result ≡ source_item found.uri (Some (found_meta found)) found.value }
+fn found_item(alloc: Global, found: Found) -> Result<Item, Memory>
+    ensures { IfOk result (λ item. item ≡ source_item found.uri (Some (found_meta found)) found.value) }
 {
     let Found {
         uri,
@@ -83,14 +83,15 @@ fn found_item(found: Found) -> Item
         media,
         ..Meta::empty()
     };
-    source_item(uri, Some(meta), value)
+    let meta = Boxed::new(alloc, meta)?;
+    Ok(source_item(uri, Some(meta), value))
 }
 
 fn found_items(alloc: Global, found: Found) -> Result<List<Item>, Memory>
     ensures { IfOk result (λ items. items ≡ source_item found.uri (Some (found_meta found)) found.value ∷ []) }
 {
     let mut items = List::with_room(alloc, 1)?;
-    items.push(found_item(found))?;
+    items.push(found_item(alloc, found)?)?;
     Ok(items)
 }
 

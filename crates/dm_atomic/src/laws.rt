@@ -6,7 +6,7 @@ ghost use Rattle.dm_atomic.specs.Laws.{QuietRestores, CommandKeepsOpen, QuietEnd
 ghost use Rattle.dm_atomic.specs.Laws.{AtomicStartsNothing, FailedTaskLeavesTree, RefusedRightLeavesTree};
 
 /// Law: each step and each container of executed commands has exactly one Status made, suppressed or not: at once, or
-/// where its group closes or is broken.
+/// where its group closes or is broken. What waits in a group that is open still has none yet.
 pub fn one_status_each()
     ensures run { OneStatusEach }
     ensures quiet { NoneLostInQuiet }

@@ -4,7 +4,7 @@ ghost use Rattle.dm_auth.specs.Digests.{base64_of, digest_of, is_text, is_text_o
 ghost use Rattle.dm_auth.specs.Digests.{credential, challenge};
 
 use base64::engine::general_purpose::STANDARD;
-use dm_base::{Bytes, Memory, Nonce};
+use dm_base::{Boxed, Bytes, Memory, Nonce};
 use md5::{Digest, Md5};
 use std::alloc::Global;
 use syncml_types::{Cred, Meta};
@@ -75,14 +75,14 @@ fn is_text(wanted: &[u8], text: &Option<Bytes>) -> bool
     }
 }
 
-fn is_md5_meta(meta: &Option<Meta>) -> bool
+fn is_md5_meta(meta: &Option<Boxed<Meta>>) -> bool
     ensures { result ≡ is_md5_meta meta.now }
 {
     match meta {
         None => false,
         Some(meta) => {
-            is_text(MD5_TYPE, &meta.media)
-                && (meta.format.is_none() || is_text(BASE64_FORMAT, &meta.format))
+            is_text(MD5_TYPE, &meta.inner.media)
+                && (meta.inner.format.is_none() || is_text(BASE64_FORMAT, &meta.inner.format))
         }
     }
 }
@@ -120,7 +120,7 @@ pub fn credential(alloc: Global, user: &[u8], password: &[u8], nonce: &[u8]) -> 
     let meta = md5_meta(alloc, None)?;
     let value = Bytes::of_slice(alloc, &text_of(&digest(user, password, nonce)))?;
     Ok(Cred {
-        meta: Some(meta),
+        meta: Some(Boxed::new(alloc, meta)?),
         value,
     })
 }

@@ -10,17 +10,17 @@ use crate::checks::Side;
 use crate::standings::Standing;
 use crate::statuses::{is_challenged, is_denied};
 use dm_auth::{Account, challenge, credential};
-use dm_base::{Bytes, Limits, List, Memory, Nonce};
+use dm_base::{Boxed, Bytes, Limits, List, Memory, Nonce};
 use itoa::Buffer;
 use std::alloc::Global;
 use syncml_types::{Command, Cred, Header, Loc, Meta, StatusCmd};
 
-fn challenge_for(alloc: Global, code: u32, nonce: &Nonce) -> Result<Option<Meta>, Memory>
+fn challenge_for(alloc: Global, code: u32, nonce: &Nonce) -> Result<Option<Boxed<Meta>>, Memory>
     ensures { IfOk result (λ chal. chal ≡ (if is_challenged_code code then Some
         (challenge_of nonce.now.bytes) else None)) }
 {
     if is_challenged(code) {
-        Ok(Some(challenge(alloc, nonce)?))
+        Ok(Some(Boxed::new(alloc, challenge(alloc, nonce)?)?))
     } else {
         Ok(None)
     }
@@ -150,6 +150,6 @@ pub fn next_header(
         resp_uri: None,
         no_resp: false,
         cred: cred_of(alloc, own, account, standing.welcomed)?,
-        meta: Some(limits_meta(limits)),
+        meta: Some(Boxed::new(alloc, limits_meta(limits))?),
     })
 }

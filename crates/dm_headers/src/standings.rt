@@ -4,7 +4,7 @@ ghost use Rattle.dm_headers.specs.Standings.{room_told as room_counted, room_aft
 ghost use Rattle.dm_headers.specs.Standings.{is_second as second};
 
 use crate::statuses::{is_denied, passes};
-use syncml_types::{Header, Message, Meta};
+use syncml_types::{Header, Message};
 
 /// How the two ends of a session stand to each other.
 #[derive(Clone, Copy, Debug, PartialEq, Eq)]
@@ -36,14 +36,12 @@ fn room_told(told: u64) -> u64
 fn room_after(room: u64, header: &Header) -> u64
     ensures { result ≡ room_then room header.now }
 {
-    match &header.meta {
-        Some(
-            Meta {
-                max_msg: Some(told),
-                ..
-            },
-        ) => room_told(*told),
-        _ => room,
+    let Some(meta) = &header.meta else {
+        return room;
+    };
+    match meta.inner.max_msg {
+        Some(told) => room_told(told),
+        None => room,
     }
 }
 

@@ -7,7 +7,7 @@ ghost use Rattle.dm_headers.specs.Checks.{status_read, code_read as code_in, tol
 ghost use Rattle.dm_headers.specs.Checks.{fault_of};
 
 use dm_auth::nonce_of;
-use dm_base::{Bytes, List, Memory};
+use dm_base::{Boxed, Bytes, List, Memory};
 use std::alloc::Global;
 use syncml_types::{Command, Message, Meta, StatusCmd};
 
@@ -70,17 +70,15 @@ pub(crate) fn read_status(own: u32, message: &Message, fault: Option<u32>) -> Op
     }
 }
 
-fn nonce_told(alloc: Global, chal: &Option<Meta>) -> Result<Option<Bytes>, Memory>
+fn nonce_told(alloc: Global, chal: &Option<Boxed<Meta>>) -> Result<Option<Bytes>, Memory>
     ensures { IfOk result (λ nonce. nonce ≡ told_nonce chal.now) }
 {
-    match chal {
-        Some(
-            Meta {
-                next_nonce: Some(text),
-                ..
-            },
-        ) => nonce_of(alloc, text.as_slice()),
-        _ => Ok(None),
+    let Some(chal) = chal else {
+        return Ok(None);
+    };
+    match &chal.inner.next_nonce {
+        Some(text) => nonce_of(alloc, text.as_slice()),
+        None => Ok(None),
     }
 }
 

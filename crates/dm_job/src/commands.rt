@@ -3,29 +3,34 @@ ghost use Rattle.std.specs.Prelude.{◌≡◌, ◌++◌, ◌∷◌, [], IfOk, On
 ghost use Rattle.dm_base.specs.Fields.{parts};
 ghost use Rattle.dm_job.specs.Commands as Spec;
 
-use dm_base::{Bytes, Form, List, Memory, OBJECT_LIMIT, hex_bytes, is_field};
+use dm_base::{Boxed, Bytes, Form, List, Memory, OBJECT_LIMIT, hex_bytes, is_field};
 use dm_start::fields::{begins_with, five_fields, three_fields, two_fields};
 use dm_start::forms::opt_of;
 use std::alloc::Global;
 use syncml_types::{Block, Command, Item, Loc, Member, Meta, Plain, SeqMember, Verb};
 
-fn meta_of(format: Option<Bytes>, media: Option<Bytes>) -> Option<Meta>
-    ensures { result ≡ Spec.meta_of format media }
+fn meta_of(
+    alloc: Global,
+    format: Option<Bytes>,
+    media: Option<Bytes>,
+) -> Result<Option<Boxed<Meta>>, Memory>
+    ensures { IfOk result (λ meta. meta ≡ Spec.meta_of format media) }
 {
     if format.is_none() && media.is_none() {
-        return None;
+        return Ok(None);
     }
-    Some(Meta {
+    let meta = Meta {
         format,
         media,
         ..Meta::empty()
-    })
+    };
+    Ok(Some(Boxed::new(alloc, meta)?))
 }
 
 fn item_of(
     alloc: Global,
     uri: &[u8],
-    meta: Option<Meta>,
+    meta: Option<Boxed<Meta>>,
     value: Option<Bytes>,
 ) -> Result<Item, Memory>
     ensures { IfOk result (λ item. item ≡ Spec.item_of uri.now meta value) }
@@ -111,7 +116,7 @@ fn write_of(
 ) -> Result<Plain, Memory>
     ensures { IfOk result (λ plain. plain ≡ Spec.written verb uri.now format.now media.now bytes) }
 {
-    let meta = meta_of(opt_of(alloc, format)?, opt_of(alloc, media)?);
+    let meta = meta_of(alloc, opt_of(alloc, format)?, opt_of(alloc, media)?)?;
     let item = item_of(alloc, uri, meta, Some(bytes))?;
     plain_of(alloc, verb, None, item)
 }

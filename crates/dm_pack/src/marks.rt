@@ -6,6 +6,7 @@ ghost use Rattle.syncml_types.specs.Canonical.{optional, number_tokens, is_empty
 ghost use Rattle.dm_pack.specs.Measures as Spec;
 ghost use Rattle.dm_pack.specs.Measures.{marked};
 
+use dm_base::Boxed;
 use itoa::Buffer;
 use syncml_types::{Item, Meta};
 
@@ -49,17 +50,17 @@ fn is_bare(meta: &Meta) -> bool
 }
 
 // A Meta's tag alone, or its two ends with the way to the page of its children and back.
-fn meta_cost(meta: &Option<Meta>) -> u64
+fn meta_cost(meta: &Option<Boxed<Meta>>) -> u64
     ensures value { result ≡ Spec.meta_cost meta.now }
     ensures low { result ≤ 50 }
 {
     match meta {
         None => 0,
         Some(meta) => {
-            if is_bare(meta) {
+            if is_bare(&meta.inner) {
                 1
             } else {
-                6 + size_cost(meta.size)
+                6 + size_cost(meta.inner.size)
             }
         }
     }

@@ -1,6 +1,6 @@
 // An entry that waits. The Data that may be cut is kept apart, so that the rest is measured without looking at it, and
 // what went out of it is a number, so that nothing moves.
-ghost use Rattle.std.specs.Prelude.{◌≡◌, ◌<◌, ◌≤◌, ◌+◌, ◌-◌, ◌^◌, IfOk, length, drop, true};
+ghost use Rattle.std.specs.Prelude.{◌≡◌, ◌<◌, ◌≤◌, ◌+◌, ◌-◌, ◌^◌, IfOk, OnOk, length, drop, true};
 ghost use Rattle.wbxml_tokens.specs.Spelling.{page_behind};
 ghost use Rattle.syncml_types.specs.Fitness.{is_short, command_data};
 ghost use Rattle.syncml_parts.specs.Pages.{with_value};
@@ -12,7 +12,7 @@ ghost use Rattle.dm_pack.specs.Entries.{fresh, data_left, part_of, rest_of, with
 ghost use Rattle.dm_pack.specs.Measures.{hollow_item, marked, marks_of, put_back, size_told};
 
 use crate::marks::{marked_cost, marks_cost};
-use dm_base::{Bytes, List, Memory};
+use dm_base::{Boxed, Bytes, List, Memory};
 use std::alloc::Global;
 use std::marker::Model;
 use std::mem;
@@ -121,37 +121,41 @@ fn size_of(value: &Bytes, sent: usize) -> Option<u64>
     }
 }
 
-fn set_size(meta: &mut Option<Meta>, size: u64)
-    ensures { meta.new ≡ with_size size meta.old }
+fn set_size(alloc: Global, meta: &mut Option<Boxed<Meta>>, size: u64) -> Result<(), Memory>
+    ensures { OnOk result (meta.new ≡ with_size size meta.old) }
 {
     match meta {
-        Some(meta) => meta.size = Some(size),
+        Some(meta) => meta.inner.size = Some(size),
         None => {
-            *meta = Some(Meta {
+            let sized = Meta {
                 size: Some(size),
                 ..Meta::empty()
-            });
+            };
+            *meta = Some(Boxed::new(alloc, sized)?);
         }
     }
+    Ok(())
 }
 
-fn mark_item(item: &mut Item, size: Option<u64>)
-    ensures { item.new ≡ marked size item.old }
+fn mark_item(alloc: Global, item: &mut Item, size: Option<u64>) -> Result<(), Memory>
+    ensures { OnOk result (item.new ≡ marked size item.old) }
 {
     item.more = true;
-    if let Some(size) = size {
-        set_size(&mut item.meta, size);
+    match size {
+        Some(size) => set_size(alloc, &mut item.meta, size),
+        None => Ok(()),
     }
 }
 
 // A part that isn't the last has MoreData, and the first one Size.
-fn mark_part(command: &mut Command, size: Option<u64>)
-    ensures { command.new ≡ cut_changed (marked size) command.old }
+fn mark_part(alloc: Global, command: &mut Command, size: Option<u64>) -> Result<(), Memory>
+    ensures { OnOk result (command.new ≡ cut_changed (marked size) command.old) }
 {
     match cut_item_mut(command) {
         None => {}
-        Some(item) => mark_item(item, size),
+        Some(item) => mark_item(alloc, item, size)?,
     }
+    Ok(())
 }
 
 fn keep_last_of<T: Drop>(list: &mut List<T>)
@@ -272,7 +276,7 @@ impl Waiting {
         let value = Bytes::of_slice(alloc, &self.left()[..bytes])?;
         let mut command = self.command.copy(alloc)?;
         set_ids(&mut command, first);
-        mark_part(&mut command, size_of(&self.value, self.sent));
+        mark_part(alloc, &mut command, size_of(&self.value, self.sent))?;
         put_value(&mut command, value);
         Ok(command)
     }

@@ -62,7 +62,7 @@ fn item_media(alloc: Global, item: &Item) -> Result<Bytes, Memory>
 {
     match &item.meta {
         None => Ok(Bytes::new(alloc)),
-        Some(meta) => bytes_or_none(alloc, &meta.media),
+        Some(meta) => bytes_or_none(alloc, &meta.inner.media),
     }
 }
 

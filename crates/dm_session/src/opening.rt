@@ -7,7 +7,7 @@ ghost use Rattle.dm_atomic.specs.Made.{source_item as source_of};
 ghost use Rattle.dm_machine.specs.Opening as Spec;
 
 use crate::device::{device_path, printed, update_uri, value_at};
-use dm_base::{Bytes, List, Memory};
+use dm_base::{Boxed, Bytes, List, Memory};
 use dm_ends::alert;
 use dm_machine::{Kind, UpdateResult};
 use dm_tree::Tree;
@@ -24,17 +24,18 @@ fn kind_code(kind: Kind) -> u32
     }
 }
 
-fn meta_of(alloc: Global, format: &[u8], media: &[u8]) -> Result<Meta, Memory>
+fn meta_of(alloc: Global, format: &[u8], media: &[u8]) -> Result<Boxed<Meta>, Memory>
     ensures { IfOk result (λ meta. meta ≡ Spec.meta_of format.now media.now) }
 {
-    Ok(Meta {
+    let meta = Meta {
         format: Some(Bytes::of_slice(alloc, format)?),
         media: Some(Bytes::of_slice(alloc, media)?),
         ..Meta::empty()
-    })
+    };
+    Boxed::new(alloc, meta)
 }
 
-fn source_item(uri: Bytes, meta: Meta, value: Bytes) -> Item
+fn source_item(uri: Bytes, meta: Boxed<Meta>, value: Bytes) -> Item
     ensures { result ≡ source_of uri (Some meta) (Some value) }
 {
     Item {

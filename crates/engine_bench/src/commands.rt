@@ -2,7 +2,7 @@
 ghost use Rattle.std.specs.Prelude.{◌≡◌, ◌∷◌, [], length, IfOk};
 
 use crate::leaves::{LEAVES, leaf_uri};
-use dm_base::{Bytes, List, Memory};
+use dm_base::{Boxed, Bytes, List, Memory};
 use std::alloc::Global;
 use syncml_types::{Block, Command, Item, Loc, Member, Meta, Plain, Verb};
 
@@ -27,7 +27,7 @@ fn item(
             name: None,
         }),
         source: None,
-        meta: Some(meta),
+        meta: Some(Boxed::new(alloc, meta)?),
         value: Some(Bytes::of_slice(alloc, value)?),
         more,
     })

@@ -37,7 +37,7 @@ pub fn run_message(
 }
 
 impl Device {
-    /// An engine over a tree with its leaves and the object's node.
+    /// An engine over a tree with its leaves.
     pub fn new(alloc: Global) -> Result<Device, Fault>
         ensures sound { IfOk result (λ d. IsSoundEngine d.engine) }
     {

@@ -9,7 +9,7 @@ use std::io;
 #[derive(Clone, Copy, Debug, PartialEq, Eq)]
 pub enum Fault {
     Memory,
-    /// A node isn't where it belongs, a text is no URI, or other entries were told than belong there. It never comes.
+    /// A node isn't where it belongs, or a text is no URI. It never comes.
     Lost,
 }
 

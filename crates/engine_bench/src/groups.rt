@@ -1,4 +1,4 @@
-// A group of many parts, each with a Replace and a piece of one object, which closes.
+// A group of many parts, which closes. Each has the second half of one leaf's value and the first half of the next's.
 ghost use Rattle.std.specs.Prelude.{OnOk};
 ghost use Rattle.dm_atomic.specs.Engine.{IsSoundEngine};
 

@@ -1,5 +1,5 @@
 // Calls of an engine, and the commands that they run.
-use dm_base::{Bytes, List, Memory};
+use dm_base::{Boxed, Bytes, List, Memory};
 use std::alloc::Global;
 use syncml_types::{AlertCmd, Block, Command, Item, Loc, Member, Meta, Plain, SeqMember, Verb};
 
@@ -38,13 +38,14 @@ pub(crate) fn text(alloc: Global, bytes: &[u8]) -> Result<Option<Bytes>, Memory>
     Ok(Some(Bytes::of_slice(alloc, bytes)?))
 }
 
-fn meta(alloc: Global, mark: u8) -> Result<Meta, Memory> {
+fn meta(alloc: Global, mark: u8) -> Result<Boxed<Meta>, Memory> {
     let format: &[u8] = if mark == b'n' { b"node" } else { b"" };
-    Ok(Meta {
+    let meta = Meta {
         format: text(alloc, format)?,
         size: if mark == b'm' { Some(6) } else { None },
         ..Meta::empty()
-    })
+    };
+    Boxed::new(alloc, meta)
 }
 
 fn item(alloc: Global, step: &Step) -> Result<Item, Memory> {

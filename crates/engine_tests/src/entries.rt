@@ -92,7 +92,7 @@ fn put_named_status(alloc: Global, out: &mut Bytes, status: &StatusCmd) -> Optio
 // The Format, Type and value of the first item.
 fn put_found(out: &mut Bytes, items: &List<Item>) -> Option<()> {
     let item = items.as_slice().first()?;
-    let meta = item.meta.as_ref()?;
+    let meta = &item.meta.as_ref()?.inner;
     put(out, b" ")?;
     put_or_dash(out, meta.format.as_ref())?;
     put(out, b" ")?;

@@ -7,18 +7,19 @@ use crate::engines::bare_engine;
 use crate::entries::named;
 use crate::task_rows::{Call, Given, ROWS, Row, START, Sent, Several, THREE};
 use dm_atomic::{Engine, Origin};
-use dm_base::{Bytes, List, Memory};
+use dm_base::{Boxed, Bytes, List, Memory};
 use std::alloc::Global;
 use std::test::Fail;
 use syncml_types::{AlertCmd, Block, Command, Item, Loc, Member, Meta, Plain};
 
-fn meta(alloc: Global, given: &Given) -> Result<Meta, Memory> {
-    Ok(Meta {
+fn meta(alloc: Global, given: &Given) -> Result<Boxed<Meta>, Memory> {
+    let meta = Meta {
         format: text(alloc, given.0)?,
         media: text(alloc, given.1)?,
         size: given.2,
         ..Meta::empty()
-    })
+    };
+    Boxed::new(alloc, meta)
 }
 
 fn item(alloc: Global, sent: &Sent) -> Result<Item, Memory> {

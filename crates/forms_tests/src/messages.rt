@@ -158,12 +158,12 @@ fn bytes_of(alloc: Global, digits: &[u8]) -> Result<Bytes, Memory> {
     }
 }
 
-fn with_byte(bytes: Bytes, at: usize, byte: u8) -> Bytes {
-    let mut items = bytes.into_vec();
+fn with_byte(alloc: Global, bytes: &Bytes, at: usize, byte: u8) -> Result<Bytes, Memory> {
+    let mut items = Vec::from_slice(alloc, bytes.as_slice())?;
     if let Some(place) = items.get_mut(at) {
         *place = byte;
     }
-    Bytes::of_vec(items)
+    Ok(Bytes::of_vec(items))
 }
 
 fn table(alloc: Global, len: usize) -> Result<Bytes, Memory> {
@@ -187,7 +187,7 @@ fn input_of(alloc: Global, input: Input) -> Result<Bytes, Memory> {
             get.push(0)?;
             Ok(get)
         }
-        Input::Other(at, byte) => Ok(with_byte(get, at, byte)),
+        Input::Other(at, byte) => with_byte(alloc, &get, at, byte),
         Input::Table(len) => table(alloc, len),
     }
 }

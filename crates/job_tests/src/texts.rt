@@ -1,6 +1,6 @@
 // What a job says, as a text.
 use dm_auth::Account;
-use dm_base::{Bytes, List, Memory, hex_into};
+use dm_base::{Boxed, Bytes, List, Memory, hex_into};
 use dm_job::{Job, JobEntry};
 use itoa::Buffer;
 use std::alloc::Global;
@@ -24,11 +24,11 @@ fn put_hex(out: &mut Bytes, bytes: &[u8]) -> Result<(), Memory> {
     hex_into(out, bytes)
 }
 
-fn put_meta(out: &mut Bytes, meta: &Option<Meta>) -> Result<(), Memory> {
+fn put_meta(out: &mut Bytes, meta: &Option<Boxed<Meta>>) -> Result<(), Memory> {
     match meta {
         Some(meta) => {
-            put_field(out, &meta.format)?;
-            put_field(out, &meta.media)?;
+            put_field(out, &meta.inner.format)?;
+            put_field(out, &meta.inner.media)?;
         }
         None => out.extend(b" bare")?,
     }

@@ -1,5 +1,5 @@
 // Containers: their canonical spelling and their listing.
-use dm_base::{Bytes, List, Memory};
+use dm_base::{Boxed, Bytes, List, Memory};
 use std::alloc::Global;
 use std::test::Fail;
 use syncml_codec::{encode, listing};
@@ -94,11 +94,12 @@ fn three_members(alloc: Global) -> Result<List<SeqMember>, Memory> {
     Ok(members)
 }
 
-fn media(alloc: Global) -> Result<Meta, Memory> {
-    Ok(Meta {
+fn media(alloc: Global) -> Result<Boxed<Meta>, Memory> {
+    let meta = Meta {
         media: Some(Bytes::of_slice(alloc, b"text/plain")?),
         ..Meta::empty()
-    })
+    };
+    Boxed::new(alloc, meta)
 }
 
 fn sequence(alloc: Global) -> Result<Command, Memory> {

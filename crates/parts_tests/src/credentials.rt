@@ -1,6 +1,6 @@
 // Digests of the standard's example, and what credentials come to.
 use dm_auth::{Verdict, challenge, credential, digest, judge, nonce_of};
-use dm_base::{Bytes, Memory, Nonce};
+use dm_base::{Boxed, Bytes, Memory, Nonce};
 use std::alloc::Global;
 use std::test::Fail;
 use syncml_types::{Cred, Meta};
@@ -30,7 +30,7 @@ fn cred_of(
         ..Meta::empty()
     };
     Ok(Cred {
-        meta: Some(meta),
+        meta: Some(Boxed::new(alloc, meta)?),
         value: Bytes::of_slice(alloc, value)?,
     })
 }

@@ -1,7 +1,7 @@
 // Headers as both ends read and write them.
 use crate::header_rows::{ANSWERED, Answered, CHECKED, Checked, ROOMS, Told, WITHHELD};
 use dm_auth::{Account, credential};
-use dm_base::{Bytes, Limits, List, Memory, Nonce};
+use dm_base::{Boxed, Bytes, Limits, List, Memory, Nonce};
 use dm_headers::{Heard, Side, Standing, header_status, hear, next_header};
 use std::alloc::Global;
 use std::test::Fail;
@@ -27,12 +27,17 @@ fn loc(alloc: Global, uri: &[u8]) -> Result<Loc, Memory> {
     })
 }
 
-fn meta(max_msg: Option<u64>, next_nonce: Option<Bytes>) -> Meta {
-    Meta {
+fn meta(
+    alloc: Global,
+    max_msg: Option<u64>,
+    next_nonce: Option<Bytes>,
+) -> Result<Boxed<Meta>, Memory> {
+    let meta = Meta {
         next_nonce,
         max_msg,
         ..Meta::empty()
-    }
+    };
+    Boxed::new(alloc, meta)
 }
 
 fn account(alloc: Global, password: Option<&[u8]>) -> Result<Account, Memory> {
@@ -76,7 +81,7 @@ fn header(
         resp_uri: None,
         no_resp: false,
         cred,
-        meta: Some(meta(max_msg, None)),
+        meta: Some(meta(alloc, max_msg, None)?),
     })
 }
 
@@ -108,7 +113,7 @@ fn body(alloc: Global, ids: &[u32; 4]) -> Result<List<Command>, Memory> {
 
 fn status(alloc: Global, id: u32, told: &Told) -> Result<Command, Memory> {
     let chal = match told.nonce {
-        Some(nonce) => Some(meta(None, Some(text(alloc, nonce)?))),
+        Some(nonce) => Some(meta(alloc, None, Some(text(alloc, nonce)?))?),
         None => None,
     };
     Ok(Command::Status(StatusCmd {

@@ -7,7 +7,7 @@ ghost use Rattle.dm_pack.specs.Entries.{IsReady, fresh};
 ghost use Rattle.dm_pack.specs.Filling.{IsReadyHeader};
 
 use crate::queues::{add_first, add_statuses, header, queue_of, repeated, status, text};
-use dm_base::{Bytes, List, Memory};
+use dm_base::{Boxed, Bytes, List, Memory};
 use dm_pack::{Filled, Queue, fill};
 use std::alloc::Global;
 use std::test::Fail;
@@ -34,7 +34,7 @@ fn members_in(command: &Command) -> usize {
 
 fn size_in(item: &Item) -> Option<u64> {
     match &item.meta {
-        Some(meta) => meta.size,
+        Some(meta) => meta.inner.size,
         None => None,
     }
 }
@@ -96,7 +96,7 @@ fn three_parts(alloc: Global, queue: Queue) -> Result<[Option<Part>; 3], Memory>
     Ok([first, second, third])
 }
 
-fn item_at(uri: Bytes, meta: Option<Meta>, value: Option<Bytes>) -> Item
+fn item_at(uri: Bytes, meta: Option<Boxed<Meta>>, value: Option<Bytes>) -> Item
     ensures { result ≡ record {
       target = Some (record { uri = uri; name = None });
       source = None;
@@ -175,7 +175,7 @@ fn atomic(alloc: Global, value: Bytes) -> Result<Command, Memory>
     let uri = text(alloc, b"./A")?;
     let format = text(alloc, b"chr")?;
     let media = text(alloc, b"text/plain")?;
-    let meta = meta_of(format, media);
+    let meta = Boxed::new(alloc, meta_of(format, media))?;
     let last = member(alloc, Verb::Replace, item_at(uri, Some(meta), Some(value)))?;
     Ok(Command::Atomic(block(alloc, first, last)?))
 }

@@ -5,7 +5,7 @@ ghost use Rattle.syncml_types.specs.Canonical.{is_text};
 ghost use Rattle.dm_pack.specs.Entries.{IsReady, fresh};
 ghost use Rattle.dm_pack.specs.Filling.{IsReadyHeader};
 
-use dm_base::{Bytes, List, Memory};
+use dm_base::{Boxed, Bytes, List, Memory};
 use dm_pack::{Queue, Tail, fill};
 use std::alloc::Global;
 use std::test::Fail;
@@ -44,16 +44,14 @@ pub(crate) fn header(alloc: Global) -> Result<Header, Memory>
         resp_uri: None,
         no_resp: false,
         cred: None,
-        meta: Some(Meta {
-            format: None,
-            media: None,
-            size: None,
-            next_nonce: None,
-            max_msg: Some(16384),
-            max_obj: Some(4194304),
-            mark: None,
-            version: None,
-        }),
+        meta: Some(Boxed::new(
+            alloc,
+            Meta {
+                max_msg: Some(16384),
+                max_obj: Some(4194304),
+                ..Meta::empty()
+            },
+        )?),
     })
 }
 
@@ -91,16 +89,14 @@ fn results_of(
     items.push(Item {
         target: None,
         source: Some(Loc { uri, name: None }),
-        meta: Some(Meta {
-            format: Some(format),
-            media: Some(media),
-            size: None,
-            next_nonce: None,
-            max_msg: None,
-            max_obj: None,
-            mark: None,
-            version: None,
-        }),
+        meta: Some(Boxed::new(
+            alloc,
+            Meta {
+                format: Some(format),
+                media: Some(media),
+                ..Meta::empty()
+            },
+        )?),
         value: Some(value),
         more: false,
     })?;

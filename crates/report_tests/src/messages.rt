@@ -1,5 +1,5 @@
 // Commands of a device's messages, made from what rows say.
-use dm_base::{Bytes, List, Memory};
+use dm_base::{Boxed, Bytes, List, Memory};
 use std::alloc::Global;
 use syncml_types::{AlertCmd, Command, Item, Loc, Meta, ResultsCmd, StatusCmd};
 
@@ -38,13 +38,14 @@ fn place_of(alloc: Global, text: Option<&[u8]>) -> Result<Option<Loc>, Memory> {
     }
 }
 
-fn meta_of(alloc: Global, piece: &Piece) -> Result<Option<Meta>, Memory> {
-    Ok(Some(Meta {
+fn meta_of(alloc: Global, piece: &Piece) -> Result<Option<Boxed<Meta>>, Memory> {
+    let meta = Meta {
         format: bytes_of(alloc, piece.format)?,
         media: bytes_of(alloc, piece.media)?,
         size: piece.size,
         ..Meta::empty()
-    }))
+    };
+    Ok(Some(Boxed::new(alloc, meta)?))
 }
 
 fn item_of(alloc: Global, piece: &Piece) -> Result<Item, Memory> {

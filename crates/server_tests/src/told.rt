@@ -3,7 +3,7 @@ use dm_base::{Bytes, Memory};
 use itoa::Buffer;
 use std::alloc::Global;
 use syncml_codec::{DecodeError, decode};
-use syncml_types::{Command, Item, Message, Meta, Plain, StatusCmd, Verb};
+use syncml_types::{Command, Item, Message, Plain, StatusCmd, Verb};
 
 pub(crate) fn put_number(out: &mut Bytes, number: u64) -> Result<(), Memory> {
     let mut buffer = Buffer::new();
@@ -47,17 +47,15 @@ fn put_status(out: &mut Bytes, status: &StatusCmd) -> Result<(), Memory> {
     put_number(out, u64::from(status.cmd_ref))?;
     out.push(b' ')?;
     put_number(out, u64::from(status.code))?;
-    match &status.chal {
-        Some(
-            Meta {
-                next_nonce: Some(nonce),
-                ..
-            },
-        ) => {
+    let Some(chal) = &status.chal else {
+        return Ok(());
+    };
+    match &chal.inner.next_nonce {
+        Some(nonce) => {
             out.extend(b" next ")?;
             out.extend(nonce.as_slice())
         }
-        _ => Ok(()),
+        None => Ok(()),
     }
 }
 

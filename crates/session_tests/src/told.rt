@@ -1,5 +1,5 @@
 // What a client's message says, in short: its MsgID, its credential, its commands and Final.
-use dm_base::{Bytes, Memory};
+use dm_base::{Boxed, Bytes, Memory};
 use itoa::Buffer;
 use std::alloc::Global;
 use syncml_codec::{DecodeError, decode};
@@ -46,18 +46,16 @@ fn put_data(out: &mut Bytes, data: &Option<Bytes>) -> Result<(), Memory> {
     out.extend(b" bytes")
 }
 
-fn put_size(out: &mut Bytes, meta: &Option<Meta>) -> Result<(), Memory> {
-    match meta {
-        Some(
-            Meta {
-                size: Some(size),
-                ..
-            },
-        ) => {
+fn put_size(out: &mut Bytes, meta: &Option<Boxed<Meta>>) -> Result<(), Memory> {
+    let Some(meta) = meta else {
+        return Ok(());
+    };
+    match meta.inner.size {
+        Some(size) => {
             out.extend(b" of ")?;
-            put_number(out, *size)
+            put_number(out, size)
         }
-        _ => Ok(()),
+        None => Ok(()),
     }
 }
 
@@ -93,7 +91,7 @@ fn put_status(out: &mut Bytes, status: &StatusCmd) -> Result<(), Memory> {
         out.extend(text.as_slice())?;
     }
     match &status.chal {
-        Some(meta) => put_text(out, b" next ", &meta.next_nonce),
+        Some(meta) => put_text(out, b" next ", &meta.inner.next_nonce),
         None => Ok(()),
     }
 }

@@ -5,6 +5,7 @@ ghost use Rattle.syncml_codec.specs.Ranges.{IsShort, IsLong, MetaRange, ItemRang
 ghost use Rattle.syncml_codec.specs.Ranges.{AlertRange, MemberRange, AtomicRange, SeqMemberRange, SequenceRange};
 ghost use Rattle.syncml_codec.specs.Ranges.{StatusRange, ResultsRange, CommandRange, AreNumbers};
 
+use dm_base::Boxed;
 use syncml_types::{
     AlertCmd, Block, Command, Cred, Header, Item, Member, Message, Meta, Plain, ResultsCmd,
     SeqMember, StatusCmd,
@@ -26,12 +27,12 @@ fn meta_range(meta: &Meta)
     is_long(meta.max_obj);
 }
 
-fn option_meta_range(meta: &Option<Meta>)
+fn option_meta_range(meta: &Option<Boxed<Meta>>)
     ensures { IfSome meta.now MetaRange }
 {
     match meta {
         None => {}
-        Some(meta) => meta_range(meta),
+        Some(meta) => meta_range(&meta.inner),
     }
 }
 

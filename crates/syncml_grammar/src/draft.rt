@@ -7,8 +7,7 @@ ghost use Rattle.syncml_grammar.specs.Opens.{parts_of};
 ghost use Rattle.syncml_grammar.specs.Drafts.{no_item, no_loc, no_header, no_message, no_body, no_cred, no_plain};
 ghost use Rattle.syncml_grammar.specs.Drafts.{no_alert, no_block, no_status, no_results, verb_of, fresh_draft};
 
-use crate::boxed::Boxed;
-use dm_base::{Bytes, List};
+use dm_base::{Boxed, Bytes, List};
 use std::alloc::Global;
 use syncml_types::{
     AlertCmd, Block, Command, Cred, Header, Item, Loc, Member, Meta, Plain, ResultsCmd, SeqMember,

@@ -1,7 +1,6 @@
 //! The message grammar: from the tokens of a body to the message that they spell, or the first refusal.
 #![tactic(auto)]
 
-mod boxed;
 pub mod builder;
 pub mod digits;
 pub mod draft;

@@ -7,10 +7,9 @@ ghost use Rattle.syncml_types.specs.declared.command.SeqMember.TheVariants as se
 ghost use Rattle.syncml_grammar.specs.declared.draft.Draft.TheVariants as drafts;
 ghost use Rattle.syncml_grammar.specs.Nodes.{with_node, is_document};
 
-use crate::boxed::Boxed;
 use crate::draft::{Draft, new_alert, new_block, new_plain, new_results, new_status};
 use crate::spare::Spares;
-use dm_base::{List, Memory};
+use dm_base::{Boxed, List, Memory};
 use std::alloc::Global;
 use std::mem;
 use syncml_types::{AlertCmd, Block, Command, Member, Plain, ResultsCmd, SeqMember, StatusCmd};

@@ -1,15 +1,15 @@
-// What a child with children puts into its parent. What a call takes from the child's box it replaces by what a new one
-// has, in a function of its own, since each function pays at its entry for its largest locals.
+// What a child with children puts into its parent. The box of a header and of a Meta goes along; what a call takes from
+// another child's box it replaces by what a new one has, in a function of its own, since each function pays at its entry
+// for its largest locals.
 ghost use Rattle.std.specs.Prelude.{◌≡◌, ◌∷◌, ◌++◌, [], false, Some, OnOk};
 ghost use Rattle.syncml_types.specs.declared.values.Header.{Header};
 ghost use Rattle.syncml_grammar.specs.declared.draft.Draft.TheVariants as drafts;
 ghost use Rattle.syncml_grammar.specs.Nodes.{header_with_loc, item_with_loc, with_node, is_document};
 
-use crate::boxed::Boxed;
 use crate::draft::{BodyDraft, Draft, new_item, new_loc};
 use crate::put_command::{put_alert, put_atomic, put_plain, put_results, put_sequence, put_status};
 use crate::spare::Spares;
-use dm_base::{List, Memory};
+use dm_base::{Boxed, List, Memory};
 use std::alloc::Global;
 use std::mem;
 use syncml_types::{Cred, Header, Item, Loc, Meta};
@@ -117,54 +117,39 @@ fn put_cred(draft: &mut Draft, element: Element, cred: Boxed<Cred>)
     }
 }
 
-fn set_meta(slot: &mut Option<Meta>, meta: &mut Meta)
-    ensures { slot.new ≡ Some meta.old }
-{
-    *slot = Some(mem::replace(meta, Meta::empty()));
-}
-
-fn put_chal(spares: &mut Spares, draft: &mut Draft, element: Element, mut meta: Boxed<Meta>)
+fn put_chal(draft: &mut Draft, element: Element, meta: Boxed<Meta>)
     requires { is_document draft.old ≡ false }
     ensures { draft.new ≡ with_node draft.old element (drafts.Chal meta) }
 {
     match draft {
-        Draft::Status(status) => set_meta(&mut status.inner.chal, &mut meta.inner),
-        _ => {}
+        Draft::Status(status) => status.inner.chal = Some(meta),
+        _ => drop(meta),
     }
-    spares.chal = Some(meta);
 }
 
-fn put_meta_in_header(draft: &mut Boxed<Header>, meta: &mut Meta)
-    ensures { draft.new ≡ record draft.old { meta = Some meta.old } }
+fn put_meta_in_header(draft: &mut Boxed<Header>, meta: Boxed<Meta>)
+    ensures { draft.new ≡ record draft.old { meta = Some meta } }
 {
-    set_meta(&mut draft.inner.meta, meta);
+    draft.inner.meta = Some(meta);
 }
 
-fn swap_meta(old: &mut Meta, meta: &mut Meta)
-    ensures { old.new ≡ meta.old }
-{
-    mem::swap(old, meta);
-}
-
-// The Meta of a Chal, or the MetInf of a Meta, stands for the whole.
-fn put_meta(spares: &mut Spares, draft: &mut Draft, element: Element, mut child: Boxed<Meta>)
+// The Meta of a Chal, or the MetInf of a Meta, stands for the whole, in its own box.
+fn put_meta(spares: &mut Spares, draft: &mut Draft, element: Element, meta: Boxed<Meta>)
     requires { is_document draft.old ≡ false }
-    ensures { draft.new ≡ with_node draft.old element (drafts.Meta child) }
+    ensures { draft.new ≡ with_node draft.old element (drafts.Meta meta) }
 {
-    let meta = &mut child.inner;
     match draft {
         Draft::Header(header) => put_meta_in_header(header, meta),
-        Draft::Plain(plain) => set_meta(&mut plain.inner.meta, meta),
-        Draft::Atomic(block) => set_meta(&mut block.inner.meta, meta),
-        Draft::Sequence(block) => set_meta(&mut block.inner.meta, meta),
-        Draft::Results(results) => set_meta(&mut results.inner.meta, meta),
-        Draft::Item(item) => set_meta(&mut item.inner.meta, meta),
-        Draft::Cred(cred) => set_meta(&mut cred.inner.meta, meta),
-        Draft::Chal(old) => swap_meta(&mut old.inner, meta),
-        Draft::Meta(old) => swap_meta(&mut old.inner, meta),
-        _ => {}
+        Draft::Plain(plain) => plain.inner.meta = Some(meta),
+        Draft::Atomic(block) => block.inner.meta = Some(meta),
+        Draft::Sequence(block) => block.inner.meta = Some(meta),
+        Draft::Results(results) => results.inner.meta = Some(meta),
+        Draft::Item(item) => item.inner.meta = Some(meta),
+        Draft::Cred(cred) => cred.inner.meta = Some(meta),
+        Draft::Chal(old) => spares.meta = Some(mem::replace(old, meta)),
+        Draft::Meta(old) => spares.meta = Some(mem::replace(old, meta)),
+        _ => drop(meta),
     }
-    spares.keep_meta(child);
 }
 
 #[tactic(auto, using(crate::proofs::Left::left_document, crate::proofs::Left::left_message))]
@@ -191,7 +176,7 @@ fn put_part(
         Draft::Item(item) => return put_item(spares, draft, element, item),
         Draft::Loc(place) => put_loc(spares, draft, element, place),
         Draft::Cred(cred) => put_cred(draft, element, cred),
-        Draft::Chal(meta) => put_chal(spares, draft, element, meta),
+        Draft::Chal(meta) => put_chal(draft, element, meta),
         Draft::Meta(meta) => put_meta(spares, draft, element, meta),
     }
     Ok(())
@@ -205,7 +190,7 @@ impl Draft {
     }
 }
 
-/// Puts what a child with children holds into its parent, and keeps its box.
+/// Puts what a child with children holds into its parent, and keeps its box where that doesn't go along.
 #[tactic(auto, using(crate::proofs::Left::whole_child))]
 pub(crate) fn put_node(
     spares: &mut Spares,

@@ -5,10 +5,9 @@ ghost use Rattle.syncml_grammar.specs.Simples.{results_with_text, with_text, ale
 ghost use Rattle.syncml_grammar.specs.Simples.{results_with_number, with_short, meta_with_size, with_long, with_flag};
 ghost use Rattle.syncml_grammar.specs.Simples.{with_simple};
 
-use crate::boxed::Boxed;
 use crate::draft::Draft;
 use crate::leaf::Simple;
-use dm_base::{Bytes, Memory};
+use dm_base::{Boxed, Bytes, Memory};
 use syncml_types::{AlertCmd, Header, Loc, Meta, ResultsCmd, StatusCmd};
 use wbxml_tables::Element;
 

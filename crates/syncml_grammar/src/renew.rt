@@ -6,12 +6,11 @@ ghost use Rattle.syncml_grammar.specs.Drafts.{no_message, no_body, no_loc, no_he
 ghost use Rattle.syncml_grammar.specs.Drafts.{no_cred, no_item, no_plain, no_status, no_results};
 ghost use Rattle.syncml_types.specs.Message.{no_meta};
 
-use crate::boxed::Boxed;
 use crate::draft::{
     BodyDraft, MessageDraft, new_alert, new_block, new_body, new_cred, new_header, new_item,
     new_loc, new_message, new_plain, new_results, new_status,
 };
-use dm_base::Memory;
+use dm_base::{Boxed, Memory};
 use std::alloc::Global;
 use syncml_types::{
     AlertCmd, Block, Cred, Header, Item, Loc, Meta, Plain, ResultsCmd, StatusCmd, Verb,

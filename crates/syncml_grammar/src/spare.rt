@@ -2,13 +2,12 @@
 ghost use Rattle.std.specs.Prelude.{◌≡◌, IfOk};
 ghost use Rattle.syncml_grammar.specs.Drafts.{fresh_draft};
 
-use crate::boxed::Boxed;
 use crate::draft::{Draft, verb_named};
 use crate::renew::{
     first_body, first_cred, first_header, first_message, renewed_alert, renewed_block,
     renewed_item, renewed_loc, renewed_meta, renewed_plain, renewed_results, renewed_status,
 };
-use dm_base::{List, Memory};
+use dm_base::{Boxed, List, Memory};
 use std::alloc::Global;
 use syncml_shape::Kind;
 use syncml_types::{
@@ -17,7 +16,9 @@ use syncml_types::{
 use wbxml_tables::Element;
 
 /// The boxes of elements that have ended, with anything in them. No more elements of a kind are open at once than have
-/// places here, so that no element takes memory but for what the message keeps, the first of each kind aside.
+/// places here, so that no element takes memory but for what the message keeps, the first of each kind aside. The box
+/// of a Meta stays in the message; one is left over where a MetInf, or the Meta of a Chal, takes its parent's place, and
+/// of two that are left over in a row one is given back.
 #[derive(Drop)]
 pub(crate) struct Spares {
     pub(crate) alloc: Global,
@@ -29,9 +30,7 @@ pub(crate) struct Spares {
     pub(crate) results: Option<Boxed<ResultsCmd>>,
     pub(crate) item: Option<Boxed<Item>>,
     pub(crate) loc: Option<Boxed<Loc>>,
-    pub(crate) chal: Option<Boxed<Meta>>,
     pub(crate) meta: Option<Boxed<Meta>>,
-    pub(crate) met_inf: Option<Boxed<Meta>>,
     // The box of the body, kept until the message is finished. The list that holds it is taken behind nearly all of the
     // message and given back before it, so that the heap's end stays in use: glibc else gives its pages back to the
     // kernel with each large message, and the kernel clears them anew for the next, which takes up to a quarter of the
@@ -51,9 +50,7 @@ impl Spares {
             results: None,
             item: None,
             loc: None,
-            chal: None,
             meta: None,
-            met_inf: None,
             ended: List::new(alloc),
         }
     }
@@ -78,17 +75,8 @@ impl Spares {
             Kind::Item => Draft::Item(renewed_item(alloc, self.item.take())?),
             Kind::Loc => Draft::Loc(renewed_loc(alloc, self.loc.take())?),
             Kind::Cred => Draft::Cred(first_cred(alloc)?),
-            Kind::Chal => Draft::Chal(renewed_meta(alloc, self.chal.take())?),
-            Kind::MetInf => Draft::Meta(renewed_meta(alloc, self.met_inf.take())?),
+            Kind::Chal => Draft::Chal(renewed_meta(alloc, self.meta.take())?),
             _ => Draft::Meta(renewed_meta(alloc, self.meta.take())?),
         })
-    }
-
-    /// Keeps the box of a Meta or a MetInf. A MetInf ends before its Meta, so both find a place.
-    pub(crate) fn keep_meta(&mut self, meta: Boxed<Meta>) {
-        match &self.meta {
-            None => self.meta = Some(meta),
-            Some(_) => self.met_inf = Some(meta),
-        }
     }
 }

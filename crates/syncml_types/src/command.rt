@@ -1,6 +1,6 @@
 // The commands of a message's body. `id` is a CmdID, which is 1 or more.
 use crate::values::{Item, Meta};
-use dm_base::{Bytes, List};
+use dm_base::{Boxed, Bytes, List};
 
 /// The verbs of the commands on the management tree.
 #[derive(Clone, Copy, Debug, PartialEq, Eq)]
@@ -19,7 +19,7 @@ pub struct Plain {
     pub verb: Verb,
     pub id: u32,
     pub no_resp: bool,
-    pub meta: Option<Meta>,
+    pub meta: Option<Boxed<Meta>>,
     pub correlator: Option<Bytes>,
     pub items: List<Item>,
 }
@@ -46,7 +46,7 @@ pub enum Member {
 pub struct Block<M> {
     pub id: u32,
     pub no_resp: bool,
-    pub meta: Option<Meta>,
+    pub meta: Option<Boxed<Meta>>,
     pub members: List<M>,
 }
 
@@ -66,7 +66,7 @@ pub struct StatusCmd {
     pub cmd: Bytes,
     pub target_refs: List<Bytes>,
     pub source_refs: List<Bytes>,
-    pub chal: Option<Meta>,
+    pub chal: Option<Boxed<Meta>>,
     pub code: u32,
     pub items: List<Item>,
 }
@@ -77,7 +77,7 @@ pub struct ResultsCmd {
     pub id: u32,
     pub msg_ref: Option<u32>,
     pub cmd_ref: u32,
-    pub meta: Option<Meta>,
+    pub meta: Option<Boxed<Meta>>,
     pub target_ref: Option<Bytes>,
     pub source_ref: Option<Bytes>,
     pub items: List<Item>,

@@ -3,7 +3,7 @@ ghost use Rattle.std.specs.Prelude.{◌≡◌, IfOk};
 
 use crate::command::{AlertCmd, Block, Command, Member, Plain, ResultsCmd, SeqMember, StatusCmd};
 use crate::values::{Cred, Header, Item, Loc, Meta};
-use dm_base::{Bytes, List, Memory};
+use dm_base::{Boxed, Bytes, List, Memory};
 use std::alloc::Global;
 
 /// An equal copy of bytes that may be left out.
@@ -55,12 +55,12 @@ impl Meta {
     }
 }
 
-fn copy_meta(alloc: Global, meta: &Option<Meta>) -> Result<Option<Meta>, Memory>
+fn copy_meta(alloc: Global, meta: &Option<Boxed<Meta>>) -> Result<Option<Boxed<Meta>>, Memory>
     ensures { IfOk result (λ copied. copied ≡ meta.now) }
 {
     match meta {
         None => Ok(None),
-        Some(meta) => Ok(Some(meta.copy(alloc)?)),
+        Some(meta) => Ok(Some(Boxed::new(alloc, meta.inner.copy(alloc)?)?)),
     }
 }
 

@@ -8,7 +8,7 @@ ghost use Rattle.syncml_types.specs.Fitness.{all_of, message_texts};
 use crate::command::{AlertCmd, Block, Command, Member, Plain, ResultsCmd, SeqMember, StatusCmd};
 use crate::put_value::is_plain_text;
 use crate::values::{Cred, Header, Item, Loc, Meta};
-use dm_base::{Bytes, List};
+use dm_base::{Boxed, Bytes, List};
 
 fn option_texts(text: &Option<Bytes>) -> bool
     ensures { result ≡ all_of is_text text.now }
@@ -55,12 +55,12 @@ fn meta_texts(meta: &Meta) -> bool
         && option_texts(&meta.version)
 }
 
-fn option_meta_texts(meta: &Option<Meta>) -> bool
+fn option_meta_texts(meta: &Option<Boxed<Meta>>) -> bool
     ensures { result ≡ all_of (Spec.meta_texts is_text) meta.now }
 {
     match meta {
         None => true,
-        Some(meta) => meta_texts(meta),
+        Some(meta) => meta_texts(&meta.inner),
     }
 }
 

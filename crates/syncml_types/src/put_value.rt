@@ -9,7 +9,7 @@ ghost use Rattle.syncml_types.specs.Canonical.{item_children, is_empty_item, ite
 ghost use Rattle.syncml_types.specs.Canonical.{chal_tokens};
 
 use crate::values::{Cred, Item, Loc, Meta};
-use dm_base::{Bytes, List};
+use dm_base::{Boxed, Bytes, List};
 use itoa::Buffer;
 use memchr::memchr;
 use wbxml_tables::Element;
@@ -191,12 +191,12 @@ pub fn put_meta<W: Writer>(w: &mut W, meta: &Meta) -> Result<(), W::Error>
 }
 
 /// Gives a Meta that may be absent.
-pub fn put_option_meta<W: Writer>(w: &mut W, meta: &Option<Meta>) -> Result<(), W::Error>
+pub fn put_option_meta<W: Writer>(w: &mut W, meta: &Option<Boxed<Meta>>) -> Result<(), W::Error>
     ensures { OnOk result (w.new ≡ given W.after w.old (optional meta_tokens meta.now)) }
 {
     match meta {
         None => Ok(()),
-        Some(meta) => put_meta(w, meta),
+        Some(meta) => put_meta(w, &meta.inner),
     }
 }
 
@@ -294,11 +294,11 @@ pub fn put_chal<W: Writer>(w: &mut W, chal: &Meta) -> Result<(), W::Error>
 }
 
 /// Gives a challenge that may be absent.
-pub fn put_option_chal<W: Writer>(w: &mut W, chal: &Option<Meta>) -> Result<(), W::Error>
+pub fn put_option_chal<W: Writer>(w: &mut W, chal: &Option<Boxed<Meta>>) -> Result<(), W::Error>
     ensures { OnOk result (w.new ≡ given W.after w.old (optional chal_tokens chal.now)) }
 {
     match chal {
         None => Ok(()),
-        Some(chal) => put_chal(w, chal),
+        Some(chal) => put_chal(w, &chal.inner),
     }
 }

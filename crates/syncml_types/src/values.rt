@@ -2,7 +2,7 @@
 ghost use Rattle.std.specs.Prelude.{◌≡◌};
 ghost use Rattle.syncml_types.specs.Message.{no_meta};
 
-use dm_base::Bytes;
+use dm_base::{Boxed, Bytes};
 
 /// A place: an address or a URI, and the name that is told beside it.
 #[derive(Drop)]
@@ -42,12 +42,13 @@ impl Meta {
     }
 }
 
-/// One item of a command. `value` is its Data, and `more` says that more of the Data follows in another message.
+/// One item of a command. `value` is its Data, and `more` says that more of the Data follows in another message. Its
+/// Meta stands in a box, as everywhere: most have none, and lists of items and commands stay small.
 #[derive(Drop)]
 pub struct Item {
     pub target: Option<Loc>,
     pub source: Option<Loc>,
-    pub meta: Option<Meta>,
+    pub meta: Option<Boxed<Meta>>,
     pub value: Option<Bytes>,
     pub more: bool,
 }
@@ -55,7 +56,7 @@ pub struct Item {
 /// What a sender shows to be accepted. `value` is its Data.
 #[derive(Drop)]
 pub struct Cred {
-    pub meta: Option<Meta>,
+    pub meta: Option<Boxed<Meta>>,
     pub value: Bytes,
 }
 
@@ -71,5 +72,5 @@ pub struct Header {
     pub resp_uri: Option<Bytes>,
     pub no_resp: bool,
     pub cred: Option<Cred>,
-    pub meta: Option<Meta>,
+    pub meta: Option<Boxed<Meta>>,
 }

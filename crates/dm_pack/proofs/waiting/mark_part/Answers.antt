@@ -7,6 +7,6 @@ use Rattle.dm_pack.proofs.waiting.mark_part.Goals as goal
 pub returns-in-None : goal.returns-in-None
 returns-in-None c = sym (no_item (marked c.args.size) c.args.command.now (sym c.in-None.ensures.value))
 
-pub returns-in-Some : goal.returns-in-Some
-returns-in-Some c =
-    written (marked c.args.size) c.args.command.now _ _ (sym c.in-Some.ensures.value) c.mark_item.ensures
+pub returns-in_ok-mark_item-in-Some : goal.returns-in_ok-mark_item-in-Some
+returns-in_ok-mark_item-in-Some c =
+    written (marked c.args.size) c.args.command.now _ _ (sym c.in-Some.ensures.value) c.in_ok-mark_item-in-Some.ensures

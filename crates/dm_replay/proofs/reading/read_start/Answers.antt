@@ -14,7 +14,7 @@ lines-preserved g c =
       few = omega (arith, few, room);
       open_ = sym read.last;
       section = section_more _ _ _ c.lines.number (section_at c.lines.reader)
-          (section_at c.line-in-lines.new.self) c.in-Ok.line c.as_slice.result.now c.as_slice.ensures
+          (section_at c.line.new.self) c.in-Ok.line c.as_slice.result.now c.as_slice.ensures
           (read.read, read.last) c.lines.invariant.section c.in-Ok.ensures.line;
       taken = taken_more _ _ _ _ c.lines.lines.taken _ c.lines.invariant.taken c.in-Ok.ensures.taken;
       count = c.in-Ok.ensures.count ∙ c.lines.invariant.count;

@@ -13,5 +13,5 @@ returns c =
     (c.in_ok-text_of.ensures ∙ append-nil (printed_path c.in_ok-longer.field-0)
     ∙ ap printed_path c.in_ok-longer.ensures.ok) in
     let short : length (printed_path (path ++ name ∷ [])) ≤ 255 =
-    omega (arith, c.if-len-gt255.false, c.len-2.ensures, text) in
+    omega (arith, c.if-len-gt255.false, c.len.ensures, text) in
     (c.in_ok-longer.ensures.ok, within path name c.as_slice.ensures.path c.requires.name few short)

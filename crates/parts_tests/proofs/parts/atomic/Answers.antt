@@ -10,7 +10,8 @@ returns c =
       c.in_ok-last.ensures,
       c.item_at.ensures,
       c.item_at-2.ensures,
-      c.meta_of-meta.ensures,
+      c.in_ok-meta.ensures,
+      c.meta_of.ensures,
     )
     (atomic_ready _ _ _ _ c.args.value
     (record { text = c.in_ok-gone.ensures.text; few = c.in_ok-gone.ensures.few })

@@ -4,10 +4,11 @@ use Rattle.parts_tests.proofs.queues.header.Goals as goal
 
 pub returns : goal.returns
 returns c =
-    header_ready c.in_ok-text.field-0 c.in_ok-text-2.field-0 c.in_ok-text-3.field-0 c.in_ok-text-4.field-0
+    rw (c.in_ok-new.ensures, c.empty.ensures)
+    (header_ready c.in_ok-text.field-0 c.in_ok-text-2.field-0 c.in_ok-text-3.field-0 c.in_ok-text-4.field-0
     c.in_ok-text-5.field-0
     (record { text = c.in_ok-text.ensures.text; few = c.in_ok-text.ensures.few })
     (record { text = c.in_ok-text-2.ensures.text; few = c.in_ok-text-2.ensures.few })
     (record { text = c.in_ok-text-3.ensures.text; few = c.in_ok-text-3.ensures.few })
     (record { text = c.in_ok-text-4.ensures.text; few = c.in_ok-text-4.ensures.few })
-    (record { text = c.in_ok-text-5.ensures.text; few = c.in_ok-text-5.ensures.few })
+    (record { text = c.in_ok-text-5.ensures.text; few = c.in_ok-text-5.ensures.few }))

@@ -6,7 +6,8 @@ use Rattle.parts_tests.proofs.queues.results_of.Goals as goal
 pub returns : goal.returns
 returns c =
     let i = found_item c.args.uri c.args.format (Some c.args.media) (Some c.args.value) in
-    let is : c.push.new.self ≡ i ∷ [] = c.in_ok-push.ensures.ok ∙ ap (λ l. l ++ i ∷ []) c.new-items.ensures in
+    let pushed = rw (c.in_ok-new.ensures, c.empty.ensures) at c.in_ok-push.ensures.ok in
+    let is : c.push.new.self ≡ i ∷ [] = pushed ∙ ap (λ l. l ++ i ∷ []) c.new-items.ensures in
     let media = c.requires.few.1.1 in
     let uri = c.requires.few.0 in
     let value = c.requires.value in

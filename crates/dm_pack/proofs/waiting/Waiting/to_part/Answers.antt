@@ -25,7 +25,7 @@ pub returns : goal.returns
 returns c =
     c.put_value.ensures
     ∙ ap (cut_changed (with_value c.in_ok-value.value))
-    (c.mark_part.ensures
+    (c.in_ok-mark_part.ensures
     ∙ ap (cut_changed (marked c.size_of.result))
     (c.set_ids.ensures.command ∙ ap (with_numbers c.args.first) c.in_ok-command.ensures))
     ∙ part_made c.args.first c.args.bytes c.size_of.result c.self.inside.command c.self.inside.value c.self.inside.sent
