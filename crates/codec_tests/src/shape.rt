@@ -249,7 +249,8 @@ const CONTAINERS: [Case; 20] = cases! {
     [Open(EGet), Open(EAtomic)] => at!(1, Misplaced);
     [Open(EGet), Open(ECred)] => at!(1, Leftout);
     [Open(ECred)] => at!(0, Leftout);
-    [Open(EStatus), Bare(ECmdID), Bare(EMsgRef), Bare(ECmdRef), Bare(ECmd), Open(EChal), Open(ECred)] => at!(6, Leftout);
+    [Open(EStatus), Bare(ECmdID), Bare(EMsgRef), Bare(ECmdRef), Bare(ECmd), Open(EChal),
+         Open(ECred)] => at!(6, Leftout);
     [Open(EPut)] => at!(0, Leftout);
     [Open(EGet), Bare(ELang)] => at!(1, Leftout);
     [Open(EGet), Bare(ECmdID), Open(ESearch)] => at!(2, Leftout);
@@ -269,7 +270,8 @@ const HEADERS: [Case; 10] = cases! {
          Open(ETarget), Bare(ELocURI), End, Open(ESource), Bare(ELocURI), End, Bare(ERespURI), Bare(ENoResp),
          Open(ECred), Bare(EData), End, Bare(EMeta), End] => UNFINISHED;
     [Open(ESyncML), Open(ESyncHdr), Bare(EVerDTD), Bare(EVerProto), Bare(ESessionID), Bare(EMsgID),
-         Open(ETarget), Bare(ELocURI), End, Open(ESource), Bare(ELocURI), End, Bare(EMeta), Open(ECred)] => at!(13, Misplaced);
+         Open(ETarget), Bare(ELocURI), End, Open(ESource), Bare(ELocURI), End, Bare(EMeta),
+         Open(ECred)] => at!(13, Misplaced);
     [Open(ESyncML), Open(ESyncHdr), Bare(EVerDTD), Bare(EVerProto), Bare(ESessionID), Bare(EMsgID),
          Open(ETarget), Bare(ELocURI), End, Open(ESource), Bare(ELocURI), End, Open(ECred), Bare(EMeta),
          Bare(EData), End, Open(ECred)] => at!(16, Misplaced);
@@ -279,10 +281,12 @@ const HEADERS: [Case; 10] = cases! {
          Open(ETarget), Bare(ELocURI), End, Open(ESource), Bare(ELocURI), End, Open(ECred), Bare(EData),
          Bare(EMeta)] => at!(14, Misplaced);
     [Open(ESyncML), Open(ESyncHdr), Bare(EVerDTD), Bare(EVerProto), Bare(ESessionID), Bare(EMsgID),
-         Open(ETarget), Bare(ELocURI), End, Open(ESource), Bare(ELocURI), End, Open(ECred), Open(ECred)] => at!(13, Leftout);
+         Open(ETarget), Bare(ELocURI), End, Open(ESource), Bare(ELocURI), End, Open(ECred),
+         Open(ECred)] => at!(13, Leftout);
     [Open(ESyncML), Open(ESyncHdr), Open(ECred)] => at!(2, Misplaced);
     [Open(ESyncML), Open(ESyncHdr), Bare(EVerDTD), Bare(EVerProto), Bare(ESessionID), Bare(EMsgID),
-         Open(ETarget), Bare(ELocURI), End, Open(ESource), Bare(ELocURI), End, End, Open(ESyncHdr)] => at!(13, Misplaced);
+         Open(ETarget), Bare(ELocURI), End, Open(ESource), Bare(ELocURI), End, End,
+         Open(ESyncHdr)] => at!(13, Misplaced);
     [Open(ESyncML), Open(ESyncHdr), Bare(EVerDTD), Bare(EVerProto), Bare(ESessionID), Bare(EMsgID),
          Open(ETarget), Bare(ELocURI), End, Open(ESource), Bare(ELocURI), End, End, Bare(ESyncBody), End] => WHOLE;
 };

@@ -56,7 +56,7 @@ pub(crate) fn next_alone(alloc: Global, verdict: Verdict, piece: &Piece) -> Resu
     }
 }
 
-// The whole object by its last piece. What was buffered stays, since it may be asked for again.
+// The step that a last piece completes; where nothing is buffered it is the piece's own.
 fn completed_copy(alloc: Global, object: &Object, step: &Step) -> Result<Step, Memory>
     ensures { IfOk result (λ whole. whole ≡ completed object.now step.now) }
 {

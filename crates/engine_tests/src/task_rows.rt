@@ -84,7 +84,8 @@ pub(crate) const START: [Call; 3] = [
 pub(crate) const ROWS: [Row; 18] = [
     // An item's Meta goes before that of its command.
     (&[Call::One(THREE_ADDED), Call::One(ALL_THREE)],
-        b"200 ./A|200 ./B|200 ./C|200 ./A|./A chr text/plain |200 ./B|./B bin text/plain x|200 ./C|./C chr image/png y|"),
+        b"200 ./A|200 ./B|200 ./C|200 ./A|./A chr text/plain |200 ./B|./B bin text/plain x|\
+          200 ./C|./C chr image/png y|"),
     // Its Size too: so many bytes make the object whole.
     (&[Call::One((Add, false, COMMON, &[(b"./A", NONE, b"abcd", true)])),
         Call::One((Add, false, NONE, &[(b"./A", NONE, b"efghi", false)])), Call::One((Get, false, NONE, &[A]))],

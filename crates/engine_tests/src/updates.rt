@@ -48,12 +48,11 @@ fn exec(alloc: Global) -> Result<Command, Memory> {
     }))
 }
 
-fn run(alloc: Global, engine: &mut Engine, command: &Command, out: &mut List<Command>) -> Option<()>
+fn run(engine: &mut Engine, command: &Command, out: &mut List<Command>) -> Option<()>
     requires sound { IsSoundEngine engine.old }
     ensures marks { Holds engine.old engine.new }
     ensures sound { IsSoundEngine engine.new }
 {
-    let _ = alloc;
     engine.run(b"s1", ORIGIN, command, out).ok()
 }
 
@@ -65,7 +64,7 @@ fn start(alloc: Global, engine: &mut Engine) -> Option<Bytes>
 {
     let command = exec(alloc).ok()?;
     let mut out = List::new(alloc);
-    run(alloc, engine, &command, &mut out)?;
+    run(engine, &command, &mut out)?;
     told(alloc, out.as_slice())
 }
 
