@@ -33,7 +33,7 @@ const PLAIN: Row = Row {
     output: Text::OneGetAnswered,
 };
 
-const ROWS: [Row; 30] = [
+const ROWS: [Row; 31] = [
     PLAIN,
     Row {
         name: "one Get, in pieces of 1",
@@ -144,6 +144,13 @@ const ROWS: [Row; 30] = [
         sink_fails: &[2],
         exit: Exit::WriteFault,
         output: Text::BothAnswers,
+        ..PLAIN
+    },
+    Row {
+        name: "a sink that fails at its third call, behind the tree",
+        sink_fails: &[3],
+        exit: Exit::WriteFault,
+        output: Text::AllButDone,
         ..PLAIN
     },
     Row {
