@@ -2,6 +2,9 @@
 ghost use Rattle.std.specs.Prelude.{◌≡◌};
 ghost use Rattle.wbxml_tokens.specs.Reasons.{word_of};
 
+use std::fmt::{self, Display, Formatter};
+use thiserror::Error;
+
 /// Why the bytes of a message are refused, in the words of the tool.
 #[derive(Clone, Copy, Debug, PartialEq, Eq)]
 pub enum Reason {
@@ -62,8 +65,15 @@ impl Reason {
     }
 }
 
+impl Display for Reason {
+    fn fmt<W: fmt::Write>(&self, f: &mut Formatter<W>) -> fmt::Result {
+        f.write_str(self.word())
+    }
+}
+
 /// A refusal: the place of the byte that it names, counted from 0, and the reason.
-#[derive(Clone, Copy, Debug, PartialEq, Eq)]
+#[derive(Clone, Copy, Debug, PartialEq, Eq, Error)]
+#[error("refused at {at}: {reason}")]
 pub struct Refusal {
     pub at: u64,
     pub reason: Reason,
@@ -71,15 +81,19 @@ pub struct Refusal {
 
 /// Why a part or a token isn't taken: a refusal at its own place, or want of memory. It is small, since each token's
 /// answer may be one.
-#[derive(Clone, Copy, Debug, PartialEq, Eq)]
+#[derive(Clone, Copy, Debug, PartialEq, Eq, Error)]
 pub enum Stop {
+    #[error("refused: {0}")]
     Refused(Reason),
+    #[error("out of memory")]
     Memory,
 }
 
 /// Why a reader answers no `Ok`.
-#[derive(Clone, Copy, Debug, PartialEq, Eq)]
+#[derive(Clone, Copy, Debug, PartialEq, Eq, Error)]
 pub enum FeedError {
+    #[error("{0}")]
     Refused(Refusal),
+    #[error("out of memory")]
     Memory,
 }

@@ -14,7 +14,7 @@ use wbxml_tables::{Element, code_of};
 /// page and nowhere else. After `Memory` it is as before.
 #[derive(Drop)]
 pub struct TokenWriter {
-    bytes: Bytes,
+    bytes: Vec<u8>,
     page: u8,
 }
 
@@ -23,7 +23,7 @@ impl Model for TokenWriter {
 
     ghost Value = { Written };
 
-    ghost view = { λ w. record { bytes = w.bytes; page = w.page } };
+    ghost view = { λ w. record { bytes = w.bytes.items; page = w.page } };
 }
 
 impl TokenWriter {
@@ -32,7 +32,7 @@ impl TokenWriter {
         ensures { IfOk result (λ w. w ≡ record { bytes = prologue; page = 0 }) }
     {
         Ok(TokenWriter {
-            bytes: Bytes::of_slice(alloc, &[0x03, 0xa4, 0x01, 0x6a, 0x00])?,
+            bytes: Vec::from_slice(alloc, &[0x03, 0xa4, 0x01, 0x6a, 0x00])?,
             page: 0,
         })
     }
@@ -41,8 +41,8 @@ impl TokenWriter {
     pub fn with_room(alloc: Global, room: usize) -> Result<TokenWriter, Memory>
         ensures { IfOk result (λ w. w ≡ record { bytes = prologue; page = 0 }) }
     {
-        let mut bytes = Bytes::of_vec(Vec::with_capacity(alloc, room)?);
-        bytes.extend(&[0x03, 0xa4, 0x01, 0x6a, 0x00])?;
+        let mut bytes = Vec::with_capacity(alloc, room)?;
+        bytes.extend_from_slice(&[0x03, 0xa4, 0x01, 0x6a, 0x00])?;
         Ok(TokenWriter { bytes, page: 0 })
     }
 
@@ -50,53 +50,55 @@ impl TokenWriter {
     pub fn finish(self) -> Bytes
         ensures { result ≡ self.bytes }
     {
-        self.bytes
+        Bytes::of_vec(self.bytes)
     }
 }
 
 // Keeps what was appended to so many bytes where it is whole, and else takes it off.
 fn cut_unless_whole(
-    out: &mut Bytes,
+    out: &mut Vec<u8>,
     length: usize,
     appended: Result<(), Memory>,
 ) -> Result<(), Memory>
     ensures answer { result ≡ appended }
-    ensures whole { OnOk appended (out.new ≡ out.old) }
-    ensures cut { OnErr appended (out.new ≡ take length out.old) }
+    ensures whole { OnOk appended (out.new.items ≡ out.old.items) }
+    ensures cut { OnErr appended (out.new.items ≡ take length out.old.items) }
 {
     match appended {
         Ok(()) => Ok(()),
         Err(memory) => {
-            out.cut_to(length);
+            out.truncate(length);
             Err(memory)
         }
     }
 }
 
 // Appends three pieces. After `Memory` the first of them may stand there.
-fn append_each(out: &mut Bytes, first: &[u8], second: &[u8], third: &[u8]) -> Result<(), Memory>
-    ensures ok { OnOk result (out.new ≡ out.old ++ first.now ++ second.now ++ third.now) }
-    ensures err { OnErr result (take (length out.old) out.new ≡ out.old) }
+fn append_each(out: &mut Vec<u8>, first: &[u8], second: &[u8], third: &[u8]) -> Result<(), Memory>
+    ensures ok { OnOk result (out.new.items ≡ out.old.items ++ first.now ++ second.now ++ third.now) }
+    ensures err { OnErr result (take (length out.old.items) out.new.items ≡ out.old.items) }
 {
-    out.extend(first)?;
-    out.extend(second)?;
-    out.extend(third)
+    out.extend_from_slice(first)?;
+    out.extend_from_slice(second)?;
+    out.extend_from_slice(third)?;
+    Ok(())
 }
 
 // Appends a text with its sign and the byte 00 behind it. After `Memory` the front of it may stand there.
-fn append_text_each(out: &mut Bytes, text: &[u8]) -> Result<(), Memory>
-    ensures ok { OnOk result (out.new ≡ out.old ++ 3 ∷ text.now ++ 0 ∷ []) }
-    ensures err { OnErr result (take (length out.old) out.new ≡ out.old) }
+fn append_text_each(out: &mut Vec<u8>, text: &[u8]) -> Result<(), Memory>
+    ensures ok { OnOk result (out.new.items ≡ out.old.items ++ 3 ∷ text.now ++ 0 ∷ []) }
+    ensures err { OnErr result (take (length out.old.items) out.new.items ≡ out.old.items) }
 {
     out.push(0x03)?;
-    out.extend(text)?;
-    out.push(0x00)
+    out.extend_from_slice(text)?;
+    out.push(0x00)?;
+    Ok(())
 }
 
 // Appends a text with its sign and the byte 00 behind it, or nothing.
-fn append_text(out: &mut Bytes, text: &[u8]) -> Result<(), Memory>
-    ensures ok { OnOk result (out.new ≡ out.old ++ 3 ∷ text.now ++ 0 ∷ []) }
-    ensures err { OnErr result (out.new ≡ out.old) }
+fn append_text(out: &mut Vec<u8>, text: &[u8]) -> Result<(), Memory>
+    ensures ok { OnOk result (out.new.items ≡ out.old.items ++ 3 ∷ text.now ++ 0 ∷ []) }
+    ensures err { OnErr result (out.new.items ≡ out.old.items) }
 {
     let length = out.len();
     let appended = append_text_each(out, text);
@@ -104,9 +106,9 @@ fn append_text(out: &mut Bytes, text: &[u8]) -> Result<(), Memory>
 }
 
 // Appends three pieces, or none of them.
-fn append(out: &mut Bytes, first: &[u8], second: &[u8], third: &[u8]) -> Result<(), Memory>
-    ensures ok { OnOk result (out.new ≡ out.old ++ first.now ++ second.now ++ third.now) }
-    ensures err { OnErr result (out.new ≡ out.old) }
+fn append(out: &mut Vec<u8>, first: &[u8], second: &[u8], third: &[u8]) -> Result<(), Memory>
+    ensures ok { OnOk result (out.new.items ≡ out.old.items ++ first.now ++ second.now ++ third.now) }
+    ensures err { OnErr result (out.new.items ≡ out.old.items) }
 {
     let length = out.len();
     let appended = append_each(out, first, second, third);
@@ -134,9 +136,10 @@ impl Writer for TokenWriter {
         let (page, code) = code_of(element);
         let tag = if content { code + 0x40 } else { code };
         if page == self.page {
-            return self.bytes.push(tag);
+            self.bytes.push(tag)?;
+            return Ok(());
         }
-        self.bytes.extend(&[0, page, tag])?;
+        self.bytes.extend_from_slice(&[0, page, tag])?;
         self.page = page;
         Ok(())
     }
@@ -145,7 +148,8 @@ impl Writer for TokenWriter {
         ensures ok { OnOk result (self.new ≡ written_after self.old End) }
         ensures err { OnErr result (self.new ≡ self.old) }
     {
-        self.bytes.push(0x01)
+        self.bytes.push(0x01)?;
+        Ok(())
     }
 
     fn text(&mut self, text: &[u8]) -> Result<(), Memory>
