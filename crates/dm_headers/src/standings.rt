@@ -4,6 +4,7 @@ ghost use Rattle.dm_headers.specs.Standings.{room_told as room_counted, room_aft
 ghost use Rattle.dm_headers.specs.Standings.{is_second as second};
 
 use crate::statuses::{is_denied, passes};
+use dm_base::{LEAST_ROOM, MESSAGE_LIMIT};
 use syncml_types::{Header, Message};
 
 /// How the two ends of a session stand to each other.
@@ -15,7 +16,7 @@ pub struct Standing {
     pub own: u32,
     /// Whether the other end's package is at its end, and none of this end has ended since.
     pub heard: bool,
-    /// The longest message that the other end takes, in bytes: 2,048 to 65,536.
+    /// The longest message that the other end takes, in bytes: `LEAST_ROOM` to `MESSAGE_LIMIT`.
     pub room: u64,
     /// Whether a credential of the other end was missing or wrong.
     pub they_failed: bool,
@@ -30,7 +31,7 @@ pub struct Standing {
 fn room_told(told: u64) -> u64
     ensures { result ≡ room_counted told }
 {
-    told.clamp(2048, 65536)
+    told.clamp(LEAST_ROOM as u64, MESSAGE_LIMIT as u64)
 }
 
 fn room_after(room: u64, header: &Header) -> u64

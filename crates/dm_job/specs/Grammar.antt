@@ -4,6 +4,7 @@ use Rattle.std.specs.Prelude.{filter}
 use Rattle.std.specs.Prelude.{codes, Some, None}
 use Rattle.std.specs.List.{AllByRecursion, flat_map, list_all}
 use Rattle.dm_base.specs.Fields.{parts}
+use Rattle.dm_base.specs.Lines.{line_limit}
 use Rattle.syncml_types.specs.declared.command.Verb.{Verb}
 use Rattle.syncml_types.specs.declared.command.Plain.{Plain}
 use Rattle.syncml_types.specs.declared.command.Member.TheVariants as member
@@ -115,9 +116,9 @@ pub record IsJob (lines : List (List ℕ)) (job : Job) : Type 0 where
   pub right : AllByRecursion AreStanzas packages
   pub made : job.packages ≡ packages_of packages
 
--- at most 8,400,000 bytes without a line feed
+-- as many bytes as a line may have, without a line feed
 pub record IsLine (line : List ℕ) : Type 0 where
-  pub short : length line ≤ 8400000
+  pub short : length line ≤ line_limit
   pub feedless : list_all (λ b. not (b == 10)) line ≡ true
 
 abbrev pub ended : List ℕ → List ℕ

@@ -2,6 +2,7 @@
 use Rattle.std.specs.Prelude.{◌≡◌, ◌==◌, ◌+◌, ⊤, ℕ, Bool, if◌then◌else◌, nat_lt, List, [], ◌∷◌, length, Option}
 use Rattle.std.specs.Prelude.{Some, None, is_some, Result, Ok, Err}
 use Rattle.std.specs.List.{slice_split}
+use Rattle.dm_base.specs.Lines.{line_limit}
 use Rattle.dm_base.specs.declared.lines.LineReason.{LineReason}
 use Rattle.dm_base.specs.declared.lines.LineReason.TheVariants as reason
 use Rattle.dm_start.specs.declared.errors.LineError.{LineError}
@@ -21,7 +22,7 @@ segments text = slice_split (λ b. b == 10) text
 
 -- more than a line may have, without its line feed
 abbrev pub is_long : List ℕ → Bool
-is_long line = nat_lt 8400000 (length line)
+is_long line = nat_lt line_limit (length line)
 
 abbrev pub ended_at : Place → Job → Option Job
 ended_at place.End job = Some job

@@ -4,6 +4,7 @@ ghost use Rattle.std.specs.Prelude.{◌≡◌, ◌<◌, ◌≤◌, ◌+◌, ◌+
 ghost use Rattle.std.specs.Prelude.{IfOk, OnOk, OnErr, IfSome};
 ghost use Rattle.std.specs.List.{AllByRecursion};
 ghost use Rattle.std.specs.Option.{option_to_list};
+ghost use Rattle.dm_base.specs.Limits.{least_room, message_limit};
 ghost use Rattle.syncml_types.specs.Canonical.{canonical};
 ghost use Rattle.syncml_parts.specs.Packing.{cut_data, bytes_in};
 ghost use Rattle.dm_pack.specs.Entries.{IsReady, fresh};
@@ -49,10 +50,10 @@ fn command_at(commands: &List<Command>, at: usize) -> &Command
 fn all_that_fit(commands: &List<Command>, header: &Header, room: u64) -> Option<Place>
     requires ready { AllByRecursion IsReady (map fresh commands.now) }
     requires header { IsReadyHeader header.now }
-    requires room { room ≤ 65536 }
+    requires room { room ≤ message_limit }
     ensures whole { IfSome result (λ place. taken header.now room [] (map fresh commands.now) ≡ length commands.now) }
     ensures place { IfSome result (λ place. place ≡ place_of header.now commands.now) }
-    ensures low { IfSome result (λ place. (place.used ≤ 65536) × (place.next ≤ 1 + place.used)) }
+    ensures low { IfSome result (λ place. (place.used ≤ message_limit) × (place.next ≤ 1 + place.used)) }
 {
     let mut place = Place::start(header);
     for at in 0..commands.len() {
@@ -105,7 +106,7 @@ fn fill_put(
     requires none { queue.old ≡ [] }
     requires ready { AllByRecursion IsReady (map fresh commands) }
     requires header { IsReadyHeader header }
-    requires room { (2048 ≤ room) × (room ≤ 65536) }
+    requires room { (least_room ≤ room) × (room ≤ message_limit) }
     ensures message { IfOk result (λ f. f.message ≡ (fill_of (map fresh commands) header room heard).message) }
     ensures bytes { IfOk result (λ f. f.bytes ≡ canonical (fill_of (map fresh commands) header room heard).message) }
     ensures whole { IfOk result (λ f. f.whole ≡ (fill_of (map fresh commands) header room heard).whole) }
@@ -129,7 +130,7 @@ fn fill_listed(
     requires none { queue.old ≡ [] }
     requires ready { AllByRecursion IsReady (map fresh commands) }
     requires header { IsReadyHeader header }
-    requires room { (2048 ≤ room) × (room ≤ 65536) }
+    requires room { (least_room ≤ room) × (room ≤ message_limit) }
     ensures message { IfOk result (λ f. f.message ≡ (fill_of (map fresh commands) header room heard).message) }
     ensures bytes { IfOk result (λ f. f.bytes ≡ canonical (fill_of (map fresh commands) header room heard).message) }
     ensures whole { IfOk result (λ f. f.whole ≡ (fill_of (map fresh commands) header room heard).whole) }
@@ -180,7 +181,7 @@ pub fn fill_at_once(
     requires none { queue.old ≡ [] }
     requires ready { AllByRecursion IsReady (map fresh (option_to_list front) ++ (queue.old ++ map fresh entries)) }
     requires header { IsReadyHeader header }
-    requires room { (2048 ≤ room) × (room ≤ 65536) }
+    requires room { (least_room ≤ room) × (room ≤ message_limit) }
     ensures message { IfOk result (λ f. f.message
         ≡ (fill_of (map fresh (option_to_list front) ++ (queue.old ++ map fresh entries)) header room heard).message) }
     ensures bytes { IfOk result (λ f. f.bytes ≡ canonical f.message) }

@@ -2,6 +2,7 @@
 ghost use Rattle.std.specs.Prelude.{◌≡◌, ◌<◌, ◌≤◌, ◌+◌, ◌^◌, ◌∷◌, ◌++◌, [], List as ListOf, length, take, drop};
 ghost use Rattle.std.specs.Prelude.{IfOk, OnOk};
 ghost use Rattle.std.specs.List.{AllByRecursion};
+ghost use Rattle.dm_base.specs.Limits.{least_room, message_limit};
 ghost use Rattle.syncml_types.specs.Canonical.{canonical};
 ghost use Rattle.syncml_parts.specs.Numbering.{with_numbers, ids_in};
 ghost use Rattle.dm_pack.specs.Entries.{IsReady, Entry};
@@ -39,14 +40,14 @@ fn take_out(
 ) -> Result<Taken, Memory>
     requires ready { AllByRecursion IsReady queue.old }
     requires header { IsReadyHeader header.now }
-    requires room { room ≤ 65536 }
+    requires room { room ≤ message_limit }
     requires empty { body.old ≡ [] }
     ensures whole { IfOk result (λ t. t.whole ≡ taken header.now room [] queue.old) }
     ensures place { IfOk result (λ t. t.place ≡ place_of header.now (commands_of (take t.whole queue.old))) }
     ensures hollow { IfOk result (λ t. t.hollow ≡ hollow_next t.place queue.new) }
     ensures body { IfOk result (λ t. body.new ≡ numbered 1 (commands_of (take t.whole queue.old))) }
     ensures queue { IfOk result (λ t. queue.new ≡ drop t.whole queue.old) }
-    ensures low { IfOk result (λ t. (t.place.used ≤ 65536) × (t.place.next ≤ 1 + t.place.used)) }
+    ensures low { IfOk result (λ t. (t.place.used ≤ message_limit) × (t.place.next ≤ 1 + t.place.used)) }
 {
     let count = queue.len();
     let mut place = Place::start(header);
@@ -83,8 +84,8 @@ fn push_first(
 ) -> Result<(u64, Place), Memory>
     requires ready { AllByRecursion IsReady queue.now }
     requires hollow { taken.hollow ≡ hollow_next taken.place queue.now }
-    requires room { room ≤ 65536 }
-    requires low { (taken.place.used ≤ 65536) × (taken.place.next ≤ 1 + taken.place.used) }
+    requires room { room ≤ message_limit }
+    requires low { (taken.place.used ≤ message_limit) × (taken.place.next ≤ 1 + taken.place.used) }
     ensures number { IfOk result (λ r. r.0 ≡ cut_at taken.place room queue.now) }
     ensures place { IfOk result (λ r. r.1 ≡ behind_all taken.place (next_part r.0 queue.now)) }
     ensures body { IfOk result
@@ -116,7 +117,7 @@ pub(crate) fn tail_behind(queue: &Queue, heard: bool) -> Tail
 fn fill_by_move(queue: &mut Queue, header: Header, room: u64, heard: bool) -> Result<Filled, Memory>
     requires ready { AllByRecursion IsReady queue.old }
     requires header { IsReadyHeader header }
-    requires room { (2048 ≤ room) × (room ≤ 65536) }
+    requires room { (least_room ≤ room) × (room ≤ message_limit) }
     ensures message { IfOk result (λ f. f.message ≡ (fill_of queue.old header room heard).message) }
     ensures bytes { IfOk result (λ f. f.bytes ≡ canonical (fill_of queue.old header room heard).message) }
     ensures whole { IfOk result (λ f. f.whole ≡ (fill_of queue.old header room heard).whole) }
@@ -147,7 +148,7 @@ fn fill_by_move(queue: &mut Queue, header: Header, room: u64, heard: bool) -> Re
 pub fn fill_out(queue: &mut Queue, header: Header, room: u64, heard: bool) -> Result<Filled, Memory>
     requires ready { AllByRecursion IsReady queue.old }
     requires header { IsReadyHeader header }
-    requires room { (2048 ≤ room) × (room ≤ 65536) }
+    requires room { (least_room ≤ room) × (room ≤ message_limit) }
     ensures message { IfOk result (λ f. f.message ≡ (fill_of queue.old header room heard).message) }
     ensures bytes { IfOk result (λ f. f.bytes ≡ canonical (fill_of queue.old header room heard).message) }
     ensures whole { IfOk result (λ f. f.whole ≡ (fill_of queue.old header room heard).whole) }

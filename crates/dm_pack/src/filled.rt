@@ -1,6 +1,7 @@
 // One message filled from the entries that wait.
 ghost use Rattle.std.specs.Prelude.{◌≡◌, ◌<◌, ◌≤◌, ◌+◌, ◌++◌, ◌∷◌, ◌^◌, [], length, drop, OnOk, IfOk};
 ghost use Rattle.std.specs.List.{AllByRecursion};
+ghost use Rattle.dm_base.specs.Limits.{least_room, message_limit};
 ghost use Rattle.syncml_types.specs.Canonical.{canonical};
 ghost use Rattle.syncml_types.specs.Lengths.{up_to_most};
 ghost use Rattle.dm_pack.specs.Entries.{IsReady};
@@ -124,7 +125,7 @@ pub(crate) fn spelled(
 pub fn fill(queue: &Queue, header: Header, room: u64, heard: bool) -> Result<Filled, Memory>
     requires ready { AllByRecursion IsReady queue.now }
     requires header { IsReadyHeader header }
-    requires room { (2048 ≤ room) × (room ≤ 65536) }
+    requires room { (least_room ≤ room) × (room ≤ message_limit) }
     ensures message { IfOk result (λ f. f.message ≡ (fill_of queue.now header room heard).message) }
     ensures bytes { IfOk result (λ f. f.bytes ≡ canonical (fill_of queue.now header room heard).message) }
     ensures whole { IfOk result (λ f. f.whole ≡ (fill_of queue.now header room heard).whole) }

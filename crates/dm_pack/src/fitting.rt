@@ -1,6 +1,7 @@
 // How many entries fit into a message, and how many bytes of the next one.
 ghost use Rattle.std.specs.Prelude.{◌≡◌, ◌<◌, ◌≤◌, ◌+◌, ◌++◌, ◌∷◌, ◌^◌, [], length, take, drop, IfOk, OnOk};
 ghost use Rattle.std.specs.List.{AllByRecursion};
+ghost use Rattle.dm_base.specs.Limits.{message_limit};
 ghost use Rattle.syncml_types.specs.Message.{IsShortData};
 ghost use Rattle.syncml_parts.specs.Numbering.{with_numbers, ids_in};
 ghost use Rattle.syncml_parts.specs.Packing as Packing;
@@ -51,7 +52,7 @@ fn greatest_part(value: &[u8], budget: u64) -> (u64, u64)
 // With how many bytes of Data a message fits that has come so far with a part without it, and how long their token is.
 fn bytes_that_fit(part: Place, value: &[u8], room: u64) -> (u64, u64)
     requires short { IsShortData value.now }
-    requires room { room ≤ 65536 }
+    requires room { room ≤ message_limit }
     requires low { part.next + 1 < 2 ^ 32 }
     ensures number { result.0 ≡ greatest_with part value.now room }
     ensures token { 0 < result.0 → result.1 ≡ Packing.data_length (take result.0 value.now) }
@@ -83,14 +84,14 @@ pub(crate) fn take_entries(
 ) -> Result<Taken, Memory>
     requires ready { AllByRecursion IsReady queue.now }
     requires header { IsReadyHeader header.now }
-    requires room { room ≤ 65536 }
+    requires room { room ≤ message_limit }
     requires empty { body.old ≡ [] }
     ensures whole { IfOk result (λ t. t.whole ≡ taken header.now room [] queue.now) }
     ensures place { IfOk result (λ t. t.place ≡ place_of header.now (commands_of (take t.whole queue.now))) }
     ensures hollow { IfOk result (λ t. t.hollow ≡ hollow_next t.place (drop t.whole queue.now)) }
     ensures body { IfOk result (λ t. body.new ≡ numbered 1 (commands_of (take t.whole queue.now))) }
     ensures within { IfOk result (λ t. t.whole ≤ length queue.now) }
-    ensures low { IfOk result (λ t. (t.place.used ≤ 65536) × (t.place.next ≤ 1 + t.place.used)) }
+    ensures low { IfOk result (λ t. (t.place.used ≤ message_limit) × (t.place.next ≤ 1 + t.place.used)) }
 {
     let alloc = queue.alloc();
     let mut place = Place::start(header);
@@ -145,8 +146,8 @@ pub(crate) fn push_part(
 ) -> Result<(u64, Place), Memory>
     requires ready { IsReady entry.now }
     requires hollow { hollow ≡ behind_hollow place entry.now }
-    requires room { room ≤ 65536 }
-    requires low { (place.used ≤ 65536) × (place.next ≤ 1 + place.used) }
+    requires room { room ≤ message_limit }
+    requires low { (place.used ≤ message_limit) × (place.next ≤ 1 + place.used) }
     ensures number { IfOk result (λ r. r.0 ≡ greatest_at place entry.now room) }
     ensures place { IfOk result (λ r. r.1 ≡ behind_all place (next_part r.0 (entry.now ∷ []))) }
     ensures body { IfOk result (λ r. body.new ≡ body.old ++ numbered place.next (next_part r.0 (entry.now ∷ []))) }
@@ -182,8 +183,8 @@ pub(crate) fn push_next(
     requires ready { AllByRecursion IsReady (drop taken.whole queue.now) }
     requires there { taken.whole ≤ length queue.now }
     requires hollow { taken.hollow ≡ hollow_next taken.place (drop taken.whole queue.now) }
-    requires room { room ≤ 65536 }
-    requires low { (taken.place.used ≤ 65536) × (taken.place.next ≤ 1 + taken.place.used) }
+    requires room { room ≤ message_limit }
+    requires low { (taken.place.used ≤ message_limit) × (taken.place.next ≤ 1 + taken.place.used) }
     ensures number { IfOk result (λ r. r.0 ≡ cut_at taken.place room (drop taken.whole queue.now)) }
     ensures place { IfOk result (λ r. r.1 ≡ behind_all taken.place (next_part r.0 (drop taken.whole queue.now))) }
     ensures body { IfOk result

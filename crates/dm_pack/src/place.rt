@@ -1,5 +1,6 @@
 // How far a message has come.
 ghost use Rattle.std.specs.Prelude.{◌≡◌, ◌<◌, ◌≤◌, ◌+◌, ◌^◌, length, [], true, IfSome, Some};
+ghost use Rattle.dm_base.specs.Limits.{message_limit};
 ghost use Rattle.wbxml_tokens.specs.Spelling.{spelled, page_behind};
 ghost use Rattle.syncml_types.specs.Message.{IsShortData};
 ghost use Rattle.syncml_types.specs.Canonical.{command_tokens};
@@ -117,7 +118,7 @@ impl Place {
     // With one more entry, without the Data that may be cut.
     pub(crate) fn with_hollow(self, entry: &Waiting) -> Place
         requires ready { IsReady entry.now }
-        requires low { (self.used ≤ 65536) × (self.next ≤ 1 + self.used) }
+        requires low { (self.used ≤ message_limit) × (self.next ≤ 1 + self.used) }
         ensures place { result ≡ behind_hollow self entry.now }
         ensures low { (result.used ≤ 70000) × (result.next ≤ 70000) }
     {
@@ -132,7 +133,7 @@ impl Place {
     // With that Data, where the message fits then.
     pub(crate) fn with_data(self, value: &[u8], room: u64) -> Option<Place>
         requires short { IsShortData value.now }
-        requires room { room ≤ 65536 }
+        requires room { room ≤ message_limit }
         requires low { self.next + 1 < 2 ^ 32 }
         ensures { result ≡ within room (with_cost value.now self) }
     {
@@ -154,8 +155,8 @@ impl Place {
     // With one more command, where the message fits then.
     pub(crate) fn with_command(self, command: &Command, room: u64) -> Option<Place>
         requires ready { IsReady (fresh command.now) }
-        requires room { room ≤ 65536 }
-        requires low { (self.used ≤ 65536) × (self.next ≤ 1 + self.used) }
+        requires room { room ≤ message_limit }
+        requires low { (self.used ≤ message_limit) × (self.next ≤ 1 + self.used) }
         ensures { IfSome result (λ next. Some next ≡ within room (behind self command.now)) }
     {
         let (bytes, page) = numbered_length(self.page, self.next, command);

@@ -2,6 +2,7 @@
 use Rattle.std.specs.Prelude.{◌+◌, ℕ, Bool, true, false, if◌then◌else◌, nat_lt, List, [], ◌∷◌, ◌++◌, length}
 use Rattle.std.specs.Prelude.{bytes_eq, codes}
 use Rattle.std.specs.Prelude.{Option, Some, None, Result, Ok, Err}
+use Rattle.dm_base.specs.Lines.{run_limit}
 use Rattle.dm_base.specs.declared.lines.LineReason.{LineReason}
 use Rattle.dm_base.specs.declared.lines.LineReason.TheVariants as reason
 use Rattle.dm_start.specs.declared.heads.Head.TheVariants as head
@@ -146,7 +147,7 @@ written text = written_from 1 first (segments text)
 
 -- more bytes than are looked at
 abbrev pub is_too_long : List ℕ → Bool
-is_too_long bytes = nat_lt 67108864 (length bytes)
+is_too_long bytes = nat_lt run_limit (length bytes)
 
 -- the text of `pair`: nothing where its input is too long
 unfoldable pub pair_text : List ℕ → List ℕ

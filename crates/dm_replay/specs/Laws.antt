@@ -1,7 +1,7 @@
 -- What a whole trace is, on the list of its lines, and the laws that such traces are answered whole and that a run ends
 -- by Done over no others.
 use Rattle.std.specs.Prelude.{◌≡◌, ◌≤◌, ℕ, List, [], ◌∷◌, ◌++◌, length, codes, Option, Some, None, Result, Ok, Err, ⊤}
-use Rattle.dm_base.specs.Lines.{IsFeedless}
+use Rattle.dm_base.specs.Lines.{IsFeedless, line_limit, run_limit}
 use Rattle.dm_base.specs.declared.lines.LineReason.{LineReason}
 use Rattle.dm_machine.specs.Machine.{Machine}
 use Rattle.dm_machine.specs.Events.{Event as Happening}
@@ -16,7 +16,7 @@ use Rattle.dm_replay.specs.Output.{answers_text, tree_and_done, client_of, repla
 
 -- a line without its line feed
 abbrev pub IsLine : List ℕ → Type 0
-IsLine line = IsFeedless line × (length line ≤ 8400000)
+IsLine line = IsFeedless line × (length line ≤ line_limit)
 
 abbrev pub AreLines : List (List ℕ) → Type 0
 AreLines [] = ⊤
@@ -58,7 +58,7 @@ whole_text version c events =
 abbrev pub WholeTracesAreAnswered : Type 0
 WholeTracesAreAnswered =
     (lines : List (List ℕ)) (told : Setup) (events : List Happening) → IsWholeTrace lines told events
-    → length (text_of lines) ≤ 67108864
+    → length (text_of lines) ≤ run_limit
     → (replay_text (text_of lines) ≡ whole_text told.version (client_of told) events)
     × (replay_exit (text_of lines) ≡ exit.Done)
 
@@ -69,7 +69,7 @@ pub record IsTrace (bytes : List ℕ) : Type 0 where
   pub events : List Happening
   pub whole : IsWholeTrace lines told events
   pub text : bytes ≡ text_of lines
-  pub few : length bytes ≤ 67108864
+  pub few : length bytes ≤ run_limit
 
 -- a run over other bytes doesn't end by Done
 abbrev pub OnlyTracesAreDone : Type 0

@@ -1,6 +1,7 @@
 -- A trace: its start section, its events, and how it ends.
 use Rattle.std.specs.Prelude.{◌+◌, ◌==◌, ℕ, Bool, if◌then◌else◌, nat_lt, List, [], ◌∷◌, length, map, Option, Some, None}
 use Rattle.std.specs.Prelude.{Result, Ok, Err}
+use Rattle.dm_base.specs.Lines.{line_limit, run_limit}
 use Rattle.dm_base.specs.declared.lines.LineReason.{LineReason}
 use Rattle.dm_base.specs.declared.lines.LineReason.TheVariants as reason
 use Rattle.dm_auth.specs.declared.accounts.Account.{Account}
@@ -28,7 +29,7 @@ pub record Trace : Type 0 where
 
 -- more than a line may have, without its line feed
 abbrev pub is_long : List ℕ → Bool
-is_long line = nat_lt 8400000 (length line)
+is_long line = nat_lt line_limit (length line)
 
 -- where no whole line is left for line n
 abbrev pub tail_stop : ℕ → List ℕ → Bool → Stop
@@ -70,7 +71,7 @@ abbrev pub begun_in : Input → Begun
 begun_in i = start_from 1 (opening head.First) i.lines i.tail i.more
 
 abbrev pub begun_of : List ℕ → Begun
-begun_of bytes = begun_in (input_of 67108864 bytes)
+begun_of bytes = begun_in (input_of run_limit bytes)
 
 -- ---- the events
 

@@ -3,6 +3,7 @@ use Rattle.std.specs.Prelude.{◌≡◌, ◌<◌, ◌≤◌, ◌+◌, ◌^◌, �
 use Rattle.std.specs.Prelude.{map, Option, option_map, is_some, IfSome, IsSomeAnd, unwrap_or, Ok}
 use Rattle.std.specs.List.{filter}
 use Rattle.std.specs.Option.{option_or}
+use Rattle.dm_base.specs.Limits.{least_room, message_limit}
 use Rattle.syncml_types.specs.declared.command.Command.{Command}
 use Rattle.syncml_types.specs.Message.{Parts}
 use Rattle.syncml_types.specs.Fitness.{IsFit}
@@ -61,7 +62,7 @@ pub record CanWork (job : Job) (account : Account) (run : Run) (p : Progress) (o
   pub named : IsReadyAccount account
   pub number : p.number < 2 ^ 32
   pub own : p.standing.own + 1 < 2 ^ 32
-  pub room : (2048 ≤ p.standing.room) × (p.standing.room ≤ 65536)
+  pub room : (least_room ≤ p.standing.room) × (p.standing.room ≤ message_limit)
 
 -- a message that can be held
 pub record IsReadyBody (m : Parts) : Type 0 where
@@ -83,7 +84,7 @@ pub record CanAccept (job : Job) (run : Run) (s : Held) (msg : ℕ) : Type 0 whe
   pub named : IsReadyAccount job.account
   pub number : s.progress.number < 2 ^ 32
   pub own : s.progress.standing.own < msg
-  pub room : (2048 ≤ s.progress.standing.room) × (s.progress.standing.room ≤ 65536)
+  pub room : (least_room ≤ s.progress.standing.room) × (s.progress.standing.room ≤ message_limit)
 
 -- ---- what it leaves
 

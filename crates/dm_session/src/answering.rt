@@ -3,6 +3,7 @@ ghost use Rattle.std.specs.Prelude.{◌≡◌, ◌≤◌, ◌<◌, ◌+◌, ◌^
 ghost use Rattle.std.specs.Prelude.{[], if◌then◌else◌, length, map, IfOk, OnErr};
 ghost use Rattle.std.specs.List.{AllByRecursion};
 ghost use Rattle.std.specs.Option.{option_to_list};
+ghost use Rattle.dm_base.specs.Limits.{least_room, message_limit};
 ghost use Rattle.dm_auth.specs.declared.accounts.Account.{Account as AnAccount};
 ghost use Rattle.dm_headers.specs.Standings as Standings;
 ghost use Rattle.dm_tree.specs.Devices.{IsUpdateInOrder};
@@ -79,7 +80,7 @@ fn answer(
     requires ready { AllByRecursion IsReady (map fresh (option_to_list status) ++ (queue.old ++ map fresh made)) }
     requires number { progress.now.number < 2 ^ 32 }
     requires own { progress.now.standing.own + 1 < 2 ^ 32 }
-    requires room { (2048 ≤ progress.now.standing.room) × (progress.now.standing.room ≤ 65536) }
+    requires room { (least_room ≤ progress.now.standing.room) × (progress.now.standing.room ≤ message_limit) }
     ensures state { IfOk result (λ session. (accounts : ListOf AnAccount) (uri : OptionOf (ListOf ℕ))
         → machine_of engine.now queue.new (record (told rest.now accounts uri) { session = Some session })
         ≡ sends (machine_of engine.now (map fresh (option_to_list status) ++ (queue.old ++ map fresh made))
@@ -183,7 +184,7 @@ fn answer_again(
     requires ready { AllByRecursion IsReady (map fresh (option_to_list status) ++ (again.0 ++ map fresh made)) }
     requires number { again.1.number < 2 ^ 32 }
     requires own { again.1.standing.own + 1 < 2 ^ 32 }
-    requires room { (2048 ≤ again.1.standing.room) × (again.1.standing.room ≤ 65536) }
+    requires room { (least_room ≤ again.1.standing.room) × (again.1.standing.room ≤ message_limit) }
     ensures state { IfOk result (λ next. (accounts : ListOf AnAccount) (uri : OptionOf (ListOf ℕ))
         → outcome (machine_of engine.now queue.new (rest_behind (told rest.now accounts uri) next)) next
         ≡ goes_on (sends (machine_of engine.now (map fresh (option_to_list status) ++ (again.0 ++ map fresh made))
@@ -218,7 +219,7 @@ fn answer_or_end(
     requires ready { AllByRecursion IsReady (map fresh (option_to_list status) ++ (queue.old ++ map fresh made)) }
     requires number { progress.now.number < 2 ^ 32 }
     requires own { progress.now.standing.own + 1 < 2 ^ 32 }
-    requires room { (2048 ≤ progress.now.standing.room) × (progress.now.standing.room ≤ 65536) }
+    requires room { (least_room ≤ progress.now.standing.room) × (progress.now.standing.room ≤ message_limit) }
     ensures state { IfOk result (λ next. (accounts : ListOf AnAccount) (uri : OptionOf (ListOf ℕ))
         → outcome (machine_of engine.new queue.new (rest_behind (told rest.now accounts uri) next)) next
         ≡ (if Spec.is_over message.now code (queue.old ++ map fresh made)

@@ -2,6 +2,7 @@
 ghost use Rattle.std.specs.Prelude.{◌≡◌, ◌≤◌, ◌<◌, ◌+◌, ◌^◌, ◌++◌, [], length, map, take, IfOk, OnOk, OnErr};
 ghost use Rattle.std.specs.List.{AllByRecursion};
 ghost use Rattle.std.specs.Option.{option_to_list};
+ghost use Rattle.dm_base.specs.Limits.{least_room, message_limit};
 ghost use Rattle.syncml_types.specs.Canonical.{canonical};
 ghost use Rattle.dm_pack.specs.Entries.{fresh, IsReady, Entry as AnEntry};
 ghost use Rattle.dm_pack.specs.Filling.{fill as fill_of, IsReadyHeader, Filling};
@@ -51,7 +52,7 @@ fn send_behind(
 ) -> Result<Filled, Memory>
     requires ready { AllByRecursion IsReady (queue.old ++ map fresh entries) }
     requires header { IsReadyHeader header }
-    requires room { (2048 ≤ room) × (room ≤ 65536) }
+    requires room { (least_room ≤ room) × (room ≤ message_limit) }
     ensures message { IfOk result
         (λ f. f.message ≡ (fill_of (queue.old ++ map fresh entries) header room heard).message) }
     ensures bytes { IfOk result (λ f. f.bytes ≡ canonical f.message) }
@@ -81,7 +82,7 @@ pub(crate) fn send(
 ) -> Result<Filled, Memory>
     requires ready { AllByRecursion IsReady (map fresh (option_to_list front) ++ (queue.old ++ map fresh entries)) }
     requires header { IsReadyHeader header }
-    requires room { (2048 ≤ room) × (room ≤ 65536) }
+    requires room { (least_room ≤ room) × (room ≤ message_limit) }
     ensures message { IfOk result (λ f. f.message
         ≡ (fill_of (map fresh (option_to_list front) ++ (queue.old ++ map fresh entries)) header room
         heard).message) }

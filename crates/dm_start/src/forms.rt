@@ -6,7 +6,9 @@ ghost use Rattle.dm_uri.specs.Names.{is_within_limits};
 ghost use Rattle.dm_tree.specs.Nodes.{is_format as is_one_of};
 ghost use Rattle.dm_start.specs.Fields as Spec;
 
-use dm_base::{Bytes, Form, Limits, Memory, hex_bytes, is_field};
+use dm_base::{
+    Bytes, Form, LEAST_ROOM, Limits, MESSAGE_LIMIT, Memory, OBJECT_LIMIT, hex_bytes, is_field,
+};
 use dm_tree::Stamp;
 use dm_uri::{Path, Query, Uri, UriError, parse};
 use std::alloc::Global;
@@ -98,7 +100,11 @@ pub(crate) fn is_leaf_format(text: &[u8]) -> bool
 pub(crate) fn limits_of(max_msg: u64, max_obj: u64) -> Option<Limits>
     ensures { result ≡ Spec.limits_of (Some max_msg) (Some max_obj) }
 {
-    if 2048 <= max_msg && max_msg <= 65536 && 1 <= max_obj && max_obj <= 4_194_304 {
+    if LEAST_ROOM as u64 <= max_msg
+        && max_msg <= MESSAGE_LIMIT as u64
+        && 1 <= max_obj
+        && max_obj <= OBJECT_LIMIT as u64
+    {
         Some(Limits {
             max_msg: max_msg as u32,
             max_obj: max_obj as u32,

@@ -17,13 +17,11 @@ use crate::new_nodes::{add, interior_node, new_node};
 use crate::updates::add_update;
 use dm_acl::laws::lists_that_are_read_are_short;
 use dm_acl::{Acl, AclError};
-use dm_base::{Bytes, Form, Memory, hex_bytes, is_field};
+use dm_base::{Bytes, Form, Memory, OBJECT_LIMIT, hex_bytes, is_field};
 use dm_tree::{Role, Tree, Value};
 use dm_uri::Path;
 use std::alloc::Global;
 use syncml_types::put_value::is_plain_text;
-
-const VALUE_LIMIT: usize = 4_194_304;
 
 const TITLE_LIMIT: usize = 255;
 
@@ -99,7 +97,7 @@ fn leaf_line(alloc: Global, tree: &mut Tree, line: &[u8]) -> Result<(), LineErro
     ensures { Lays (Spec.leaf_line tree.old.clock (nodes tree.old.rows) (parts line.now)) tree.old tree.new result }
 {
     let leaf = leaf_in(alloc, line)?;
-    if leaf.value.bytes.len() > VALUE_LIMIT {
+    if leaf.value.bytes.len() > OBJECT_LIMIT as usize {
         return Err(BAD_TREE);
     }
     let node = new_node(alloc, false, leaf.value, false, Role::Plain);

@@ -3,6 +3,7 @@ ghost use Rattle.std.specs.Prelude.{◌≡◌, ◌<◌, ◌≤◌, ◌+◌, ◌�
 ghost use Rattle.std.specs.Prelude.{IfOk, IfSome};
 ghost use Rattle.std.specs.List.{AllByRecursion, filter, list_any, list_all};
 ghost use Rattle.std.specs.Option.{option_to_list};
+ghost use Rattle.dm_base.specs.Limits.{least_room, message_limit};
 ghost use Rattle.syncml_types.specs.Canonical.{canonical};
 ghost use Rattle.dm_pack.specs.Filling.{fill as fill_of, left_after, IsReadyHeader, CanBeTaken};
 ghost use Rattle.dm_service.specs.Messages.{answer_waiting};
@@ -197,7 +198,7 @@ impl WaitingList {
     ) -> Result<Filled, Memory>
         requires ready { AreReadyWaiting self.now }
         requires header { IsReadyHeader header }
-        requires room { (2048 ≤ room) × (room ≤ 65536) }
+        requires room { (least_room ≤ room) × (room ≤ message_limit) }
         ensures message { IfOk result (λ f. f.message ≡ (fill_of (entries_of self.now) header room heard).message) }
         ensures bytes { IfOk result (λ f. f.bytes ≡ canonical f.message) }
         ensures whole { IfOk result (λ f. f.whole ≡ (fill_of (entries_of self.now) header room heard).whole) }

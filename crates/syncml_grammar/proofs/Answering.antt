@@ -3,6 +3,7 @@ use Rattle.std.proofs.Common.{arith, ◌≡◌, ◌↔◌, ◌≤◌, List, Opti
 use Rattle.std.proofs.Common.{ap, subst, ◌∙◌}
 use Rattle.std.specs.Prelude.{ok_or}
 use Rattle.std.specs.Result.{result_ok}
+use Rattle.dm_base.specs.Limits.{text_limit}
 use Rattle.dm_base.specs.declared.bytes.Memory.{Memory}
 use Rattle.wbxml_tokens.specs.declared.reason.Reason.{Reason}
 use Rattle.wbxml_tokens.specs.declared.token.Token.{Token}
@@ -16,7 +17,7 @@ use Rattle.syncml_grammar.specs.declared.verdict.Verdict.{Verdict}
 use Rattle.syncml_grammar.specs.Reads.{SpellsParts, parts_in}
 use Rattle.syncml_grammar.specs.Machine.{Frame, step, finished}
 use Rattle.syncml_grammar.specs.Building.{Building, IsBuilding, HasBuilt, built_by, unless_stopped, building_after}
-use Rattle.syncml_grammar.specs.Building.{frames_or, refused_by, refusal_of, told, IsLacking, text_length, most_text}
+use Rattle.syncml_grammar.specs.Building.{frames_or, refused_by, refusal_of, told, IsLacking, text_length}
 use Rattle.syncml_grammar.specs.Refusals.{Judges, verdict_of}
 use Rattle.syncml_grammar.specs.Refusals.{Verdict as Judgement}
 use Rattle.syncml_grammar.specs.Verdicts.{judgement, GivesOne}
@@ -36,8 +37,8 @@ fit_behind law b parts is_building going fin =
     let spells = finished_spelled was.0 b.frames parts was.1 fin in
     let shape = spells.1 in
     let read = spells.2 in
-    let short : text_length (spelling spells.0) ≤ most_text =
-    subst (λ tokens. text_length tokens ≤ most_text) shape.spelled (omega (arith, was.2)) in
+    let short : text_length (spelling spells.0) ≤ text_limit =
+    subst (λ tokens. text_length tokens ≤ text_limit) shape.spelled (omega (arith, was.2)) in
     let fit = law spells.0 read.0 read.1 shape.fitting read.2 short in
     subst (λ (p : Parts). IsFit p.header p.body) (same_parts (parts_in read.0) fit.1 read.3) fit.2
 

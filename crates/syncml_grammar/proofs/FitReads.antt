@@ -8,6 +8,7 @@ use Rattle.std.proofs.lemmas.Str.{is_utf8-from_IsUtf8, IsUtf8-nil}
 use Rattle.std.specs.Str.{is_utf8}
 use Rattle.std.specs.List.{AllByRecursion}
 use Rattle.std.specs.Option.{is_none}
+use Rattle.dm_base.specs.Limits.{text_limit}
 use Rattle.wbxml_tables.specs.declared.Element.{Element}
 use Rattle.wbxml_tables.specs.declared.Element.TheVariants.{ESyncML}
 use Rattle.wbxml_tokens.specs.declared.reason.Reason.{Reason}
@@ -45,7 +46,7 @@ use Rattle.syncml_grammar.specs.Nodes.{with_node}
 use Rattle.syncml_grammar.specs.Values.{Value, of_leaf, of_draft, Whole, simple, node, fresh, with_text, simply, closed}
 use Rattle.syncml_grammar.specs.Values.{draft_with, with_child}
 use Rattle.syncml_grammar.specs.Reads.{Unread, ◌then◌, at_place, read, parts_from, parts_in}
-use Rattle.syncml_grammar.specs.Building.{text_length, most_text}
+use Rattle.syncml_grammar.specs.Building.{text_length}
 use Rattle.syncml_grammar.specs.Laws.{ReadIsFit}
 use Rattle.syncml_grammar.proofs.FitRows.{not_so, sort, all_pass, complete_needs, Came, came}
 use Rattle.syncml_grammar.proofs.FitParts.{is_header, FitCommand, FitText, Ended, FitHeader, FitMessage, parts_fit}
@@ -184,7 +185,7 @@ fresh_length _ e = refl
 
 -- ---- at its end
 
-short_text : (bytes : List ℕ) → length bytes ≤ most_text → is_short bytes ≡ true
+short_text : (bytes : List ℕ) → length bytes ≤ text_limit → is_short bytes ≡ true
 short_text bytes h =
     elim (nat_le (length bytes) 2147483648) as (λ (b : Bool). nat_le (length bytes) 2147483648 ≡ b → b ≡ true) [
       | true ↦ λ is. refl
@@ -239,7 +240,7 @@ ranged_fits kinds.Code n s is h =
     let short = number_closed 0 n s h in subst (FitSimple kinds.Code) short.0 (refl, λ other. never other)
 ranged_fits _ n s is h = not_so is
 
-leaf_closed : (k : Kind) (leaf : Leaf) (s : Simple) → FitLeaf k leaf → length_in (of_leaf leaf) ≤ most_text
+leaf_closed : (k : Kind) (leaf : Leaf) (s : Simple) → FitLeaf k leaf → length_in (of_leaf leaf) ≤ text_limit
     → closed_leaf k leaf ≡ Ok s → FitSimple k s
 leaf_closed k (leaves.Text bytes) s f short h = text_closed k bytes s f (short_text bytes short) h
 leaf_closed k (leaves.Number digits) s f short h =
@@ -250,7 +251,7 @@ leaf_closed k (leaves.Number digits) s f short h =
 leaf_closed k leaves.Flag s f short h = subst (FitSimple k) (same_simple simples.Flag s h) f
 
 value_closed : (k : Kind) (content : Content) (v : Value) (w : Whole) → FitValue k content v
-    → IsTrue (is_complete content) → length_in v ≤ most_text → closed k v ≡ Ok w → FitWhole k w
+    → IsTrue (is_complete content) → length_in v ≤ text_limit → closed k v ≡ Ok w → FitWhole k w
 value_closed k content (of_leaf leaf) w f done short h =
     (elim (closed_leaf k leaf) as (λ o. closed_leaf k leaf ≡ o → simply o ≡ Ok w → FitWhole k w) [
       | Ok s ↦ λ is h'. subst (FitWhole k) (same_simple (simple s) w h') (leaf_closed k leaf s f short is)
@@ -339,15 +340,15 @@ inner_length e inner rest = omega (arith, text_length-append (spelling inner) (E
 
 -- what has been read behind all children
 abbrev Read : Kind → Value → Type 0
-Read k v = (content : Content) × IsTrue (is_complete content) × FitValue k content v × (length_in v ≤ most_text)
+Read k v = (content : Content) × IsTrue (is_complete content) × FitValue k content v × (length_in v ≤ text_limit)
 
 -- of an element, a part of whose children was read
 record Going (k : Kind) (content : Content) (v : Value) (left : ℕ) : Type 0 where
   verbs : all_pass verb_fits content ≡ true
   fit : FitValue k content v
-  room : length_in v + left ≤ most_text
+  room : length_in v + left ≤ text_limit
 
-fresh_going : (k : Kind) (e : Element) (left : ℕ) → verb_fits e k ≡ true → left ≤ most_text
+fresh_going : (k : Kind) (e : Element) (left : ℕ) → verb_fits e k ≡ true → left ≤ text_limit
     → Going k (start k) (fresh k e) left
 fresh_going k e left v h =
     record { verbs = start_verbs k; fit = fresh_fits k e v; room = omega (arith, h, fresh_length k e) }

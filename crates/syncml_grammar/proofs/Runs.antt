@@ -1,11 +1,11 @@
 -- What the open elements are behind tokens that come one after the other.
 use Rattle.std.specs.Prelude.{◌≡◌, ℕ, ◌+◌, List, [], ◌∷◌, ◌++◌, None, Ok, Err, refl}
 use Rattle.std.proofs.Common.{rules}
+use Rattle.dm_base.specs.Limits.{text_limit}
 use Rattle.wbxml_tokens.specs.declared.token.Token.{Token}
 use Rattle.syncml_grammar.specs.Reads.{◌then◌}
 use Rattle.syncml_grammar.specs.Machine.{Frame, root, step}
 use Rattle.syncml_grammar.specs.Building.{Building, IsBuilding, frames_behind, HasTaken, text_in, text_length}
-use Rattle.syncml_grammar.specs.Building.{most_text}
 
 -- behind tokens, and then behind more
 pub behind-append : (before later : List Token) (from : List Frame)
@@ -37,5 +37,5 @@ pub building_more : (b : Building) (token : Token) (after : List Frame) (left : 
 building_more b token after left is_building going x room = λ still.
     let was = is_building going in
     let e = length-append was.0 token in
-    let whole : text_length was.0 + b.room ≡ most_text = was.2 in
+    let whole : text_length was.0 + b.room ≡ text_limit = was.2 in
     (was.0 ++ token ∷ [], taken_more was.0 token b.frames after was.1 x, search rules)

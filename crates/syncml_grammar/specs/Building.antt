@@ -1,5 +1,6 @@
 -- What a builder has of the tokens that it took.
 use Rattle.std.specs.Prelude.{◌≡◌, ◌+◌, ◌-◌, ℕ, List, [], ◌∷◌, length, Option, Some, None, Result, Ok, Err}
+use Rattle.dm_base.specs.Limits.{text_limit}
 use Rattle.wbxml_tokens.specs.declared.reason.Reason.{Reason}
 use Rattle.wbxml_tokens.specs.declared.token.Token.{Token}
 use Rattle.wbxml_tokens.specs.declared.token.Token.TheVariants.{Tag, End, Text, Opaque}
@@ -18,10 +19,6 @@ frames_behind frames (token ∷ tokens) = step frames token then (λ after. fram
 abbrev pub HasTaken : List Frame → List Token → Type 0
 HasTaken frames tokens = frames_behind (root ∷ []) tokens ≡ Ok frames
 
--- the bytes of text that all tokens together may have, far more than those of a message
-abbrev pub most_text : ℕ
-most_text = 2147483648
-
 abbrev pub text_in : Token → ℕ
 text_in (Tag e content) = 0
 text_in End = 0
@@ -32,19 +29,20 @@ abbrev pub text_length : List Token → ℕ
 text_length [] = 0
 text_length (token ∷ tokens) = text_in token + text_length tokens
 
--- the open elements, how many bytes of text may still come, and why it takes no more tokens
+-- the open elements, how many bytes of text may still come, and why it takes no more tokens. All tokens together may
+-- have far more text than those of a message
 pub record Building : Type 0 where
   pub frames : List Frame
   pub room : ℕ
   pub stopped : Option Stop
 
 abbrev pub no_building : Building
-no_building = record { frames = root ∷ []; room = most_text; stopped = None }
+no_building = record { frames = root ∷ []; room = text_limit; stopped = None }
 
 -- unless it has stopped, it has taken tokens
 abbrev pub IsBuilding : Building → Type 0
 IsBuilding b =
-    b.stopped ≡ None → (tokens : List Token) × HasTaken b.frames tokens × (text_length tokens + b.room ≡ most_text)
+    b.stopped ≡ None → (tokens : List Token) × HasTaken b.frames tokens × (text_length tokens + b.room ≡ text_limit)
 
 abbrev pub frames_or : List Frame → Result (List Frame) Reason → List Frame
 frames_or frames (Ok after) = after

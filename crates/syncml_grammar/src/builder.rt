@@ -10,20 +10,19 @@ ghost use Rattle.syncml_grammar.specs.Building.{no_building, built_by, building_
 ghost use Rattle.syncml_grammar.specs.Building.{HasBuilt, HasStopped, IsLacking};
 
 use crate::stack::Stack;
+use dm_base::TEXT_LIMIT;
 use std::alloc::Global;
 use std::marker::Model;
 use syncml_types::Message;
 use wbxml_tables::Element;
 use wbxml_tokens::{Reason, Stop, Taker, Writer};
 
-/// The bytes of text that all tokens together may have. The tokens of a message have far fewer.
-pub const MOST_TEXT: usize = 2_147_483_648;
-
 /// What has been built of the tokens that were taken. After an error it answers the same error for good. Want of memory
 /// may come in place of a refusal, since what a token holds is kept before it is known whether the next is taken.
 #[derive(Drop)]
 pub struct Builder {
     stack: Stack,
+    // How many bytes of text may still come: at first far more than a message has.
     room: usize,
     stopped: Option<Stop>,
 }
@@ -45,7 +44,7 @@ impl Builder {
     {
         Builder {
             stack: Stack::new(alloc),
-            room: MOST_TEXT,
+            room: TEXT_LIMIT as usize,
             stopped: None,
         }
     }

@@ -1,4 +1,4 @@
-// Whether the Data of a message have at most 2,147,483,648 bytes each. Nothing here takes memory.
+// Whether the Data of a message have at most `TEXT_LIMIT` bytes each. Nothing here takes memory.
 ghost use Rattle.std.specs.Prelude.{◌≡◌};
 ghost use Rattle.std.specs.List.{list_all};
 ghost use Rattle.syncml_types.specs.Fitness as Spec;
@@ -8,14 +8,12 @@ use crate::command::{Command, Member, SeqMember};
 use crate::values::{Header, Item};
 use dm_base::{Bytes, List, TEXT_LIMIT};
 
-const MOST: usize = TEXT_LIMIT as usize;
-
 fn option_data(value: &Option<Bytes>) -> bool
     ensures { result ≡ all_of is_short value.now }
 {
     match value {
         None => true,
-        Some(value) => value.len() <= MOST,
+        Some(value) => value.len() <= TEXT_LIMIT as usize,
     }
 }
 
@@ -38,7 +36,7 @@ fn header_data(h: &Header) -> bool
 {
     match &h.cred {
         None => true,
-        Some(cred) => cred.value.len() <= MOST,
+        Some(cred) => cred.value.len() <= TEXT_LIMIT as usize,
     }
 }
 

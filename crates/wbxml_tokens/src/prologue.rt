@@ -1,5 +1,6 @@
 // The prologue of a document, read from its bytes.
 ghost use Rattle.std.specs.Prelude.{◌≡◌, ◌<◌, ◌+◌, ◌^◌, Option as Maybe, Result as Either, ℕ, length};
+ghost use Rattle.dm_base.specs.Limits.{text_limit};
 ghost use Rattle.wbxml_ints.specs.Multibyte.{integer_at};
 ghost use Rattle.wbxml_tokens.specs.Fronts as Spec;
 ghost use Rattle.wbxml_tokens.specs.Parts.{GivesHead, Keeps};
@@ -138,7 +139,7 @@ fn identifier_in<'a>(number: u32, at: usize, bytes: &'a [u8]) -> Answer<'a>
 /// The prologue at the front of bytes; None where it isn't whole. Its refusals name bytes from the front on.
 #[tactic(auto, unfolding(crate::specs::Fronts::prologue_at))]
 pub(crate) fn prologue(bytes: &[u8]) -> Answer<'_>
-    requires { length bytes.now < 2 ^ 31 }
+    requires { length bytes.now < text_limit }
     ensures gives { GivesHead result (Spec.prologue_at bytes.now) }
     ensures bounds { Keeps result (length bytes.now) }
 {

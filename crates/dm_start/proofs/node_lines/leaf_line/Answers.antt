@@ -9,7 +9,7 @@ pub returns-in_err-add : goal.returns-in_err-add
 returns-in_err-add c =
     let before = c.args.tree.now in
     let short : length c.in_ok-leaf.leaf.value.bytes ≤ 4194304 =
-    omega (arith, c.if-len-gt-VALUE_LIMIT.false, c.len.ensures) in
+    omega (arith, c.if-len.false, c.len.ensures) in
     let same =
     leaf_laid before.clock (nodes before.rows)
     (parts c.args.line.now) c.in_ok-leaf.leaf c.new_node-node.result c.in_ok-leaf.ensures.leaf short
@@ -22,7 +22,7 @@ pub returns : goal.returns
 returns c =
     let before = c.args.tree.now in
     let short : length c.in_ok-leaf.leaf.value.bytes ≤ 4194304 =
-    omega (arith, c.if-len-gt-VALUE_LIMIT.false, c.len.ensures) in
+    omega (arith, c.if-len.false, c.len.ensures) in
     let same =
     leaf_laid before.clock (nodes before.rows)
     (parts c.args.line.now) c.in_ok-leaf.leaf c.new_node-node.result c.in_ok-leaf.ensures.leaf short
