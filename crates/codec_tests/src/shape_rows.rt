@@ -7,7 +7,7 @@ use syncml_shape::rows::{
     ALERT, ATOMIC, BODY, CHAL, CRED, EXEC, HEADER, ITEM, LOC, MESSAGE, PLAIN, RESULTS, SEQUENCE,
     STATUS,
 };
-use syncml_shape::{Choice, Kind, Outline, Row, ShapeError};
+use syncml_shape::{Choice, Kind, Outline, Row};
 use wbxml_tables::Element;
 use wbxml_tables::Element::{
     EAdd, EAlert, EAnchor, EArchive, EAtomic, EChal, ECmd, ECmdID, ECmdRef, ECopy, ECred, EData,
@@ -17,7 +17,7 @@ use wbxml_tables::Element::{
     ESessionID, ESftDel, ESharedMem, ESource, ESourceParent, EStatus, ESync, ESyncHdr, ESyncML,
     ETarget, ETargetParent, EVerDTD, EVerProto,
 };
-use wbxml_tokens::Reason;
+use wbxml_tokens::{Reason, Stop};
 
 // An element that has just begun, behind the head or from the root on, and the rows of its children.
 struct Context {
@@ -132,7 +132,7 @@ fn begin(alloc: Global, context: &Context) -> Outline {
 fn is_misplaced(outline: &mut Outline, alloc: Global, piece: Piece) -> bool {
     matches!(
         outline.take(&token_of(alloc, piece)),
-        Err(ShapeError::Refused(Reason::Misplaced))
+        Err(Stop::Refused(Reason::Misplaced))
     )
 }
 
@@ -213,7 +213,7 @@ fn leaves_out(alloc: Global, context: &Context) -> bool {
 fn is_left_out(outline: &mut Outline, alloc: Global, piece: Piece) -> bool {
     matches!(
         outline.take(&token_of(alloc, piece)),
-        Err(ShapeError::Refused(Reason::Leftout))
+        Err(Stop::Refused(Reason::Leftout))
     )
 }
 

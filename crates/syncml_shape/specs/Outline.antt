@@ -1,10 +1,10 @@
 -- What an outline says of the tokens that it took, and what is answered of a whole list.
 use Rattle.std.specs.Prelude.{◌≡◌, ℕ, ◌+◌, List, [], ◌∷◌, map, reverse, Bool, true, false, Result, Ok, Err, IsOk}
 use Rattle.wbxml_tokens.specs.declared.reason.Reason.{Reason}
+use Rattle.wbxml_tokens.specs.declared.reason.Stop.{Stop}
+use Rattle.wbxml_tokens.specs.declared.reason.Stop.TheVariants as stops
 use Rattle.wbxml_tokens.specs.declared.token.Token.{Token}
 use Rattle.syncml_shape.specs.declared.outline.Entry.{Entry}
-use Rattle.syncml_shape.specs.declared.outline.ShapeError.{ShapeError}
-use Rattle.syncml_shape.specs.declared.outline.ShapeError.TheVariants as error
 use Rattle.syncml_shape.specs.declared.outline.Verdict.{Verdict}
 use Rattle.syncml_shape.specs.declared.outline.Verdict.TheVariants as verdict
 use Rattle.syncml_shape.specs.Forest.{Forest}
@@ -39,16 +39,16 @@ abbrev pub HasTaken : List Frame → List Token → Type 0
 HasTaken frames tokens = outline_from (root ∷ []) tokens ≡ Ok frames
 
 -- what is answered of one more token; memory is wanted only where it isn't refused
-abbrev pub GivesStep : Result Unit ShapeError → List Frame → Result (List Frame) Reason → Type 0
+abbrev pub GivesStep : Result Unit Stop → List Frame → Result (List Frame) Reason → Type 0
 GivesStep (Ok u) after x = x ≡ Ok after
-GivesStep (Err (error.Refused reason)) after x = x ≡ Err reason
-GivesStep (Err error.Memory) after x = IsOk x
+GivesStep (Err (stops.Refused reason)) after x = x ≡ Err reason
+GivesStep (Err stops.Memory) after x = IsOk x
 
 -- the innermost element is another, and a child is open in it
-abbrev pub Opens : Result Unit ShapeError → List Frame → List Frame → Frame → Frame → Type 0
+abbrev pub Opens : Result Unit Stop → List Frame → List Frame → Frame → Frame → Type 0
 Opens (Ok u) before after parent child = after ≡ child ∷ parent ∷ without_innermost before
-Opens (Err (error.Refused reason)) before after parent child = ⊥
-Opens (Err error.Memory) before after parent child = Unit {0}
+Opens (Err (stops.Refused reason)) before after parent child = ⊥
+Opens (Err stops.Memory) before after parent child = Unit {0}
 
 -- what is answered of a whole list: its tokens are a document, or begin one, or one of them is refused
 abbrev pub Judges : List Token → Verdict → Type 0

@@ -2,8 +2,8 @@
 ghost use Rattle.std.specs.Prelude.{◌≡◌, ◌↔◌, [], ◌∷◌, ◌++◌, List as ListOf, Err, IsTrue, OnOk, OnErr, IfOk};
 ghost use Rattle.wbxml_tokens.specs.declared.token.Token.TheVariants.{Tag, End, Text};
 ghost use Rattle.wbxml_tokens.specs.declared.reason.Reason.{Reason as Why};
+ghost use Rattle.wbxml_tokens.specs.declared.reason.Stop.TheVariants.{Refused};
 ghost use Rattle.wbxml_tokens.specs.declared.token.Token.{Token as Piece};
-ghost use Rattle.syncml_shape.specs.declared.outline.ShapeError.TheVariants.{Refused};
 ghost use Rattle.syncml_shape.specs.declared.outline.Verdict.{Verdict as Judgement};
 ghost use Rattle.syncml_shape.specs.Forest.{Forest};
 ghost use Rattle.syncml_shape.specs.Shape.{HasShape};
@@ -18,15 +18,7 @@ use dm_base::{List, Memory};
 use std::alloc::Global;
 use std::marker::Model;
 use wbxml_tables::Element;
-use wbxml_tokens::{Reason, Token};
-
-/// Why a token isn't taken.
-#[derive(Clone, Copy, Debug, PartialEq, Eq)]
-pub enum ShapeError {
-    Memory,
-    /// Leftout, Nested or Misplaced.
-    Refused(Reason),
-}
+use wbxml_tokens::{Reason, Stop, Token};
 
 // An open element, and what may still come in it. The document has no element.
 #[derive(Clone, Copy, Debug)]
@@ -71,7 +63,7 @@ impl Outline {
     }
 
     // Opens a child of the innermost element, which is then as given.
-    fn push(&mut self, parent: Entry, child: Entry) -> Result<(), ShapeError>
+    fn push(&mut self, parent: Entry, child: Entry) -> Result<(), Stop>
         ensures opens { Opens result self.old self.new (frame_of parent) (frame_of child) }
         ensures err { OnErr result (self.new ≡ self.old) }
     {
@@ -80,7 +72,7 @@ impl Outline {
                 self.top = child;
                 Ok(())
             }
-            Err(_) => Err(ShapeError::Memory),
+            Err(_) => Err(Stop::Memory),
         }
     }
 
@@ -100,13 +92,13 @@ impl Outline {
     }
 
     // A tag that isn't refused for its name.
-    fn child(&mut self, element: Element, content: bool) -> Result<(), ShapeError>
+    fn child(&mut self, element: Element, content: bool) -> Result<(), Stop>
         ensures step { GivesStep result self.new (with_name self.old element content) }
         ensures err { OnErr result (self.new ≡ self.old) }
     {
         let mut parent = self.top;
         let Some(kind) = parent.progress.next(element) else {
-            return Err(ShapeError::Refused(Reason::Misplaced));
+            return Err(Stop::Refused(Reason::Misplaced));
         };
         let progress = Progress::start(kind);
         if content {
@@ -119,21 +111,21 @@ impl Outline {
             );
         }
         if !progress.is_complete() {
-            return Err(ShapeError::Refused(Reason::Misplaced));
+            return Err(Stop::Refused(Reason::Misplaced));
         }
         self.top = parent;
         Ok(())
     }
 
-    fn end(&mut self) -> Result<(), ShapeError>
+    fn end(&mut self) -> Result<(), Stop>
         ensures step { GivesStep result self.new (step self.old End) }
         ensures err { OnErr result (self.new ≡ self.old) }
     {
         if !self.top.progress.is_complete() {
-            return Err(ShapeError::Refused(Reason::Misplaced));
+            return Err(Stop::Refused(Reason::Misplaced));
         }
         match self.below.pop() {
-            None => Err(ShapeError::Refused(Reason::Misplaced)),
+            None => Err(Stop::Refused(Reason::Misplaced)),
             Some(parent) => {
                 self.top = parent;
                 Ok(())
@@ -141,28 +133,28 @@ impl Outline {
         }
     }
 
-    fn piece(&mut self) -> Result<(), ShapeError>
+    fn piece(&mut self) -> Result<(), Stop>
         ensures step { GivesStep result self.new (step self.old (Text [])) }
         ensures err { OnErr result (self.new ≡ self.old) }
     {
         if self.top.progress.takes_text() {
             Ok(())
         } else {
-            Err(ShapeError::Refused(Reason::Misplaced))
+            Err(Stop::Refused(Reason::Misplaced))
         }
     }
 
-    fn tag(&mut self, element: Element, content: bool) -> Result<(), ShapeError>
+    fn tag(&mut self, element: Element, content: bool) -> Result<(), Stop>
         ensures step { GivesStep result self.new (step self.old (Tag element content)) }
         ensures err { OnErr result (self.new ≡ self.old) }
     {
         match tag_fault(self.top.element, element) {
-            Some(reason) => Err(ShapeError::Refused(reason)),
+            Some(reason) => Err(Stop::Refused(reason)),
             None => self.child(element, content),
         }
     }
 
-    fn go_on(&mut self, token: &Token) -> Result<(), ShapeError>
+    fn go_on(&mut self, token: &Token) -> Result<(), Stop>
         ensures step { GivesStep result self.new (step self.old token.now) }
         ensures err { OnErr result (self.new ≡ self.old) }
     {
@@ -177,7 +169,7 @@ impl Outline {
     /// Takes the next token. It is refused exactly where the tokens before it begin a document and none begins with it
     /// too: as Leftout or Nested for its name and its parent's, else as Misplaced. `Memory` comes only where it isn't
     /// refused.
-    pub fn take(&mut self, token: &Token) -> Result<(), ShapeError>
+    pub fn take(&mut self, token: &Token) -> Result<(), Stop>
         ensures step { GivesStep result self.new (step self.old token.now) }
         ensures err { OnErr result (self.new ≡ self.old) }
         ensures taken { (before : ListOf Piece) → HasTaken self.old before
@@ -207,8 +199,8 @@ fn judged(alloc: Global, tokens: &[Token]) -> Result<Verdict, Memory>
     for (at, token) in tokens.iter().enumerate() {
         match outline.go_on(token) {
             Ok(()) => {}
-            Err(ShapeError::Memory) => return Err(Memory),
-            Err(ShapeError::Refused(reason)) => return Ok(Verdict::Refused { at, reason }),
+            Err(Stop::Memory) => return Err(Memory),
+            Err(Stop::Refused(reason)) => return Ok(Verdict::Refused { at, reason }),
         }
     }
     if outline.may_end() {
