@@ -7,7 +7,6 @@ use Rattle.wbxml_tokens.specs.declared.token.Token.TheVariants.{Tag, End, Text, 
 use Rattle.wbxml_tokens.specs.Taking.{Taking, taking}
 use Rattle.wbxml_tokens.specs.declared.reason.FeedError.{FeedError}
 use Rattle.syncml_types.specs.Message.{Parts}
-use Rattle.syncml_codec.specs.declared.decoder.DecodeError.{DecodeError}
 use Rattle.codec_bench.specs.declared.fold.Fold.{Fold}
 
 -- the number that a token counts for
@@ -34,7 +33,7 @@ abbrev pub folding : Taking Fold
 folding = taking (λ f at. f) folded (λ f token. None)
 
 -- where there is a message, the number of its commands is folded
-abbrev pub FoldsMessage : Result Unit FeedError → Fold → Fold → Result Parts DecodeError → Type 0
+abbrev pub FoldsMessage : Result Unit FeedError → Fold → Fold → Result Parts FeedError → Type 0
 FoldsMessage (Ok u) old new (Ok parts) = new ≡ with_number old (length parts.body)
 FoldsMessage (Ok u) old new (Err e) = ⊥
 FoldsMessage (Err e) old new answer = ⊤

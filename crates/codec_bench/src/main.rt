@@ -18,7 +18,7 @@ use spell::{measure_length, spell_and_fold};
 use std::process::ExitCode;
 use std::time::Instant;
 use std::{env, fs, io};
-use syncml_codec::{DecodeError, decode};
+use syncml_codec::decode;
 use syncml_types::{Message, Unfit, length};
 use turn::{Way, turn};
 use wbxml_tokens::FeedError;
@@ -102,8 +102,7 @@ fn message_in(rt: &HostRuntime, file: &str) -> io::Result<Message> {
     let bytes = fs::read(rt, file)?;
     match decode(rt.alloc(), bytes.as_slice()) {
         Ok(message) => Ok(message),
-        Err(DecodeError::Refused(_)) => Err(io::Error::from(io::ErrorKind::InvalidData)),
-        Err(DecodeError::Memory) => Err(of_memory(Memory)),
+        Err(error) => Err(told(error)),
     }
 }
 

@@ -6,7 +6,7 @@ ghost use Rattle.codec_bench.specs.Folding.{folding, FoldsMessage};
 
 use crate::fold::Fold;
 use std::alloc::Global;
-use syncml_codec::{DecodeError, Decoder, decode};
+use syncml_codec::{Decoder, decode};
 use syncml_types::Message;
 use wbxml_tokens::{FeedError, Reader, Tokens};
 
@@ -88,7 +88,7 @@ fn read_by_tokens(
 }
 
 // The message of a document in pieces of this many bytes.
-fn decode_in_pieces(alloc: Global, bytes: &[u8], size: usize) -> Result<Message, DecodeError>
+fn decode_in_pieces(alloc: Global, bytes: &[u8], size: usize) -> Result<Message, FeedError>
     requires { 0 < size }
 {
     let mut decoder = Decoder::new(alloc);
@@ -100,7 +100,7 @@ fn decode_in_pieces(alloc: Global, bytes: &[u8], size: usize) -> Result<Message,
 }
 
 // Folds how many commands the message has that an answer gives.
-fn fold_message(answer: &Result<Message, DecodeError>, fold: &mut Fold) -> Result<(), FeedError>
+fn fold_message(answer: &Result<Message, FeedError>, fold: &mut Fold) -> Result<(), FeedError>
     ensures { FoldsMessage result fold.old fold.new answer.now }
 {
     match answer {
@@ -108,8 +108,7 @@ fn fold_message(answer: &Result<Message, DecodeError>, fold: &mut Fold) -> Resul
             fold.add(message.body().len() as u64);
             Ok(())
         }
-        Err(DecodeError::Refused(refusal)) => Err(FeedError::Refused(*refusal)),
-        Err(DecodeError::Memory) => Err(FeedError::Memory),
+        Err(error) => Err(*error),
     }
 }
 

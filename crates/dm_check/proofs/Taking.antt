@@ -7,10 +7,10 @@ use Rattle.std.specs.Io.KnownBytes.{Consumes, IsAtEnd, Keeps}
 use Rattle.dm_base.specs.Outside.{OfKnown}
 use Rattle.dm_base.specs.declared.outside.Fault.{Fault}
 use Rattle.wbxml_tokens.specs.declared.reason.Refusal.{Refusal}
+use Rattle.wbxml_tokens.specs.declared.reason.FeedError.{FeedError}
+use Rattle.wbxml_tokens.specs.declared.reason.FeedError.TheVariants as errors
 use Rattle.wbxml_tokens.specs.Reading.{reading, reads}
 use Rattle.syncml_grammar.specs.Building.{Building}
-use Rattle.syncml_codec.specs.declared.decoder.DecodeError.{DecodeError}
-use Rattle.syncml_codec.specs.declared.decoder.DecodeError.TheVariants as errors
 use Rattle.syncml_codec.specs.Decoding.{settled, built, first_of, read_of, TellsSettled}
 use Rattle.syncml_codec.proofs.Unrefused.{sound_within}
 use Rattle.syncml_codec.proofs.Decoded.{settled_more, settled_read}
@@ -49,7 +49,7 @@ refused_received (Some xs) (Some ys) bytes f taken h =
     ap read_of taken ∙ settled_read (bytes ++ ys) f (settled_more bytes ys f h)
 
 -- what a decoder answers to some of the bytes holds of all
-pub stopped_received : (old new : Option (List ℕ)) (bytes : List ℕ) (e : DecodeError) (r : Result Received Fault)
+pub stopped_received : (old new : Option (List ℕ)) (bytes : List ℕ) (e : FeedError) (r : Result Received Fault)
     → Consumes old new bytes → TellsSettled (Err e) (settled bytes)
     → r ≡ answer_to e → OfKnown old (Receives r)
 stopped_received old new bytes (errors.Refused f) r taken h is =

@@ -7,9 +7,9 @@ ghost use Rattle.dm_check.specs.Kept.{answer_to};
 
 use dm_base::{Bytes, Failed, Fault, Source};
 use std::alloc::Global;
-use syncml_codec::{DecodeError, Decoder};
+use syncml_codec::Decoder;
 use syncml_types::Message;
-use wbxml_tokens::Refusal;
+use wbxml_tokens::{FeedError, Refusal};
 
 const PIECE: usize = 4096;
 
@@ -26,7 +26,7 @@ pub enum Received {
 }
 
 // Reads a piece behind these bytes, and keeps it with them.
-fn keep(decoder: &mut Decoder, bytes: &mut Bytes, piece: &[u8]) -> Result<(), DecodeError>
+fn keep(decoder: &mut Decoder, bytes: &mut Bytes, piece: &[u8]) -> Result<(), FeedError>
     requires { HasDecoded decoder.old bytes.old }
     ensures told { TellsSettled result (settled (bytes.old ++ piece.now)) }
     ensures kept { OnOk result (bytes.new ≡ bytes.old ++ piece.now) }
@@ -35,20 +35,20 @@ fn keep(decoder: &mut Decoder, bytes: &mut Bytes, piece: &[u8]) -> Result<(), De
     match decoder.feed(piece) {
         Ok(()) => match bytes.extend(piece) {
             Ok(()) => Ok(()),
-            Err(_) => Err(DecodeError::Memory),
+            Err(_) => Err(FeedError::Memory),
         },
         Err(error) => Err(error),
     }
 }
 
 // What is answered where the decoder reads no more.
-fn stopped(error: DecodeError) -> Result<Received, Fault>
+fn stopped(error: FeedError) -> Result<Received, Fault>
     ensures received { result ≡ answer_to error }
     ensures count { (faults : ℕ) → ReceiveCounts faults faults result }
 {
     match error {
-        DecodeError::Refused(refusal) => Ok(Received::Refused(refusal)),
-        DecodeError::Memory => Err(Fault::Memory),
+        FeedError::Refused(refusal) => Ok(Received::Refused(refusal)),
+        FeedError::Memory => Err(Fault::Memory),
     }
 }
 

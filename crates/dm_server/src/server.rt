@@ -24,8 +24,9 @@ use dm_job::Job;
 use dm_report::Findings;
 use std::alloc::Global;
 use std::marker::Model;
-use syncml_codec::{DecodeError, decode};
+use syncml_codec::decode;
 use syncml_types::Message;
+use wbxml_tokens::FeedError;
 
 /// A management server's end of the protocol: one job for one device, what is known of it, and at most one session.
 ///
@@ -150,8 +151,8 @@ impl Server {
         ensures err { OnErr result (self.new ≡ self.old) }
     {
         match decode(self.plan.alloc, bytes) {
-            Err(DecodeError::Memory) => Err(Memory),
-            Err(DecodeError::Refused(refusal)) => Ok(Answer::Refused(refusal)),
+            Err(FeedError::Memory) => Err(Memory),
+            Err(FeedError::Refused(refusal)) => Ok(Answer::Refused(refusal)),
             Ok(message) => {
                 // They tell that the message is fit, and the nonce whole.
                 let _ = message.header();

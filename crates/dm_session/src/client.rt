@@ -36,9 +36,10 @@ use dm_pack::Queue;
 use dm_tree::{Stamp, Tree};
 use std::alloc::Global;
 use std::marker::Model;
-use syncml_codec::{DecodeError, decode};
+use syncml_codec::decode;
 use syncml_types::Message;
 use syncml_types::copies::copy_bytes;
+use wbxml_tokens::FeedError;
 
 /// A device's end of the protocol: its tree, its accounts, and at most one open session.
 ///
@@ -239,8 +240,8 @@ impl Client {
             → KeepIdsBut (read_covers (read_of bytes.now)) self.old.ids self.new.ids }
     {
         match decode(self.rest.alloc, bytes) {
-            Err(DecodeError::Memory) => Err(Memory),
-            Err(DecodeError::Refused(refusal)) => Ok(Answer::Refused(refusal)),
+            Err(FeedError::Memory) => Err(Memory),
+            Err(FeedError::Refused(refusal)) => Ok(Answer::Refused(refusal)),
             Ok(message) => {
                 // They tell that the message is fit, and the nonce whole.
                 let _ = message.header();

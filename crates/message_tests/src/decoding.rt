@@ -2,9 +2,9 @@
 use dm_base::{Bytes, Memory, hex_bytes};
 use std::alloc::Global;
 use std::test::Fail;
-use syncml_codec::{DecodeError, Decoder, decode, encode};
+use syncml_codec::{Decoder, decode, encode};
 use syncml_types::Message;
-use wbxml_tokens::{Reason, Refusal};
+use wbxml_tokens::{FeedError, Reason, Refusal};
 
 // Messages of other encoders, whole and damaged: their bytes, and the place and the reason of the refusal that two
 // other implementations gave.
@@ -200,15 +200,15 @@ fn bytes_of(alloc: Global, text: &str) -> Result<Bytes, Memory> {
 }
 
 // Whether an answer is this refusal.
-fn is_refusal(answer: Result<Message, DecodeError>, at: u64, reason: Reason) -> bool {
+fn is_refusal(answer: Result<Message, FeedError>, at: u64, reason: Reason) -> bool {
     match answer {
         Ok(_) => false,
-        Err(error) => error == DecodeError::Refused(Refusal { at, reason }),
+        Err(error) => error == FeedError::Refused(Refusal { at, reason }),
     }
 }
 
 // The answer to bytes in pieces of so many.
-fn decode_in(alloc: Global, bytes: &[u8], size: usize) -> Result<Message, DecodeError> {
+fn decode_in(alloc: Global, bytes: &[u8], size: usize) -> Result<Message, FeedError> {
     let mut decoder = Decoder::new(alloc);
     for piece in bytes.chunks(size.max(1)) {
         // What a feed refuses, `finish` refuses too.
@@ -237,7 +237,7 @@ fn refuses_at_the_first_place(rt: HostRuntime) -> Result<(), Fail> {
 // Whether an answer is a message that these bytes spell canonically, or one that they spell otherwise.
 fn is_message(
     alloc: Global,
-    answer: Result<Message, DecodeError>,
+    answer: Result<Message, FeedError>,
     bytes: &[u8],
     canonical: bool,
 ) -> Result<bool, Memory> {
@@ -267,7 +267,7 @@ fn reads_whole_messages(rt: HostRuntime) -> Result<(), Fail> {
 #[test]
 fn refuses_for_good(rt: HostRuntime) -> Result<(), Fail> {
     let mut decoder = Decoder::new(rt.alloc());
-    let refused = DecodeError::Refused(Refusal {
+    let refused = FeedError::Refused(Refusal {
         at: 0,
         reason: Reason::Version,
     });

@@ -2,8 +2,9 @@
 use dm_base::{Bytes, Memory};
 use itoa::Buffer;
 use std::alloc::Global;
-use syncml_codec::{DecodeError, decode};
+use syncml_codec::decode;
 use syncml_types::{Command, Item, Message, Plain, StatusCmd, Verb};
+use wbxml_tokens::FeedError;
 
 pub(crate) fn put_number(out: &mut Bytes, number: u64) -> Result<(), Memory> {
     let mut buffer = Buffer::new();
@@ -93,7 +94,7 @@ fn put_message(out: &mut Bytes, message: &Message) -> Result<(), Memory> {
 pub(crate) fn put_told(alloc: Global, out: &mut Bytes, bytes: &[u8]) -> Result<(), Memory> {
     match decode(alloc, bytes) {
         Ok(message) => put_message(out, &message),
-        Err(DecodeError::Refused(_)) => out.extend(b"no message"),
-        Err(DecodeError::Memory) => Err(Memory),
+        Err(FeedError::Refused(_)) => out.extend(b"no message"),
+        Err(FeedError::Memory) => Err(Memory),
     }
 }

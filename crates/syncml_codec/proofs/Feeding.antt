@@ -5,17 +5,17 @@ use Rattle.std.proofs.lemmas.List.{append-nil}
 use Rattle.std.specs.Prelude.{Option, Some, None, Result, Ok, Err, ok_or, get_or}
 use Rattle.wbxml_ints.specs.Multibyte.{AreBytes}
 use Rattle.wbxml_tokens.specs.declared.reason.Refusal.{Refusal}
+use Rattle.wbxml_tokens.specs.declared.reason.FeedError.{FeedError}
+use Rattle.wbxml_tokens.specs.declared.reason.FeedError.TheVariants as errors
 use Rattle.wbxml_tokens.specs.declared.reason.Reason.TheVariants as reasons
 use Rattle.wbxml_tokens.specs.declared.token.Placed.{Placed}
 use Rattle.wbxml_tokens.specs.Reading.{Reading, at_start, begun_by, reads, reading}
-use Rattle.wbxml_tokens.specs.Taking.{taken, told, IsFirst, ◌>>=◌}
+use Rattle.wbxml_tokens.specs.Taking.{taken, told, IsFirst, Stops, ◌>>=◌}
 use Rattle.wbxml_tokens.proofs.Steps.{reads-append}
 use Rattle.wbxml_tokens.proofs.Turns.{reads-told, taken-append}
 use Rattle.syncml_types.specs.Message.{Parts}
-use Rattle.syncml_grammar.specs.Building.{Building, no_building, built_by}
+use Rattle.syncml_grammar.specs.Building.{Building, IsLacking, no_building, built_by}
 use Rattle.syncml_grammar.specs.Taken.{building}
-use Rattle.syncml_codec.specs.declared.decoder.DecodeError.{DecodeError}
-use Rattle.syncml_codec.specs.declared.decoder.DecodeError.TheVariants as errors
 use Rattle.syncml_codec.specs.Messages.{Spells, MessageRefusedAt}
 use Rattle.syncml_codec.specs.Decoding.{built, first_of, settled, parts_of, read_by, read_of, IsRead, Decodes}
 use Rattle.syncml_codec.specs.Decoding.{TellsSettled, Decoding, StandsBehind, HasDecoded}
@@ -91,7 +91,7 @@ fed_ok d e bytes piece h going goes_on (handed, sound) is_reader is_length =
     )
 
 -- a piece of which something is refused
-pub fed_refused : (d e : Decoding) (bytes piece : List ℕ) (b : Building) (f : Refusal) → HasDecoded d bytes
+fed_refused : (d e : Decoding) (bytes piece : List ℕ) (b : Building) (f : Refusal) → HasDecoded d bytes
     → d.stopped ≡ None
     → IsFirst (taken building d.building (reads (begun_by d.reader) piece).tokens) b
     (reads (begun_by d.reader) piece).refused f → e.stopped ≡ Some (errors.Refused f)
@@ -111,12 +111,20 @@ fed_refused d e bytes piece b f h going first stops =
         (ap (λ y. y.refused) (read_on d bytes piece x) ∙ refused)
 
 -- a piece for which memory lacked
-pub fed_lacking : (e : Decoding) (bytes : List ℕ) → e.stopped ≡ Some errors.Memory → HasDecoded e bytes
+fed_lacking : (e : Decoding) (bytes : List ℕ) → e.stopped ≡ Some errors.Memory → HasDecoded e bytes
 unfolding HasDecoded
 fed_lacking e bytes stops = subst (λ o. StandsBehind o e bytes) (sym stops) tt
 
+-- a piece that is answered by an error
+pub fed_error : (d e : Decoding) (bytes piece : List ℕ) (error : FeedError) → HasDecoded d bytes → d.stopped ≡ None
+    → Stops building IsLacking error d.building e.building (reads (begun_by d.reader) piece) → e.stopped ≡ Some error
+    → TellsSettled (Err error) (settled (bytes ++ piece)) × HasDecoded e (bytes ++ piece)
+fed_error d e bytes piece (errors.Refused f) h going first stops =
+    fed_refused d e bytes piece e.building f h going first stops
+fed_error d e bytes piece errors.Memory h going lacking stops = (tt, fed_lacking e (bytes ++ piece) stops)
+
 -- a piece behind what stopped the decoder
-pub fed_stopped : (d : Decoding) (bytes piece : List ℕ) (e : DecodeError) → HasDecoded d bytes → d.stopped ≡ Some e
+pub fed_stopped : (d : Decoding) (bytes piece : List ℕ) (e : FeedError) → HasDecoded d bytes → d.stopped ≡ Some e
     → TellsSettled (Err e) (settled (bytes ++ piece)) × HasDecoded d (bytes ++ piece)
 unfolding HasDecoded
 fed_stopped d bytes piece (errors.Refused f) h stops =
@@ -127,12 +135,12 @@ fed_stopped d bytes piece errors.Memory h stops = (tt, fed_lacking d (bytes ++ p
 -- ---- the end
 
 -- a refusal, or want of memory, that a feed tells is what is read
-pub told_is_read : (bytes : List ℕ) (e : DecodeError) → TellsSettled (Err e) (settled bytes)
+pub told_is_read : (bytes : List ℕ) (e : FeedError) → TellsSettled (Err e) (settled bytes)
     → IsRead (Err e) (read_of bytes)
 told_is_read bytes (errors.Refused f) h = settled_read bytes f h
 told_is_read bytes errors.Memory h = tt
 
-pub finished_stopped : (d : Decoding) (bytes : List ℕ) (e : DecodeError) → HasDecoded d bytes → d.stopped ≡ Some e
+pub finished_stopped : (d : Decoding) (bytes : List ℕ) (e : FeedError) → HasDecoded d bytes → d.stopped ≡ Some e
     → IsRead (Err e) (read_of bytes)
 unfolding HasDecoded
 finished_stopped d bytes (errors.Refused f) h stops = settled_read bytes f (subst (λ o. StandsBehind o d bytes) stops h)
@@ -156,7 +164,7 @@ finished_cut d bytes h going is =
     read_when_open d bytes None s (sym is) ∙ ap (λ n. Err (record { at = n; reason = reasons.Truncated })) (sym s.3)
 
 -- what a decoder that nothing has stopped answers at its end
-abbrev pub cut : Decoding → DecodeError
+abbrev pub cut : Decoding → FeedError
 cut d = errors.Refused (record { at = d.length; reason = reasons.Truncated })
 
 either : (d : Decoding) (bytes : List ℕ) → HasDecoded d bytes → d.stopped ≡ None → (found : Option Parts)
@@ -165,7 +173,7 @@ either : (d : Decoding) (bytes : List ℕ) → HasDecoded d bytes → d.stopped 
 either d bytes h going None is = finished_cut d bytes h going is
 either d bytes h going (Some parts) is = finished_whole d bytes parts h going is
 
-pub finished : (d : Decoding) (bytes : List ℕ) (r : Result Parts DecodeError) → HasDecoded d bytes → d.stopped ≡ None
+pub finished : (d : Decoding) (bytes : List ℕ) (r : Result Parts FeedError) → HasDecoded d bytes → d.stopped ≡ None
     → r ≡ ok_or (built_by d.building) (cut d) → IsRead r (read_of bytes)
 finished d bytes r h going is =
     subst (λ answer. IsRead answer (read_of bytes)) (sym is) (either d bytes h going (built_by d.building) refl)
@@ -176,16 +184,16 @@ pub are_bytes : (bytes : List ℕ) → ((i : ℕ) → get_or bytes i 0 < 256) �
 are_bytes [] h = tt
 are_bytes (b ∷ bytes) h = (h 0, are_bytes bytes (λ i. h (suc i)))
 
-pub answer_exact : (r : Result Parts DecodeError) (bytes : List ℕ) → AreBytes bytes → IsRead r (read_of bytes)
+pub answer_exact : (r : Result Parts FeedError) (bytes : List ℕ) → AreBytes bytes → IsRead r (read_of bytes)
     → Decodes r bytes
 answer_exact (Ok parts) bytes fit h = (spelled_is_read bytes parts fit).0 h
 answer_exact (Err (errors.Refused f)) bytes fit h = (refused_is_read bytes f fit).0 h
 answer_exact (Err errors.Memory) bytes fit h = tt
 
-pub answer_message : (r : Result Parts DecodeError) (bytes : List ℕ) (parts : Parts) → AreBytes bytes
+pub answer_message : (r : Result Parts FeedError) (bytes : List ℕ) (parts : Parts) → AreBytes bytes
     → IsRead r (read_of bytes) → Spells bytes parts → IsRead r (Ok parts)
 answer_message r bytes parts fit h s = subst (IsRead r) ((spelled_is_read bytes parts fit).1 s) h
 
-pub answer_refusal : (r : Result Parts DecodeError) (bytes : List ℕ) (f : Refusal) → AreBytes bytes
+pub answer_refusal : (r : Result Parts FeedError) (bytes : List ℕ) (f : Refusal) → AreBytes bytes
     → IsRead r (read_of bytes) → MessageRefusedAt bytes f.at f.reason → IsRead r (Err f)
 answer_refusal r bytes f fit h x = subst (IsRead r) ((refused_is_read bytes f fit).1 x) h

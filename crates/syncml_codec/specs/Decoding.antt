@@ -2,6 +2,8 @@
 -- builder; what it means stands in `Messages`, and the laws join the two.
 use Rattle.std.specs.Prelude.{◌≡◌, ℕ, List, length, Option, Some, None, Result, Ok, Err, ⊤}
 use Rattle.wbxml_tokens.specs.declared.reason.Refusal.{Refusal}
+use Rattle.wbxml_tokens.specs.declared.reason.FeedError.{FeedError}
+use Rattle.wbxml_tokens.specs.declared.reason.FeedError.TheVariants as errors
 use Rattle.wbxml_tokens.specs.declared.reason.Reason.TheVariants as reasons
 use Rattle.wbxml_tokens.specs.Reading.{Reader, reading}
 use Rattle.wbxml_tokens.specs.Taking.{taken}
@@ -9,8 +11,6 @@ use Rattle.syncml_types.specs.Message.{Parts}
 use Rattle.syncml_grammar.specs.Building.{Building, no_building, built_by}
 use Rattle.syncml_grammar.specs.Taken.{building}
 use Rattle.syncml_codec.specs.Messages.{Spells, MessageRefusedAt}
-use Rattle.syncml_codec.specs.declared.decoder.DecodeError.{DecodeError}
-use Rattle.syncml_codec.specs.declared.decoder.DecodeError.TheVariants as errors
 
 -- what is built of the tokens that are read, or the refusal of the first that the grammar doesn't take
 abbrev pub built : List ℕ → Result Building Refusal
@@ -40,19 +40,19 @@ read_of bytes = read_by (settled bytes) (parts_of (built bytes)) (length bytes)
 -- ---- answers
 
 -- an answer to bytes is what is read of them, or want of memory
-abbrev pub IsRead : Result Parts DecodeError → Result Parts Refusal → Type 0
+abbrev pub IsRead : Result Parts FeedError → Result Parts Refusal → Type 0
 IsRead (Ok parts) read = read ≡ Ok parts
 IsRead (Err (errors.Refused refusal)) read = read ≡ Err refusal
 IsRead (Err errors.Memory) read = ⊤
 
 -- an answer to bytes is the message that they spell, or why they are refused, or want of memory
-abbrev pub Decodes : Result Parts DecodeError → List ℕ → Type 0
+abbrev pub Decodes : Result Parts FeedError → List ℕ → Type 0
 Decodes (Ok parts) bytes = Spells bytes parts
 Decodes (Err (errors.Refused refusal)) bytes = MessageRefusedAt bytes refusal.at refusal.reason
 Decodes (Err errors.Memory) bytes = ⊤
 
 -- a refusal is told exactly where it is settled
-abbrev pub TellsSettled : Result Unit DecodeError → Option Refusal → Type 0
+abbrev pub TellsSettled : Result Unit FeedError → Option Refusal → Type 0
 TellsSettled (Ok u) refused = refused ≡ None
 TellsSettled (Err (errors.Refused refusal)) refused = refused ≡ Some refusal
 TellsSettled (Err errors.Memory) refused = ⊤
@@ -64,10 +64,10 @@ pub record Decoding : Type 0 where
   pub reader : Reader
   pub building : Building
   pub length : ℕ
-  pub stopped : Option DecodeError
+  pub stopped : Option FeedError
 
 -- where a decoder stands behind bytes, by why it stopped
-abbrev pub StandsBehind : Option DecodeError → Decoding → List ℕ → Type 0
+abbrev pub StandsBehind : Option FeedError → Decoding → List ℕ → Type 0
 StandsBehind None d bytes =
     (settled bytes ≡ None) × (d.reader ≡ (reading bytes).reader) × (built bytes ≡ Ok d.building)
     × (d.length ≡ length bytes)
@@ -83,5 +83,5 @@ abbrev pub IsGoing : Decoding → Type 0
 IsGoing d = d.stopped ≡ None
 
 -- it has answered this, and reads no more
-abbrev pub HasStopped : Decoding → DecodeError → Type 0
+abbrev pub HasStopped : Decoding → FeedError → Type 0
 HasStopped d error = d.stopped ≡ Some error

@@ -1,9 +1,9 @@
 // Bytes to messages, in pieces and at once.
 ghost use Rattle.std.specs.Prelude.{◌≡◌, ◌++◌, ℕ, [], IfErr, OnOk, List as ListOf, Ok as Good, Err as Bad};
 ghost use Rattle.wbxml_tokens.specs.declared.reason.Refusal.{Refusal as ARefusal};
+ghost use Rattle.wbxml_tokens.specs.declared.reason.FeedError.{FeedError as Why};
+ghost use Rattle.wbxml_tokens.specs.declared.reason.FeedError.TheVariants as errors;
 ghost use Rattle.syncml_types.specs.Message.{Parts};
-ghost use Rattle.syncml_codec.specs.declared.decoder.DecodeError.{DecodeError as Why};
-ghost use Rattle.syncml_codec.specs.declared.decoder.DecodeError.TheVariants as errors;
 ghost use Rattle.syncml_codec.specs.Messages.{Spells, MessageRefusedAt};
 ghost use Rattle.syncml_codec.specs.Decoding.{read_of, settled, IsRead, Decodes, TellsSettled, HasDecoded, IsGoing};
 ghost use Rattle.syncml_codec.specs.Decoding.{HasStopped};
@@ -14,14 +14,6 @@ use syncml_grammar::Builder;
 use syncml_types::Message;
 use wbxml_tokens::{FeedError, Reader, Reason, Refusal};
 
-/// Why no message is read of bytes.
-#[derive(Clone, Copy, Debug, PartialEq, Eq)]
-pub enum DecodeError {
-    /// The bytes spell none: the first refusal.
-    Refused(Refusal),
-    Memory,
-}
-
 /// A reader of one message in pieces. The message is built while its bytes come; beside it are kept the string table
 /// and what a piece cut. A text is copied once, into the message.
 #[derive(Drop)]
@@ -29,7 +21,7 @@ pub struct Decoder {
     reader: Reader,
     builder: Builder,
     length: u64,
-    stopped: Option<DecodeError>,
+    stopped: Option<FeedError>,
 }
 
 impl Model for Decoder {
@@ -56,7 +48,7 @@ impl Decoder {
     }
 
     // Reads a piece where nothing has stopped the decoder.
-    fn read(&mut self, piece: &[u8]) -> Result<(), DecodeError>
+    fn read(&mut self, piece: &[u8]) -> Result<(), FeedError>
         requires { IsGoing self.old }
         ensures told { (bytes : ListOf ℕ) → HasDecoded self.old bytes
             → TellsSettled result (settled (bytes ++ piece.now)) }
@@ -69,13 +61,9 @@ impl Decoder {
                 self.length = self.length.saturating_add(piece.len() as u64);
                 Ok(())
             }
-            Err(FeedError::Refused(refusal)) => {
-                self.stopped = Some(DecodeError::Refused(refusal));
-                Err(DecodeError::Refused(refusal))
-            }
-            Err(FeedError::Memory) => {
-                self.stopped = Some(DecodeError::Memory);
-                Err(DecodeError::Memory)
+            Err(error) => {
+                self.stopped = Some(error);
+                Err(error)
             }
         }
     }
@@ -83,7 +71,7 @@ impl Decoder {
     /// Reads the next piece of the message, in work linear in it and in the texts that it stands for. A refusal is
     /// answered exactly where the bytes so far settle it, whatever follows. `Memory` may come in its place, since the
     /// message is built while its bytes are read. After either, each later call answers the same.
-    pub fn feed(&mut self, piece: &[u8]) -> Result<(), DecodeError>
+    pub fn feed(&mut self, piece: &[u8]) -> Result<(), FeedError>
         ensures told { (bytes : ListOf ℕ) → HasDecoded self.old bytes
             → TellsSettled result (settled (bytes ++ piece.now)) }
         ensures decoded { (bytes : ListOf ℕ) → HasDecoded self.old bytes → HasDecoded self.new (bytes ++ piece.now) }
@@ -99,7 +87,7 @@ impl Decoder {
 
     /// The message of the bytes that were fed, or their first refusal; `Truncated` comes from here alone. It takes no
     /// memory: `Memory` comes where a feed has answered it.
-    pub fn finish(self) -> Result<Message, DecodeError>
+    pub fn finish(self) -> Result<Message, FeedError>
         ensures read { (bytes : ListOf ℕ) → HasDecoded self bytes → IsRead result (read_of bytes) }
         ensures again { (error : Why) → HasStopped self error → result ≡ Bad error }
         ensures memory { result ≡ Bad errors.Memory → HasStopped self errors.Memory }
@@ -108,7 +96,7 @@ impl Decoder {
             drop(self);
             return Err(error);
         }
-        self.builder.finish_or(DecodeError::Refused(Refusal {
+        self.builder.finish_or(FeedError::Refused(Refusal {
             at: self.length,
             reason: Reason::Truncated,
         }))
@@ -116,7 +104,7 @@ impl Decoder {
 }
 
 // What is read of bytes.
-fn decoded(alloc: Global, bytes: &[u8]) -> Result<Message, DecodeError>
+fn decoded(alloc: Global, bytes: &[u8]) -> Result<Message, FeedError>
     ensures { IsRead result (read_of bytes.now) }
 {
     let mut decoder = Decoder::new(alloc);
@@ -128,7 +116,7 @@ fn decoded(alloc: Global, bytes: &[u8]) -> Result<Message, DecodeError>
 /// Reads a message: Ok exactly where the bytes spell it, and Refused exactly at the place and for the reason of the
 /// first refusal. `Memory` may come in place of either, since the message is built while its bytes are read. The work
 /// is linear in the bytes and in the texts that they stand for, where a string of the table counts at each use.
-pub fn decode(alloc: Global, bytes: &[u8]) -> Result<Message, DecodeError>
+pub fn decode(alloc: Global, bytes: &[u8]) -> Result<Message, FeedError>
     ensures read { IsRead result (read_of bytes.now) }
     ensures exact { Decodes result bytes.now }
     ensures message { (parts : Parts) → Spells bytes.now parts → IsRead result (Good parts) }

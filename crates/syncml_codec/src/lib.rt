@@ -7,6 +7,6 @@ pub mod laws;
 pub mod lister;
 pub mod ranges;
 
-pub use decoder::{DecodeError, Decoder, decode};
+pub use decoder::{Decoder, decode};
 pub use encoder::{encode, encode_with_length};
 pub use lister::listing;

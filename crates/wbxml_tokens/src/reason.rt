@@ -89,7 +89,7 @@ pub enum Stop {
     Memory,
 }
 
-/// Why a reader answers no `Ok`.
+/// Why a reader or a decoder answers no `Ok`: the first refusal of the bytes, or want of memory.
 #[derive(Clone, Copy, Debug, PartialEq, Eq, Error)]
 pub enum FeedError {
     #[error("{0}")]

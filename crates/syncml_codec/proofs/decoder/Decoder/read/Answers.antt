@@ -1,12 +1,7 @@
 use Rattle.std.proofs.Common.{refl, sym, ap, ◌∙◌, subst}
 use Rattle.std.specs.Prelude.{Some}
-use Rattle.wbxml_tokens.specs.Reading.{begun_by, reads}
-use Rattle.wbxml_tokens.specs.Taking.{Stops}
-use Rattle.syncml_grammar.specs.Building.{IsLacking}
-use Rattle.syncml_grammar.specs.Taken.{building}
-use Rattle.syncml_codec.specs.declared.decoder.DecodeError.TheVariants as errors
 use Rattle.syncml_codec.specs.Decoding.{HasDecoded}
-use Rattle.syncml_codec.proofs.Feeding.{fed_ok, fed_refused, fed_lacking}
+use Rattle.syncml_codec.proofs.Feeding.{fed_ok, fed_error}
 use Rattle.syncml_codec.proofs.decoder.Decoder.read.Goals as goal
 
 pub returns-in-Ok-clause-told : goal.returns-in-Ok-clause-told
@@ -47,9 +42,9 @@ returns-in-Ok-clause-decoded c bytes h =
     (ap (λ d. d.stopped) c.self.view_is ∙ c.requires) c.in-Ok.ensures.feeds c.in-Ok.ensures.ok
     c.saturating_add-self-inside.ensures).1
 
-pub returns-in-Err-Refused-clause-told : goal.returns-in-Err-Refused-clause-told
-returns-in-Err-Refused-clause-told c bytes h =
-    (fed_refused (record {
+pub returns-in-Err-clause-told : goal.returns-in-Err-clause-told
+returns-in-Err-clause-told c bytes h =
+    (fed_error (record {
       reader = c.self.inside.reader;
       building = c.self.inside.builder;
       length = c.self.inside.length;
@@ -59,18 +54,14 @@ returns-in-Err-Refused-clause-told c bytes h =
       reader = c.feed.new.self;
       building = c.feed.new.taker;
       length = c.self.inside.length;
-      stopped = Some (errors.Refused c.in-Err-Refused.refusal);
+      stopped = Some c.in-Err.error;
     })
-    bytes c.args.piece.now c.feed.new.taker c.in-Err-Refused.refusal
-    (subst (λ d. HasDecoded d bytes) (sym c.self.view_is) h)
-    (ap (λ d. d.stopped) c.self.view_is ∙ c.requires)
-    (subst (λ e. Stops building IsLacking e c.self.inside.builder c.feed.new.taker
-    (reads (begun_by c.self.inside.reader) c.args.piece.now)) c.in-Err-Refused.field-0-is
-    c.in-Err-Refused.ensures.feeds) refl).0
+    bytes c.args.piece.now c.in-Err.error (subst (λ d. HasDecoded d bytes) (sym c.self.view_is) h)
+    (ap (λ d. d.stopped) c.self.view_is ∙ c.requires) c.in-Err.ensures.feeds refl).0
 
-pub returns-in-Err-Refused-clause-decoded : goal.returns-in-Err-Refused-clause-decoded
-returns-in-Err-Refused-clause-decoded c bytes h =
-    (fed_refused (record {
+pub returns-in-Err-clause-decoded : goal.returns-in-Err-clause-decoded
+returns-in-Err-clause-decoded c bytes h =
+    (fed_error (record {
       reader = c.self.inside.reader;
       building = c.self.inside.builder;
       length = c.self.inside.length;
@@ -80,14 +71,7 @@ returns-in-Err-Refused-clause-decoded c bytes h =
       reader = c.feed.new.self;
       building = c.feed.new.taker;
       length = c.self.inside.length;
-      stopped = Some (errors.Refused c.in-Err-Refused.refusal);
+      stopped = Some c.in-Err.error;
     })
-    bytes c.args.piece.now c.feed.new.taker c.in-Err-Refused.refusal
-    (subst (λ d. HasDecoded d bytes) (sym c.self.view_is) h)
-    (ap (λ d. d.stopped) c.self.view_is ∙ c.requires)
-    (subst (λ e. Stops building IsLacking e c.self.inside.builder c.feed.new.taker
-    (reads (begun_by c.self.inside.reader) c.args.piece.now)) c.in-Err-Refused.field-0-is
-    c.in-Err-Refused.ensures.feeds) refl).1
-
-pub returns-in-Err-Memory-clause-decoded : goal.returns-in-Err-Memory-clause-decoded
-returns-in-Err-Memory-clause-decoded c bytes h = fed_lacking _ _ refl
+    bytes c.args.piece.now c.in-Err.error (subst (λ d. HasDecoded d bytes) (sym c.self.view_is) h)
+    (ap (λ d. d.stopped) c.self.view_is ∙ c.requires) c.in-Err.ensures.feeds refl).1
