@@ -64,6 +64,17 @@ impl Writer for Counter {
         Ok(())
     }
 
+    fn leaf(&mut self, element: Element, text: &[u8]) -> Result<(), Never> {
+        let (page, _) = code_of(element);
+        let signs = if page == self.page { 4 } else { 6 };
+        self.count = self
+            .count
+            .saturating_add(text.len() as u64)
+            .saturating_add(signs);
+        self.page = page;
+        Ok(())
+    }
+
     fn opaque(&mut self, bytes: &[u8]) -> Result<(), Never> {
         let length = write_mb(bytes.len() as u32).as_slice().len();
         let head = (1 + length) as u64;

@@ -23,9 +23,7 @@ pub fn put_text<W: Writer>(w: &mut W, element: Element, text: &[u8]) -> Result<(
     if text.is_empty() {
         return w.tag(element, false);
     }
-    w.tag(element, true)?;
-    w.text(text)?;
-    w.end()
+    w.leaf(element, text)
 }
 
 /// Gives an element with a number in decimal.
@@ -72,12 +70,11 @@ pub fn put_data<W: Writer>(w: &mut W, value: &Bytes) -> Result<(), W::Error>
     if bytes.is_empty() {
         return w.tag(Element::EData, false);
     }
-    w.tag(Element::EData, true)?;
     if is_plain_text(bytes) {
-        w.text(bytes)?;
-    } else {
-        w.opaque(bytes)?;
+        return w.leaf(Element::EData, bytes);
     }
+    w.tag(Element::EData, true)?;
+    w.opaque(bytes)?;
     w.end()
 }
 

@@ -1,5 +1,5 @@
 -- The canonical spelling of tokens: WBXML 1.3, sections 5.4 to 5.8, with the choices of this profile.
-use Rattle.std.specs.Prelude.{◌==◌, ◌+◌, ℕ, Bool, if◌then◌else◌, List, [], ◌∷◌, ◌++◌, length}
+use Rattle.std.specs.Prelude.{◌==◌, ◌+◌, ℕ, Bool, true, if◌then◌else◌, List, [], ◌∷◌, ◌++◌, length}
 use Rattle.wbxml_tables.specs.declared.Element.{Element}
 use Rattle.wbxml_tables.specs.Tables.{page_of, code_on_page}
 use Rattle.wbxml_ints.specs.Multibyte.{shortest}
@@ -47,6 +47,10 @@ pub record Written : Type 0 where
 -- what it has written after one more token
 abbrev pub written_after : Written → Token → Written
 written_after w t = record { bytes = w.bytes ++ token_bytes w.page t; page = page_after w.page t }
+
+-- an element whose content is a text
+abbrev pub leaf_tokens : Element → List ℕ → List Token
+leaf_tokens e text = Tag e true ∷ Text text ∷ End ∷ []
 
 -- what takes tokens is, after all of these
 abbrev pub given : {W : Type 0} → (W → Token → W) → W → List Token → W

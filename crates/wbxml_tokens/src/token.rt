@@ -2,6 +2,7 @@
 ghost use Rattle.std.specs.Prelude.{◌≡◌, ◌<◌, ◌^◌, ℕ, length, Option as Maybe, OnOk};
 ghost use Rattle.wbxml_tokens.specs.declared.reason.Reason.{Reason as Cause};
 ghost use Rattle.wbxml_tokens.specs.Taking.{Takes};
+ghost use Rattle.wbxml_tokens.specs.Spelling.{given, leaf_tokens};
 ghost use Rattle.wbxml_tokens.specs.declared.token.Token.{Token as Piece};
 ghost use Rattle.wbxml_tokens.specs.declared.token.Token.TheVariants.{Tag, End, Text, Opaque};
 
@@ -53,6 +54,15 @@ pub trait Writer {
     fn text(&mut self, text: &[u8]) -> Result<(), Self::Error>
         ensures ok { OnOk result (self.new ≡ after self.old (Text text.now)) }
         ensures taken { Takes told left result self.old self.new (refusal self.old (Text text.now)) };
+
+    /// An element whose content is a text: its tag, the text and its end, up to the first that isn't taken.
+    fn leaf(&mut self, element: Element, text: &[u8]) -> Result<(), Self::Error>
+        ensures ok { OnOk result (self.new ≡ given after self.old (leaf_tokens element text.now)) }
+    {
+        self.tag(element, true)?;
+        self.text(text)?;
+        self.end()
+    }
 
     fn opaque(&mut self, bytes: &[u8]) -> Result<(), Self::Error>
         requires { length bytes.now < 2 ^ 32 }

@@ -1,7 +1,8 @@
 // The canonical spelling of tokens.
-ghost use Rattle.std.specs.Prelude.{◌≡◌, ◌<◌, ◌^◌, ◌∷◌, ◌++◌, [], length, take, IfOk, OnOk, OnErr};
+ghost use Rattle.std.specs.Prelude.{◌≡◌, ◌≤◌, ◌<◌, ◌+◌, ◌^◌, ◌∷◌, ◌++◌, [], length, vec_len, vec_capacity};
+ghost use Rattle.std.specs.Prelude.{IfOk, OnOk, OnErr};
 ghost use Rattle.wbxml_tokens.specs.declared.token.Token.TheVariants.{Tag, End, Text, Opaque};
-ghost use Rattle.wbxml_tokens.specs.Spelling.{Written, written_after, prologue};
+ghost use Rattle.wbxml_tokens.specs.Spelling.{Written, written_after, given, leaf_tokens, prologue};
 
 use crate::token::Writer;
 use dm_base::{Bytes, Memory};
@@ -54,65 +55,43 @@ impl TokenWriter {
     }
 }
 
-// Keeps what was appended to so many bytes where it is whole, and else takes it off.
-fn cut_unless_whole(
-    out: &mut Vec<u8>,
-    length: usize,
-    appended: Result<(), Memory>,
-) -> Result<(), Memory>
-    ensures answer { result ≡ appended }
-    ensures whole { OnOk appended (out.new.items ≡ out.old.items) }
-    ensures cut { OnErr appended (out.new.items ≡ take length out.old.items) }
+// Takes room for so many bytes, and `more`.
+fn make_room(out: &mut Vec<u8>, bytes: usize, more: usize) -> Result<(), Memory>
+    ensures items { out.new.items ≡ out.old.items }
+    ensures room { OnOk result (vec_len out.new + (bytes + more) ≤ vec_capacity out.new) }
 {
-    match appended {
-        Ok(()) => Ok(()),
-        Err(memory) => {
-            out.truncate(length);
-            Err(memory)
+    match bytes.checked_add(more) {
+        Some(room) => {
+            out.reserve(room)?;
+            Ok(())
         }
+        None => Err(Memory),
     }
 }
 
-// Appends three pieces. After `Memory` the first of them may stand there.
-fn append_each(out: &mut Vec<u8>, first: &[u8], second: &[u8], third: &[u8]) -> Result<(), Memory>
-    ensures ok { OnOk result (out.new.items ≡ out.old.items ++ first.now ++ second.now ++ third.now) }
-    ensures err { OnErr result (take (length out.old.items) out.new.items ≡ out.old.items) }
+// Appends bytes for which there is room.
+fn extend_reserved(out: &mut Vec<u8>, bytes: &[u8])
+    requires { vec_len out.old + length bytes.now ≤ vec_capacity out.old }
+    ensures items { out.new.items ≡ out.old.items ++ bytes.now }
+    ensures len { vec_len out.new ≡ vec_len out.old + length bytes.now }
+    ensures capacity { vec_capacity out.old ≤ vec_capacity out.new }
 {
-    out.extend_from_slice(first)?;
-    out.extend_from_slice(second)?;
-    out.extend_from_slice(third)?;
-    Ok(())
+    match out.extend_from_slice(bytes) {
+        Ok(()) => {}
+        Err(_) => unreachable!(),
+    }
 }
 
-// Appends a text with its sign and the byte 00 behind it. After `Memory` the front of it may stand there.
-fn append_text_each(out: &mut Vec<u8>, text: &[u8]) -> Result<(), Memory>
-    ensures ok { OnOk result (out.new.items ≡ out.old.items ++ 3 ∷ text.now ++ 0 ∷ []) }
-    ensures err { OnErr result (take (length out.old.items) out.new.items ≡ out.old.items) }
+// Appends a text with its sign and the byte 00 behind it. There is room.
+fn put_text(out: &mut Vec<u8>, text: &[u8])
+    requires { vec_len out.old + (length text.now + 2) ≤ vec_capacity out.old }
+    ensures items { out.new.items ≡ out.old.items ++ 3 ∷ text.now ++ 0 ∷ [] }
+    ensures len { vec_len out.new ≡ vec_len out.old + (length text.now + 2) }
+    ensures capacity { vec_capacity out.old ≤ vec_capacity out.new }
 {
-    out.push(0x03)?;
-    out.extend_from_slice(text)?;
-    out.push(0x00)?;
-    Ok(())
-}
-
-// Appends a text with its sign and the byte 00 behind it, or nothing.
-fn append_text(out: &mut Vec<u8>, text: &[u8]) -> Result<(), Memory>
-    ensures ok { OnOk result (out.new.items ≡ out.old.items ++ 3 ∷ text.now ++ 0 ∷ []) }
-    ensures err { OnErr result (out.new.items ≡ out.old.items) }
-{
-    let length = out.len();
-    let appended = append_text_each(out, text);
-    cut_unless_whole(out, length, appended)
-}
-
-// Appends three pieces, or none of them.
-fn append(out: &mut Vec<u8>, first: &[u8], second: &[u8], third: &[u8]) -> Result<(), Memory>
-    ensures ok { OnOk result (out.new.items ≡ out.old.items ++ first.now ++ second.now ++ third.now) }
-    ensures err { OnErr result (out.new.items ≡ out.old.items) }
-{
-    let length = out.len();
-    let appended = append_each(out, first, second, third);
-    cut_unless_whole(out, length, appended)
+    out.push_reserved(0x03);
+    extend_reserved(out, text);
+    out.push_reserved(0x00);
 }
 
 impl Writer for TokenWriter {
@@ -156,7 +135,28 @@ impl Writer for TokenWriter {
         ensures ok { OnOk result (self.new ≡ written_after self.old (Text text.now)) }
         ensures err { OnErr result (self.new ≡ self.old) }
     {
-        append_text(&mut self.bytes, text)
+        make_room(&mut self.bytes, text.len(), 2)?;
+        put_text(&mut self.bytes, text);
+        Ok(())
+    }
+
+    // As the tag, the text and the end, into room that is taken once.
+    fn leaf(&mut self, element: Element, text: &[u8]) -> Result<(), Memory>
+        ensures ok { OnOk result (self.new ≡ given written_after self.old (leaf_tokens element text.now)) }
+        ensures err { OnErr result (self.new ≡ self.old) }
+    {
+        let (page, code) = code_of(element);
+        let head = if page == self.page { 2 } else { 4 };
+        make_room(&mut self.bytes, text.len(), 2 + head)?;
+        if page != self.page {
+            self.bytes.push_reserved(0);
+            self.bytes.push_reserved(page);
+            self.page = page;
+        }
+        self.bytes.push_reserved(code + 0x40);
+        put_text(&mut self.bytes, text);
+        self.bytes.push_reserved(0x01);
+        Ok(())
     }
 
     fn opaque(&mut self, bytes: &[u8]) -> Result<(), Memory>
@@ -165,6 +165,10 @@ impl Writer for TokenWriter {
         ensures err { OnErr result (self.new ≡ self.old) }
     {
         let length = write_mb(bytes.len() as u32);
-        append(&mut self.bytes, &[0xc3], length.as_slice(), bytes)
+        make_room(&mut self.bytes, bytes.len(), 1 + length.as_slice().len())?;
+        self.bytes.push_reserved(0xc3);
+        extend_reserved(&mut self.bytes, length.as_slice());
+        extend_reserved(&mut self.bytes, bytes);
+        Ok(())
     }
 }
