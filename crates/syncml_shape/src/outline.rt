@@ -67,13 +67,9 @@ impl Outline {
         ensures opens { Opens result self.old self.new (frame_of parent) (frame_of child) }
         ensures err { OnErr result (self.new ≡ self.old) }
     {
-        match self.below.push(parent) {
-            Ok(()) => {
-                self.top = child;
-                Ok(())
-            }
-            Err(_) => Err(Stop::Memory),
-        }
+        self.below.push(parent)?;
+        self.top = child;
+        Ok(())
     }
 
     fn may_end(&self) -> bool

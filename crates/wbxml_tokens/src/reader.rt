@@ -77,10 +77,8 @@ impl State {
         ensures reached { OnOk result (IsReached (reader_of self.new)) }
         ensures err { IfErr result (λ e. (e ≡ errors.Memory) × (self.new ≡ self.old)) }
     {
-        match self.held.extend(piece) {
-            Ok(()) => Ok(()),
-            Err(Memory) => Err(FeedError::Memory),
-        }
+        self.held.extend(piece)?;
+        Ok(())
     }
 
     // Reads a piece behind bytes that are held.

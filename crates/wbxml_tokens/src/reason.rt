@@ -2,6 +2,7 @@
 ghost use Rattle.std.specs.Prelude.{◌≡◌};
 ghost use Rattle.wbxml_tokens.specs.Reasons.{word_of};
 
+use dm_base::Memory;
 use std::fmt::{self, Display, Formatter};
 use thiserror::Error;
 
@@ -89,6 +90,17 @@ pub enum Stop {
     Memory,
 }
 
+impl From<Memory> for Stop {
+    ghost use Rattle.std.specs.Prelude.{◌≡◌};
+    ghost use Rattle.wbxml_tokens.specs.declared.reason.Stop.TheVariants as stops;
+
+    ghost from_gives = { λ _ stop. stop ≡ stops.Memory };
+
+    fn from(_memory: Memory) -> Stop {
+        Stop::Memory
+    }
+}
+
 /// Why a reader or a decoder answers no `Ok`: the first refusal of the bytes, or want of memory.
 #[derive(Clone, Copy, Debug, PartialEq, Eq, Error)]
 pub enum FeedError {
@@ -96,4 +108,15 @@ pub enum FeedError {
     Refused(Refusal),
     #[error("out of memory")]
     Memory,
+}
+
+impl From<Memory> for FeedError {
+    ghost use Rattle.std.specs.Prelude.{◌≡◌};
+    ghost use Rattle.wbxml_tokens.specs.declared.reason.FeedError.TheVariants as errors;
+
+    ghost from_gives = { λ _ error. error ≡ errors.Memory };
+
+    fn from(_memory: Memory) -> FeedError {
+        FeedError::Memory
+    }
 }

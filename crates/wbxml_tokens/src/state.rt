@@ -10,7 +10,7 @@ use crate::prologue::prologue;
 use crate::reason::{FeedError, Reason, Stop};
 use crate::spot::Spot;
 use crate::token::Taker;
-use dm_base::{Bytes, Memory};
+use dm_base::Bytes;
 use std::alloc::Global;
 
 // The part at the front of bytes of the body, of which some are left.
@@ -78,15 +78,12 @@ fn enter(
 {
     match prologue(bytes) {
         Ok(None) => Ok(0),
-        Ok(Some(head)) => match Bytes::of_slice(alloc, head.table) {
-            Ok(strings) => {
-                *table = strings;
-                spot.is_in_body = true;
-                spot.place += head.size as u64;
-                Ok(head.size)
-            }
-            Err(Memory) => Err(FeedError::Memory),
-        },
+        Ok(Some(head)) => {
+            *table = Bytes::of_slice(alloc, head.table)?;
+            spot.is_in_body = true;
+            spot.place += head.size as u64;
+            Ok(head.size)
+        }
         Err(refusal) => Err(Stop::Refused(refusal.reason).at(spot.place + refusal.at)),
     }
 }

@@ -4,8 +4,8 @@ use Rattle.wbxml_tokens.specs.Parts.{reader_of}
 use Rattle.wbxml_tokens.proofs.Holding.{read_text}
 use Rattle.wbxml_tokens.proofs.reader.State.read_text.Goals as goal
 
-pub returns-in-Ok-clause-ok : goal.returns-in-Ok-clause-ok
-returns-in-Ok-clause-ok c =
-    ap (λ h. begun_by (record (reader_of c.args.self.now) { held = h })) c.in-Ok.ensures.ok
+pub returns-clause-ok : goal.returns-clause-ok
+returns-clause-ok c =
+    ap (λ h. begun_by (record (reader_of c.args.self.now) { held = h })) c.in_ok-extend.ensures.ok
     ∙ read_text (reader_of c.args.self.now) c.args.piece.now c.requires.reached c.requires.some c.requires.room
     c.requires.text
