@@ -1,4 +1,5 @@
 // How a run ends.
+use std::fmt;
 
 /// The answer of a run, which is the status that the program ends with.
 #[derive(Clone, Copy, Debug, PartialEq, Eq)]
@@ -17,4 +18,18 @@ pub enum Exit {
     NoMemory,
     /// 67,108,864 bytes were taken and another byte came; of a trace no whole line was left in them.
     TooLong,
+}
+
+impl fmt::Display for Exit {
+    fn fmt<W: fmt::Write>(&self, f: &mut fmt::Formatter<W>) -> fmt::Result {
+        f.write_str(match self {
+            Exit::Done => "done",
+            Exit::Usage => "words of no form",
+            Exit::BadInput => "bad input",
+            Exit::ReadFault => "reading failed",
+            Exit::WriteFault => "writing failed",
+            Exit::NoMemory => "out of memory",
+            Exit::TooLong => "more bytes than are taken",
+        })
+    }
 }
