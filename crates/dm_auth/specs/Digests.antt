@@ -24,19 +24,19 @@ abbrev pub digest_of : List ℕ → List ℕ → List ℕ → List ℕ
 digest_of user password nonce = md5 (base64_of (md5 (user ++ 58 ∷ password)) ++ 58 ∷ nonce)
 
 -- the text is there, and is this
-abbrev pub is_text : List ℕ → Option (List ℕ) → Bool
-is_text wanted None = false
-is_text wanted (Some text) = bytes_eq text wanted
+abbrev pub is_this : List ℕ → Option (List ℕ) → Bool
+is_this wanted None = false
+is_this wanted (Some text) = bytes_eq text wanted
 
 -- the text is this, where it is there
-abbrev pub is_text_or_none : List ℕ → Option (List ℕ) → Bool
-is_text_or_none wanted None = true
-is_text_or_none wanted (Some text) = bytes_eq text wanted
+abbrev pub is_this_or_none : List ℕ → Option (List ℕ) → Bool
+is_this_or_none wanted None = true
+is_this_or_none wanted (Some text) = bytes_eq text wanted
 
 -- the Type is `syncml:auth-md5`, and the Format `b64` or absent
 abbrev pub is_md5_meta : Option Meta → Bool
 is_md5_meta None = false
-is_md5_meta (Some meta) = is_text (codes "syncml:auth-md5") meta.media && is_text_or_none (codes "b64") meta.format
+is_md5_meta (Some meta) = is_this (codes "syncml:auth-md5") meta.media && is_this_or_none (codes "b64") meta.format
 
 -- what a credential comes to
 abbrev pub verdict : List ℕ → List ℕ → List ℕ → Option Cred → Verdict

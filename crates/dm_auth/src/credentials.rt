@@ -1,6 +1,6 @@
 // What the ends show, and what it comes to.
 ghost use Rattle.std.specs.Prelude.{◌≡◌, ◌&&◌, List, ℕ, length, take, bytes_eq, codes, IfOk, option_map};
-ghost use Rattle.dm_auth.specs.Digests.{base64_of, digest_of, is_text, is_text_or_none, is_md5_meta, verdict, md5_meta};
+ghost use Rattle.dm_auth.specs.Digests.{base64_of, digest_of, is_this, is_this_or_none, is_md5_meta, verdict, md5_meta};
 ghost use Rattle.dm_auth.specs.Digests.{credential, challenge};
 
 use base64::engine::general_purpose::STANDARD;
@@ -66,8 +66,8 @@ fn is_same(text: &[u8], right: &[u8]) -> bool
     }
 }
 
-fn is_text(wanted: &[u8], text: &Option<Bytes>) -> bool
-    ensures { result ≡ is_text wanted.now text.now }
+fn is_this(wanted: &[u8], text: &Option<Bytes>) -> bool
+    ensures { result ≡ is_this wanted.now text.now }
 {
     match text {
         None => false,
@@ -81,8 +81,8 @@ fn is_md5_meta(meta: &Option<Boxed<Meta>>) -> bool
     match meta {
         None => false,
         Some(meta) => {
-            is_text(MD5_TYPE, &meta.inner.media)
-                && (meta.inner.format.is_none() || is_text(BASE64_FORMAT, &meta.inner.format))
+            is_this(MD5_TYPE, &meta.inner.media)
+                && (meta.inner.format.is_none() || is_this(BASE64_FORMAT, &meta.inner.format))
         }
     }
 }
