@@ -5,11 +5,11 @@ use Rattle.wbxml_tokens.specs.declared.reason.Refusal.{Refusal}
 use Rattle.syncml_types.specs.Message.{Parts}
 use Rattle.syncml_types.specs.Canonical.{canonical}
 use Rattle.syncml_types.specs.Lengths.{up_to_most}
-use Rattle.syncml_codec.specs.Listing.{listing_of}
+use Rattle.syncml_codec.specs.Listing.{line_feed, listing_of}
 use Rattle.syncml_codec.specs.Decoding.{read_of}
 use Rattle.dm_exit.specs.declared.exit.Exit.{Exit}
 use Rattle.dm_exit.specs.declared.exit.Exit.TheVariants as exit
-use Rattle.dm_replay.specs.Output.{line_feed, refused_line}
+use Rattle.dm_replay.specs.Output.{refused_line}
 
 -- a message of so many bytes, and how many its canonical spelling has
 abbrev pub ok_line : ℕ → ℕ → Bool → List ℕ

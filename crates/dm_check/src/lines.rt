@@ -2,7 +2,8 @@
 ghost use Rattle.std.specs.Prelude.{◌≡◌, ◌++◌, bytes_eq, length, IfOk};
 ghost use Rattle.syncml_types.specs.Canonical.{canonical};
 ghost use Rattle.syncml_types.specs.Lengths.{up_to_most};
-ghost use Rattle.dm_replay.specs.Output.{refused_line, line_feed};
+ghost use Rattle.syncml_codec.specs.Listing.{line_feed};
+ghost use Rattle.dm_replay.specs.Output.{refused_line};
 ghost use Rattle.dm_check.specs.Answers as Spec;
 ghost use Rattle.dm_check.specs.Kept.{read_in, checked_in};
 

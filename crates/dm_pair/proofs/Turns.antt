@@ -5,6 +5,7 @@ use Rattle.std.proofs.Common.{◌∙◌, ◌≤◌, refl, sym, ap, subst, cond, 
 use Rattle.std.specs.Prelude.{is_some}
 use Rattle.dm_base.specs.declared.lines.LineReason.{LineReason}
 use Rattle.dm_base.specs.declared.lines.LineReason.TheVariants as reason
+use Rattle.syncml_codec.specs.Listing.{line_feed}
 use Rattle.dm_start.specs.declared.heads.Head.TheVariants as head
 use Rattle.dm_start.specs.declared.telling.Phase.TheVariants as phase
 use Rattle.dm_start.specs.declared.errors.LineError.{LineError}
@@ -18,7 +19,6 @@ use Rattle.dm_job.specs.Reading.{after_line as job_after}
 use Rattle.dm_job.specs.Texts.{segments, is_long, tail_reason, job_in, is_ended}
 use Rattle.dm_job.proofs.Turns.{some_segments}
 use Rattle.dm_replay.specs.Trace.{ids_of, told_in}
-use Rattle.dm_replay.specs.Output.{line_feed}
 use Rattle.dm_pair.specs.declared.events.Event.{Event}
 use Rattle.dm_pair.specs.declared.events.Event.TheVariants as event
 use Rattle.dm_pair.specs.Events.{event_of}

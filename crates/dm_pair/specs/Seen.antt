@@ -1,12 +1,12 @@
 -- Both ends as the code has them.
 use Rattle.std.specs.Prelude.{◌+◌, ◌++◌, ℕ, Bool, true, false, if◌then◌else◌, List, [], ◌∷◌, codes, Option, None, Some}
+use Rattle.syncml_codec.specs.Listing.{line_feed}
 use Rattle.dm_pair.specs.declared.pairing.Pairing.{Pairing as Ends}
 use Rattle.dm_pair.specs.declared.text.PairOut.{PairOut}
 use Rattle.dm_pair.specs.Pairing.{Pairing, Round, half_down, last_down}
 use Rattle.dm_exit.specs.declared.exit.Exit.{Exit}
 use Rattle.dm_exit.specs.declared.exit.Exit.TheVariants as exit
 use Rattle.dm_job.specs.Texts.{segments}
-use Rattle.dm_replay.specs.Output.{line_feed}
 use Rattle.dm_pair.specs.declared.events.Event.{Event}
 use Rattle.dm_pair.specs.Pairing.{step_of}
 use Rattle.dm_pair.specs.Texts.{Written, happening, behind_text, ends_at}

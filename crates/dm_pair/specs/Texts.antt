@@ -5,6 +5,7 @@ use Rattle.std.specs.Prelude.{Option, Some, None, Result, Ok, Err}
 use Rattle.dm_base.specs.Lines.{run_limit}
 use Rattle.dm_base.specs.declared.lines.LineReason.{LineReason}
 use Rattle.dm_base.specs.declared.lines.LineReason.TheVariants as reason
+use Rattle.syncml_codec.specs.Listing.{line_feed}
 use Rattle.dm_start.specs.declared.heads.Head.TheVariants as head
 use Rattle.dm_start.specs.Start.{Setup, Section, opening, after_line as section_after}
 use Rattle.dm_start.specs.TreeText.{tree_text}
@@ -16,7 +17,7 @@ use Rattle.dm_job.specs.Texts.{segments, is_long, unended, job_in}
 use Rattle.dm_service.specs.Messages.{first_service}
 use Rattle.dm_service.specs.Report.{report_text}
 use Rattle.dm_replay.specs.Trace.{ids_of, told_in}
-use Rattle.dm_replay.specs.Output.{client_of, bad_line, line_feed}
+use Rattle.dm_replay.specs.Output.{client_of, bad_line}
 use Rattle.dm_exit.specs.declared.exit.Exit.{Exit}
 use Rattle.dm_exit.specs.declared.exit.Exit.TheVariants as exit
 use Rattle.dm_pair.specs.declared.events.Event.{Event}

@@ -1,12 +1,12 @@
 // The whole text.
 ghost use Rattle.std.specs.Prelude.{◌≡◌, ◌<◌, ◌≤◌, ◌+◌, ◌*◌, ◌++◌, ◌^◌, false, length, IfOk, IfErr, IfSome, OnOk};
+ghost use Rattle.syncml_codec.specs.Listing.{line_feed};
 ghost use Rattle.dm_start.specs.declared.heads.Head.TheVariants.{Device};
 ghost use Rattle.dm_start.specs.Start.{opening, told_of};
 ghost use Rattle.dm_job.specs.declared.draft.Reading.TheVariants as reading;
 ghost use Rattle.dm_job.specs.Sound.{IsSound};
 ghost use Rattle.dm_job.specs.Texts.{segments};
 ghost use Rattle.dm_replay.specs.From.{CanBegin};
-ghost use Rattle.dm_replay.specs.Output.{line_feed};
 ghost use Rattle.dm_replay.specs.Trace.{ids_of as servers_of};
 ghost use Rattle.dm_pair.specs.Events.{IsOf};
 ghost use Rattle.dm_pair.specs.Pairing as Runs;

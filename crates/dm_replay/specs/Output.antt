@@ -9,6 +9,7 @@ use Rattle.dm_base.specs.declared.lines.LineReason.TheVariants as reason
 use Rattle.dm_base.specs.Fields.{hex_text}
 use Rattle.syncml_types.specs.Canonical.{canonical}
 use Rattle.syncml_types.specs.Message.{Parts}
+use Rattle.syncml_codec.specs.Listing.{line_feed}
 use Rattle.dm_tree.specs.Nodes.{Nodes}
 use Rattle.dm_atomic.specs.Updates.{begun as begun_state}
 use Rattle.dm_machine.specs.declared.kinds.End.{End}
@@ -24,9 +25,6 @@ use Rattle.dm_exit.specs.declared.exit.Exit.TheVariants as exit
 use Rattle.dm_exit.specs.Puts.{PutsPrefix}
 use Rattle.dm_replay.specs.Trace.{Stop, bad, too_long, Ending, whole, stopped, Trace, Begun, began, unbegun, begun_of}
 use Rattle.dm_replay.specs.Trace.{trace_of}
-
-abbrev pub line_feed : List ℕ
-line_feed = 10 ∷ []
 
 -- ---- the answers, one line each
 

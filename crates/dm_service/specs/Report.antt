@@ -6,11 +6,9 @@ use Rattle.std.specs.Fmt.{decimal}
 use Rattle.std.specs.List.{list_all, flat_map}
 use Rattle.dm_base.specs.Fields.{hex_text}
 use Rattle.syncml_types.specs.declared.command.Step.{Step}
+use Rattle.syncml_codec.specs.Listing.{line_feed}
 use Rattle.dm_service.specs.declared.sent.KeptAlert.{KeptAlert}
 use Rattle.dm_service.specs.Service.{Told, Service}
-
-abbrev pub line_end : List ℕ
-line_end = 10 ∷ []
 
 abbrev pub spaced : List ℕ → List ℕ
 spaced text = codes " " ++ text
@@ -23,10 +21,10 @@ abbrev pub result_line : Step → List ℕ
 result_line found =
     codes "result" ++ hex_field found.target ++ hex_field found.format ++ hex_field found.media
     ++ hex_field (Some found.value)
-    ++ line_end
+    ++ line_feed
 
 abbrev pub status_line : ℕ → ℕ → List ℕ
-status_line number code = codes "status" ++ spaced (decimal number) ++ spaced (decimal code) ++ line_end
+status_line number code = codes "status" ++ spaced (decimal number) ++ spaced (decimal code) ++ line_feed
 
 -- of the commands from this number on
 abbrev pub told_text : ℕ → List Told → List ℕ
@@ -39,7 +37,7 @@ told_text number (t ∷ ts) = told_lines number t.code t.found (told_text (numbe
 
 -- TYPE VALUE
 abbrev pub alert_line : KeptAlert → List ℕ
-alert_line a = codes "alert 1226" ++ hex_field (Some a.media) ++ hex_field (Some a.value) ++ line_end
+alert_line a = codes "alert 1226" ++ hex_field (Some a.media) ++ hex_field (Some a.value) ++ line_feed
 
 abbrev pub has_code : Told → Bool
 has_code t = is_some t.code
@@ -51,4 +49,5 @@ state_word v =
     else codes "running"
 
 unfoldable pub report_text : Service → List ℕ
-report_text v = told_text 1 v.told ++ flat_map alert_line v.alerts ++ codes "state" ++ spaced (state_word v) ++ line_end
+report_text v =
+    told_text 1 v.told ++ flat_map alert_line v.alerts ++ codes "state" ++ spaced (state_word v) ++ line_feed

@@ -33,8 +33,12 @@ abbrev pub above : ℕ → ℕ
 above zero = zero
 above (suc n) = n
 
+-- what ends a line
+abbrev pub line_feed : List ℕ
+line_feed = 10 ∷ []
+
 abbrev pub feed_where : Bool → List ℕ
-feed_where c = if c then 10 ∷ [] else []
+feed_where c = if c then line_feed else []
 
 -- the lines of tokens at a depth, where the line of an element may still be open
 abbrev pub listed : ℕ → Bool → List Token → List ℕ

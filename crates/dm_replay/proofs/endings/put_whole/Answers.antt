@@ -1,10 +1,10 @@
 use Rattle.std.proofs.Common.{◌++◌, append_assoc, subst, sym}
 use Rattle.std.specs.Prelude.{codes}
+use Rattle.syncml_codec.specs.Listing.{line_feed}
 use Rattle.dm_tree.specs.Rows.{nodes}
 use Rattle.dm_start.specs.TreeText.{tree_text}
 use Rattle.dm_exit.specs.declared.exit.Exit.TheVariants as exit
 use Rattle.dm_exit.specs.Puts.{PutsEnd}
-use Rattle.dm_replay.specs.Output.{line_feed}
 use Rattle.dm_replay.proofs.Running.{last_breaks}
 use Rattle.dm_replay.proofs.endings.put_whole.Goals as goal
 
