@@ -2,7 +2,7 @@
 ghost use Rattle.std.specs.Prelude.{◌≡◌, ◌≤◌, length, decimal};
 ghost use Rattle.wbxml_tables.specs.declared.Element.TheVariants.{ESize};
 ghost use Rattle.wbxml_tokens.specs.Spelling.{spelled};
-ghost use Rattle.syncml_types.specs.Canonical.{optional, number_tokens, is_empty_meta};
+ghost use Rattle.syncml_types.specs.Canonical.{optional, number_tokens};
 ghost use Rattle.dm_pack.specs.Measures as Spec;
 ghost use Rattle.dm_pack.specs.Measures.{marked};
 
@@ -31,24 +31,6 @@ fn size_cost(size: Option<u64>) -> u64
     }
 }
 
-fn is_bare(meta: &Meta) -> bool
-    ensures { result ≡ is_empty_meta meta.now }
-{
-    matches!(
-        meta,
-        Meta {
-            format: None,
-            media: None,
-            size: None,
-            next_nonce: None,
-            max_msg: None,
-            max_obj: None,
-            mark: None,
-            version: None,
-        }
-    )
-}
-
 // A Meta's tag alone, or its two ends with the way to the page of its children and back.
 fn meta_cost(meta: &Option<Boxed<Meta>>) -> u64
     ensures value { result ≡ Spec.meta_cost meta.now }
@@ -57,7 +39,7 @@ fn meta_cost(meta: &Option<Boxed<Meta>>) -> u64
     match meta {
         None => 0,
         Some(meta) => {
-            if is_bare(&meta.inner) {
+            if meta.inner.is_empty() {
                 1
             } else {
                 6 + size_cost(meta.inner.size)

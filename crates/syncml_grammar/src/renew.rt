@@ -25,24 +25,6 @@ fn is_new_loc(loc: &Loc) -> bool
     }
 }
 
-fn is_new_meta(meta: &Meta) -> bool
-    ensures { IsTrue result → meta.now ≡ no_meta }
-{
-    matches!(
-        meta,
-        Meta {
-            format: None,
-            media: None,
-            size: None,
-            next_nonce: None,
-            max_msg: None,
-            max_obj: None,
-            mark: None,
-            version: None,
-        }
-    )
-}
-
 fn is_new_item(item: &Item) -> bool
     ensures { IsTrue result → item.now ≡ no_item }
 {
@@ -238,7 +220,7 @@ pub(crate) fn renewed_meta(alloc: Global, kept: Option<Boxed<Meta>>) -> Result<B
     let Some(mut meta) = kept else {
         return first_meta(alloc);
     };
-    if !is_new_meta(&meta.inner) {
+    if !meta.inner.is_empty() {
         become_meta(&mut meta.inner);
     }
     Ok(meta)

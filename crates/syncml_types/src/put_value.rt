@@ -4,7 +4,7 @@ ghost use Rattle.std.specs.List.{AllByRecursion, list_all};
 ghost use Rattle.wbxml_tokens.specs.Spelling.{given};
 ghost use Rattle.syncml_types.specs.Message.{IsShortData, HasShortData};
 ghost use Rattle.syncml_types.specs.Canonical.{text_tokens, number_tokens, flag_tokens, data_tokens, is_text, optional};
-ghost use Rattle.syncml_types.specs.Canonical.{loc_tokens, meta_tokens, meta_children, is_empty_meta, item_tokens};
+ghost use Rattle.syncml_types.specs.Canonical.{loc_tokens, meta_tokens, meta_children, item_tokens};
 ghost use Rattle.syncml_types.specs.Canonical.{item_children, is_empty_item, items_tokens, texts_tokens, cred_tokens};
 ghost use Rattle.syncml_types.specs.Canonical.{chal_tokens};
 
@@ -161,25 +161,12 @@ fn put_meta_children<W: Writer>(w: &mut W, meta: &Meta) -> Result<(), W::Error>
     put_option_text(w, Element::EVersion, &meta.version)
 }
 
-fn is_bare_meta(meta: &Meta) -> bool
-    ensures { result ≡ is_empty_meta meta.now }
-{
-    meta.format.is_none()
-        && meta.media.is_none()
-        && meta.size.is_none()
-        && meta.next_nonce.is_none()
-        && meta.max_msg.is_none()
-        && meta.max_obj.is_none()
-        && meta.mark.is_none()
-        && meta.version.is_none()
-}
-
 /// Gives a Meta. One without children is its tag alone.
 #[tactic(auto, using(crate::proofs::Given::given_append, crate::proofs::Bare::bare_meta, crate::proofs::Bare::full_meta))]
 pub fn put_meta<W: Writer>(w: &mut W, meta: &Meta) -> Result<(), W::Error>
     ensures { OnOk result (w.new ≡ given W.after w.old (meta_tokens meta.now)) }
 {
-    if is_bare_meta(meta) {
+    if meta.is_empty() {
         return w.tag(Element::EMeta, false);
     }
     w.tag(Element::EMeta, true)?;

@@ -1,5 +1,6 @@
 // What headers and commands are made of. Texts are UTF-8 without byte 00; Data holds any bytes.
-ghost use Rattle.std.specs.Prelude.{◌≡◌};
+ghost use Rattle.std.specs.Prelude.{◌≡◌, IsTrue};
+ghost use Rattle.syncml_types.specs.Canonical.{is_empty_meta};
 ghost use Rattle.syncml_types.specs.Message.{no_meta};
 
 use dm_base::{Boxed, Bytes};
@@ -39,6 +40,26 @@ impl Meta {
             mark: None,
             version: None,
         }
+    }
+
+    /// Whether it tells nothing.
+    pub fn is_empty(&self) -> bool
+        ensures value { result ≡ is_empty_meta self.now }
+        ensures empty { IsTrue result → self.now ≡ no_meta }
+    {
+        matches!(
+            self,
+            Meta {
+                format: None,
+                media: None,
+                size: None,
+                next_nonce: None,
+                max_msg: None,
+                max_obj: None,
+                mark: None,
+                version: None,
+            }
+        )
     }
 }
 
