@@ -16,8 +16,8 @@ fn place(alloc: Global, uri: &[u8]) -> Result<Loc, Memory> {
     })
 }
 
-fn header(alloc: Global) -> Result<Header, Memory> {
-    Ok(Header {
+fn header(alloc: Global) -> Result<Boxed<Header>, Memory> {
+    let header = Header {
         dtd: Bytes::of_slice(alloc, b"1.2")?,
         proto: Bytes::of_slice(alloc, b"DM/1.2")?,
         session: Bytes::of_slice(alloc, b"1")?,
@@ -28,7 +28,8 @@ fn header(alloc: Global) -> Result<Header, Memory> {
         no_resp: false,
         cred: None,
         meta: None,
-    })
+    };
+    Boxed::new(alloc, header)
 }
 
 fn text_meta(alloc: Global) -> Result<Boxed<Meta>, Memory> {

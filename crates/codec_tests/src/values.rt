@@ -2,7 +2,7 @@ ghost use Rattle.std.specs.Prelude.{◌≡◌, IfOk, IfSome};
 ghost use Rattle.std.specs.List.{AllByRecursion};
 ghost use Rattle.syncml_types.specs.Message.{IsShortData, HasShortData};
 
-use dm_base::{Bytes, List, Memory};
+use dm_base::{Boxed, Bytes, List, Memory};
 use std::alloc::Global;
 use std::test::Fail;
 use syncml_types::put_value::put_data;
@@ -18,8 +18,8 @@ fn place(alloc: Global, uri: &[u8]) -> Result<Loc, Memory> {
     })
 }
 
-fn header(alloc: Global) -> Result<Header, Memory> {
-    Ok(Header {
+fn header(alloc: Global) -> Result<Boxed<Header>, Memory> {
+    let header = Header {
         dtd: Bytes::of_slice(alloc, b"1.2")?,
         proto: Bytes::of_slice(alloc, b"DM/1.2")?,
         session: Bytes::of_slice(alloc, b"1")?,
@@ -30,7 +30,8 @@ fn header(alloc: Global) -> Result<Header, Memory> {
         no_resp: false,
         cred: None,
         meta: None,
-    })
+    };
+    Boxed::new(alloc, header)
 }
 
 fn item(alloc: Global, value: Option<Bytes>) -> Result<Item, Memory>

@@ -1,14 +1,16 @@
 -- What is made for the values, reports, tasks and parts that are left.
 use Rattle.std.proofs.Common.{◌≡◌, ℕ, suc, ◌+◌, ◌<◌, ◌≤◌, List, [], ◌∷◌, ◌++◌, length, map, drop, get_or, refl, sym}
 use Rattle.std.proofs.Common.{◌∙◌, ap, append_assoc, add-one, drop-cons}
-use Rattle.std.proofs.lemmas.List.{drop_all}
+use Rattle.std.proofs.lemmas.List.{append-nil, drop_all}
+use Rattle.syncml_types.specs.declared.command.Command.{Command}
 use Rattle.dm_commands.specs.declared.outcome.Found.{Found}
 use Rattle.dm_atomic.specs.declared.tasks.Post.{Post}
 use Rattle.dm_atomic.specs.declared.tasks.Task.{Task}
 use Rattle.dm_atomic.specs.declared.reports.Report.{Report}
 use Rattle.dm_atomic.specs.declared.reports.Part.{Part}
-use Rattle.dm_atomic.specs.Made.{Made, Status, Result, reported, all_reported}
+use Rattle.dm_atomic.specs.Made.{Made, Status, Result, reported, all_reported, told}
 use Rattle.dm_atomic.specs.Run.{undone, not_run, container, parts_done, parts_undone}
+use Rattle.dm_atomic.proofs.Telling.{told_both}
 
 ahead : {X : Type 0} (made : List X → List Made) (xs shown : List X) (k : ℕ) (x : X)
     → shown ≡ xs → k < length shown → x ≡ get_or shown k x → made (drop k xs) ≡ made (x ∷ drop (k + 1) xs)
@@ -54,3 +56,12 @@ all_reported_append [] b = refl
 all_reported_append (r ∷ a) b =
     ap (λ x. reported r ++ x) (all_reported_append a b)
     ∙ sym (append_assoc (reported r) (all_reported a) (all_reported b))
+
+-- some reports were told, and the next one
+pub reports_more : (out now next : List Command) (done : List Report) (r : Report)
+    → now ≡ out ++ told (all_reported done) → next ≡ now ++ told (reported r)
+    → next ≡ out ++ told (all_reported (done ++ r ∷ []))
+reports_more out now next done r e f =
+    told_both out now next (all_reported done) (reported r) e f
+    ∙ ap (λ ms. out ++ told ms)
+    (sym (all_reported_append done (r ∷ []) ∙ ap (λ ms. all_reported done ++ ms) (append-nil (reported r))))

@@ -10,7 +10,7 @@ ghost use Rattle.dm_atomic.specs.Marks.{whole_of, Holds};
 ghost use Rattle.dm_atomic.specs.Stays.{tasks_cover, StayBut, committed_ids};
 
 use crate::attempts::{first_continues, skip_left};
-use crate::containers::{put_container, put_failed, put_parts_done, put_parts_undone};
+use crate::containers::{put_failed, put_own_container, put_parts_done, put_parts_undone};
 use crate::engine::Engine;
 use crate::reports::{Part, Report};
 use crate::tasks::{Post, Task};
@@ -58,7 +58,7 @@ impl Engine {
     fn succeed(
         &mut self,
         post: &Post,
-        done: &List<Report>,
+        done: List<Report>,
         out: &mut List<Command>,
     ) -> Result<(), Memory>
         requires sound { IsSoundEngine self.old }
@@ -67,7 +67,7 @@ impl Engine {
             (succeeds (opened (state_of self.old)) post.now (record {
               state = state_of self.old;
               notices = [];
-              done = done.now;
+              done = done;
               failed = None;
               unrun = [];
             })) (state_of self.new) out.old out.new) }
@@ -79,7 +79,7 @@ impl Engine {
         ensures sound { IsSoundEngine self.new }
     {
         put_parts_done(self.alloc, &self.parts, out)?;
-        put_container(self.alloc, post, 200, done, out)?;
+        put_own_container(self.alloc, post, 200, done, out)?;
         self.close_group();
         Ok(())
     }
@@ -139,7 +139,7 @@ impl Engine {
             self.stay(post, done)?;
             return Ok(());
         }
-        self.succeed(&post, &done, out)?;
+        self.succeed(&post, done, out)?;
         Ok(())
     }
 

@@ -3,7 +3,7 @@ ghost use Rattle.std.specs.Prelude.{◌≡◌, ◌∷◌, ◌++◌, OnOk, OnErr,
 ghost use Rattle.dm_atomic.specs.Made.{all_reported, told, IsInFront};
 ghost use Rattle.dm_atomic.specs.Run.{undone, not_run, container, parts_done, parts_undone};
 
-use crate::entries::{put_report, put_reports, put_status};
+use crate::entries::{put_own_reports, put_report, put_reports, put_status};
 use crate::reports::{Part, Report};
 use crate::tasks::{Post, Task};
 use dm_base::{List, Memory};
@@ -25,6 +25,23 @@ pub(crate) fn put_container(
     out.reserve(reports.len().saturating_add(1))?;
     put_status(alloc, post, code, out)?;
     put_reports(alloc, reports, out)
+}
+
+/// As `put_container`, where no found value is copied.
+#[tactic(auto, using(crate::proofs::Telling::told_both, crate::proofs::Telling::nothing_more, crate::proofs::Telling::some_more))]
+pub(crate) fn put_own_container(
+    alloc: Global,
+    post: &Post,
+    code: u32,
+    reports: List<Report>,
+    out: &mut List<Command>,
+) -> Result<(), Memory>
+    ensures ok { OnOk result (out.new ≡ out.old ++ told (container post.now code reports)) }
+    ensures err { OnErr result (IsInFront out.old out.new) }
+{
+    out.reserve(reports.len().saturating_add(1))?;
+    put_status(alloc, post, code, out)?;
+    put_own_reports(alloc, reports, out)
 }
 
 /// Tells the parts of a group that succeeded, each with its own codes and Results. After `Memory` a part may be told.

@@ -242,6 +242,22 @@ pub(crate) fn put_own_report(
     put_own_results(alloc, &post, found, out)
 }
 
+/// Tells these in order, of which no value is copied. After `Memory` a part may be told.
+#[tactic(auto, using(crate::proofs::Telling::nothing_more, crate::proofs::Telling::some_more, crate::proofs::MadeAhead::reports_more))]
+pub(crate) fn put_own_reports(
+    alloc: Global,
+    reports: List<Report>,
+    out: &mut List<Command>,
+) -> Result<(), Memory>
+    ensures ok { OnOk result (out.new ≡ out.old ++ told (all_reported reports)) }
+    ensures err { OnErr result (IsInFront out.old out.new) }
+{
+    for report in reports.into_vec() {
+        put_own_report(alloc, report, out)?;
+    }
+    Ok(())
+}
+
 /// Tells the Status of a task, and then its Results. After `Memory` a part of these may be told.
 #[tactic(auto, using(crate::proofs::Telling::told_both, crate::proofs::Telling::nothing_more, crate::proofs::Telling::some_more))]
 pub(crate) fn put_report(

@@ -7,7 +7,7 @@ ghost use Rattle.dm_bench.specs.Words.{after};
 ghost use Rattle.dm_bench.specs.Messages as Spec;
 
 use crate::names::{add_leaf, digits};
-use dm_base::{Bytes, List, Memory};
+use dm_base::{Boxed, Bytes, List, Memory};
 use rand_core::utils::NextWord;
 use rand_xoshiro::SplitMix64;
 use std::alloc::Global;
@@ -118,10 +118,10 @@ fn members(alloc: Global, nodes: u32, words: &mut SplitMix64) -> Result<List<Mem
     Ok(members)
 }
 
-fn header(alloc: Global, number: u32) -> Result<Header, Memory>
+fn header(alloc: Global, number: u32) -> Result<Boxed<Header>, Memory>
     ensures { IfOk result (λ header. header ≡ Spec.header number) }
 {
-    Ok(Header {
+    let header = Header {
         dtd: Bytes::of_slice(alloc, b"1.2")?,
         proto: Bytes::of_slice(alloc, b"DM/1.2")?,
         session: Bytes::of_slice(alloc, b"1")?,
@@ -132,7 +132,8 @@ fn header(alloc: Global, number: u32) -> Result<Header, Memory>
         no_resp: false,
         cred: None,
         meta: None,
-    })
+    };
+    Boxed::new(alloc, header)
 }
 
 fn body(alloc: Global, members: List<Member>) -> Result<List<Command>, Memory>

@@ -9,7 +9,7 @@ ghost use Rattle.dm_ends.specs.Commands.{alert as alert_of};
 ghost use Rattle.dm_ends.specs.Farewells.{farewell as farewell_of};
 ghost use Rattle.dm_ends.specs.Ready.{IsReadyMessage};
 
-use dm_base::{Bytes, List, Memory, Nonce};
+use dm_base::{Boxed, Bytes, List, Memory, Nonce};
 use dm_headers::header_status;
 use std::alloc::Global;
 use syncml_codec::encode;
@@ -67,7 +67,7 @@ fn last_words(alloc: Global, status: Option<Command>) -> Result<List<Command>, M
 }
 
 // The last words behind a header, spelled.
-fn spelled(alloc: Global, header: Header, status: Option<Command>) -> Result<LastMessage, Memory>
+fn spelled(alloc: Global, header: Boxed<Header>, status: Option<Command>) -> Result<LastMessage, Memory>
     requires one { IfSome status (λ s. ids_in s ≡ 1) }
     requires fit { IsFit header (numbered 1 (option_to_list status ++ alert_of 1223 None [] ∷ [])) }
     ensures message { IfOk result (λ last. last.message ≡ record {
@@ -88,7 +88,7 @@ fn spelled(alloc: Global, header: Header, status: Option<Command>) -> Result<Las
 /// asks for a credential or accepts one.
 pub fn farewell(
     alloc: Global,
-    header: Header,
+    header: Boxed<Header>,
     answered: &Message,
     code: u32,
     nonce: &Nonce,

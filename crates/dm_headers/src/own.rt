@@ -135,12 +135,12 @@ pub fn next_header(
     session: u32,
     target: Loc,
     source: Loc,
-) -> Result<Header, Memory>
+) -> Result<Boxed<Header>, Memory>
     requires { standing.now.own + 1 < 2 ^ 32 }
     ensures { IfOk result (λ header.
         header ≡ header_then (login_of own account.now) standing.now limits session target source) }
 {
-    Ok(Header {
+    let header = Header {
         dtd: Bytes::of_slice(alloc, b"1.2")?,
         proto: Bytes::of_slice(alloc, b"DM/1.2")?,
         session: decimal(alloc, session)?,
@@ -151,5 +151,6 @@ pub fn next_header(
         no_resp: false,
         cred: cred_of(alloc, own, account, standing.welcomed)?,
         meta: Some(Boxed::new(alloc, limits_meta(limits))?),
-    })
+    };
+    Boxed::new(alloc, header)
 }

@@ -15,7 +15,7 @@ use crate::emptying::{fill_out, tail_behind};
 use crate::filled::{Filled, is_final, push_tail, spelled};
 use crate::place::Place;
 use crate::queue::Queue;
-use dm_base::{List, Memory};
+use dm_base::{Boxed, List, Memory};
 use syncml_parts::{cut_item, set_ids};
 use syncml_types::{Command, Header, Item, Message};
 
@@ -99,7 +99,7 @@ fn number_all(commands: &mut List<Command>)
 fn fill_put(
     queue: &mut Queue,
     commands: List<Command>,
-    header: Header,
+    header: Boxed<Header>,
     room: u64,
     heard: bool,
 ) -> Result<Filled, Memory>
@@ -123,7 +123,7 @@ fn fill_put(
 fn fill_listed(
     queue: &mut Queue,
     commands: List<Command>,
-    header: Header,
+    header: Boxed<Header>,
     room: u64,
     heard: bool,
 ) -> Result<Filled, Memory>
@@ -139,7 +139,7 @@ fn fill_listed(
     ensures within { IfOk result (λ f. length f.bytes ≤ room) }
     ensures left { OnOk result (queue.new ≡ (fill_of (map fresh commands) header room heard).left) }
 {
-    let Some(place) = all_that_fit(&commands, &header, room) else {
+    let Some(place) = all_that_fit(&commands, &header.inner, room) else {
         return fill_put(queue, commands, header, room, heard);
     };
     let whole = commands.len();
@@ -174,7 +174,7 @@ pub fn fill_at_once(
     queue: &mut Queue,
     front: Option<Command>,
     entries: List<Command>,
-    header: Header,
+    header: Boxed<Header>,
     room: u64,
     heard: bool,
 ) -> Result<Filled, Memory>

@@ -14,7 +14,7 @@ use crate::filled::{ENTRY, Filled, Tail, is_final, push_tail, spelled};
 use crate::fitting::{Taken, push_part};
 use crate::place::Place;
 use crate::queue::Queue;
-use dm_base::{List, Memory};
+use dm_base::{Boxed, List, Memory};
 use syncml_types::{Command, Header, Message};
 
 // Moves the first entry behind the commands of a message.
@@ -114,7 +114,7 @@ pub(crate) fn tail_behind(queue: &Queue, heard: bool) -> Tail
 }
 
 // The message, and what it takes off but the part of its last entry.
-fn fill_by_move(queue: &mut Queue, header: Header, room: u64, heard: bool) -> Result<Filled, Memory>
+fn fill_by_move(queue: &mut Queue, header: Boxed<Header>, room: u64, heard: bool) -> Result<Filled, Memory>
     requires ready { AllByRecursion IsReady queue.old }
     requires header { IsReadyHeader header }
     requires room { (least_room ≤ room) × (room ≤ message_limit) }
@@ -127,7 +127,7 @@ fn fill_by_move(queue: &mut Queue, header: Header, room: u64, heard: bool) -> Re
     ensures queue { IfOk result (λ f. queue.new ≡ drop f.whole queue.old) }
 {
     let mut body = List::with_room(queue.alloc(), queue.len().min(room as usize / ENTRY))?;
-    let taken = take_out(queue, &header, room, &mut body)?;
+    let taken = take_out(queue, &header.inner, room, &mut body)?;
     let (cut, place) = push_first(queue, taken, room, &mut body)?;
     let tail = tail_behind(queue, heard);
     push_tail(queue.alloc(), tail, place.next, &mut body)?;
@@ -145,7 +145,7 @@ fn fill_by_move(queue: &mut Queue, header: Header, room: u64, heard: bool) -> Re
 
 /// The message that `fill` would give, taken off the queue as `commit` does: the entries that go out whole are moved
 /// into it, and not copied. After `Memory` the queue has lost some of them.
-pub fn fill_out(queue: &mut Queue, header: Header, room: u64, heard: bool) -> Result<Filled, Memory>
+pub fn fill_out(queue: &mut Queue, header: Boxed<Header>, room: u64, heard: bool) -> Result<Filled, Memory>
     requires ready { AllByRecursion IsReady queue.old }
     requires header { IsReadyHeader header }
     requires room { (least_room ≤ room) × (room ≤ message_limit) }

@@ -11,7 +11,7 @@ ghost use Rattle.dm_pack.specs.Filling.{numbered, tail_commands, is_final, IsRea
 use crate::fitting::{push_next, take_entries};
 use crate::place::asks_next;
 use crate::queue::Queue;
-use dm_base::{Bytes, List, Memory};
+use dm_base::{Boxed, Bytes, List, Memory};
 use std::alloc::Global;
 use syncml_codec::encode_with_length;
 use syncml_parts::set_ids;
@@ -122,7 +122,7 @@ pub(crate) fn spelled(
 /// which the message fits so, fewer than are left. It ends with Final where nothing is left and the other side's
 /// package has ended (`heard`), with an Alert 1222 where nothing is left and it hasn't, else with neither. Each entry
 /// is measured once, and nothing is made or spelled to be measured.
-pub fn fill(queue: &Queue, header: Header, room: u64, heard: bool) -> Result<Filled, Memory>
+pub fn fill(queue: &Queue, header: Boxed<Header>, room: u64, heard: bool) -> Result<Filled, Memory>
     requires ready { AllByRecursion IsReady queue.now }
     requires header { IsReadyHeader header }
     requires room { (least_room ≤ room) × (room ≤ message_limit) }
@@ -136,7 +136,7 @@ pub fn fill(queue: &Queue, header: Header, room: u64, heard: bool) -> Result<Fil
 {
     let alloc = queue.alloc();
     let mut body = List::with_room(alloc, queue.len().min(room as usize / ENTRY))?;
-    let taken = take_entries(queue, &header, room, &mut body)?;
+    let taken = take_entries(queue, &header.inner, room, &mut body)?;
     let (cut, place) = push_next(queue, taken, room, &mut body)?;
     let tail = tail_of(queue, taken.whole, heard);
     push_tail(alloc, tail, place.next, &mut body)?;

@@ -6,7 +6,7 @@ ghost use Rattle.dm_server.specs.Working.{with_account};
 
 use crate::held::Plan;
 use dm_auth::Account;
-use dm_base::{Bytes, Memory};
+use dm_base::{Boxed, Bytes, Memory};
 use dm_headers::{Side, next_header};
 use dm_service::Progress;
 use std::alloc::Global;
@@ -31,7 +31,7 @@ pub(crate) fn header_for(
     account: &Account,
     progress: &Progress,
     message: &Message,
-) -> Result<Header, Memory>
+) -> Result<Boxed<Header>, Memory>
     requires own { progress.now.standing.own + 1 < 2 ^ 32 }
     ensures { IfOk result (λ header. (v : Service) → v.job ≡ with_account plan.now.job account.now
         → header ≡ Spec.header_for v progress.now message.now) }

@@ -8,7 +8,7 @@ ghost use Rattle.dm_headers.specs.Headers as Spec;
 
 use crate::device::IdPlace;
 use dm_auth::Account;
-use dm_base::{Bytes, Limits, Memory};
+use dm_base::{Boxed, Bytes, Limits, Memory};
 use dm_headers::{Side, next_header};
 use dm_machine::Progress;
 use dm_tree::Tree;
@@ -24,7 +24,7 @@ pub(crate) fn header_from(
     place: &IdPlace,
     progress: &Progress,
     account: &Account,
-) -> Result<Header, Memory>
+) -> Result<Boxed<Header>, Memory>
     requires own { progress.now.standing.own + 1 < 2 ^ 32 }
     ensures { IfOk result (λ header. header
         ≡ Spec.next_header (login_of User account.now) progress.now.standing limits progress.now.number

@@ -9,7 +9,7 @@ ghost use Rattle.dm_pack.specs.Filling.{fill as fill_of, IsReadyHeader, Filling}
 ghost use Rattle.dm_machine.specs.Sending.{moved_on as moved};
 
 use crate::rest::{Sent, Session};
-use dm_base::{List, Memory};
+use dm_base::{Boxed, List, Memory};
 use dm_machine::Progress;
 use dm_pack::{Filled, Queue, Tail, fill, fill_at_once};
 use syncml_types::{Command, Header};
@@ -46,7 +46,7 @@ pub(crate) fn push_all(queue: &mut Queue, entries: List<Command>) -> Result<(), 
 fn send_behind(
     queue: &mut Queue,
     entries: List<Command>,
-    header: Header,
+    header: Boxed<Header>,
     room: u64,
     heard: bool,
 ) -> Result<Filled, Memory>
@@ -76,7 +76,7 @@ pub(crate) fn send(
     queue: &mut Queue,
     front: Option<Command>,
     entries: List<Command>,
-    header: Header,
+    header: Boxed<Header>,
     room: u64,
     heard: bool,
 ) -> Result<Filled, Memory>

@@ -18,7 +18,7 @@ ghost use Rattle.dm_waiting.specs.View.{IsNumberedEntry, entries_of};
 use crate::holding::push_held;
 use crate::ids::id_at;
 use crate::loads::{Load, any_carries, begin, drop_between, drop_front};
-use dm_base::{List, Memory};
+use dm_base::{Boxed, List, Memory};
 use dm_job::JobEntry;
 use dm_pack::{Filled, Queue, fill};
 use dm_service::{Carried, Sent};
@@ -190,7 +190,7 @@ impl WaitingList {
     /// `out`. What waits stays as it is. After `Memory` some commands may stand behind `out`.
     pub fn fill(
         &self,
-        header: Header,
+        header: Boxed<Header>,
         room: u64,
         heard: bool,
         msg: u32,

@@ -12,13 +12,46 @@ use dm_tree::{NewNode, Role, Tree, Value};
 use dm_undo::Journal;
 use dm_uri::{Path, parse};
 use std::alloc::Global;
+use std::marker::Model;
 
-/// A tree with its journal, and the paths of its leaves.
+/// A value for leaves, of which each edit sets a copy. It stands beside the tree, so that its bytes are looked at when
+/// it is copied: the copy of a value that is made of constants is worked out by the compiler.
+#[derive(Drop)]
+pub struct Sample {
+    value: Value,
+}
+
+impl Model for Sample {
+    ghost use Rattle.std.specs.Prelude.{false};
+    ghost use Rattle.dm_tree.specs.declared.nodes.Value.{Value as AValue};
+    ghost use Rattle.dm_tree.specs.Nodes.{IsValue};
+
+    ghost Value = { AValue };
+
+    ghost view = { λ s. s.value };
+
+    ghost invariant = { λ s. IsValue false s.value };
+}
+
+impl Sample {
+    fn copy(&self, alloc: Global) -> Result<Value, Memory>
+        ensures { IfOk result (λ value. IsValue false value) }
+    {
+        Ok(Value {
+            format: self.value.format.copy(alloc)?,
+            media: self.value.media.copy(alloc)?,
+            bytes: self.value.bytes.copy(alloc)?,
+        })
+    }
+}
+
+/// A tree with its journal, the paths of its leaves, and the value that edits set.
 #[derive(Drop)]
 pub struct Bare {
     pub tree: Tree,
     pub journal: Journal,
     pub paths: Vec<Path>,
+    pub sample: Sample,
 }
 
 fn path_of(alloc: Global, uri: &[u8]) -> Result<Path, Fault>
@@ -104,6 +137,9 @@ impl Bare {
             tree: full_tree(alloc)?,
             journal: Journal::new(alloc)?,
             paths: all_paths(alloc)?,
+            sample: Sample {
+                value: leaf_value(alloc, b'b')?,
+            },
         })
     }
 }
@@ -124,7 +160,7 @@ fn edit(
     tree: &mut Tree,
     journal: &mut Journal,
     path: &Path,
-    byte: u8,
+    sample: &Sample,
 ) -> Result<(), Fault>
     requires { IsSound journal.old.entries tree.old.rows }
     ensures { OnOk result (IsSound journal.new.entries tree.new.rows) }
@@ -135,7 +171,7 @@ fn edit(
     if tree.view(id).interior {
         return Err(Fault::Lost);
     }
-    let value = leaf_value(alloc, byte)?;
+    let value = sample.copy(alloc)?;
     journal.reserve(1)?;
     let undo = tree.set_value(id, value);
     journal.note(undo);
@@ -148,13 +184,13 @@ pub fn edit_all(
     tree: &mut Tree,
     journal: &mut Journal,
     paths: &[Path],
-    byte: u8,
+    sample: &Sample,
 ) -> Result<(), Fault>
     requires { IsSound journal.old.entries tree.old.rows }
     ensures { OnOk result (IsSound journal.new.entries tree.new.rows) }
 {
     for path in paths {
-        edit(alloc, tree, journal, path, byte)?;
+        edit(alloc, tree, journal, path, sample)?;
     }
     Ok(())
 }

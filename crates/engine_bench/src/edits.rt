@@ -39,7 +39,13 @@ fn turn(rt: &HostRuntime, bare: &mut Bare, what: What) -> Result<(), Fault>
             }
             Ok(())
         }
-        What::Edit => edit_all(rt.alloc(), &mut bare.tree, &mut bare.journal, paths, b'b'),
+        What::Edit => edit_all(
+            rt.alloc(),
+            &mut bare.tree,
+            &mut bare.journal,
+            paths,
+            &bare.sample,
+        ),
     }
 }
 

@@ -117,8 +117,8 @@ fn body(alloc: Global, command: Command) -> Result<List<Command>, Memory> {
     Ok(body)
 }
 
-fn header(alloc: Global) -> Result<Header, Memory> {
-    Ok(Header {
+fn header(alloc: Global) -> Result<Boxed<Header>, Memory> {
+    let header = Header {
         dtd: Bytes::of_slice(alloc, b"1.2")?,
         proto: Bytes::of_slice(alloc, b"DM/1.2")?,
         session: Bytes::of_slice(alloc, b"1")?,
@@ -129,7 +129,8 @@ fn header(alloc: Global) -> Result<Header, Memory> {
         no_resp: false,
         cred: None,
         meta: None,
-    })
+    };
+    Boxed::new(alloc, header)
 }
 
 fn message(alloc: Global, command: Command) -> Result<Option<Message>, Memory> {

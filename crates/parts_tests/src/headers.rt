@@ -70,8 +70,8 @@ fn header(
     proto: &[u8],
     cred: Option<Cred>,
     max_msg: Option<u64>,
-) -> Result<Header, Memory> {
-    Ok(Header {
+) -> Result<Boxed<Header>, Memory> {
+    let header = Header {
         dtd: text(alloc, dtd)?,
         proto: text(alloc, proto)?,
         session: text(alloc, b"1")?,
@@ -82,7 +82,8 @@ fn header(
         no_resp: false,
         cred,
         meta: Some(meta(alloc, max_msg, None)?),
-    })
+    };
+    Boxed::new(alloc, header)
 }
 
 fn alert(alloc: Global, id: u32) -> AlertCmd {
@@ -133,7 +134,7 @@ fn heard_with(
     alloc: Global,
     account: &Account,
     standing: &Standing,
-    header: Header,
+    header: Boxed<Header>,
     body: List<Command>,
 ) -> Result<Option<Heard>, Memory> {
     match Message::new(header, body, true) {
@@ -296,8 +297,8 @@ fn a_room_counts_within_its_limits(rt: HostRuntime) -> Result<(), Fail> {
 
 fn is_told(alloc: Global, code: u32, no_resp: bool) -> Result<bool, Memory> {
     let mut header = header(alloc, b"1.2", b"DM/1.2", None, None)?;
-    header.no_resp = no_resp;
-    Ok(header_status(alloc, &header, code, &NONCE)?.is_some())
+    header.inner.no_resp = no_resp;
+    Ok(header_status(alloc, &header.inner, code, &NONCE)?.is_some())
 }
 
 fn wrong_silence(alloc: Global) -> Result<Option<u32>, Memory> {
@@ -333,7 +334,7 @@ fn shows(alloc: Global, welcomed: bool) -> Result<Option<Bytes>, Memory> {
         loc(alloc, b"s1")?,
         loc(alloc, b"d1")?,
     )?;
-    match &header.cred {
+    match &header.inner.cred {
         Some(cred) => Ok(Some(cred.value.copy(alloc)?)),
         None => Ok(None),
     }

@@ -67,7 +67,7 @@ fn part_in(filled: &Filled) -> Option<Part> {
 }
 
 #[tactic(auto, using(dm_pack::proofs::Left::what_is_left_is_ready))]
-fn sent_part(queue: &mut Queue, header: Header) -> Result<Option<Part>, Memory>
+fn sent_part(queue: &mut Queue, header: Boxed<Header>) -> Result<Option<Part>, Memory>
     requires ready { AllByRecursion IsReady queue.old }
     requires header { IsReadyHeader header }
     ensures { AllByRecursion IsReady queue.new }

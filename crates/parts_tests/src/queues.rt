@@ -25,10 +25,10 @@ pub(crate) fn text(alloc: Global, text: &[u8]) -> Result<Bytes, Memory>
 }
 
 /// The header of each message.
-pub(crate) fn header(alloc: Global) -> Result<Header, Memory>
+pub(crate) fn header(alloc: Global) -> Result<Boxed<Header>, Memory>
     ensures { IfOk result IsReadyHeader }
 {
-    Ok(Header {
+    let header = Header {
         dtd: text(alloc, b"1.2")?,
         proto: text(alloc, b"DM/1.2")?,
         session: text(alloc, b"1")?,
@@ -52,7 +52,8 @@ pub(crate) fn header(alloc: Global) -> Result<Header, Memory>
                 ..Meta::empty()
             },
         )?),
-    })
+    };
+    Boxed::new(alloc, header)
 }
 
 fn status_of(alloc: Global, cmd: Bytes, cmd_ref: u32) -> Command
@@ -164,7 +165,7 @@ pub(crate) fn add_statuses(alloc: Global, queue: &mut Queue, cmd: &[u8]) -> Resu
 }
 
 #[tactic(auto, using(dm_pack::proofs::Left::what_is_left_is_ready))]
-fn sent(queue: &mut Queue, header: Header, room: u64, heard: bool) -> Result<Told, Memory>
+fn sent(queue: &mut Queue, header: Boxed<Header>, room: u64, heard: bool) -> Result<Told, Memory>
     requires ready { AllByRecursion IsReady queue.old }
     requires header { IsReadyHeader header }
     requires room { (2048 ≤ room) × (room ≤ 65536) }

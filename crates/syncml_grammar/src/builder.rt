@@ -70,7 +70,7 @@ impl Builder {
         }
         match self.stack.into_parts() {
             None => Err(error),
-            Some(parts) => Ok(Message::of_parts(parts.header.into_inner(), parts.body, parts.last)),
+            Some(parts) => Ok(Message::of_parts(parts.header, parts.body, parts.last)),
         }
     }
 

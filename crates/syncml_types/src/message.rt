@@ -6,7 +6,7 @@ ghost use Rattle.syncml_types.specs.Fitness.{IsFit, first_unfit as first_of, tol
 use crate::command::Command;
 use crate::fitness::first_unfit;
 use crate::values::Header;
-use dm_base::List;
+use dm_base::{Boxed, List};
 use std::marker::Model;
 
 /// Why parts make no message.
@@ -27,7 +27,7 @@ pub enum Unfit {
 /// A message that can be spelled. `last` is Final: no message of its package follows.
 #[derive(Drop)]
 pub struct Message {
-    header: Header,
+    header: Boxed<Header>,
     body: List<Command>,
     last: bool,
 }
@@ -46,18 +46,18 @@ impl Model for Message {
 impl Message {
     /// The message of these parts. It answers the first reason why there is none, in the order of `Unfit`. It takes no
     /// memory.
-    pub fn new(header: Header, body: List<Command>, last: bool) -> Result<Message, Unfit>
+    pub fn new(header: Boxed<Header>, body: List<Command>, last: bool) -> Result<Message, Unfit>
         ensures value { IfOk result (λ m. m ≡ record { header = header; body = body; last = last }) }
         ensures which { told_unfit result ≡ first_of (record { header = header; body = body; last = last }) }
     {
-        match first_unfit(&header, &body, last) {
+        match first_unfit(&header.inner, &body, last) {
             Some(unfit) => Err(unfit),
             None => Ok(Message { header, body, last }),
         }
     }
 
     /// The message of parts that are fit. Its spelling may be of any length.
-    pub fn of_parts(header: Header, body: List<Command>, last: bool) -> Message
+    pub fn of_parts(header: Boxed<Header>, body: List<Command>, last: bool) -> Message
         requires { IsFit header body }
         ensures { result ≡ record { header = header; body = body; last = last } }
     {
@@ -71,7 +71,7 @@ impl Message {
         ensures fit { IsFit self.now.header self.now.body }
         ensures spellable { CanBeSpelled self.now.header self.now.body }
     {
-        &self.header
+        &self.header.inner
     }
 
     /// The commands.
