@@ -73,10 +73,8 @@ impl OpenLeaf {
         if !self.takes_text() {
             return Err(Stop::Refused(Reason::Misplaced));
         }
-        match self.leaf.push(piece) {
-            Ok(()) => Ok(()),
-            Err(_) => Err(Stop::Memory),
-        }
+        self.leaf.push(piece)?;
+        Ok(())
     }
 
     // The element ends, and what it holds is put into its parent.
@@ -85,10 +83,10 @@ impl OpenLeaf {
     {
         match self.leaf.close(alloc, self.kind) {
             Err(reason) => Err(Stop::Refused(reason)),
-            Ok(simple) => match put_simple(&mut parent.draft, self.element, simple) {
-                Ok(()) => Ok(()),
-                Err(_) => Err(Stop::Memory),
-            },
+            Ok(simple) => {
+                put_simple(&mut parent.draft, self.element, simple)?;
+                Ok(())
+            }
         }
     }
 }

@@ -75,11 +75,8 @@ impl Nest {
         requires { holds_leaf kind ≡ false }
         ensures { GivesFrames result self.new (on_kind self.old element content kind) }
     {
-        match self.open(element, kind) {
-            Err(Memory) => Err(Stop::Memory),
-            Ok(()) if content => Ok(()),
-            Ok(()) => self.end(),
-        }
+        self.open(element, kind)?;
+        if content { Ok(()) } else { self.end() }
     }
 
     // The tag of a child, which stands apart where it has no children of its own.
@@ -167,10 +164,8 @@ impl Nest {
             return Err(Stop::Refused(Reason::Misplaced));
         };
         let child = mem::replace(&mut self.top, parent);
-        match put_node(&mut self.spares, &mut self.top.draft, element, child.draft) {
-            Ok(()) => Ok(()),
-            Err(Memory) => Err(Stop::Memory),
-        }
+        put_node(&mut self.spares, &mut self.top.draft, element, child.draft)?;
+        Ok(())
     }
 
     // The end of a child without children.
