@@ -1,6 +1,4 @@
-use Rattle.std.proofs.Common.{sym, ap, ◌∙◌, option_map, subst}
-use Rattle.syncml_types.specs.declared.values.Header.{Header}
-use Rattle.syncml_types.specs.Fitness.{IsFit}
+use Rattle.std.proofs.Common.{sym, ap, ◌∙◌, option_map}
 use Rattle.syncml_grammar.specs.Opens.{parts_of}
 use Rattle.syncml_grammar.proofs.FitReads.{read_is_fit}
 use Rattle.syncml_grammar.proofs.Answering.{fit_behind}
@@ -8,9 +6,7 @@ use Rattle.syncml_grammar.proofs.builder.Builder.finish_or.Goals as goal
 
 pub of_parts-requires : goal.of_parts-requires
 of_parts-requires g c =
-    let fits =
     fit_behind read_is_fit
     (record { frames = c.self.inside.stack; room = c.self.inside.room; stopped = c.self.inside.stopped })
     (parts_of c.in-Some-into_parts.parts)
     c.self.invariant c.in_default.is (sym c.into_parts.ensures ∙ ap (option_map parts_of) c.in-Some-into_parts.is)
-    in subst (λ (header : Header). IsFit header c.in-Some-into_parts.parts.body) (sym c.into_inner.ensures) fits
