@@ -1,5 +1,5 @@
 -- What the tasks of a command cover, the command covers.
-use Rattle.std.proofs.Common.{◌≡◌, ℕ, suc, Bool, true, false, List, [], ◌∷◌, refl, sym, ◌∙◌, ap}
+use Rattle.std.proofs.Common.{◌≡◌, ℕ, suc, ◌<◌, Bool, true, false, List, [], ◌∷◌, length, get_or, refl, sym, ◌∙◌, ap}
 use Rattle.std.specs.Prelude.{◌||◌}
 use Rattle.std.specs.List.{list_any}
 use Rattle.std.proofs.lemmas.List.Folds.{list_any-append}
@@ -14,11 +14,11 @@ use Rattle.syncml_types.specs.declared.command.SeqMember.TheVariants as seq
 use Rattle.dm_tree.specs.Nodes.{Path}
 use Rattle.dm_atomic.specs.declared.tasks.Origin.{Origin}
 use Rattle.dm_atomic.specs.declared.tasks.Task.{Task}
-use Rattle.dm_atomic.specs.Tasks.{item_tasks, plain_tasks, member_tasks, members_tasks}
+use Rattle.dm_atomic.specs.Tasks.{item_task, item_tasks, member_tasks, members_tasks}
 use Rattle.dm_atomic.specs.Marks.{Whole as AllOf}
 use Rattle.dm_atomic.specs.Stays.{item_covers, plain_covers, member_covers, seq_member_covers, covers, task_covers}
-use Rattle.dm_atomic.specs.Stays.{tasks_cover, StayBut}
-use Rattle.dm_atomic.proofs.Staying.{stay_within}
+use Rattle.dm_atomic.specs.Stays.{work_covers, tasks_cover, StayBut}
+use Rattle.dm_atomic.proofs.Staying.{stay_then, stay_within, none_at}
 
 parts-false : (a b : Bool) → a || b ≡ false → (a ≡ false) × (b ≡ false)
 parts-false true b e = absurd (cc)
@@ -50,18 +50,22 @@ members-cover origin b (m ∷ ms) p e =
 
 -- ---- so nodes stay that the command doesn't cover
 
-pub plain_stay : (origin : Origin) (b : Bool) (command : Plain) (ts : List Task) (v w : AllOf)
-    → ts ≡ plain_tasks origin b command → StayBut (tasks_cover ts) v w → StayBut (covers (commands.Plain command)) v w
+pub item_stays : (origin : Origin) (command : Plain) (shown : List Item) (k : ℕ) (item : Item) (v w x : AllOf)
+    → shown ≡ command.items → k < length shown → item ≡ get_or shown k item
+    → StayBut (covers (commands.Plain command)) v w
+    → StayBut (work_covers (item_task origin false command k item).work) w x
+    → StayBut (covers (commands.Plain command)) v x
 unfolding covers
-plain_stay origin b command ts v w is a =
-    stay_within (tasks_cover ts) (λ p. plain_covers p command) v w
-    (λ p u. ap (λ l. tasks_cover l p) is ∙ items-cover origin b command 0 command.items p u) a
+item_stays origin command shown k item v w x e l is a b =
+    stay_then (λ p. plain_covers p command) v w x a
+    (stay_within (work_covers (item_task origin false command k item).work) (λ p. plain_covers p command) w x
+    (λ p u. none_at (item_covers command p) shown k item l is (ap (list_any (item_covers command p)) e ∙ u)) b)
 
-pub member_stay : (origin : Origin) (b : Bool) (m : Member) (ts : List Task) (v w : AllOf)
-    → ts ≡ member_tasks origin b m → StayBut (tasks_cover ts) v w → StayBut (λ p. member_covers p m) v w
-member_stay origin b m ts v w is a =
-    stay_within (tasks_cover ts) (λ p. member_covers p m) v w
-    (λ p u. ap (λ l. tasks_cover l p) is ∙ member-cover origin b m p u) a
+pub one_stays : (m : Member) (command : Plain) (v w : AllOf) → m ≡ member.One command
+    → StayBut (covers (commands.Plain command)) v w → StayBut (λ p. member_covers p m) v w
+unfolding covers
+one_stays m command v w is a =
+    stay_within (λ p. plain_covers p command) (λ p. member_covers p m) v w (λ p u. ap (member_covers p) (sym is) ∙ u) a
 
 pub atomic_stay : (origin : Origin) (b : Bool) (block : Block Member) (ts : List Task) (v w : AllOf)
     → ts ≡ members_tasks origin b block.members → StayBut (tasks_cover ts) v w

@@ -1,9 +1,11 @@
 -- Commands that are run one after another.
-use Rattle.std.proofs.Common.{◌≡◌, ℕ, suc, ◌+◌, ◌<◌, ◌≤◌, List, [], ◌∷◌, ◌++◌, length, drop, get_or, refl, sym, ◌∙◌, ap}
-use Rattle.std.proofs.Common.{subst, append_assoc, add-one, drop-cons}
+use Rattle.std.proofs.Common.{◌≡◌, ℕ, suc, ◌+◌, ◌<◌, ◌≤◌, false, List, [], ◌∷◌, ◌++◌, length, drop, get_or, refl, sym, ◌∙◌}
+use Rattle.std.proofs.Common.{ap, subst, append_assoc, add-one, drop-cons}
 use Rattle.std.proofs.lemmas.List.{append-nil, drop_all}
+use Rattle.syncml_types.specs.declared.values.Item.{Item}
 use Rattle.syncml_types.specs.declared.command.Command.{Command}
 use Rattle.syncml_types.specs.declared.command.Block.{Block}
+use Rattle.syncml_types.specs.declared.command.Plain.{Plain}
 use Rattle.syncml_types.specs.declared.command.SeqMember.{SeqMember}
 use Rattle.dm_atomic.specs.declared.tasks.Named.TheVariants as named
 use Rattle.dm_atomic.specs.declared.tasks.Origin.{Origin}
@@ -11,10 +13,11 @@ use Rattle.dm_atomic.specs.declared.tasks.Task.{Task}
 use Rattle.dm_atomic.specs.declared.reports.Report.{Report}
 use Rattle.dm_atomic.specs.declared.engine.Engine.{Engine}
 use Rattle.dm_atomic.specs.Made.{Made, Status, reported, told, notice, IsInFront}
-use Rattle.dm_atomic.specs.Tasks.{container_post}
+use Rattle.dm_atomic.specs.Tasks.{item_task, item_tasks, container_post}
 use Rattle.dm_atomic.specs.Run.{State, Running, Next, quietly, one_step, breaks_first, one_alone, in_sequence}
 use Rattle.dm_atomic.specs.Run.{run_member, run_members, run_sequence}
 use Rattle.dm_atomic.specs.Engine.{state_of, running, Gives, Runs}
+use Rattle.dm_atomic.proofs.TasksAhead.{next_item}
 use Rattle.dm_atomic.proofs.Tried.{running_stays}
 use Rattle.dm_atomic.proofs.Telling.{told_both, some_more}
 
@@ -73,11 +76,22 @@ goes-on one every step s next xs k x whole before now after i l is h =
     (ap (every s) behind ∙ step s x (drop (k + 1) xs)
     ∙ ap (λ y. then_gives (one s x) (every y (drop (k + 1) xs))) (sym h.state_is)) h.told_is
 
-pub sequence_goes_on : (r : Running) (s next : State) (ts : List Task) (k : ℕ) (t : Task) (whole : Next)
-    (before now after : List Command) → IsGiving (in_sequence r s (drop k ts)) whole before now → k < length ts
-    → t ≡ get_or ts k t → Gives (one_alone r s t) next now after
-    → IsGiving (in_sequence r next (drop (k + 1) ts)) whole before after
-sequence_goes_on r = goes-on (one_alone r) (in_sequence r) (λ s t ts. refl)
+pub items_go_on : (r : Running) (origin : Origin) (command : Plain) (s next : State) (shown : List Item) (k : ℕ)
+    (item : Item) (whole : Next) (before now after : List Command)
+    → IsGiving (in_sequence r s (item_tasks origin false command k (drop k command.items))) whole before now
+    → shown ≡ command.items → k < length shown → item ≡ get_or shown k item
+    → Gives (one_alone r s (item_task origin false command k item)) next now after
+    → IsGiving (in_sequence r next (item_tasks origin false command (k + 1) (drop (k + 1) command.items))) whole before
+    after
+items_go_on r origin command s next shown k item whole before now after i e l is h =
+    let t = item_task origin false command k item in
+    let left = item_tasks origin false command (k + 1) (drop (k + 1) command.items) in
+    giving-on (in_sequence r s (item_tasks origin false command k (drop k command.items))) (one_alone r s t)
+    (in_sequence r next left) whole before now after i
+    (ap (λ xs. in_sequence r s (item_tasks origin false command k (drop k xs))) (sym e)
+    ∙ ap (in_sequence r s) (next_item origin false command shown k item l is)
+    ∙ ap (λ xs. in_sequence r s (t ∷ item_tasks origin false command (k + 1) (drop (k + 1) xs))) e
+    ∙ ap (λ y. then_gives (one_alone r s t) (in_sequence r y left)) (sym h.state_is)) h.told_is
 
 pub members_go_on : (r : Running) (origin : Origin) (s next : State) (ms shown : List SeqMember) (k : ℕ) (m : SeqMember)
     (whole : Next) (before now after : List Command) → IsGiving (run_members r origin s (drop k ms)) whole before now
@@ -88,9 +102,12 @@ members_go_on r origin s next ms shown k m whole before now after i e l is h =
     (goes-on (run_member r origin) (run_members r origin) (λ s m ms. refl) s next shown k m whole before now after
     (subst (λ xs. IsGiving (run_members r origin s (drop k xs)) whole before now) (sym e) i) l is h)
 
-pub sequence_over : (r : Running) (s : State) (ts : List Task) (k : ℕ) → length ts ≤ k
-    → in_sequence r s (drop k ts) ≡ quietly s
-sequence_over r s ts k l = ap (in_sequence r s) (drop_all k ts l)
+pub items_over : (r : Running) (origin : Origin) (command : Plain) (s : State) (shown : List Item) (k : ℕ)
+    → shown ≡ command.items → length shown ≤ k
+    → in_sequence r s (item_tasks origin false command k (drop k command.items)) ≡ quietly s
+items_over r origin command s shown k e l =
+    ap (λ xs. in_sequence r s (item_tasks origin false command k (drop k xs))) (sym e)
+    ∙ ap (λ xs. in_sequence r s (item_tasks origin false command k xs)) (drop_all k shown l)
 
 pub members_over : (r : Running) (origin : Origin) (s : State) (ms shown : List SeqMember) (k : ℕ) → shown ≡ ms
     → length shown ≤ k → run_members r origin s (drop k ms) ≡ quietly s

@@ -3,8 +3,8 @@ ghost use Rattle.std.specs.Prelude.{◌≡◌, true, false, [], ◌∷◌, None,
 ghost use Rattle.std.specs.List.{list_any};
 ghost use Rattle.syncml_types.specs.declared.command.Command.TheVariants as commands;
 ghost use Rattle.dm_commands.specs.Promises.{none_moved, KeepIdsBut};
-ghost use Rattle.dm_atomic.specs.Tasks.{plain_tasks as plain_tasks_of, alert_task as alert_task_of};
-ghost use Rattle.dm_atomic.specs.Tasks.{member_tasks as member_tasks_of, members_tasks as members_tasks_of};
+ghost use Rattle.dm_atomic.specs.Tasks.{plain_tasks, member_tasks, alert_task as alert_task_of};
+ghost use Rattle.dm_atomic.specs.Tasks.{members_tasks as members_tasks_of};
 ghost use Rattle.dm_atomic.specs.Made.{IsInFront};
 ghost use Rattle.dm_atomic.specs.Run.{breaks_first, one_alone as alone_of, in_sequence as sequence_of};
 ghost use Rattle.dm_atomic.specs.Run.{run_atomic as atomic_of, run_member as member_of, run_members as members_of};
@@ -12,13 +12,13 @@ ghost use Rattle.dm_atomic.specs.Run.{run_sequence as whole_sequence_of, run_com
 ghost use Rattle.dm_atomic.specs.Engine.{state_of, running, IsSoundEngine, Gives};
 ghost use Rattle.dm_atomic.specs.Laws.{attempt, IfAtomic};
 ghost use Rattle.dm_atomic.specs.Marks.{whole_of, Holds};
-ghost use Rattle.dm_atomic.specs.Stays.{work_covers, tasks_cover, member_covers, seq_member_covers, covers, StayBut};
+ghost use Rattle.dm_atomic.specs.Stays.{work_covers, member_covers, seq_member_covers, covers, StayBut};
 ghost use Rattle.dm_atomic.specs.Stays.{committed_ids};
 ghost use Rattle.dm_atomic.specs.Updates.{clock_of, max_obj_of};
 
 use crate::engine::Engine;
 use crate::entries::{put_own_report, put_status};
-use crate::task_lists::{alert_task, container_post, member_tasks, members_tasks, plain_tasks};
+use crate::task_lists::{alert_task, container_post, item_task, members_tasks};
 use crate::tasks::{Named, Origin, Task, Work};
 use dm_base::{List, Memory};
 use syncml_types::{AlertCmd, Block, Command, Member, Plain, SeqMember};
@@ -70,31 +70,8 @@ impl Engine {
         Ok(())
     }
 
-    // Tasks outside an Atomic, whatever their codes.
-    #[tactic(auto, using(crate::proofs::Held::holds_self, crate::proofs::Held::holds_then, crate::proofs::Giving::giving_starts, crate::proofs::Giving::giving_breaks, crate::proofs::Giving::sequence_over, crate::proofs::Staying::stay_self, crate::proofs::Staying::stay_then, crate::proofs::Staying::none_then, crate::proofs::Staying::then_none))]
-    fn in_sequence(
-        &mut self,
-        caller: &[u8],
-        tasks: &mut [Task],
-        out: &mut List<Command>,
-    ) -> Result<(), Memory>
-        requires sound { IsSoundEngine self.old }
-        ensures gives { OnOk result (Gives (sequence_of (running self.old caller.now) (state_of self.old) tasks.old)
-            (state_of self.new) out.old out.new) }
-        ensures err { OnErr result (IsInFront out.old out.new) }
-        ensures clock { self.new.tree.clock ≡ self.old.tree.clock }
-        ensures max_obj { self.new.inbox.max_obj ≡ self.old.inbox.max_obj }
-        ensures ids { StayBut (tasks_cover tasks.old) (whole_of self.old) (whole_of self.new) }
-        ensures marks { Holds self.old self.new }
-        ensures sound { IsSoundEngine self.new }
-    {
-        for place in 0..tasks.len() {
-            self.one_alone(caller, &mut tasks[place], out)?;
-        }
-        Ok(())
-    }
-
-    #[tactic(auto, using(crate::proofs::Held::holds_self, crate::proofs::Held::holds_then, crate::proofs::Telling::nothing_more, crate::proofs::Staying::stay_self, crate::proofs::Staying::stay_then, crate::proofs::Staying::none_then, crate::proofs::Staying::then_none))]
+    // The items of a command outside an Atomic, whatever their codes.
+    #[tactic(auto, using(crate::proofs::Held::holds_self, crate::proofs::Held::holds_then, crate::proofs::Giving::giving_starts, crate::proofs::Giving::giving_breaks, crate::proofs::Giving::items_over, crate::proofs::Staying::stay_self, crate::proofs::Staying::stay_then, crate::proofs::Staying::none_then, crate::proofs::Staying::then_none))]
     fn run_plain(
         &mut self,
         caller: &[u8],
@@ -104,7 +81,7 @@ impl Engine {
     ) -> Result<(), Memory>
         requires sound { IsSoundEngine self.old }
         ensures gives { OnOk result (Gives
-            (sequence_of (running self.old caller.now) (state_of self.old) (plain_tasks_of origin false command.now))
+            (sequence_of (running self.old caller.now) (state_of self.old) (plain_tasks origin false command.now))
             (state_of self.new) out.old out.new) }
         ensures err { OnErr result (IsInFront out.old out.new) }
         ensures clock { self.new.tree.clock ≡ self.old.tree.clock }
@@ -113,8 +90,10 @@ impl Engine {
         ensures marks { Holds self.old self.new }
         ensures sound { IsSoundEngine self.new }
     {
-        let mut tasks = plain_tasks(self.alloc, origin, false, command)?.into_vec();
-        self.in_sequence(caller, tasks.as_mut_slice(), out)?;
+        for (place, item) in command.items.as_slice().iter().enumerate() {
+            let mut task = item_task(self.alloc, origin, false, command, place, item)?;
+            self.one_alone(caller, &mut task, out)?;
+        }
         Ok(())
     }
 
@@ -152,7 +131,7 @@ impl Engine {
     ) -> Result<(), Memory>
         requires sound { IsSoundEngine self.old }
         ensures gives { OnOk result (Gives
-            (sequence_of (running self.old caller.now) (state_of self.old) (member_tasks_of origin false member.now))
+            (sequence_of (running self.old caller.now) (state_of self.old) (member_tasks origin false member.now))
             (state_of self.new) out.old out.new) }
         ensures err { OnErr result (IsInFront out.old out.new) }
         ensures clock { self.new.tree.clock ≡ self.old.tree.clock }
@@ -161,9 +140,10 @@ impl Engine {
         ensures marks { Holds self.old self.new }
         ensures sound { IsSoundEngine self.new }
     {
-        let mut tasks = member_tasks(self.alloc, origin, false, member)?.into_vec();
-        self.in_sequence(caller, tasks.as_mut_slice(), out)?;
-        Ok(())
+        match member {
+            Member::One(command) => self.run_plain(caller, origin, command, out),
+            Member::Alert(alert) => self.run_alert(caller, origin, alert, out),
+        }
     }
 
     #[tactic(auto, using(crate::proofs::Held::holds_self, crate::proofs::Held::holds_then, crate::proofs::Telling::nothing_more, crate::proofs::Staying::stay_self, crate::proofs::Staying::stay_then, crate::proofs::Staying::none_then, crate::proofs::Staying::then_none))]

@@ -78,7 +78,8 @@ pub(crate) fn item_post(
     })
 }
 
-fn item_task(
+/// The task of an item at this place.
+pub(crate) fn item_task(
     alloc: Global,
     origin: Origin,
     in_atomic: bool,
@@ -113,20 +114,6 @@ fn put_plain_tasks(
     Ok(())
 }
 
-/// A task for each item of the command.
-pub(crate) fn plain_tasks(
-    alloc: Global,
-    origin: Origin,
-    in_atomic: bool,
-    command: &Plain,
-) -> Result<List<Task>, Memory>
-    ensures { IfOk result (λ tasks. tasks ≡ plain_tasks origin in_atomic command.now) }
-{
-    let mut tasks = List::with_room(alloc, command.items.len())?;
-    put_plain_tasks(alloc, origin, in_atomic, command, &mut tasks)?;
-    Ok(tasks)
-}
-
 /// An Alert's one task, whatever its items.
 pub(crate) fn alert_task(origin: Origin, alert: &AlertCmd) -> Task
     ensures { result ≡ alert_task origin alert.now }
@@ -141,25 +128,6 @@ pub(crate) fn alert_task(origin: Origin, alert: &AlertCmd) -> Task
             quiet: origin.quiet || alert.no_resp,
         },
         work: Work::Alert(alert.code),
-    }
-}
-
-/// The tasks of one command in a container.
-pub(crate) fn member_tasks(
-    alloc: Global,
-    origin: Origin,
-    in_atomic: bool,
-    member: &Member,
-) -> Result<List<Task>, Memory>
-    ensures { IfOk result (λ tasks. tasks ≡ member_tasks origin in_atomic member.now) }
-{
-    match member {
-        Member::One(command) => plain_tasks(alloc, origin, in_atomic, command),
-        Member::Alert(alert) => {
-            let mut tasks = List::with_room(alloc, 1)?;
-            tasks.push(alert_task(origin, alert))?;
-            Ok(tasks)
-        }
     }
 }
 

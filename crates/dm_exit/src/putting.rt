@@ -7,8 +7,8 @@ ghost use Rattle.dm_exit.specs.Puts.{PutsPart};
 use crate::exit::Exit;
 use dm_base::{Fault, Sink, put_all};
 
-/// Puts a text, or says how the run ends: by `WriteFault` after a fault of the sink, and by `NoMemory`. What the sink is
-/// besides stays as it is.
+/// Puts a text, or says how the run ends: by `WriteFault` after a fault of the sink, and by `NoMemory`. What the sink
+/// is besides stays as it is.
 pub fn put_text<K: Sink>(out: &mut K, text: &[u8]) -> Result<(), Exit>
     ensures bytes { MatchResult result (λ _. Appends (K.got out.old) (K.got out.new) text.now)
         (λ e. PutsPart (K.got out.old) (K.got out.new) text.now e) }

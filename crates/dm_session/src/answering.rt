@@ -163,7 +163,8 @@ fn run(
     if !passes(code) {
         return Ok(List::new(alloc));
     }
-    let mut made = List::with_room(alloc, message.body().len().saturating_add(1))?;
+    // One entry a command, and one more for a found value and for the Status of the header.
+    let mut made = List::with_room(alloc, message.body().len().saturating_add(2))?;
     execute(engine, account.server.as_slice(), message, &mut made)?;
     Ok(made)
 }

@@ -1,6 +1,6 @@
 // What is told, and what stands in a tree, as texts.
 use dm_base::{Bytes, List, Memory};
-use dm_tree::Tree;
+use dm_tree::{NodeId, Tree};
 use dm_uri::parse;
 use std::alloc::Global;
 use syncml_types::{AlertCmd, Command, Item, ResultsCmd, StatusCmd};
@@ -124,16 +124,24 @@ pub(crate) fn named(alloc: Global, entries: &[Command]) -> Option<Bytes> {
     Some(out)
 }
 
+// The value of a node, and its VerNo.
+fn put_node(alloc: Global, tree: &Tree, id: NodeId, out: &mut Bytes) -> Option<()> {
+    let node = tree.view(id);
+    put(out, node.value.bytes.as_slice())?;
+    put(out, b".")?;
+    put_number(alloc, out, u32::from(node.verno))
+}
+
 fn put_value(alloc: Global, tree: &Tree, uri: &[u8], out: &mut Bytes) -> Option<()> {
     let uri = parse(alloc, uri).ok()?;
     match tree.find(&uri.path) {
-        Some(id) => put(out, tree.view(id).value.bytes.as_slice())?,
+        Some(id) => put_node(alloc, tree, id, out)?,
         None => put(out, b"-")?,
     }
     put(out, b"|")
 }
 
-/// The values of ./A, ./L and ./T/a. None where memory runs out.
+/// The values of ./A, ./L and ./T/a, each with a point and its VerNo behind it. None where memory runs out.
 pub(crate) fn values(alloc: Global, tree: &Tree) -> Option<Bytes> {
     let mut out = Bytes::new(alloc);
     put_value(alloc, tree, b"./A", &mut out)?;

@@ -27,4 +27,6 @@ mod tasks;
 #[cfg(test)]
 mod update_parts;
 #[cfg(test)]
+mod update_shortage;
+#[cfg(test)]
 mod updates;

@@ -16,7 +16,7 @@ const ORIGIN: Origin = Origin {
     quiet: false,
 };
 
-fn engine(alloc: Global, begins: Begins) -> Option<Engine>
+pub(crate) fn engine(alloc: Global, begins: Begins) -> Option<Engine>
     ensures { IfSome result IsSoundEngine }
 {
     match Engine::new(alloc, update_tree(alloc, begins)?, 4_096) {
@@ -26,7 +26,7 @@ fn engine(alloc: Global, begins: Begins) -> Option<Engine>
 }
 
 // An Exec of ./Update, with a Correlator.
-fn exec(alloc: Global) -> Result<Command, Memory> {
+pub(crate) fn exec(alloc: Global) -> Result<Command, Memory> {
     let mut items = List::new(alloc);
     items.push(Item {
         target: Some(Loc {
@@ -48,7 +48,7 @@ fn exec(alloc: Global) -> Result<Command, Memory> {
     }))
 }
 
-fn run(engine: &mut Engine, command: &Command, out: &mut List<Command>) -> Option<()>
+pub(crate) fn run(engine: &mut Engine, command: &Command, out: &mut List<Command>) -> Option<()>
     requires sound { IsSoundEngine engine.old }
     ensures marks { Holds engine.old engine.new }
     ensures sound { IsSoundEngine engine.new }
@@ -69,7 +69,7 @@ fn start(alloc: Global, engine: &mut Engine) -> Option<Bytes>
 }
 
 // The number that State tells, how long the package is, and whether an update was started, with a Correlator.
-type Shown = (u32, usize, Option<bool>);
+pub(crate) type Shown = (u32, usize, Option<bool>);
 
 fn number(text: &[u8]) -> u32 {
     let mut number: u32 = 0;
@@ -82,7 +82,7 @@ fn number(text: &[u8]) -> u32 {
     number
 }
 
-fn shown(engine: &Engine) -> Option<Shown> {
+pub(crate) fn shown(engine: &Engine) -> Option<Shown> {
     let tree = engine.tree();
     let found = tree.update_ids()?;
     Some((
@@ -99,7 +99,7 @@ fn started(engine: &Engine) -> Option<bool> {
     }
 }
 
-fn finish(engine: &mut Engine, ok: bool) -> Option<()>
+pub(crate) fn finish(engine: &mut Engine, ok: bool) -> Option<()>
     requires sound { IsSoundEngine engine.old }
     ensures marks { Holds engine.old engine.new }
     ensures sound { IsSoundEngine engine.new }

@@ -1,16 +1,8 @@
-use Rattle.std.proofs.Common.{◌∙◌, false}
 use Rattle.dm_atomic.specs.Marks.{whole_of}
-use Rattle.dm_atomic.proofs.Covering.{member_stay}
+use Rattle.dm_atomic.proofs.Covering.{one_stays}
 use Rattle.dm_atomic.proofs.engine.Engine.run_single.Goals as goal
 
-pub returns-in_err-in_sequence-clause-ids : goal.returns-in_err-in_sequence-clause-ids
-returns-in_err-in_sequence-clause-ids c =
-    member_stay c.args.origin false c.args.member.now c.as_mut_slice.result.now (whole_of c.args.self.now)
-    (whole_of c.in_sequence.new.self)
-    (c.as_mut_slice.ensures.value ∙ c.into_vec-tasks.ensures ∙ c.in_ok-member_tasks.ensures) c.in_sequence.ensures.ids
-
-pub returns-clause-ids : goal.returns-clause-ids
-returns-clause-ids c =
-    member_stay c.args.origin false c.args.member.now c.as_mut_slice.result.now (whole_of c.args.self.now)
-    (whole_of c.in_sequence.new.self)
-    (c.as_mut_slice.ensures.value ∙ c.into_vec-tasks.ensures ∙ c.in_ok-member_tasks.ensures) c.in_sequence.ensures.ids
+pub returns-in-One-clause-ids : goal.returns-in-One-clause-ids
+returns-in-One-clause-ids c =
+    one_stays c.args.member.now c.in-One.command (whole_of c.args.self.now) (whole_of c.run_plain.new.self)
+    c.in-One.is c.run_plain.ensures.ids
