@@ -67,7 +67,11 @@ fn last_words(alloc: Global, status: Option<Command>) -> Result<List<Command>, M
 }
 
 // The last words behind a header, spelled.
-fn spelled(alloc: Global, header: Boxed<Header>, status: Option<Command>) -> Result<LastMessage, Memory>
+fn spelled(
+    alloc: Global,
+    header: Boxed<Header>,
+    status: Option<Command>,
+) -> Result<LastMessage, Memory>
     requires one { IfSome status (λ s. ids_in s ≡ 1) }
     requires fit { IsFit header (numbered 1 (option_to_list status ++ alert_of 1223 None [] ∷ [])) }
     ensures message { IfOk result (λ last. last.message ≡ record {

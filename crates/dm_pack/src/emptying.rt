@@ -114,7 +114,12 @@ pub(crate) fn tail_behind(queue: &Queue, heard: bool) -> Tail
 }
 
 // The message, and what it takes off but the part of its last entry.
-fn fill_by_move(queue: &mut Queue, header: Boxed<Header>, room: u64, heard: bool) -> Result<Filled, Memory>
+fn fill_by_move(
+    queue: &mut Queue,
+    header: Boxed<Header>,
+    room: u64,
+    heard: bool,
+) -> Result<Filled, Memory>
     requires ready { AllByRecursion IsReady queue.old }
     requires header { IsReadyHeader header }
     requires room { (least_room ≤ room) × (room ≤ message_limit) }
@@ -145,7 +150,12 @@ fn fill_by_move(queue: &mut Queue, header: Boxed<Header>, room: u64, heard: bool
 
 /// The message that `fill` would give, taken off the queue as `commit` does: the entries that go out whole are moved
 /// into it, and not copied. After `Memory` the queue has lost some of them.
-pub fn fill_out(queue: &mut Queue, header: Boxed<Header>, room: u64, heard: bool) -> Result<Filled, Memory>
+pub fn fill_out(
+    queue: &mut Queue,
+    header: Boxed<Header>,
+    room: u64,
+    heard: bool,
+) -> Result<Filled, Memory>
     requires ready { AllByRecursion IsReady queue.old }
     requires header { IsReadyHeader header }
     requires room { (least_room ≤ room) × (room ≤ message_limit) }
