@@ -47,7 +47,7 @@ fn command_at(commands: &List<Command>, at: usize) -> &Command
 
 // How far a message comes with all of these commands, where it fits with each of them. Data that is as long as the room
 // isn't looked at.
-fn all_that_fit(commands: &List<Command>, header: &Header, room: u64) -> Option<Place>
+fn all_that_fit(commands: &List<Command>, header: &Boxed<Header>, room: u64) -> Option<Place>
     requires ready { AllByRecursion IsReady (map fresh commands.now) }
     requires header { IsReadyHeader header.now }
     requires room { room ≤ message_limit }
@@ -139,7 +139,7 @@ fn fill_listed(
     ensures within { IfOk result (λ f. length f.bytes ≤ room) }
     ensures left { OnOk result (queue.new ≡ (fill_of (map fresh commands) header room heard).left) }
 {
-    let Some(place) = all_that_fit(&commands, &header.inner, room) else {
+    let Some(place) = all_that_fit(&commands, &header, room) else {
         return fill_put(queue, commands, header, room, heard);
     };
     let whole = commands.len();

@@ -34,7 +34,7 @@ fn move_first(queue: &mut Queue, first: u32, body: &mut List<Command>) -> Result
 // Takes entries out from the front while the message fits.
 fn take_out(
     queue: &mut Queue,
-    header: &Header,
+    header: &Boxed<Header>,
     room: u64,
     body: &mut List<Command>,
 ) -> Result<Taken, Memory>
@@ -132,7 +132,7 @@ fn fill_by_move(
     ensures queue { IfOk result (λ f. queue.new ≡ drop f.whole queue.old) }
 {
     let mut body = List::with_room(queue.alloc(), queue.len().min(room as usize / ENTRY))?;
-    let taken = take_out(queue, &header.inner, room, &mut body)?;
+    let taken = take_out(queue, &header, room, &mut body)?;
     let (cut, place) = push_first(queue, taken, room, &mut body)?;
     let tail = tail_behind(queue, heard);
     push_tail(queue.alloc(), tail, place.next, &mut body)?;

@@ -136,7 +136,7 @@ pub fn fill(queue: &Queue, header: Boxed<Header>, room: u64, heard: bool) -> Res
 {
     let alloc = queue.alloc();
     let mut body = List::with_room(alloc, queue.len().min(room as usize / ENTRY))?;
-    let taken = take_entries(queue, &header.inner, room, &mut body)?;
+    let taken = take_entries(queue, &header, room, &mut body)?;
     let (cut, place) = push_next(queue, taken, room, &mut body)?;
     let tail = tail_of(queue, taken.whole, heard);
     push_tail(alloc, tail, place.next, &mut body)?;

@@ -13,7 +13,7 @@ ghost use Rattle.dm_pack.specs.Measures.{greatest_with, greatest_at, cut_at};
 use crate::place::{Place, end_length};
 use crate::queue::Queue;
 use crate::waiting::Waiting;
-use dm_base::{List, Memory};
+use dm_base::{Boxed, List, Memory};
 use std::alloc::Global;
 use syncml_parts::data_length;
 use syncml_types::{Command, Header};
@@ -78,7 +78,7 @@ fn push_entry(
 // Takes entries from the front while the message fits.
 pub(crate) fn take_entries(
     queue: &Queue,
-    header: &Header,
+    header: &Boxed<Header>,
     room: u64,
     body: &mut List<Command>,
 ) -> Result<Taken, Memory>

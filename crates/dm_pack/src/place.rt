@@ -16,7 +16,7 @@ ghost use Rattle.dm_pack.specs.Measures.{behind, behind_hollow, within, with_cos
 use crate::filled::Tail;
 use crate::marks::decimal_length;
 use crate::waiting::Waiting;
-use dm_base::List;
+use dm_base::{Boxed, List};
 use std::alloc::Global;
 use syncml_parts::{data_length, ids_in, numbered_length};
 use syncml_types::{AlertCmd, Command, Header, head_length};
@@ -102,12 +102,12 @@ fn tag_length(page: u8) -> u64
 
 impl Place {
     // Where the commands of a message with this header begin.
-    pub(crate) fn start(header: &Header) -> Place
+    pub(crate) fn start(header: &Boxed<Header>) -> Place
         requires { IsReadyHeader header.now }
         ensures place { result ≡ place_of header.now [] }
         ensures low { result.used ≤ 612 }
     {
-        let (bytes, page) = head_length(header);
+        let (bytes, page) = head_length(&header.inner);
         Place {
             used: bytes + tag_length(page),
             page: 0,
