@@ -100,19 +100,35 @@ fn tag_length(page: u8) -> u64
     if page == 0 { 1 } else { 3 }
 }
 
+// What stands in the box.
+fn unboxed(header: &Boxed<Header>) -> &Header
+    ensures { result.now ≡ header.now }
+{
+    &header.inner
+}
+
 impl Place {
     // Where the commands of a message with this header begin.
-    pub(crate) fn start(header: &Boxed<Header>) -> Place
+    fn behind_head(header: &Header) -> Place
         requires { IsReadyHeader header.now }
         ensures place { result ≡ place_of header.now [] }
         ensures low { result.used ≤ 612 }
     {
-        let (bytes, page) = head_length(&header.inner);
+        let (bytes, page) = head_length(header);
         Place {
             used: bytes + tag_length(page),
             page: 0,
             next: 1,
         }
+    }
+
+    // The same of a header in its box.
+    pub(crate) fn start(header: &Boxed<Header>) -> Place
+        requires { IsReadyHeader header.now }
+        ensures place { result ≡ place_of header.now [] }
+        ensures low { result.used ≤ 612 }
+    {
+        Place::behind_head(unboxed(header))
     }
 
     // With one more entry, without the Data that may be cut.

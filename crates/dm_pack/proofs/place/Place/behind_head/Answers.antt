@@ -1,7 +1,7 @@
 use Rattle.std.proofs.Common.{arith}
 use Rattle.syncml_types.proofs.Fitting.{spellable}
 use Rattle.dm_pack.proofs.Measuring.{head_long, start_is}
-use Rattle.dm_pack.proofs.place.Place.start.Goals as goal
+use Rattle.dm_pack.proofs.place.Place.behind_head.Goals as goal
 use Rattle.std.proofs.Common.{[]}
 
 pub head_length-bytes-requires : goal.head_length-bytes-requires
