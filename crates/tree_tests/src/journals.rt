@@ -1,21 +1,18 @@
 // Trees to go back to, over edits of each kind. What stands there is compared with a tree that the same edits made
 // alone.
-ghost use Rattle.std.specs.Prelude.{◌≡◌, ◌≤◌, ◌<◌, ◌-◌, ◌++◌, ◌∷◌, [], false, length, IsTrue, IfSome};
-ghost use Rattle.dm_uri.specs.Names.{is_within_limits};
-ghost use Rattle.dm_tree.specs.Nodes.{IsNewNode, IsValue, IsReadAgain};
+ghost use Rattle.std.specs.Prelude.{◌≡◌, ◌≤◌, ◌<◌, ◌-◌, length, IfSome};
 ghost use Rattle.dm_tree.specs.Rows.{IsLive, IsTree};
 ghost use Rattle.dm_tree.specs.Notes.{TakesEditBack};
 ghost use Rattle.dm_undo.specs.Entries.{AreRecords};
 ghost use Rattle.dm_undo.specs.Sound.{IsSound};
 ghost use Rattle.dm_undo.specs.Notes.{Notes};
 
-use dm_acl::Acl;
-use dm_base::Bytes;
-use dm_tree::{NewNode, NodeId, Role, Tree, Undo, Value};
+use crate::asserts::assert_no_place_wrong;
+use crate::trees::{Start, add_all, at, bare_tree, chr, put, rename};
+use dm_tree::{NodeId, Role, Tree, Undo};
 use dm_undo::{Journal, Mark};
-use dm_uri::{Name, Path, parse, parse_name};
+use dm_uri::{Path, parse};
 use std::alloc::Global;
-use std::test::Fail;
 
 #[derive(Clone, Copy)]
 enum Edit {
@@ -31,11 +28,27 @@ enum Edit {
 use Edit::{Add, Detach, Rename, Set};
 
 // What stands below the root at first: interior nodes, and leaves below them.
-const NODES: [(&[u8], bool); 4] = [
-    (b"./T", true),
-    (b"./T/a", false),
-    (b"./U", true),
-    (b"./U/c", false),
+const NODES: &[Start] = &[
+    Start {
+        uri: b"./T",
+        acl: b"",
+        interior: true,
+    },
+    Start {
+        uri: b"./T/a",
+        acl: b"",
+        interior: false,
+    },
+    Start {
+        uri: b"./U",
+        acl: b"",
+        interior: true,
+    },
+    Start {
+        uri: b"./U/c",
+        acl: b"",
+        interior: false,
+    },
 ];
 
 // Four edits, of which the last one can also be the first.
@@ -60,91 +73,6 @@ const PATHS: [&[u8]; 18] = [
 
 // Each of the helpers below answers None where memory runs out, or an edit can't be done.
 
-fn root_acl(alloc: Global) -> Option<Acl>
-    ensures { IfSome result (λ acl. IsReadAgain acl) }
-{
-    let acl = Acl::parse(alloc, b"Add=*&Get=*").ok()?;
-    if acl.print(alloc).ok()?.len() > 4_096 {
-        return None;
-    }
-    Some(acl)
-}
-
-fn text(alloc: Global, bytes: &[u8]) -> Option<Value>
-    ensures { IfSome result (λ value. IsValue false value) }
-{
-    if bytes.len() > 4_194_304 {
-        return None;
-    }
-    Some(Value {
-        format: Bytes::of_slice(alloc, b"chr").ok()?,
-        media: Bytes::of_slice(alloc, b"text/plain").ok()?,
-        bytes: Bytes::of_slice(alloc, bytes).ok()?,
-    })
-}
-
-fn new_node(alloc: Global, interior: bool) -> Option<NewNode>
-    ensures may { IfSome result (λ new. IsNewNode new) }
-    ensures dynamic { IfSome result (λ new. new.permanent ≡ false) }
-{
-    let value = if interior {
-        Value {
-            format: Bytes::of_slice(alloc, b"node").ok()?,
-            media: Bytes::new(alloc),
-            bytes: Bytes::new(alloc),
-        }
-    } else {
-        text(alloc, b"0")?
-    };
-    Some(NewNode {
-        interior,
-        value,
-        acl: None,
-        title: Bytes::new(alloc),
-        permanent: false,
-        role: Role::Plain,
-    })
-}
-
-fn add_below(tree: &mut Tree, path: &Path, name: Name, new: NewNode) -> Option<Undo>
-    requires within { IsTrue (is_within_limits (path.now ++ name ∷ [])) }
-    requires may { IsNewNode new }
-    requires dynamic { new.permanent ≡ false }
-    ensures { IfSome result (λ undo. TakesEditBack undo tree.old.rows tree.new.rows) }
-{
-    let parent = tree.find(path)?;
-    if !tree.view(parent).interior || tree.child(parent, &name).is_some() {
-        return None;
-    }
-    match tree.insert(parent, name, new) {
-        Ok((_, undo)) => Some(undo),
-        Err(_) => None,
-    }
-}
-
-fn add(alloc: Global, tree: &mut Tree, uri: &[u8], interior: bool) -> Option<Undo>
-    ensures { IfSome result (λ undo. TakesEditBack undo tree.old.rows tree.new.rows) }
-{
-    let new = new_node(alloc, interior)?;
-    match parse(alloc, uri) {
-        Ok(uri) => {
-            let mut path = uri.path;
-            match path.pop() {
-                Some(name) => add_below(tree, &path, name, new),
-                None => None,
-            }
-        }
-        Err(_) => None,
-    }
-}
-
-fn at(alloc: Global, tree: &Tree, uri: &[u8]) -> Option<NodeId>
-    ensures { IfSome result (λ id. IsLive tree.now.rows id) }
-{
-    let path = parse(alloc, uri).ok()?.path;
-    tree.find(&path)
-}
-
 fn detach(alloc: Global, tree: &mut Tree, uri: &[u8]) -> Option<Undo>
     ensures { IfSome result (λ undo. TakesEditBack undo tree.old.rows tree.new.rows) }
 {
@@ -155,33 +83,29 @@ fn detach(alloc: Global, tree: &mut Tree, uri: &[u8]) -> Option<Undo>
     Some(tree.detach(id))
 }
 
-fn rename(alloc: Global, tree: &mut Tree, uri: &[u8], name: &[u8]) -> Option<Undo>
-    ensures { IfSome result (λ undo. TakesEditBack undo tree.old.rows tree.new.rows) }
-{
-    let id = at(alloc, tree, uri)?;
-    let name = parse_name(alloc, name).ok()?;
-    let parent = tree.parent(id)?;
-    if tree.view(id).permanent || tree.child(parent, &name).is_some() || !tree.fits(id, &name) {
-        return None;
-    }
-    Some(tree.rename(id, name))
-}
-
 fn set(alloc: Global, tree: &mut Tree, uri: &[u8], bytes: &[u8]) -> Option<Undo>
     ensures { IfSome result (λ undo. TakesEditBack undo tree.old.rows tree.new.rows) }
 {
     let id = at(alloc, tree, uri)?;
-    if tree.view(id).interior {
+    if tree.view(id).interior || bytes.len() > 4_194_304 {
         return None;
     }
-    Some(tree.set_value(id, text(alloc, bytes)?))
+    Some(tree.set_value(id, chr(alloc, bytes)?))
+}
+
+fn leaf(uri: &'static [u8]) -> Start {
+    Start {
+        uri,
+        acl: b"",
+        interior: false,
+    }
 }
 
 fn edited(alloc: Global, tree: &mut Tree, edit: Edit) -> Option<Undo>
     ensures { IfSome result (λ undo. TakesEditBack undo tree.old.rows tree.new.rows) }
 {
     match edit {
-        Add(uri) => add(alloc, tree, uri, false),
+        Add(uri) => put(alloc, tree, &leaf(uri), Role::Plain),
         Detach(uri) => detach(alloc, tree, uri),
         Rename(uri, name) => rename(alloc, tree, uri, name),
         Set(uri, bytes) => set(alloc, tree, uri, bytes),
@@ -214,10 +138,8 @@ fn noted(alloc: Global, tree: &mut Tree, journal: &mut Journal, edit: Edit) -> O
 fn grown(alloc: Global) -> Option<Tree>
     ensures { IfSome result (λ tree. IsTree tree.rows) }
 {
-    let mut tree = Tree::new(alloc, root_acl(alloc)?).ok()?;
-    for (uri, interior) in NODES {
-        let _ = add(alloc, &mut tree, uri, interior)?;
-    }
+    let mut tree = bare_tree(alloc)?;
+    add_all(alloc, &mut tree, NODES)?;
     let _ = tree.root();
     Some(tree)
 }
@@ -249,7 +171,7 @@ fn is_same_at(alloc: Global, tree: &Tree, other: &Tree, uri: &[u8]) -> Option<bo
 }
 
 fn is_same(alloc: Global, tree: &Tree, other: &Tree) -> Option<bool> {
-    for uri in PATHS {
+    for uri in &PATHS {
         if !is_same_at(alloc, tree, other, uri)? {
             return Some(false);
         }
@@ -316,18 +238,22 @@ fn goes_back_to_where_it_settled(
     is_given(alloc, tree, &edits[..1])
 }
 
-fn is_right(alloc: Global, edits: &[Edit; 4]) -> Option<bool> {
+fn is_right_behind_a_roll_back(alloc: Global, edits: &[Edit; 4]) -> Option<bool> {
     let (mut tree, mut journal) = started(alloc)?;
-    let behind = goes_back_behind_a_roll_back(alloc, &mut tree, &mut journal, edits)?;
+    goes_back_behind_a_roll_back(alloc, &mut tree, &mut journal, edits)
+}
+
+fn is_right_where_it_settled(alloc: Global, edits: &[Edit; 4]) -> Option<bool> {
     let (mut tree, mut journal) = started(alloc)?;
-    let settled = goes_back_to_where_it_settled(alloc, &mut tree, &mut journal, edits)?;
-    Some(behind && settled)
+    goes_back_to_where_it_settled(alloc, &mut tree, &mut journal, edits)
 }
 
 // The number of the first case that is wrong.
 fn wrong_case(alloc: Global) -> Option<usize> {
     for (number, edits) in CASES.iter().enumerate() {
-        if is_right(alloc, edits) != Some(true) {
+        if is_right_behind_a_roll_back(alloc, edits) != Some(true)
+            || is_right_where_it_settled(alloc, edits) != Some(true)
+        {
             return Some(number);
         }
     }
@@ -335,7 +261,6 @@ fn wrong_case(alloc: Global) -> Option<usize> {
 }
 
 #[test]
-fn marks_bring_their_trees_back(rt: HostRuntime) -> Result<(), Fail> {
-    assert_eq!(rt; wrong_case(rt.alloc()), None);
-    Ok(())
+fn marks_bring_their_trees_back(rt: HostRuntime) {
+    assert_no_place_wrong(&rt, wrong_case(rt.alloc()));
 }

@@ -1,16 +1,16 @@
 // Large trees: one that is full, and the same gone through from its root to its last leaf.
-ghost use Rattle.std.specs.Prelude.{◌≡◌, false, IsTrue, IfSome};
+ghost use Rattle.std.specs.Prelude.{◌≡◌, ◌++◌, ◌∷◌, [], false, IsTrue, IfSome};
 ghost use Rattle.dm_uri.specs.Names.{is_within_limits};
 ghost use Rattle.dm_tree.specs.Nodes.{IsNewNode};
 
+use crate::asserts::assert_holds;
 use crate::rows::rows_of;
-use crate::trees::{Start, at, grown, put};
+use crate::trees::{Start, add, at, grown};
 use dm_base::Bytes;
 use dm_tree::edits::NODE_LIMIT;
 use dm_tree::{NewNode, NodeId, Role, Tree, TreeError, Value};
-use dm_uri::{Path, parse};
+use dm_uri::{Name, Path, parse};
 use std::alloc::Global;
-use std::test::Fail;
 
 // How many leaves stand below one node.
 const GROUP: u32 = 256;
@@ -45,15 +45,6 @@ fn leaf_uri(alloc: Global, leaf: u32) -> Option<String> {
     .ok()
 }
 
-fn path_of(alloc: Global, uri: &[u8]) -> Option<Path>
-    ensures { IfSome result (λ path. IsTrue (is_within_limits path)) }
-{
-    match parse(alloc, uri) {
-        Ok(uri) => Some(uri.path),
-        Err(_) => None,
-    }
-}
-
 fn new_node(alloc: Global, interior: bool) -> Option<NewNode>
     ensures may { IfSome result (λ new. IsNewNode new) }
     ensures dynamic { IfSome result (λ new. new.permanent ≡ false) }
@@ -78,17 +69,21 @@ fn new_node(alloc: Global, interior: bool) -> Option<NewNode>
 }
 
 // Adds a node; false where the tree is full.
-fn add(tree: &mut Tree, mut path: Path, new: NewNode) -> Option<bool>
-    requires within { IsTrue (is_within_limits path) }
-    requires may { IsNewNode new }
-    requires dynamic { new.permanent ≡ false }
+fn add_below(
+    alloc: Global,
+    tree: &mut Tree,
+    path: &Path,
+    name: &Name,
+    interior: bool,
+) -> Option<bool>
+    requires { IsTrue (is_within_limits (path.now ++ name.now ∷ [])) }
 {
-    let name = path.pop()?;
-    let parent = tree.find(&path)?;
-    if !tree.view(parent).interior || tree.child(parent, &name).is_some() {
+    let parent = tree.find(path)?;
+    if !tree.view(parent).interior || tree.child(parent, name).is_some() {
         return None;
     }
-    match tree.insert(parent, name, new) {
+    let name = name.copy(alloc).ok()?;
+    match tree.insert(parent, name, new_node(alloc, interior)?) {
         Ok(_) => Some(true),
         Err(TreeError::Full) => Some(false),
         Err(TreeError::Memory) => None,
@@ -96,8 +91,16 @@ fn add(tree: &mut Tree, mut path: Path, new: NewNode) -> Option<bool>
 }
 
 pub(crate) fn add_at(alloc: Global, tree: &mut Tree, uri: &[u8], interior: bool) -> Option<bool> {
-    let path = path_of(alloc, uri)?;
-    add(tree, path, new_node(alloc, interior)?)
+    match parse(alloc, uri) {
+        Ok(uri) => {
+            let mut path = uri.path;
+            match path.pop() {
+                Some(name) => add_below(alloc, tree, &path, &name, interior),
+                None => None,
+            }
+        }
+        Err(_) => None,
+    }
 }
 
 fn add_groups(alloc: Global, tree: &mut Tree) -> Option<bool> {
@@ -120,8 +123,7 @@ fn add_leaves(alloc: Global, tree: &mut Tree) -> Option<bool> {
 }
 
 fn fill(alloc: Global, tree: &mut Tree) -> Option<bool> {
-    let undo = put(alloc, tree, &BASE, Role::Plain)?;
-    tree.discard(undo);
+    add(alloc, tree, &BASE, Role::Plain)?;
     Some(add_groups(alloc, tree)? && add_leaves(alloc, tree)?)
 }
 
@@ -145,25 +147,29 @@ pub(crate) fn give_up(alloc: Global, tree: &mut Tree, uri: &[u8]) -> Option<()> 
     Some(())
 }
 
+// Whether a leaf is added or not, as is wanted, and the tree is full then.
+fn is_full_after(alloc: Global, tree: &mut Tree, uri: &[u8], is_added: bool) -> bool {
+    add_at(alloc, tree, uri, false) == Some(is_added) && tree.count() == NODE_LIMIT
+}
+
 // Whether no node is added, then one in place of a leaf that is given up, and no further one.
 fn takes_one_for_one(alloc: Global, tree: &mut Tree) -> Option<bool> {
-    let refused = !add_at(alloc, tree, b"./B/new", false)? && tree.count() == NODE_LIMIT;
+    let refused = is_full_after(alloc, tree, b"./B/new", false);
     give_up(alloc, tree, b"./B/g101/n100256")?;
     let less = tree.count() == NODE_LIMIT - 1;
-    let added = add_at(alloc, tree, b"./B/new", false)? && tree.count() == NODE_LIMIT;
-    let again = !add_at(alloc, tree, b"./B/newer", false)? && tree.count() == NODE_LIMIT;
+    let added = is_full_after(alloc, tree, b"./B/new", true);
+    let again = is_full_after(alloc, tree, b"./B/newer", false);
     Some(refused && less && added && again)
 }
 
 #[test]
-fn a_full_tree_takes_a_node_where_one_is_given_up(rt: HostRuntime) -> Result<(), Fail> {
+fn a_full_tree_takes_a_node_where_one_is_given_up(rt: HostRuntime) {
     let alloc = rt.alloc();
     let tree = full(alloc);
     assert!(rt; tree.is_some());
     if let Some(mut tree) = tree {
-        assert_eq!(rt; takes_one_for_one(alloc, &mut tree), Some(true));
+        assert_holds(&rt, takes_one_for_one(alloc, &mut tree));
     }
-    Ok(())
 }
 
 // What comes behind the node of a URI, in the order of the tree text, where that is the node that is next.
@@ -200,15 +206,14 @@ fn is_in_order(alloc: Global, tree: &Tree) -> Option<bool> {
 }
 
 #[test]
-fn each_leaf_is_found_and_comes_in_order(rt: HostRuntime) -> Result<(), Fail> {
+fn each_leaf_is_found_and_comes_in_order(rt: HostRuntime) {
     let alloc = rt.alloc();
     let tree = full(alloc);
     assert!(rt; tree.is_some());
     if let Some(tree) = tree {
         assert_eq!(rt; tree.count(), NODE_LIMIT);
-        assert_eq!(rt; is_in_order(alloc, &tree), Some(true));
+        assert_holds(&rt, is_in_order(alloc, &tree));
     }
-    Ok(())
 }
 
 // Fills a tree of a few nodes.
@@ -226,12 +231,16 @@ fn empty(alloc: Global, tree: &mut Tree) -> Option<()> {
     if tree.count() == 9 { Some(()) } else { None }
 }
 
+fn fill_and_empty(alloc: Global, tree: &mut Tree) -> Option<()> {
+    fill_up(alloc, tree)?;
+    empty(alloc, tree)
+}
+
 // How many rows a tree takes that is filled and emptied three times: those that it has when it is full for the last
 // time.
 fn rows_of_the_third(alloc: Global, tree: &mut Tree) -> Option<usize> {
     for _ in 0..2 {
-        fill_up(alloc, tree)?;
-        empty(alloc, tree)?;
+        fill_and_empty(alloc, tree)?;
     }
     fill_up(alloc, tree)?;
     let rows = rows_of(alloc, tree)?;
@@ -245,8 +254,7 @@ fn rows_after_three(alloc: Global) -> Option<usize> {
 }
 
 #[test]
-fn a_tree_is_filled_and_emptied_three_times(rt: HostRuntime) -> Result<(), Fail> {
+fn a_tree_is_filled_and_emptied_three_times(rt: HostRuntime) {
     let rows = rows_after_three(rt.alloc());
     assert_eq!(rt; rows, Some(NODE_LIMIT as usize));
-    Ok(())
 }

@@ -6,6 +6,8 @@ mod access;
 #[cfg(test)]
 mod access_rows;
 #[cfg(test)]
+mod asserts;
+#[cfg(test)]
 mod journals;
 #[cfg(test)]
 mod large_trees;

@@ -6,7 +6,6 @@ use crate::rows::rows_of;
 use crate::trees::{Start, at, bare_tree, put};
 use dm_tree::{Role, Tree, Undo};
 use std::alloc::Global;
-use std::test::Fail;
 
 // Each of the helpers below answers None where memory runs out, or a node isn't where it has to be.
 
@@ -140,9 +139,8 @@ fn wrong_word(alloc: Global) -> Option<u32> {
 }
 
 #[test]
-fn nodes_come_and_go_in_all_orders(rt: HostRuntime) -> Result<(), Fail> {
+fn nodes_come_and_go_in_all_orders(rt: HostRuntime) {
     assert_eq!(rt; wrong_word(rt.alloc()), None);
-    Ok(())
 }
 
 const DEEP: &[u8] = b"./a/b/c/d/e/f/g/h/i/j/k/l/m/n/o/p";
@@ -182,8 +180,7 @@ fn rows_after(alloc: Global, turns: u32) -> Option<usize> {
 }
 
 #[test]
-fn the_rows_of_a_deep_subtree_are_taken_again(rt: HostRuntime) -> Result<(), Fail> {
+fn the_rows_of_a_deep_subtree_are_taken_again(rt: HostRuntime) {
     assert_eq!(rt; rows_after(rt.alloc(), 1), Some(17));
     assert_eq!(rt; rows_after(rt.alloc(), 10), Some(17));
-    Ok(())
 }

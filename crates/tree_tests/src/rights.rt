@@ -1,9 +1,9 @@
 // Whom the tree of a few nodes allows what.
+use crate::asserts::assert_none_wrong;
 use crate::trees::{at, grown};
 use dm_acl::Right;
 use dm_tree::Tree;
 use std::alloc::Global;
-use std::test::Fail;
 
 struct Allow {
     uri: &'static [u8],
@@ -91,13 +91,12 @@ fn wrong_right(alloc: Global, tree: &Tree) -> Option<&'static [u8]> {
 }
 
 #[test]
-fn commands_are_decided_one_by_one(rt: HostRuntime) -> Result<(), Fail> {
+fn commands_are_decided_one_by_one(rt: HostRuntime) {
     let alloc = rt.alloc();
     let tree = grown(alloc);
     assert!(rt; tree.is_some());
     if let Some(tree) = tree {
         assert_eq!(rt; tree.count(), 9);
-        assert_eq!(rt; wrong_right(alloc, &tree), None);
+        assert_none_wrong(&rt, wrong_right(alloc, &tree));
     }
-    Ok(())
 }

@@ -1,10 +1,11 @@
 // Texts of URIs, and what is read of them.
 use dm_uri::UriError;
+use std::cmp::Ordering;
 
 // A text, and the written form of the value that is read, or why it is refused. The written form tells the value.
 pub(crate) type Row = (&'static str, Result<&'static str, UriError>);
 
-pub(crate) const ROOTS: [Row; 9] = [
+pub(crate) const ROOTS: &[Row] = &[
     (".", Ok(".")),
     ("./", Ok(".")),
     ("", Err(UriError::Malformed)),
@@ -16,7 +17,7 @@ pub(crate) const ROOTS: [Row; 9] = [
     ("././a", Err(UriError::Malformed)),
 ];
 
-pub(crate) const NAMES: [Row; 16] = [
+pub(crate) const NAMES: &[Row] = &[
     ("a", Ok("./a")),
     ("./a", Ok("./a")),
     ("./a/b", Ok("./a/b")),
@@ -35,7 +36,7 @@ pub(crate) const NAMES: [Row; 16] = [
     ("a\x1f", Err(UriError::Malformed)),
 ];
 
-pub(crate) const QUERIES: [Row; 40] = [
+pub(crate) const QUERIES: &[Row] = &[
     ("a?prop=ACL", Ok("./a?prop=ACL")),
     ("a?prop=Format", Ok("./a?prop=Format")),
     ("a?prop=Name", Ok("./a?prop=Name")),
@@ -86,6 +87,83 @@ pub(crate) const N64: &str = "aaaaaaaabbbbbbbbccccccccddddddddeeeeeeeeffffffffgg
 pub(crate) const N32: &str = "aaaaaaaabbbbbbbbccccccccdddddddd";
 
 pub(crate) const NAMES_16: &str = "a/b/c/d/e/f/g/h/i/j/k/l/m/n/o/p";
+
+// The pieces of a single name, and why it is refused, if it is.
+pub(crate) type NameRow = (&'static [&'static str], Option<UriError>);
+
+pub(crate) const SINGLE_NAMES: [NameRow; 9] = [
+    (&[N64], None),
+    (&[N64, "x"], Some(UriError::TooLong)),
+    (&[N64, "x/"], Some(UriError::Malformed)),
+    (&[""], Some(UriError::Malformed)),
+    (&["."], Some(UriError::Malformed)),
+    (&[".."], Some(UriError::Malformed)),
+    (&["a?b"], Some(UriError::Malformed)),
+    (&["..."], None),
+    (&["%"], None),
+];
+
+// Two texts, whether they are read as the same, and the order of what is read.
+pub(crate) struct OrderRow {
+    pub left: &'static [u8],
+    pub right: &'static [u8],
+    pub are_same: bool,
+    pub order: Ordering,
+}
+
+pub(crate) const NAME_ORDERS: [OrderRow; 3] = [
+    OrderRow {
+        left: b"a",
+        right: b"a!",
+        are_same: false,
+        order: Ordering::Less,
+    },
+    OrderRow {
+        left: b"b",
+        right: b"B",
+        are_same: false,
+        order: Ordering::Greater,
+    },
+    OrderRow {
+        left: b"ab",
+        right: b"ab",
+        are_same: true,
+        order: Ordering::Equal,
+    },
+];
+
+pub(crate) const PATH_ORDERS: [OrderRow; 5] = [
+    OrderRow {
+        left: b"a",
+        right: b"./a/b",
+        are_same: false,
+        order: Ordering::Less,
+    },
+    OrderRow {
+        left: b"a/b",
+        right: b"a!",
+        are_same: false,
+        order: Ordering::Less,
+    },
+    OrderRow {
+        left: b"a!",
+        right: b"a",
+        are_same: false,
+        order: Ordering::Greater,
+    },
+    OrderRow {
+        left: b".",
+        right: b"a",
+        are_same: false,
+        order: Ordering::Less,
+    },
+    OrderRow {
+        left: b"a/b",
+        right: b"./a/b",
+        are_same: true,
+        order: Ordering::Equal,
+    },
+];
 
 // Three names of 64 bytes with their slashes are 195 bytes, so that 58 more make 253, and 255 with `./`.
 pub(crate) const LONG: [LongRow; 17] = [

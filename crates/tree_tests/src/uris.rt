@@ -1,12 +1,13 @@
 // URIs, names and paths: what is read, what is written of it, and their orders.
 ghost use Rattle.std.specs.Prelude.{◌<◌, ◌≤◌, ◌+◌, length};
 
-use crate::uri_rows::{LONG, LongRow, N64, NAMES, QUERIES, ROOTS, Row};
+use crate::asserts::{assert_no_place_wrong, assert_no_text_wrong};
+use crate::uri_rows::{
+    LONG, LongRow, NAME_ORDERS, NAMES, OrderRow, PATH_ORDERS, QUERIES, ROOTS, Row, SINGLE_NAMES,
+};
 use dm_base::Bytes;
-use dm_uri::{Path, Prop, Query, Uri, UriError, is_uri, parse, parse_name, print};
+use dm_uri::{Name, Path, Prop, Query, Uri, UriError, is_uri, parse, parse_name, print};
 use std::alloc::{AllocError, Global};
-use std::cmp::Ordering;
-use std::test::Fail;
 
 // Each of the helpers below that looks for a wrong row answers the text of the first, for the test to show.
 
@@ -17,14 +18,20 @@ fn is_written(alloc: Global, uri: &Uri, want: &[u8]) -> bool {
     }
 }
 
+fn is_wanted(alloc: Global, uri: &Uri, row: &Row) -> bool {
+    match row.1 {
+        Ok(want) => is_written(alloc, uri, want.as_bytes()),
+        Err(_) => false,
+    }
+}
+
 fn is_row(alloc: Global, row: &Row) -> bool {
     if is_uri(row.0.as_bytes()) != row.1.is_ok() {
         return false;
     }
-    match (parse(alloc, row.0.as_bytes()), row.1) {
-        (Ok(uri), Ok(want)) => is_written(alloc, &uri, want.as_bytes()),
-        (Err(error), Err(want)) => error == want,
-        _ => false,
+    match parse(alloc, row.0.as_bytes()) {
+        Ok(uri) => is_wanted(alloc, &uri, row),
+        Err(error) => row.1 == Err(error),
     }
 }
 
@@ -60,10 +67,9 @@ fn written_length(alloc: Global, uri: &Uri) -> Option<usize> {
 }
 
 fn is_long_row(alloc: Global, row: &LongRow) -> bool {
-    match (read_joined(alloc, row.0), row.1) {
-        (Ok(uri), Ok(want)) => written_length(alloc, &uri) == Some(want),
-        (Err(error), Err(want)) => error == want,
-        _ => false,
+    match read_joined(alloc, row.0) {
+        Ok(uri) => written_length(alloc, &uri).ok_or(UriError::Memory) == row.1,
+        Err(error) => row.1 == Err(error),
     }
 }
 
@@ -79,56 +85,64 @@ fn wrong_long_row(alloc: Global) -> Option<usize> {
 
 #[test]
 fn reads_roots_and_names(rt: HostRuntime) {
-    assert_eq!(rt; wrong_row(rt.alloc(), &ROOTS), None);
-    assert_eq!(rt; wrong_row(rt.alloc(), &NAMES), None);
+    assert_no_text_wrong(&rt, wrong_row(rt.alloc(), ROOTS));
+    assert_no_text_wrong(&rt, wrong_row(rt.alloc(), NAMES));
 }
 
 #[test]
 fn reads_queries(rt: HostRuntime) {
-    assert_eq!(rt; wrong_row(rt.alloc(), &QUERIES), None);
+    assert_no_text_wrong(&rt, wrong_row(rt.alloc(), QUERIES));
 }
 
 #[test]
 fn keeps_to_the_limits(rt: HostRuntime) {
-    assert_eq!(rt; wrong_long_row(rt.alloc()), None);
+    assert_no_place_wrong(&rt, wrong_long_row(rt.alloc()));
 }
 
-fn name_error(alloc: Global, text: &[u8]) -> Option<UriError> {
-    parse_name(alloc, text).err()
-}
-
-fn name_error_joined(alloc: Global, pieces: &[&'static str]) -> Option<UriError> {
+fn name_error(alloc: Global, pieces: &[&'static str]) -> Option<UriError> {
     match joined(alloc, pieces) {
-        Ok(text) => name_error(alloc, text.as_slice()),
-        Err(_) => Some(UriError::Memory),
+        Ok(text) => parse_name(alloc, text.as_slice()).err(),
+        Err(error) => Some(error),
     }
+}
+
+// The place of the first wrong row.
+fn wrong_single_name(alloc: Global) -> Option<usize> {
+    for (i, row) in SINGLE_NAMES.iter().enumerate() {
+        if name_error(alloc, row.0) != row.1 {
+            return Some(i);
+        }
+    }
+    None
 }
 
 #[test]
 fn reads_single_names(rt: HostRuntime) {
-    let alloc = rt.alloc();
-    assert_eq!(rt; name_error_joined(alloc, &[N64]), None);
-    assert_eq!(rt;
-        name_error_joined(alloc, &[N64, "x"]),
-        Some(UriError::TooLong)
-    );
-    assert_eq!(rt;
-        name_error_joined(alloc, &[N64, "x/"]),
-        Some(UriError::Malformed)
-    );
-    assert_eq!(rt; name_error(alloc, b""), Some(UriError::Malformed));
-    assert_eq!(rt; name_error(alloc, b"."), Some(UriError::Malformed));
-    assert_eq!(rt; name_error(alloc, b".."), Some(UriError::Malformed));
-    assert_eq!(rt; name_error(alloc, b"a?b"), Some(UriError::Malformed));
-    assert_eq!(rt; name_error(alloc, b"..."), None);
-    assert_eq!(rt; name_error(alloc, b"%"), None);
+    assert_no_place_wrong(&rt, wrong_single_name(rt.alloc()));
 }
 
-fn name_order(alloc: Global, left: &[u8], right: &[u8]) -> Option<(bool, Ordering)> {
-    match (parse_name(alloc, left), parse_name(alloc, right)) {
-        (Ok(left), Ok(right)) => Some((left.is_same(&right), left.compare(&right))),
-        _ => None,
+fn is_name_in_order(alloc: Global, left: &Name, row: &OrderRow) -> bool {
+    match parse_name(alloc, row.right) {
+        Ok(right) => left.is_same(&right) == row.are_same && left.compare(&right) == row.order,
+        Err(_) => false,
     }
+}
+
+fn is_name_row(alloc: Global, row: &OrderRow) -> bool {
+    match parse_name(alloc, row.left) {
+        Ok(left) => is_name_in_order(alloc, &left, row),
+        Err(_) => false,
+    }
+}
+
+// The place of the first wrong row.
+fn wrong_name_order(alloc: Global) -> Option<usize> {
+    for (i, row) in NAME_ORDERS.iter().enumerate() {
+        if !is_name_row(alloc, row) {
+            return Some(i);
+        }
+    }
+    None
 }
 
 fn is_copied(alloc: Global, text: &[u8]) -> bool {
@@ -140,31 +154,39 @@ fn is_copied(alloc: Global, text: &[u8]) -> bool {
 
 #[test]
 fn compares_names(rt: HostRuntime) {
-    let alloc = rt.alloc();
-    assert!(rt; name_order(alloc, b"a", b"a!") == Some((false, Ordering::Less)));
-    assert!(rt; name_order(alloc, b"b", b"B") == Some((false, Ordering::Greater)));
-    assert!(rt; name_order(alloc, b"ab", b"ab") == Some((true, Ordering::Equal)));
-    assert!(rt; is_copied(alloc, b"ab"));
+    assert_no_place_wrong(&rt, wrong_name_order(rt.alloc()));
+    assert!(rt; is_copied(rt.alloc(), b"ab"));
 }
 
-fn path_order(alloc: Global, left: &[u8], right: &[u8]) -> Option<(bool, Ordering)> {
-    match (parse(alloc, left), parse(alloc, right)) {
-        (Ok(left), Ok(right)) => Some((
-            left.path.is_same(&right.path),
-            left.path.compare(&right.path),
-        )),
-        _ => None,
+fn is_path_in_order(alloc: Global, left: &Path, row: &OrderRow) -> bool {
+    match parse(alloc, row.right) {
+        Ok(right) => {
+            left.is_same(&right.path) == row.are_same && left.compare(&right.path) == row.order
+        }
+        Err(_) => false,
     }
+}
+
+fn is_path_row(alloc: Global, row: &OrderRow) -> bool {
+    match parse(alloc, row.left) {
+        Ok(left) => is_path_in_order(alloc, &left.path, row),
+        Err(_) => false,
+    }
+}
+
+// The place of the first wrong row.
+fn wrong_path_order(alloc: Global) -> Option<usize> {
+    for (i, row) in PATH_ORDERS.iter().enumerate() {
+        if !is_path_row(alloc, row) {
+            return Some(i);
+        }
+    }
+    None
 }
 
 #[test]
 fn compares_paths(rt: HostRuntime) {
-    let alloc = rt.alloc();
-    assert!(rt; path_order(alloc, b"a", b"./a/b") == Some((false, Ordering::Less)));
-    assert!(rt; path_order(alloc, b"a/b", b"a!") == Some((false, Ordering::Less)));
-    assert!(rt; path_order(alloc, b"a!", b"a") == Some((false, Ordering::Greater)));
-    assert!(rt; path_order(alloc, b".", b"a") == Some((false, Ordering::Less)));
-    assert!(rt; path_order(alloc, b"a/b", b"./a/b") == Some((true, Ordering::Equal)));
+    assert_no_place_wrong(&rt, wrong_path_order(rt.alloc()));
 }
 
 fn pushed(alloc: Global, path: &mut Path, name: &[u8]) -> Result<(), UriError>
@@ -190,19 +212,42 @@ fn is_written_path(alloc: Global, path: Path, want: &[u8]) -> bool {
     is_written(alloc, &uri, want)
 }
 
+fn takes_last(path: &mut Path, want: &[u8]) -> bool {
+    match path.pop() {
+        Some(name) => name.as_slice() == want,
+        None => false,
+    }
+}
+
+// Whether the last of two names is taken, and the first is left.
+fn loses_its_last(alloc: Global) -> bool {
+    match path_of_two(alloc) {
+        Ok(mut path) => {
+            let is_taken = takes_last(&mut path, b"b");
+            let is_left = is_written_path(alloc, path, b"./a?prop=TStamp");
+            is_taken && is_left
+        }
+        Err(_) => false,
+    }
+}
+
+// Whether no name is left of two.
+fn is_cleared(alloc: Global) -> bool {
+    match path_of_two(alloc) {
+        Ok(mut path) => {
+            path.clear();
+            let is_empty = path.pop().is_none();
+            let is_root = is_written_path(alloc, path, b".?prop=TStamp");
+            is_empty && is_root
+        }
+        Err(_) => false,
+    }
+}
+
 #[test]
-fn edits_paths(rt: HostRuntime) -> Result<(), Fail> {
-    let mut path = path_of_two(rt.alloc())?;
-    assert!(rt;
-        path.pop()
-            .is_some_and(|name| name.as_slice() == b"b".as_slice())
-    );
-    assert!(rt; is_written_path(rt.alloc(), path, b"./a?prop=TStamp"));
-    let mut path = path_of_two(rt.alloc())?;
-    path.clear();
-    assert!(rt; path.pop().is_none());
-    assert!(rt; is_written_path(rt.alloc(), path, b".?prop=TStamp"));
-    Ok(())
+fn edits_paths(rt: HostRuntime) {
+    assert!(rt; loses_its_last(rt.alloc()));
+    assert!(rt; is_cleared(rt.alloc()));
 }
 
 struct ErrorRow {
@@ -233,17 +278,23 @@ fn error_text(alloc: Global, error: &UriError) -> Result<String, AllocError> {
     format!(in alloc; "{error}")
 }
 
-fn wrong_error(alloc: Global) -> Result<Option<&'static str>, AllocError> {
+fn is_told(alloc: Global, row: &ErrorRow) -> bool {
+    match error_text(alloc, &row.error) {
+        Ok(text) => text.as_str() == row.text,
+        Err(_) => false,
+    }
+}
+
+fn wrong_error(alloc: Global) -> Option<&'static str> {
     for row in &ERRORS {
-        if error_text(alloc, &row.error)?.as_str() != row.text {
-            return Ok(Some(row.text));
+        if !is_told(alloc, row) {
+            return Some(row.text);
         }
     }
-    Ok(None)
+    None
 }
 
 #[test]
-fn errors_are_told(rt: HostRuntime) -> Result<(), Fail> {
-    assert_eq!(rt; wrong_error(rt.alloc())?, None);
-    Ok(())
+fn errors_are_told(rt: HostRuntime) {
+    assert_no_text_wrong(&rt, wrong_error(rt.alloc()));
 }

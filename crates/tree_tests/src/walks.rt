@@ -1,10 +1,12 @@
 // Other names, the order of the tree text, and the place of the update, on the tree of a few nodes.
 
-use crate::trees::{FIRST, LATER, LEAF_T, NOW, Start, at, grown, put, unread};
-use dm_tree::{Role, Stamp, Tree};
+use crate::asserts::{assert_holds, assert_none_wrong};
+use crate::trees::{
+    FIRST, LATER, LEAF_T, NOW, Start, add, add_all, at, grown, is_as_grown, put, rename,
+};
+use dm_tree::{NodeId, Role, Stamp, Tree};
 use dm_uri::parse_name;
 use std::alloc::Global;
-use std::test::Fail;
 
 // The nodes as the tree text has them: siblings by their bytes, each before all that stands below it.
 const IN_ORDER: [&'static [u8]; 9] = [
@@ -30,12 +32,11 @@ fn out_of_order(alloc: Global, tree: &Tree) -> Option<&'static [u8]> {
 }
 
 #[test]
-fn a_tree_is_gone_through_in_order(rt: HostRuntime) -> Result<(), Fail> {
+fn a_tree_is_gone_through_in_order(rt: HostRuntime) {
     let alloc = rt.alloc();
     if let Some(tree) = grown(alloc) {
-        assert_eq!(rt; out_of_order(alloc, &tree), None);
+        assert_none_wrong(&rt, out_of_order(alloc, &tree));
     }
-    Ok(())
 }
 
 // From a node, what is the first below it, what comes beside it, and what comes behind all that stand below it.
@@ -110,12 +111,11 @@ fn wrong_step(alloc: Global, tree: &Tree) -> Option<&'static [u8]> {
 }
 
 #[test]
-fn each_node_leads_on(rt: HostRuntime) -> Result<(), Fail> {
+fn each_node_leads_on(rt: HostRuntime) {
     let alloc = rt.alloc();
     if let Some(tree) = grown(alloc) {
-        assert_eq!(rt; wrong_step(alloc, &tree), None);
+        assert_none_wrong(&rt, wrong_step(alloc, &tree));
     }
-    Ok(())
 }
 
 // Whether the way through `./T` ends there, and leaves `./T/B/c` out where it goes past `./T/B`.
@@ -133,12 +133,11 @@ fn stays_below(alloc: Global, tree: &Tree) -> Option<bool> {
 }
 
 #[test]
-fn a_subtree_is_left_at_its_end(rt: HostRuntime) -> Result<(), Fail> {
+fn a_subtree_is_left_at_its_end(rt: HostRuntime) {
     let alloc = rt.alloc();
     if let Some(tree) = grown(alloc) {
-        assert_eq!(rt; stays_below(alloc, &tree), Some(true));
+        assert_holds(&rt, stays_below(alloc, &tree));
     }
-    Ok(())
 }
 
 // Whether `./T` bears another name with all that stands below it, its own again once that is taken back, and the other
@@ -146,28 +145,24 @@ fn a_subtree_is_left_at_its_end(rt: HostRuntime) -> Result<(), Fail> {
 fn renamed_and_back(alloc: Global, tree: &mut Tree) -> Option<bool> {
     let id = at(alloc, tree, b"./T")?;
     let below = at(alloc, tree, b"./T/B/c")?;
-    let name = parse_name(alloc, b"Q").ok()?;
-    let parent = tree.parent(id)?;
-    if tree.view(id).permanent || tree.child(parent, &name).is_some() || !tree.fits(id, &name) {
-        return None;
-    }
     tree.set_clock(NOW);
-    let mut undo = tree.rename(id, name);
-    let done = at(alloc, tree, b"./Q") == Some(id)
+    let mut undo = rename(alloc, tree, b"./T", b"Q")?;
+    let done = is_renamed(alloc, tree, id, below);
+    tree.set_clock(LATER);
+    tree.flip(&mut undo);
+    let back = is_as_grown(alloc, tree, id) && is_counted(alloc, tree, b"./T", 0, FIRST);
+    tree.flip(&mut undo);
+    Some(done && back && is_renamed(alloc, tree, id, below))
+}
+
+// Whether `./T` is called `./Q`, and both it and the leaf below it have these numbers.
+fn is_renamed(alloc: Global, tree: &Tree, id: NodeId, below: NodeId) -> bool {
+    at(alloc, tree, b"./Q") == Some(id)
         && at(alloc, tree, b"./Q/B/c") == Some(below)
         && at(alloc, tree, b"./T").is_none()
         && tree.count() == 9
         && is_counted(alloc, tree, b"./Q", 1, NOW)
-        && is_counted(alloc, tree, b"./Q/B/c", 0, FIRST);
-    tree.set_clock(LATER);
-    tree.flip(&mut undo);
-    let back = at(alloc, tree, b"./T") == Some(id)
-        && unread(alloc, tree).is_none()
-        && is_counted(alloc, tree, b"./T", 0, FIRST);
-    tree.flip(&mut undo);
-    let again = at(alloc, tree, b"./Q/B/c") == Some(below)
-        && is_counted(alloc, tree, b"./Q", 1, NOW);
-    Some(done && back && again)
+        && is_counted(alloc, tree, b"./Q/B/c", 0, FIRST)
 }
 
 fn is_counted(alloc: Global, tree: &Tree, uri: &[u8], verno: u16, stamp: Stamp) -> bool {
@@ -181,17 +176,16 @@ fn is_counted(alloc: Global, tree: &Tree, uri: &[u8], verno: u16, stamp: Stamp) 
 }
 
 #[test]
-fn a_subtree_gets_another_name_and_its_own_again(rt: HostRuntime) -> Result<(), Fail> {
+fn a_subtree_gets_another_name_and_its_own_again(rt: HostRuntime) {
     let alloc = rt.alloc();
     if let Some(mut tree) = grown(alloc) {
-        assert_eq!(rt; renamed_and_back(alloc, &mut tree), Some(true));
+        assert_holds(&rt, renamed_and_back(alloc, &mut tree));
     }
-    Ok(())
 }
 
 // Two names of 64 bytes below `./T/B`, and a leaf with a name of 56 bytes below those. Where `./T` gets a name of 64
 // bytes, the leaf's path has 255.
-const DEEP: [Start; 3] = [
+const DEEP: &[Start] = &[
     Start {
         uri: b"./T/B/eeeeeeeeeeeeeeeeeeeeeeeeeeeeeeeeeeeeeeeeeeeeeeeeeeeeeeeeeeeeeeee",
         acl: b"",
@@ -233,25 +227,21 @@ fn long_name_fits(alloc: Global, tree: &Tree) -> Option<bool> {
 }
 
 fn fits_up_to_the_limit(alloc: Global, tree: &mut Tree) -> Option<bool> {
-    for row in &DEEP {
-        let undo = put(alloc, tree, row, Role::Plain)?;
-        tree.discard(undo);
-    }
-    let at_limit = long_name_fits(alloc, tree)?;
+    add_all(alloc, tree, DEEP)?;
+    let at_limit = long_name_fits(alloc, tree);
     let mut undo = put(alloc, tree, &DEEPER, Role::Plain)?;
-    let over = long_name_fits(alloc, tree)?;
+    let over = long_name_fits(alloc, tree);
     tree.flip(&mut undo);
-    let again = long_name_fits(alloc, tree)?;
-    Some(at_limit && !over && again)
+    let again = long_name_fits(alloc, tree);
+    Some(at_limit == Some(true) && over == Some(false) && again == Some(true))
 }
 
 #[test]
-fn a_name_fits_where_the_longest_path_below_does(rt: HostRuntime) -> Result<(), Fail> {
+fn a_name_fits_where_the_longest_path_below_does(rt: HostRuntime) {
     let alloc = rt.alloc();
     if let Some(mut tree) = grown(alloc) {
-        assert_eq!(rt; fits_up_to_the_limit(alloc, &mut tree), Some(true));
+        assert_holds(&rt, fits_up_to_the_limit(alloc, &mut tree));
     }
-    Ok(())
 }
 
 const UPDATE: Start = Start {
@@ -271,12 +261,11 @@ fn update_comes_and_goes(alloc: Global, tree: &mut Tree) -> Option<bool> {
 }
 
 #[test]
-fn the_update_node_is_told_by_its_role(rt: HostRuntime) -> Result<(), Fail> {
+fn the_update_node_is_told_by_its_role(rt: HostRuntime) {
     let alloc = rt.alloc();
     if let Some(mut tree) = grown(alloc) {
-        assert_eq!(rt; update_comes_and_goes(alloc, &mut tree), Some(true));
+        assert_holds(&rt, update_comes_and_goes(alloc, &mut tree));
     }
-    Ok(())
 }
 
 // Whether a subtree that was taken out, and a leaf that was put in its place, are as they were once both are taken back
@@ -291,38 +280,67 @@ fn both_in_turn(alloc: Global, tree: &mut Tree) -> Option<bool> {
     let leaf = at(alloc, tree, b"./T");
     tree.flip(&mut new);
     tree.flip(&mut out);
-    let back = at(alloc, tree, b"./T") == Some(id) && unread(alloc, tree).is_none();
+    let back = is_as_grown(alloc, tree, id);
     tree.flip(&mut out);
     tree.flip(&mut new);
-    let again = at(alloc, tree, b"./T") == leaf && leaf != Some(id) && tree.count() == 5;
-    Some(back && again)
+    Some(back && is_replaced(alloc, tree, id, leaf))
+}
+
+// Whether `./T` is this leaf, and not the subtree that had this number.
+fn is_replaced(alloc: Global, tree: &Tree, id: NodeId, leaf: Option<NodeId>) -> bool {
+    at(alloc, tree, b"./T") == leaf && leaf != Some(id) && tree.count() == 5
 }
 
 #[test]
-fn two_edits_at_one_path_are_taken_back_and_done_again(rt: HostRuntime) -> Result<(), Fail> {
+fn two_edits_at_one_path_are_taken_back_and_done_again(rt: HostRuntime) {
     let alloc = rt.alloc();
     if let Some(mut tree) = grown(alloc) {
-        assert_eq!(rt; both_in_turn(alloc, &mut tree), Some(true));
+        assert_holds(&rt, both_in_turn(alloc, &mut tree));
     }
-    Ok(())
 }
 
-// The names below a node, as they are told.
-fn names_below(alloc: Global, tree: &Tree, uri: &[u8], want: &[u8]) -> Option<bool> {
-    let id = at(alloc, tree, uri)?;
+struct Names {
+    uri: &'static [u8],
+    // The names below the node, as they are told.
+    below: &'static [u8],
+}
+
+const NAMES: [Names; 3] = [
+    Names {
+        uri: b".",
+        below: b"P/T/U",
+    },
+    Names {
+        uri: b"./T",
+        below: b"B/a/b",
+    },
+    Names {
+        uri: b"./U",
+        below: b"",
+    },
+];
+
+fn are_told(alloc: Global, tree: &Tree, row: &Names) -> Option<bool> {
+    let id = at(alloc, tree, row.uri)?;
     let names = tree.child_names(alloc, id).ok()?;
-    Some(names.as_slice() == want)
+    Some(names.as_slice() == row.below)
+}
+
+fn wrong_names(alloc: Global, tree: &Tree) -> Option<&'static [u8]> {
+    for row in &NAMES {
+        if are_told(alloc, tree, row) != Some(true) {
+            return Some(row.uri);
+        }
+    }
+    None
 }
 
 #[test]
-fn the_names_of_children_are_told_in_order(rt: HostRuntime) -> Result<(), Fail> {
+fn the_names_of_children_are_told_in_order(rt: HostRuntime) {
     let alloc = rt.alloc();
     if let Some(tree) = grown(alloc) {
-        assert_eq!(rt; names_below(alloc, &tree, b".", b"P/T/U"), Some(true));
-        assert_eq!(rt; names_below(alloc, &tree, b"./T", b"B/a/b"), Some(true));
-        assert_eq!(rt; names_below(alloc, &tree, b"./U", b""), Some(true));
+        assert_none_wrong(&rt, wrong_names(alloc, &tree));
     }
-    Ok(())
 }
 
 const PACKAGE: Start = Start {
@@ -339,13 +357,10 @@ const STATE: Start = Start {
 
 // Whether the nodes of the update are told once all three are there.
 fn update_is_told(alloc: Global, tree: &mut Tree) -> Option<bool> {
-    let undo = put(alloc, tree, &UPDATE, Role::UpdateNode)?;
-    tree.discard(undo);
-    let undo = put(alloc, tree, &PACKAGE, Role::PkgData)?;
-    tree.discard(undo);
+    add(alloc, tree, &UPDATE, Role::UpdateNode)?;
+    add(alloc, tree, &PACKAGE, Role::PkgData)?;
     let before = tree.update_ids().is_none();
-    let undo = put(alloc, tree, &STATE, Role::State)?;
-    tree.discard(undo);
+    add(alloc, tree, &STATE, Role::State)?;
     let found = tree.update_ids()?;
     let update = at(alloc, tree, b"./F") == Some(found.update);
     let package = at(alloc, tree, b"./F/D") == Some(found.pkg_data);
@@ -353,10 +368,9 @@ fn update_is_told(alloc: Global, tree: &mut Tree) -> Option<bool> {
 }
 
 #[test]
-fn the_nodes_of_the_update_are_told(rt: HostRuntime) -> Result<(), Fail> {
+fn the_nodes_of_the_update_are_told(rt: HostRuntime) {
     let alloc = rt.alloc();
     if let Some(mut tree) = grown(alloc) {
-        assert_eq!(rt; update_is_told(alloc, &mut tree), Some(true));
+        assert_holds(&rt, update_is_told(alloc, &mut tree));
     }
-    Ok(())
 }
