@@ -1,6 +1,6 @@
 // What is told, and what stands in a tree, as texts.
 use dm_base::{Bytes, List, Memory};
-use dm_tree::{NodeId, Tree};
+use dm_tree::{Tree, View};
 use dm_uri::parse;
 use std::alloc::Global;
 use syncml_types::{AlertCmd, Command, Item, ResultsCmd, StatusCmd};
@@ -125,8 +125,7 @@ pub(crate) fn named(alloc: Global, entries: &[Command]) -> Option<Bytes> {
 }
 
 // The value of a node, and its VerNo.
-fn put_node(alloc: Global, tree: &Tree, id: NodeId, out: &mut Bytes) -> Option<()> {
-    let node = tree.view(id);
+fn put_node(alloc: Global, node: &View, out: &mut Bytes) -> Option<()> {
     put(out, node.value.bytes.as_slice())?;
     put(out, b".")?;
     put_number(alloc, out, u32::from(node.verno))
@@ -135,7 +134,7 @@ fn put_node(alloc: Global, tree: &Tree, id: NodeId, out: &mut Bytes) -> Option<(
 fn put_value(alloc: Global, tree: &Tree, uri: &[u8], out: &mut Bytes) -> Option<()> {
     let uri = parse(alloc, uri).ok()?;
     match tree.find(&uri.path) {
-        Some(id) => put_node(alloc, tree, id, out)?,
+        Some(id) => put_node(alloc, &tree.view(id), out)?,
         None => put(out, b"-")?,
     }
     put(out, b"|")

@@ -27,19 +27,18 @@ fn exec_twice(alloc: Global) -> Option<Command> {
     }
 }
 
-// Starts the update, and once more where memory ran out.
-fn start_twice(alloc: Global, engine: &mut Engine) -> Option<()>
+// Starts the update by this Exec, and once more where memory ran out.
+fn start_twice(engine: &mut Engine, exec: &Command, out: &mut List<Command>) -> Option<()>
     requires sound { IsSoundEngine engine.old }
     ensures sound { IsSoundEngine engine.new }
 {
-    let command = exec_twice(alloc)?;
-    let mut out = List::new(alloc);
     let mark = engine.mark();
-    if run(engine, &command, &mut out).is_some() {
+    let answer = run(engine, exec, out);
+    if answer.is_some() {
         return Some(());
     }
     engine.back(mark);
-    run(engine, &command, &mut out)
+    run(engine, exec, out)
 }
 
 // Gives the update its result, and once more where memory ran out.
@@ -48,7 +47,8 @@ fn finish_twice(engine: &mut Engine, ok: bool) -> Option<()>
     ensures sound { IsSoundEngine engine.new }
 {
     let mark = engine.mark();
-    if finish(engine, ok).is_some() {
+    let answer = finish(engine, ok);
+    if answer.is_some() {
         return Some(());
     }
     engine.back(mark);
@@ -58,7 +58,8 @@ fn finish_twice(engine: &mut Engine, ok: bool) -> Option<()>
 // How it stands when it is started, and after its result.
 fn updated_twice(alloc: Global, ok: bool) -> Option<(Shown, Shown)> {
     let mut engine = ready_twice(alloc)?;
-    start_twice(alloc, &mut engine)?;
+    let exec = exec_twice(alloc)?;
+    start_twice(&mut engine, &exec, &mut List::new(alloc))?;
     let first = shown(&engine)?;
     finish_twice(&mut engine, ok)?;
     Some((first, shown(&engine)?))
