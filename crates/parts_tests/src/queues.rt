@@ -24,11 +24,10 @@ pub(crate) fn text(alloc: Global, text: &[u8]) -> Result<Bytes, Memory>
     Bytes::of_slice(alloc, text)
 }
 
-/// The header of each message.
-pub(crate) fn header(alloc: Global) -> Result<Boxed<Header>, Memory>
+fn least_header(alloc: Global) -> Result<Header, Memory>
     ensures { IfOk result IsReadyHeader }
 {
-    let header = Header {
+    Ok(Header {
         dtd: text(alloc, b"1.2")?,
         proto: text(alloc, b"DM/1.2")?,
         session: text(alloc, b"1")?,
@@ -52,8 +51,14 @@ pub(crate) fn header(alloc: Global) -> Result<Boxed<Header>, Memory>
                 ..Meta::empty()
             },
         )?),
-    };
-    Boxed::new(alloc, header)
+    })
+}
+
+/// The header of each message.
+pub(crate) fn header(alloc: Global) -> Result<Boxed<Header>, Memory>
+    ensures { IfOk result IsReadyHeader }
+{
+    Boxed::new(alloc, least_header(alloc)?)
 }
 
 fn status_of(alloc: Global, cmd: Bytes, cmd_ref: u32) -> Command

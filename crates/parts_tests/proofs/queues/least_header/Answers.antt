@@ -1,6 +1,6 @@
 use Rattle.dm_pack.proofs.Ready.{IsText}
 use Rattle.dm_pack.proofs.Fixtures.{header_ready}
-use Rattle.parts_tests.proofs.queues.header.Goals as goal
+use Rattle.parts_tests.proofs.queues.least_header.Goals as goal
 
 pub returns : goal.returns
 returns c =
