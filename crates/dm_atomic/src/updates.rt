@@ -1,6 +1,7 @@
 // Where an engine begins, and how an update ends.
 ghost use Rattle.std.specs.Prelude.{◌≡◌, ◌≤◌, ◌<◌, ◌∷◌, ◌++◌, [], List as ListOf, ℕ, None, Some, is_some, true};
 ghost use Rattle.std.specs.Prelude.{vec_len, vec_capacity, IfOk, IfSome, OnOk, OnErr};
+ghost use Rattle.dm_base.specs.Limits.{object_limit};
 ghost use Rattle.dm_tree.specs.Rows.{nodes, ids, path_of, IsLive};
 ghost use Rattle.dm_tree.specs.Devices.{update_node, IsUpdateInOrder};
 ghost use Rattle.dm_commands.specs.Outcomes.{asked_by};
@@ -55,7 +56,7 @@ impl Engine {
     #[tactic(auto, using(crate::proofs::Results::begun_state, crate::proofs::Results::begun_sound))]
     pub fn new(alloc: Global, tree: Tree, max_obj: u32) -> Result<Engine, Memory>
         requires update { IsUpdateInOrder (nodes tree.rows) }
-        requires max_obj { max_obj ≤ 4194304 }
+        requires max_obj { max_obj ≤ object_limit }
         ensures state { IfOk result (λ engine. state_of engine ≡ begun (nodes tree.rows)) }
         ensures ids { IfOk result (λ engine. (whole_of engine).ids ≡ ids tree.rows) }
         ensures past { IfOk result (λ engine. past_of engine ≡ no_past) }

@@ -34,6 +34,10 @@ ahead state left = prepend_known state.pending (behind state left)
 abbrev pub room : LinesState → ℕ
 room state = length state.pending + (run_limit - state.taken)
 
+-- what ends a line
+abbrev pub line_feed : List ℕ
+line_feed = 10 ∷ []
+
 -- no line feed among the bytes
 abbrev pub IsFeedless : List ℕ → Type 0
 IsFeedless bytes = (k : ℕ) → k < length bytes → slice_index bytes k ≢ 10
@@ -64,7 +68,7 @@ pub record IsPastRoom (room : ℕ) (bytes : List ℕ) : Type 0 where
 -- what an answer says of the bytes that were to come before it and after it
 abbrev pub ReadsLine : ℕ → Option (List ℕ) → Option (List ℕ) → Result LineOut TakeError → Type 0
 ReadsLine room old new (Ok (line_out.Line line)) =
-    IsFeedless line × (length line ≤ line_limit) × (length line < room) × Consumes old new (line ++ 10 ∷ [])
+    IsFeedless line × (length line ≤ line_limit) × (length line < room) × Consumes old new (line ++ line_feed)
 ReadsLine room old new (Ok (line_out.Bad reason.Cut)) = Keeps old new × OfKnown old (IsCutLine room)
 ReadsLine room old new (Ok (line_out.Bad reason.Long)) = Keeps old new × OfKnown old (IsLongLine room)
 ReadsLine room old new (Ok (line_out.Bad other)) = ⊥

@@ -13,7 +13,7 @@ use hex::encode_to_slice;
 use std::alloc::Global;
 
 // How many bytes are made digits at a time, on the stack.
-const CHUNK: usize = 64;
+const CHUNK: usize = 256;
 
 /// The forms that a field may have.
 #[derive(Clone, Copy, Debug, PartialEq, Eq)]

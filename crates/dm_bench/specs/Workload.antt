@@ -3,7 +3,7 @@ use Rattle.std.specs.Prelude.{ℕ, List, ◌++◌, codes}
 use Rattle.std.specs.Fmt.{decimal}
 use Rattle.md5.specs.Md5.{md5}
 use Rattle.dm_base.specs.Fields.{hex_text}
-use Rattle.syncml_codec.specs.Listing.{line_feed}
+use Rattle.dm_base.specs.Lines.{line_feed}
 use Rattle.dm_start.specs.TreeText.{tree_text}
 use Rattle.dm_bench.specs.declared.running.Tally.{Tally}
 use Rattle.dm_bench.specs.Start.{begun_machine}

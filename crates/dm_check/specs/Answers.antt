@@ -1,11 +1,12 @@
 -- What `show` and `check` write of one message, and how they end.
 use Rattle.std.specs.Prelude.{ℕ, Bool, if◌then◌else◌, bytes_eq, codes, List, ◌++◌, length, Result, Ok, Err}
 use Rattle.std.specs.Fmt.{decimal}
+use Rattle.dm_base.specs.Lines.{line_feed}
 use Rattle.wbxml_tokens.specs.declared.reason.Refusal.{Refusal}
 use Rattle.syncml_types.specs.Message.{Parts}
 use Rattle.syncml_types.specs.Canonical.{canonical}
 use Rattle.syncml_types.specs.Lengths.{up_to_most}
-use Rattle.syncml_codec.specs.Listing.{line_feed, listing_of}
+use Rattle.syncml_codec.specs.Listing.{listing_of}
 use Rattle.syncml_codec.specs.Decoding.{read_of}
 use Rattle.dm_exit.specs.declared.exit.Exit.{Exit}
 use Rattle.dm_exit.specs.declared.exit.Exit.TheVariants as exit

@@ -1,8 +1,8 @@
 // The lines that are written of what was received.
 ghost use Rattle.std.specs.Prelude.{◌≡◌, ◌++◌, bytes_eq, length, IfOk};
+ghost use Rattle.dm_base.specs.Lines.{line_feed};
 ghost use Rattle.syncml_types.specs.Canonical.{canonical};
 ghost use Rattle.syncml_types.specs.Lengths.{up_to_most};
-ghost use Rattle.syncml_codec.specs.Listing.{line_feed};
 ghost use Rattle.dm_replay.specs.Output.{refused_line};
 ghost use Rattle.dm_check.specs.Answers as Spec;
 ghost use Rattle.dm_check.specs.Kept.{read_in, checked_in};

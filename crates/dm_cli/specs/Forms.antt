@@ -1,6 +1,7 @@
 -- What a run puts, by the form of its words.
-use Rattle.std.specs.Prelude.{◌≡◌, ℕ, codes, List, [], ◌∷◌, ◌++◌, Option, Some, None}
+use Rattle.std.specs.Prelude.{◌≡◌, ℕ, codes, List, ◌++◌, Option, Some, None}
 use Rattle.std.specs.Io.KnownBytes.{Appends}
+use Rattle.dm_base.specs.Lines.{line_feed}
 use Rattle.dm_base.specs.Outside.{OfKnown}
 use Rattle.dm_exit.specs.declared.exit.Exit.{Exit}
 use Rattle.dm_exit.specs.declared.exit.Exit.TheVariants as exit
@@ -15,7 +16,7 @@ use Rattle.dm_words.specs.declared.forms.Form.{Form}
 use Rattle.dm_words.specs.declared.forms.Form.TheVariants as forms
 
 abbrev pub usage_line : List ℕ
-usage_line = codes "usage: dmtool replay | pair | show | check | bench SEED NODES MESSAGES" ++ 10 ∷ []
+usage_line = codes "usage: dmtool replay | pair | show | check | bench SEED NODES MESSAGES" ++ line_feed
 
 -- the usage line was put, or a part of it
 abbrev pub PutsUsage : Option (List ℕ) → Option (List ℕ) → Exit → Type 0

@@ -15,7 +15,7 @@ use Rattle.dm_uri.specs.declared.uri.Query.TheVariants as query
 use Rattle.dm_uri.specs.declared.uri.Uri.{Uri}
 use Rattle.dm_uri.specs.declared.uri.UriError.{UriError}
 use Rattle.dm_uri.specs.declared.uri.UriError.TheVariants as uri_error
-use Rattle.dm_uri.specs.Names.{has_name_form, is_short}
+use Rattle.dm_uri.specs.Names.{has_name_form, is_short_name}
 use Rattle.dm_uri.specs.Reading.{parse_of}
 use Rattle.dm_acl.specs.declared.values.Entries.{Entries}
 use Rattle.dm_acl.specs.declared.values.AclError.{AclError}
@@ -220,7 +220,7 @@ is_taken_beside m p name = is_some (get m (beside p name)) && not (is_own_name p
 
 -- a text that is no name, or a long one
 abbrev pub name_text_refusals : List ℕ → List (Bool × ℕ)
-name_text_refusals text = (not (has_name_form text), 400) ∷ (not (is_short text), 414) ∷ []
+name_text_refusals text = (not (has_name_form text), 400) ∷ (not (is_short_name text), 414) ∷ []
 
 -- a node that the caller may not rename
 abbrev pub rename_refusals : Setting → Nodes → Uri → List (Bool × ℕ)

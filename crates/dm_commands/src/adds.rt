@@ -2,6 +2,7 @@
 ghost use Rattle.std.specs.Prelude.{◌≡◌, ◌≤◌, ◌∷◌, ◌++◌, [], length, true, false, None, IfOk, OnErr, IsTrue};
 ghost use Rattle.std.specs.Prelude.{MatchOption};
 ghost use Rattle.std.specs.FinMap as map;
+ghost use Rattle.dm_base.specs.Limits.{object_limit};
 ghost use Rattle.dm_uri.specs.Names.{is_within_limits};
 ghost use Rattle.dm_tree.specs.declared.nodes.Stamp.{Stamp as Time};
 ghost use Rattle.dm_tree.specs.Nodes.{above, made, tree_order};
@@ -138,7 +139,7 @@ fn add_at(
     requires place { IsPlace tree.old.rows (path_of tree.old.rows place.parent ++ place.name ∷ []) place }
     requires within { IsTrue (is_within_limits (path_of tree.old.rows place.parent ++ place.name ∷ [])) }
     requires passed { first_refusal (node_refusals (nodes tree.old.rows) step.old) ≡ None }
-    requires short { length step.old.value ≤ 4194304 }
+    requires short { length step.old.value ≤ object_limit }
     ensures ok { IfOk result (λ outcome. Ends (changed_to (map.insert (nodes tree.old.rows)
         (path_of tree.old.rows place.parent ++ place.name ∷ []) (node_for tree.old.clock step.old))) none_moved
         journal.old tree.old journal.new tree.new outcome) }
@@ -160,7 +161,7 @@ pub(crate) fn add(
     uri: Uri,
 ) -> Result<Outcome, Memory>
     requires within { IsTrue (is_within_limits uri.path) }
-    requires short { length step.old.value ≤ 4194304 }
+    requires short { length step.old.value ≤ object_limit }
     ensures ok { IfOk result (λ outcome. Ends
         (added (asked_by caller.now tree.old.clock) (nodes tree.old.rows) step.old uri) none_moved
         journal.old tree.old journal.new tree.new outcome) }

@@ -2,6 +2,7 @@
 ghost use Rattle.std.specs.Prelude.{◌≡◌, ◌≢◌, ◌≤◌, ◌<◌, ◌+◌, ◌-◌, ◌^◌, ◌∷◌, ◌++◌, [], length, true, false, None};
 ghost use Rattle.std.specs.Prelude.{IsTrue, IsSome, IfSome, OnOk, OnErr};
 ghost use Rattle.std.specs.FinMap as map;
+ghost use Rattle.dm_base.specs.Limits.{object_limit};
 ghost use Rattle.dm_uri.specs.Names.{is_within_limits};
 ghost use Rattle.dm_tree.specs.Nodes.{above, changed, made, with_value, with_bytes, with_acl, with_title, tree_order};
 ghost use Rattle.dm_tree.specs.Nodes.{is_below, IsValue, IsReadAgain, IsNewNode};
@@ -58,7 +59,7 @@ pub(crate) fn put_bytes(
 ) -> Result<(), Memory>
     requires live { IsLive tree.old.rows id }
     requires leaf { (node_of tree.old.rows id).interior ≡ false }
-    requires short { length bytes ≤ 4194304 }
+    requires short { length bytes ≤ object_limit }
     ensures nodes { OnOk result (nodes tree.new.rows ≡ map.insert (nodes tree.old.rows) (path_of tree.old.rows id)
         (changed tree.old.clock (with_bytes (node_of tree.old.rows id) bytes))) }
     ensures ids { OnOk result (ids tree.new.rows ≡ ids tree.old.rows) }

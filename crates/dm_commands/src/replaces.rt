@@ -2,6 +2,7 @@
 ghost use Rattle.std.specs.Prelude.{◌≡◌, ◌≤◌, ◌==◌, [], false, None, length, IfOk, OnOk, OnErr};
 ghost use Rattle.std.specs.Option.{option_map_or};
 ghost use Rattle.std.specs.FinMap as map;
+ghost use Rattle.dm_base.specs.Limits.{object_limit};
 ghost use Rattle.dm_fumo.specs.States.{progressing};
 ghost use Rattle.dm_tree.specs.declared.nodes.Role.TheVariants as role;
 ghost use Rattle.dm_tree.specs.Nodes.{is_node_format as is_node, changed, with_value, tree_order, IsValue};
@@ -182,7 +183,7 @@ pub(crate) fn replace_value(
     uri: &Uri,
 ) -> Result<Outcome, Memory>
     requires update { IsUpdateInOrder (nodes tree.old.rows) }
-    requires short { length step.old.value ≤ 4194304 }
+    requires short { length step.old.value ≤ object_limit }
     ensures ok { IfOk result (λ outcome. Ends
         (value_replaced (asked_by caller.now tree.old.clock) (nodes tree.old.rows) step.old uri.now) none_moved
         journal.old tree.old journal.new tree.new outcome) }

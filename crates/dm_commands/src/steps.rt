@@ -1,5 +1,6 @@
 // One step: a command on one node.
 ghost use Rattle.std.specs.Prelude.{◌≡◌, ◌≤◌, ◌&&◌, length, Ok, IfOk, OnOk, OnErr, IsTrue};
+ghost use Rattle.dm_base.specs.Limits.{object_limit};
 ghost use Rattle.syncml_types.specs.declared.command.Verb.TheVariants as verb;
 ghost use Rattle.dm_uri.specs.Names.{is_within_limits};
 ghost use Rattle.dm_uri.specs.declared.uri.Query.TheVariants as query;
@@ -62,7 +63,7 @@ fn replace(
     uri: &Uri,
 ) -> Result<Outcome, Memory>
     requires update { IsUpdateInOrder (nodes tree.old.rows) }
-    requires short { length step.old.value ≤ 4194304 }
+    requires short { length step.old.value ≤ object_limit }
     ensures ok { IfOk result (λ outcome. Ends
         (replaced (asked_by caller.now tree.old.clock) (nodes tree.old.rows) step.old uri.now uri.now.query)
         (is_moved_at verb.Replace (Ok uri.now)) journal.old tree.old journal.new tree.new outcome) }

@@ -15,7 +15,7 @@ use Rattle.syncml_types.specs.declared.values.Cred.{Cred}
 use Rattle.syncml_types.specs.declared.values.Header.{Header}
 use Rattle.syncml_types.specs.Canonical.{is_text, optional, text_tokens, data_piece, data_tokens, flag_tokens}
 use Rattle.syncml_types.specs.Canonical.{loc_tokens, meta_tokens, cred_tokens, header_tokens}
-use Rattle.syncml_types.specs.Fitness.{all_of, is_short as is_short_text, header_texts, header_data, loc_texts}
+use Rattle.syncml_types.specs.Fitness.{all_of, is_in_limit, header_texts, header_data, loc_texts}
 use Rattle.syncml_types.specs.Fitness.{meta_texts, cred_texts}
 use Rattle.dm_auth.specs.Digests.{md5_meta}
 use Rattle.dm_headers.specs.Headers.{shown, limits_meta, next_header}
@@ -75,9 +75,9 @@ cred_pass test (Some c) passes is =
           (literal 20 (codes "syncml:auth-md5") refl (omega arith)),
     ) refl
 
-cred_short : (o : Option Cred) → IsOwnCred o → all_of (λ (c : Cred). is_short_text c.value) o ≡ true
+cred_short : (o : Option Cred) → IsOwnCred o → all_of (λ (c : Cred). is_in_limit c.value) o ≡ true
 cred_short None is = refl
-cred_short (Some c) is = pass_text is_short_text 24 c.value short_passes (omega arith) is.value
+cred_short (Some c) is = pass_text is_in_limit 24 c.value short_passes (omega arith) is.value
 
 md5_most : Most 34 (meta_tokens (md5_meta None))
 unfolding meta_tokens
@@ -204,7 +204,7 @@ own_ready limits session msg target source name cred is =
         filled = refl;
         correlators = refl;
         short_texts = and_from _ _
-            (own_pass is_short_text limits session msg target source name cred short_passes is) refl;
+            (own_pass is_in_limit limits session msg target source name cred short_passes is) refl;
         short_data = and_from _ _ (cred_short cred is.own_cred) refl;
       };
       short = (own_most limits session msg target source name cred is).at 0;

@@ -10,7 +10,7 @@ use Rattle.syncml_types.specs.declared.command.SeqMember.{SeqMember}
 use Rattle.syncml_types.specs.declared.command.Command.{Command}
 use Rattle.syncml_types.specs.declared.command.Command.TheVariants as command
 use Rattle.syncml_types.specs.Canonical.{is_text}
-use Rattle.syncml_types.specs.Fitness.{is_short, member_texts, seq_member_texts, atomic_texts, sequence_texts}
+use Rattle.syncml_types.specs.Fitness.{is_in_limit, member_texts, seq_member_texts, atomic_texts, sequence_texts}
 use Rattle.syncml_types.specs.Fitness.{command_texts}
 use Rattle.syncml_types.specs.Fitness.{member_data, seq_member_data, command_data, command_numbers, atomic_numbers}
 use Rattle.syncml_types.specs.Fitness.{member_filled, seq_member_filled, atomic_filled, command_filled}
@@ -68,8 +68,8 @@ container_fit atomic ps h some =
           and_from _ _ (filled (length (map member.One ps)) some)
           (all_members member_filled (λ p good. good.filled) ps h);
       correlators = all_members member_correlates (λ p good. good.correlates) ps h;
-      short_texts = all_members (member_texts is_short) (λ p good. good.short_texts) ps h;
-      short_data = all_members (member_data is_short) (λ p good. good.short_data) ps h;
+      short_texts = all_members (member_texts is_in_limit) (λ p good. good.short_texts) ps h;
+      short_data = all_members (member_data is_in_limit) (λ p good. good.short_data) ps h;
     }
 container_fit sequence ps h some =
     record {
@@ -79,8 +79,8 @@ container_fit sequence ps h some =
           and_from _ _ (filled (length (map single ps)) some)
           (all_singles seq_member_filled (λ p good. good.filled) ps h);
       correlators = all_singles seq_member_correlates (λ p good. good.correlates) ps h;
-      short_texts = all_singles (seq_member_texts is_short) (λ p good. good.short_texts) ps h;
-      short_data = all_singles (seq_member_data is_short) (λ p good. good.short_data) ps h;
+      short_texts = all_singles (seq_member_texts is_in_limit) (λ p good. good.short_texts) ps h;
+      short_data = all_singles (seq_member_data is_in_limit) (λ p good. good.short_data) ps h;
     }
 
 pub container_ready : (k : Kind) (ps : List Plain) → AllByRecursion IsGood ps → may_close (container k ps) ≡ true

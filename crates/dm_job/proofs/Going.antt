@@ -16,7 +16,7 @@ use Rattle.syncml_types.specs.declared.command.SeqMember.{SeqMember}
 use Rattle.syncml_types.specs.declared.command.SeqMember.TheVariants as seq_member
 use Rattle.syncml_types.specs.declared.command.Command.{Command}
 use Rattle.syncml_types.specs.declared.command.Command.TheVariants as command
-use Rattle.syncml_types.specs.Fitness.{is_short, item_data, member_data, seq_member_data, command_data}
+use Rattle.syncml_types.specs.Fitness.{is_in_limit, item_data, member_data, seq_member_data, command_data}
 use Rattle.syncml_parts.specs.Numbering.{ids_in, ids_in_seq_members}
 use Rattle.dm_start.specs.Fields.{begins_with, account_in, limits_in}
 use Rattle.dm_start.proofs.Sections.{said, allowed, same_ok}
@@ -37,7 +37,7 @@ use Rattle.dm_job.proofs.Moves.{Move, opens_atomic, opens_sequence, parts_, ends
 -- ---- what a line says has Data that can be spelled
 
 abbrev HasShortValue : Plain → Type 0
-HasShortValue p = list_all (item_data is_short) p.items ≡ true
+HasShortValue p = list_all (item_data is_in_limit) p.items ≡ true
 
 plain_short : (v : Verb) (fields : List (List ℕ)) (p : Plain) → plain_in v fields ≡ Some p → HasShortValue p
 plain_short v fields p e = (plain_good v fields p e).short_data
@@ -72,7 +72,7 @@ member_measured (command.Atomic b) p h c =
     let flat = c.flat in
     let long = length-append b.members (member.One p ∷ []) in
     record {
-      short = all_and (member_data is_short) b.members (member.One p) c.short h;
+      short = all_and (member_data is_in_limit) b.members (member.One p) c.short h;
       flat = omega (arith, flat, long);
     }
 member_measured (command.Sequence b) p h c =
@@ -80,7 +80,7 @@ member_measured (command.Sequence b) p h c =
     let long = length-append b.members (seq_member.Single (member.One p) ∷ []) in
     let more = one_more_id b.members p in
     record {
-      short = all_and (seq_member_data is_short) b.members (seq_member.Single (member.One p)) c.short h;
+      short = all_and (seq_member_data is_in_limit) b.members (seq_member.Single (member.One p)) c.short h;
       flat = omega (arith, flat, long, more);
     }
 member_measured (command.Plain q) p h c = c

@@ -10,7 +10,7 @@ use Rattle.wbxml_tokens.specs.Spelling.{spelled}
 use Rattle.wbxml_tables.specs.declared.Element.{Element}
 use Rattle.wbxml_tables.specs.declared.Element.TheVariants.{ECmdID, ECorrelator, EFormat, EItem, ELocURI, EMeta}
 use Rattle.wbxml_tables.specs.declared.Element.TheVariants.{ETarget, EType}
-use Rattle.dm_base.specs.Fields.{hex_of, is_word, is_visible, is_short as is_short_field}
+use Rattle.dm_base.specs.Fields.{hex_of, is_word, is_visible, is_short}
 use Rattle.syncml_types.specs.declared.values.Meta.{Meta}
 use Rattle.syncml_types.specs.declared.values.Item.{Item}
 use Rattle.syncml_types.specs.declared.command.Verb.{Verb}
@@ -20,7 +20,7 @@ use Rattle.syncml_types.specs.declared.command.Command.TheVariants as command
 use Rattle.syncml_types.specs.Canonical.{is_text, optional, text_tokens, flag_tokens, loc_tokens, meta_tokens}
 use Rattle.syncml_types.specs.Canonical.{item_tokens, items_tokens}
 use Rattle.syncml_types.specs.Canonical.{plain_tokens, command_tokens, verb_element}
-use Rattle.syncml_types.specs.Fitness.{all_of, is_short, loc_texts, meta_texts, item_texts, item_data}
+use Rattle.syncml_types.specs.Fitness.{all_of, is_in_limit, loc_texts, meta_texts, item_texts, item_data}
 use Rattle.syncml_types.specs.Fitness.{plain_texts, plain_filled}
 use Rattle.syncml_types.specs.Fitness.{plain_correlates, command_texts, command_data, command_numbers, command_filled}
 use Rattle.syncml_types.specs.Fitness.{command_correlates}
@@ -49,7 +49,7 @@ word_text t h =
       few = leb-true (length t) 255 few.1;
     }
 
-short_text : (t : List ℕ) → is_short_field t ≡ true → IsText 64 t
+short_text : (t : List ℕ) → is_short t ≡ true → IsText 64 t
 short_text t h =
     let both = and_parts (is_word t) (nat_le (length t) 64) h in
     record { text = (word_text t both.0).text; few = leb-true (length t) 64 both.1 }
@@ -153,8 +153,8 @@ pub record IsGood (p : Plain) : Type 0 where
   pub step : IsStep p
   pub meta : p.meta ≡ None
   pub texts : plain_texts is_text p ≡ true
-  pub short_texts : plain_texts is_short p ≡ true
-  pub short_data : list_all (item_data is_short) p.items ≡ true
+  pub short_texts : plain_texts is_in_limit p ≡ true
+  pub short_data : list_all (item_data is_in_limit) p.items ≡ true
   pub filled : plain_filled p ≡ true
   pub correlates : plain_correlates p ≡ true
   pub bare : bare_length (command.Plain p) ≤ 700
@@ -203,13 +203,13 @@ made_filled verb.Delete correlator item = refl
 made_filled verb.Exec correlator item = refl
 made_filled verb.Get correlator item = refl
 
-value_short : (uri : List ℕ) (meta : Option Meta) (value : Option (List ℕ)) → all_of is_short value ≡ true
-    → list_all (item_data is_short) (item_of uri meta value ∷ []) ≡ true
+value_short : (uri : List ℕ) (meta : Option Meta) (value : Option (List ℕ)) → all_of is_in_limit value ≡ true
+    → list_all (item_data is_in_limit) (item_of uri meta value ∷ []) ≡ true
 unfolding item_data
 value_short uri meta value h = and_from _ true h refl
 
 made_good : (v : Verb) (correlator : Option (List ℕ)) (uri : List ℕ) (format media value : Option (List ℕ))
-    → IsMade correlator uri format media → MayHave v correlator value → all_of is_short value ≡ true
+    → IsMade correlator uri format media → MayHave v correlator value → all_of is_in_limit value ≡ true
     → IsGood (plain_of v correlator (item_of uri (meta_of format media) value))
 made_good v correlator uri format media value made may short =
     let most = plain_most v correlator uri format media made in
@@ -217,7 +217,7 @@ made_good v correlator uri format media value made may short =
       step = record { item = item_of uri (meta_of format media) value; only = refl; whole = refl; answered = refl };
       meta = refl;
       texts = texts_made is_text v correlator uri format media value texts_pass made;
-      short_texts = texts_made is_short v correlator uri format media value short_passes made;
+      short_texts = texts_made is_in_limit v correlator uri format media value short_passes made;
       short_data = value_short uri (meta_of format media) value short;
       filled = made_filled v correlator (item_of uri (meta_of format media) value);
       correlates = made_correlates v correlator (item_of uri (meta_of format media) value) value may;
@@ -254,8 +254,8 @@ exec_good (w ∷ []) p e = absurd (cc)
 exec_good (w ∷ uri ∷ []) p e = absurd (cc)
 exec_good (w ∷ uri ∷ t ∷ []) p e =
     let told =
-    some_if (is_word uri && is_short_field t) (Some (plain_of verb.Exec (opt_of t) (item_of uri None None))) p e in
-    let both = and_parts (is_word uri) (is_short_field t) told.0 in
+    some_if (is_word uri && is_short t) (Some (plain_of verb.Exec (opt_of t) (item_of uri None None))) p e in
+    let both = and_parts (is_word uri) (is_short t) told.0 in
     subst IsGood (same_some _ p told.1)
     (made_good verb.Exec (opt_of t) uri None None None
     (record {
@@ -287,12 +287,12 @@ write_good v (w ∷ uri ∷ f ∷ []) p may e = absurd (cc)
 write_good v (w ∷ uri ∷ f ∷ m ∷ []) p may e = absurd (cc)
 write_good v (w ∷ uri ∷ f ∷ m ∷ t ∷ []) p may e =
     let told =
-    some_if (is_word uri && is_short_field f && is_word m) (option_map (written v uri f m) (data_in t)) p e in
-    let all = and_parts (is_word uri && is_short_field f) (is_word m) told.0 in
-    let both = and_parts (is_word uri) (is_short_field f) all.0 in
+    some_if (is_word uri && is_short f && is_word m) (option_map (written v uri f m) (data_in t)) p e in
+    let all = and_parts (is_word uri && is_short f) (is_word m) told.0 in
+    let both = and_parts (is_word uri) (is_short f) all.0 in
     by_data both.0 both.1 all.1 (data_in t) refl told.1
   where
-    by_data : is_word uri ≡ true → is_short_field f ≡ true → is_word m ≡ true
+    by_data : is_word uri ≡ true → is_short f ≡ true → is_word m ≡ true
         → (o : Option (List ℕ)) → data_in t ≡ o → option_map (written v uri f m) o ≡ Some p → IsGood p
     by_data u s k None is h = absurd (cc)
     by_data u s k (Some bytes) is h =

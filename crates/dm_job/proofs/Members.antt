@@ -10,7 +10,7 @@ use Rattle.syncml_types.specs.declared.command.SeqMember.TheVariants as seq_memb
 use Rattle.syncml_types.specs.declared.command.Command.{Command}
 use Rattle.syncml_types.specs.declared.command.Command.TheVariants as command
 use Rattle.syncml_types.specs.Message.{HasShortItems}
-use Rattle.syncml_types.specs.Fitness.{is_short, item_data, command_data}
+use Rattle.syncml_types.specs.Fitness.{is_in_limit, item_data, command_data}
 use Rattle.syncml_types.specs.Lengths.{up_to_most}
 use Rattle.syncml_parts.specs.Numbering.{ids_in, ids_in_seq_member, ids_in_seq_members}
 use Rattle.syncml_parts.specs.Packing.{cut_item, cut_changed}
@@ -31,12 +31,12 @@ pub taken_and_put : (c : Command) (v : Option (List ℕ)) → v ≡ value_in (cu
     → cut_changed (with_data v) (cut_changed without_value c) ≡ c
 taken_and_put c v e = twice (with_data v) without_value c ∙ unchanged (with_data v) c (put_again (cut_item c) v e)
 
-without_keeps : Keeps is_short without_value
+without_keeps : Keeps is_in_limit without_value
 unfolding item_data
 without_keeps i h = refl
 
-pub short_without : (c : Command) → command_data is_short c ≡ true → HasShortItems (cut_changed without_value c)
-short_without c h = short_items (cut_changed without_value c) (data_changed is_short without_value without_keeps c h)
+pub short_without : (c : Command) → command_data is_in_limit c ≡ true → HasShortItems (cut_changed without_value c)
+short_without c h = short_items (cut_changed without_value c) (data_changed is_in_limit without_value without_keeps c h)
 
 pub ids_without : (c : Command) (n : ℕ) → ids_in c ≤ n → ids_in (cut_changed without_value c) ≤ n
 ids_without c n h = let same = ids_changed without_value c in omega (arith, same, h)

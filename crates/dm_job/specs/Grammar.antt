@@ -4,7 +4,7 @@ use Rattle.std.specs.Prelude.{filter}
 use Rattle.std.specs.Prelude.{codes, Some, None}
 use Rattle.std.specs.List.{AllByRecursion, flat_map, list_all}
 use Rattle.dm_base.specs.Fields.{parts}
-use Rattle.dm_base.specs.Lines.{line_limit}
+use Rattle.dm_base.specs.Lines.{line_limit, line_feed}
 use Rattle.syncml_types.specs.declared.command.Verb.{Verb}
 use Rattle.syncml_types.specs.declared.command.Plain.{Plain}
 use Rattle.syncml_types.specs.declared.command.Member.TheVariants as member
@@ -116,13 +116,13 @@ pub record IsJob (lines : List (List ℕ)) (job : Job) : Type 0 where
   pub right : AllByRecursion AreStanzas packages
   pub made : job.packages ≡ packages_of packages
 
--- as many bytes as a line may have, without a line feed
+-- at most as many bytes as a line may have, and no line feed among them
 pub record IsLine (line : List ℕ) : Type 0 where
   pub short : length line ≤ line_limit
   pub feedless : list_all (λ b. not (b == 10)) line ≡ true
 
 abbrev pub ended : List ℕ → List ℕ
-ended line = line ++ 10 ∷ []
+ended line = line ++ line_feed
 
 -- the text of a job
 pub record IsJobText (text : List ℕ) (job : Job) : Type 0 where

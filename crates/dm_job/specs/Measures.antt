@@ -2,7 +2,7 @@
 use Rattle.std.specs.Prelude.{◌≡◌, ◌≤◌, ◌+◌, true, List, ℕ, Option, IfSome, option_and_then, ⊤, Ok}
 use Rattle.syncml_types.specs.declared.values.Item.{Item}
 use Rattle.syncml_types.specs.declared.command.Command.{Command}
-use Rattle.syncml_types.specs.Fitness.{is_short, command_data}
+use Rattle.syncml_types.specs.Fitness.{is_in_limit, command_data}
 use Rattle.syncml_parts.specs.Numbering.{ids_in}
 use Rattle.dm_job.specs.Commands.{member_count}
 use Rattle.dm_job.specs.declared.job.JobEntry.{JobEntry}
@@ -22,7 +22,7 @@ with_data value i = record i { value = value }
 
 -- no Data is too long for a spelling, and no member has members
 pub record CanBeMeasured (c : Command) : Type 0 where
-  pub short : command_data is_short c ≡ true
+  pub short : command_data is_in_limit c ≡ true
   pub flat : ids_in c ≤ 1 + member_count c
 
 -- the last command can be measured

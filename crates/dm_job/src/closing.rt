@@ -1,7 +1,7 @@
 // Whether a container may end.
 ghost use Rattle.std.specs.Prelude.{◌≡◌, ◌≤◌, false, true, IfSome};
 ghost use Rattle.std.specs.Option.{option_map_or};
-ghost use Rattle.syncml_types.specs.Fitness.{is_short, command_data};
+ghost use Rattle.syncml_types.specs.Fitness.{is_in_limit, command_data};
 ghost use Rattle.syncml_types.specs.Lengths.{up_to_most};
 ghost use Rattle.syncml_parts.specs.Numbering.{ids_in};
 ghost use Rattle.syncml_parts.specs.Packing.{cut_changed, cut_item, last_of};
@@ -69,7 +69,7 @@ fn put_value(command: &mut Command, value: Option<Bytes>)
 // How long a container is without the Data of its last member, where its CmdIDs have ten digits.
 #[tactic(auto, using(crate::proofs::Members::short_without, crate::proofs::Members::ids_without, crate::proofs::Members::taken_and_put))]
 fn bare_length(command: &mut Command) -> u64
-    requires short { command_data is_short command.old ≡ true }
+    requires short { command_data is_in_limit command.old ≡ true }
     requires few { ids_in command.old ≤ 1001 }
     ensures length { result ≡ up_to_most (length_of command.old) }
     ensures same { command.new ≡ command.old }

@@ -18,7 +18,7 @@ use Rattle.dm_uri.specs.declared.uri.Query.{Query}
 use Rattle.dm_uri.specs.declared.uri.Query.TheVariants as query
 use Rattle.dm_uri.specs.declared.uri.Uri.{Uri}
 use Rattle.dm_uri.specs.declared.uri.UriError.{UriError}
-use Rattle.dm_uri.specs.Names.{has_name_form, is_short, is_within_limits, IsPath}
+use Rattle.dm_uri.specs.Names.{has_name_form, is_short_name, is_within_limits, IsPath}
 use Rattle.dm_uri.specs.Reading.{parse_of}
 use Rattle.dm_uri.proofs.BothWays.{reads_grammar}
 use Rattle.dm_uri.proofs.Limits.{path_of_limits}
@@ -291,8 +291,8 @@ module _ (s : Setting) (stamp : IsStamp s.clock) (m : Nodes) (formed : IsWellFor
             removable = tests.1.1.0;
             free = free_beside uri.path step.value tests.1.1.1.1.1.0;
             fits = negated (fits m uri.path step.value) tests.1.1.1.1.1.1.0;
-            named = and_from (has_name_form step.value) (is_short step.value)
-                (negated (has_name_form step.value) tests.1.1.1.0) (negated (is_short step.value) tests.1.1.1.1.0);
+            named = and_from (has_name_form step.value) (is_short_name step.value)
+                (negated (has_name_form step.value) tests.1.1.1.0) (negated (is_short_name step.value) tests.1.1.1.1.0);
             node = held_changed s.clock (node_at m uri.path) stamp held.value held.acl held.title;
             interior = refl;
             permanent = refl;

@@ -13,7 +13,7 @@ use Rattle.syncml_types.specs.declared.command.Command.{Command}
 use Rattle.syncml_types.specs.declared.command.Command.TheVariants as command
 use Rattle.syncml_types.specs.Canonical.{is_text, optional, text_tokens, flag_tokens, loc_tokens, meta_tokens}
 use Rattle.syncml_types.specs.Canonical.{item_tokens, items_tokens, plain_tokens, alert_tokens, command_tokens}
-use Rattle.syncml_types.specs.Fitness.{all_of, is_short, loc_texts, meta_texts, item_texts, item_data, plain_texts}
+use Rattle.syncml_types.specs.Fitness.{all_of, is_in_limit, loc_texts, meta_texts, item_texts, item_data, plain_texts}
 use Rattle.syncml_types.specs.Fitness.{alert_texts, command_texts, command_data, command_numbers, command_filled}
 use Rattle.syncml_types.specs.Fitness.{command_correlates, plain_filled, plain_correlates}
 use Rattle.syncml_parts.specs.Numbering.{with_numbers}
@@ -143,9 +143,9 @@ told_ready code correlator n k d uri media value low is few u m v =
         numbers = refl;
         filled = refl;
         correlators = refl;
-        short_texts = told_pass is_short code correlator _ short_passes is
-            (item_pass is_short n k uri media value short_passes (omega (arith, few)) (omega (arith, few)) u m);
-        short_data = and_from _ _ (pass_text is_short d value short_passes (omega (arith, few)) v) refl;
+        short_texts = told_pass is_in_limit code correlator _ short_passes is
+            (item_pass is_in_limit n k uri media value short_passes (omega (arith, few)) (omega (arith, few)) u m);
+        short_data = and_from _ _ (pass_text is_in_limit d value short_passes (omega (arith, few)) v) refl;
       };
       short =
           let short : Most 357 (item_tokens (source_item uri (Some (meta_of (codes "chr") media)) (Some value))) =
@@ -193,10 +193,10 @@ leaf_pass test m name passes path =
     item_pass test 15 10 (printed_path (device_path name)) (codes "text/plain") (value_at m (device_path name)) passes
     (omega arith) (omega arith) path plain_text
 
-leaf_data : (m : Nodes) (name : List ℕ) → IsDeviceLeaf m name → item_data is_short (device_item m name) ≡ true
+leaf_data : (m : Nodes) (name : List ℕ) → IsDeviceLeaf m name → item_data is_in_limit (device_item m name) ≡ true
 unfolding item_data
 leaf_data m name leaf =
-    pass_text is_short 64 (value_at m (device_path name)) short_passes (omega arith) (leaf_text m name leaf)
+    pass_text is_in_limit 64 (value_at m (device_path name)) short_passes (omega arith) (leaf_text m name leaf)
 
 -- five items of a Replace
 replace_of : List Item → Command
@@ -219,15 +219,15 @@ all_five test a b c d e v w x y z = rw (v, w, x, y, z) refl
 
 record IsLeaf (i : Item) : Type 0 where
   texts : item_texts is_text i ≡ true
-  short_texts : item_texts is_short i ≡ true
-  short_data : item_data is_short i ≡ true
+  short_texts : item_texts is_in_limit i ≡ true
+  short_data : item_data is_in_limit i ≡ true
   most : Most 128 (item_tokens i)
 
 leaf_is : (m : Nodes) (name : List ℕ) → IsDeviceLeaf m name → IsText 15 (printed_path (device_path name))
     → IsLeaf (device_item m name)
 leaf_is m name leaf path = record {
   texts = leaf_pass is_text m name texts_pass path;
-  short_texts = leaf_pass is_short m name short_passes path;
+  short_texts = leaf_pass is_in_limit m name short_passes path;
   short_data = leaf_data m name leaf;
   most = leaf_most m name leaf path;
 }
@@ -238,11 +238,12 @@ five_texts : (test : List ℕ → Bool) (a b c d e : Item) → item_texts test a
 unfolding command_texts plain_texts replace_of
 five_texts test a b c d e v w x y z = all_five (item_texts test) a b c d e v w x y z
 
-five_data : (a b c d e : Item) → item_data is_short a ≡ true → item_data is_short b ≡ true → item_data is_short c ≡ true
-    → item_data is_short d ≡ true → item_data is_short e ≡ true
-    → command_data is_short (replace_of (a ∷ b ∷ c ∷ d ∷ e ∷ [])) ≡ true
+five_data : (a b c d e : Item) → item_data is_in_limit a ≡ true → item_data is_in_limit b ≡ true
+    → item_data is_in_limit c ≡ true
+    → item_data is_in_limit d ≡ true → item_data is_in_limit e ≡ true
+    → command_data is_in_limit (replace_of (a ∷ b ∷ c ∷ d ∷ e ∷ [])) ≡ true
 unfolding command_data replace_of
-five_data a b c d e v w x y z = all_five (item_data is_short) a b c d e v w x y z
+five_data a b c d e v w x y z = all_five (item_data is_in_limit) a b c d e v w x y z
 
 five_ready : (a b c d e : Item) → IsLeaf a → IsLeaf b → IsLeaf c → IsLeaf d → IsLeaf e
     → IsReady (fresh (replace_of (a ∷ b ∷ c ∷ d ∷ e ∷ [])))
@@ -254,7 +255,7 @@ five_ready a b c d e v w x y z =
         numbers = refl;
         filled = refl;
         correlators = refl;
-        short_texts = five_texts is_short a b c d e v.short_texts w.short_texts x.short_texts y.short_texts
+        short_texts = five_texts is_in_limit a b c d e v.short_texts w.short_texts x.short_texts y.short_texts
             z.short_texts;
         short_data = five_data a b c d e v.short_data w.short_data x.short_data y.short_data z.short_data;
       };

@@ -16,7 +16,7 @@ use Rattle.syncml_types.specs.declared.command.Command.{Command}
 use Rattle.syncml_types.specs.declared.command.Command.TheVariants as command
 use Rattle.syncml_types.specs.Canonical.{is_text, optional, text_tokens, flag_tokens, loc_tokens, meta_tokens}
 use Rattle.syncml_types.specs.Canonical.{item_tokens, items_tokens, results_tokens, command_tokens}
-use Rattle.syncml_types.specs.Fitness.{all_of, is_short, is_number, loc_texts, meta_texts, item_texts, item_data}
+use Rattle.syncml_types.specs.Fitness.{all_of, is_in_limit, is_number, loc_texts, meta_texts, item_texts, item_data}
 use Rattle.syncml_types.specs.Fitness.{results_texts, command_texts, command_data, command_numbers, command_filled}
 use Rattle.syncml_types.specs.Fitness.{command_correlates}
 use Rattle.syncml_parts.specs.Numbering.{with_numbers}
@@ -117,7 +117,7 @@ some_number : (n : ℕ) → 0 < n → is_number n ≡ true
 some_number n some = ap not (ne_eqb n 0 (λ e. omega (arith, e, some)))
 
 result_ready : (msg ref : ℕ) (uri format : List ℕ) (media value : Option (List ℕ)) → 0 < msg → msg < 2 ^ 32
-    → ref < 2 ^ 32 → IsText 271 uri → IsText 20 format → IsOptional 255 media → all_of is_short value ≡ true
+    → ref < 2 ^ 32 → IsText 271 uri → IsText 20 format → IsOptional 255 media → all_of is_in_limit value ≡ true
     → IsReady (fresh (results msg ref (found_item uri format media value)))
 unfolding command_data command_numbers command_filled command_correlates with_numbers item_data
 result_ready msg ref uri format media value some m r u f t few =
@@ -127,7 +127,7 @@ result_ready msg ref uri format media value some m r u f t few =
         numbers = some_number msg some;
         filled = refl;
         correlators = refl;
-        short_texts = result_passes is_short msg ref uri format media value short_passes u f t;
+        short_texts = result_passes is_in_limit msg ref uri format media value short_passes u f t;
         short_data = both _ _ few refl;
       };
       short = let most = (most_result msg ref uri format media value m r u f t).at 0 in omega (arith, most);
@@ -140,7 +140,7 @@ pub record IsReadyFound (f : Found) : Type 0 where
   pub uri : IsText 271 f.uri
   pub format : IsText 20 f.format
   pub media : IsOptional 255 f.media
-  pub value : all_of is_short f.value ≡ true
+  pub value : all_of is_in_limit f.value ≡ true
 
 word : (t : List ℕ) → is_text t ≡ true → length t ≤ 20 → IsText 20 t
 word t text few = record { text = text; few = few }
@@ -242,7 +242,7 @@ at_ready m p device = by_look (get m p) refl
 
 -- ---- values
 
-short_value : (t : List ℕ) → length t ≤ 16777216 → all_of is_short (Some t) ≡ true
+short_value : (t : List ℕ) → length t ≤ 16777216 → all_of is_in_limit (Some t) ≡ true
 short_value t few = le-leb (length t) 2147483648 (omega (arith, few))
 
 -- a path that a tree may have
@@ -277,12 +277,13 @@ few_filtered g (p ∷ ps) =
 
 -- ---- the names of children
 
-short_last : (p : Path) → list_all names.is_short p ≡ true → length (unwrap_or (last_name p) []) ≤ 64
+short_last : (p : Path) → list_all names.is_short_name p ≡ true → length (unwrap_or (last_name p) []) ≤ 64
 short_last [] h = omega arith
-short_last (n ∷ []) h = leb-true (length n) 64 (and_parts (names.is_short n) true h).0
-short_last (n ∷ k ∷ ns) h = short_last (k ∷ ns) (and_parts (names.is_short n) (list_all names.is_short (k ∷ ns)) h).1
+short_last (n ∷ []) h = leb-true (length n) 64 (and_parts (names.is_short_name n) true h).0
+short_last (n ∷ k ∷ ns) h =
+    short_last (k ∷ ns) (and_parts (names.is_short_name n) (list_all names.is_short_name (k ∷ ns)) h).1
 
-good_short : (p : Path) → is_good_path p ≡ true → list_all names.is_short p ≡ true
+good_short : (p : Path) → is_good_path p ≡ true → list_all names.is_short_name p ≡ true
 good_short p h = (and_parts _ _ (and_parts _ _ (and_parts _ _ h).1).0).0
 
 abbrev HasShort : List (List ℕ) → Type 0
@@ -312,14 +313,14 @@ few_names m p formed =
     let is = len-entries m in
     omega (arith, names, some, all, few, is)
 
-node_short : (m : Nodes) (p : Path) → IsDevice m → all_of is_short (Some (node_value m p)) ≡ true
+node_short : (m : Nodes) (p : Path) → IsDevice m → all_of is_in_limit (Some (node_value m p)) ≡ true
 node_short m p device =
     let bytes = (at_ready m p device).bytes in
     let few = few_names m p device.formed in
     let names = short_joined (child_names m p)
     (names_short (children m p) (filtered is_good_path (λ q. is_child_of p q) (keys m) (keys_good m device.formed))) in
     elim (node_at m p).interior
-    as (λ b. all_of is_short (Some (cond b (joined (child_names m p)) (node_at m p).value.bytes)) ≡ true) [
+    as (λ b. all_of is_in_limit (Some (cond b (joined (child_names m p)) (node_at m p).value.bytes)) ≡ true) [
       | true ↦ short_value (joined (child_names m p)) (omega (arith, few, names))
       | false ↦ short_value (node_at m p).value.bytes (omega (arith, bytes))
     ]
@@ -334,10 +335,11 @@ acl_short : (o : Option Entries) → IfSome o (λ a. length (printed_acl a) ≤ 
 acl_short None few = omega arith
 acl_short (Some a) few = few
 
-short_name : (p : Path) → list_all names.is_short p ≡ true → length (unwrap_or (last_name p) (codes ".")) ≤ 64
+short_name : (p : Path) → list_all names.is_short_name p ≡ true → length (unwrap_or (last_name p) (codes ".")) ≤ 64
 short_name [] h = omega arith
-short_name (n ∷ []) h = leb-true (length n) 64 (and_parts (names.is_short n) true h).0
-short_name (n ∷ k ∷ ns) h = short_name (k ∷ ns) (and_parts (names.is_short n) (list_all names.is_short (k ∷ ns)) h).1
+short_name (n ∷ []) h = leb-true (length n) 64 (and_parts (names.is_short_name n) true h).0
+short_name (n ∷ k ∷ ns) h =
+    short_name (k ∷ ns) (and_parts (names.is_short_name n) (list_all names.is_short_name (k ∷ ns)) h).1
 
 path_short : (p : Path) → is_within_limits p ≡ true → length (unwrap_or (last_name p) (codes ".")) ≤ 64
 path_short p h = short_name p (and_parts _ _ (and_parts _ _ h).0).0
@@ -371,7 +373,7 @@ found_media n true is = tt
 found_media n false is = is
 
 found_at_ready : (uri : List ℕ) (n : Node) (value : Option (List ℕ)) → IsText 271 uri → IsReadyNode n
-    → all_of is_short value ≡ true → IsReadyFound (found_at uri n value)
+    → all_of is_in_limit value ≡ true → IsReadyFound (found_at uri n value)
 found_at_ready uri n value u is few = record {
   uri = u;
   format = is.format;
@@ -379,7 +381,7 @@ found_at_ready uri n value u is few = record {
   value = few;
 }
 
-listed_short : (n : Node) (b : Bool) → IsReadyNode n → all_of is_short (cond b (Some n.value.bytes) None) ≡ true
+listed_short : (n : Node) (b : Bool) → IsReadyNode n → all_of is_in_limit (cond b (Some n.value.bytes) None) ≡ true
 listed_short n true is = let few = is.bytes in short_value n.value.bytes (omega (arith, few))
 listed_short n false is = refl
 

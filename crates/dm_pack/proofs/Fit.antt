@@ -18,7 +18,7 @@ use Rattle.syncml_types.specs.declared.command.Command.TheVariants as command
 use Rattle.syncml_types.specs.declared.values.Meta.{Meta}
 use Rattle.syncml_types.specs.Message.{HasShortItems}
 use Rattle.syncml_types.specs.Canonical.{is_text}
-use Rattle.syncml_types.specs.Fitness.{all_of, is_short, is_number, is_filled, loc_texts, item_data, header_data}
+use Rattle.syncml_types.specs.Fitness.{all_of, is_in_limit, is_number, is_filled, loc_texts, item_data, header_data}
 use Rattle.syncml_types.specs.Fitness.{member_data, seq_member_data, command_data, meta_texts, item_texts, plain_texts}
 use Rattle.syncml_types.specs.Fitness.{alert_texts, member_texts, atomic_texts, seq_member_texts, sequence_texts}
 use Rattle.syncml_types.specs.Fitness.{status_texts, results_texts, command_texts, member_numbers, atomic_numbers}
@@ -92,11 +92,11 @@ data_changed test f keeps (command.Sequence b) h =
 data_changed test f keeps (command.Status c) h = h
 data_changed test f keeps (command.Results c) h = data_only test f keeps c.items h
 
-hollow_short : (o : Option (List ℕ)) → all_of is_short (option_map (λ _. []) o) ≡ true
+hollow_short : (o : Option (List ℕ)) → all_of is_in_limit (option_map (λ _. []) o) ≡ true
 hollow_short None = refl
 hollow_short (Some v) = refl
 
-hollow_keeps : Keeps is_short hollow_item
+hollow_keeps : Keeps is_in_limit hollow_item
 unfolding item_data
 hollow_keeps i h = hollow_short i.value
 
@@ -116,12 +116,12 @@ bare_header = record {
   meta = None;
 }
 
-pub short_items : (c : Command) → command_data is_short c ≡ true → HasShortItems c
+pub short_items : (c : Command) → command_data is_in_limit c ≡ true → HasShortItems c
 unfolding header_data
-short_items c h = (spellable_data bare_header (c ∷ []) (both (command_data is_short c) true h refl)).body.0
+short_items c h = (spellable_data bare_header (c ∷ []) (both (command_data is_in_limit c) true h refl)).body.0
 
-pub hollow_items : (c : Command) → command_data is_short c ≡ true → HasShortItems (cut_changed hollow_item c)
-hollow_items c h = short_items (cut_changed hollow_item c) (data_changed is_short hollow_item hollow_keeps c h)
+pub hollow_items : (c : Command) → command_data is_in_limit c ≡ true → HasShortItems (cut_changed hollow_item c)
+hollow_items c h = short_items (cut_changed hollow_item c) (data_changed is_in_limit hollow_item hollow_keeps c h)
 
 -- ---- tests of a changed command
 
@@ -284,7 +284,7 @@ part_texts test false n i =
     ap (λ t. all_of (loc_texts test) i.target && all_of (loc_texts test) i.source && t)
     (sized_texts test (length (bytes_in i.value)) i.meta)
 
-shorter : (n : ℕ) (o : Option (List ℕ)) → all_of is_short o ≡ true → is_short (take n (bytes_in o)) ≡ true
+shorter : (n : ℕ) (o : Option (List ℕ)) → all_of is_in_limit o ≡ true → is_in_limit (take n (bytes_in o)) ≡ true
 shorter n None h =
     le-leb (length (take n (bytes_in None))) 2147483648
     (let long = length-take n (bytes_in None) in omega (arith, long))
@@ -293,11 +293,11 @@ shorter n (Some v) h =
     let long = length-take n v in
     le-leb (length (take n v)) 2147483648 (omega (arith, low, long))
 
-part_keeps : (begun : Bool) (n : ℕ) → Keeps is_short (part_item begun n)
+part_keeps : (begun : Bool) (n : ℕ) → Keeps is_in_limit (part_item begun n)
 unfolding item_data
 part_keeps begun n i h = shorter n i.value h
 
-pub changed_fit : (f : Item → Item) → ((test : List ℕ → Bool) → SameTexts test f) → Keeps is_short f → (c : Command)
+pub changed_fit : (f : Item → Item) → ((test : List ℕ → Bool) → SameTexts test f) → Keeps is_in_limit f → (c : Command)
     → IsFitCommand c → IsFitCommand (cut_changed f c)
 changed_fit f alike keeps c fit =
     record {
@@ -305,8 +305,8 @@ changed_fit f alike keeps c fit =
       numbers = ap command_numbers (number_changed f 1 c) ∙ numbers_changed f (with_numbers 1 c) ∙ fit.numbers;
       filled = filled_changed f c ∙ fit.filled;
       correlators = correlates_changed f c ∙ fit.correlators;
-      short_texts = texts_changed is_short f (alike is_short) c ∙ fit.short_texts;
-      short_data = data_changed is_short f keeps c fit.short_data;
+      short_texts = texts_changed is_in_limit f (alike is_in_limit) c ∙ fit.short_texts;
+      short_data = data_changed is_in_limit f keeps c fit.short_data;
     }
 
 pub part_fit : (e : Entry) (n : ℕ) → IsFitCommand e.command → IsFitCommand (part_of e n)
@@ -494,10 +494,10 @@ numbered_fit h cs fit all = record {
       fit_all command_correlates IsFitCommand (λ n c low f. correlates_numbers n c ∙ f.correlators) 1 cs (omega arith)
       all;
   short_texts = both _ _ (and_parts _ true fit.short_texts).0
-      (fit_all (command_texts is_short) IsFitCommand (λ n c low f. texts_number is_short n c ∙ f.short_texts) 1 cs
+      (fit_all (command_texts is_in_limit) IsFitCommand (λ n c low f. texts_number is_in_limit n c ∙ f.short_texts) 1 cs
       (omega arith) all);
   short_data = both _ _ (and_parts _ true fit.short_data).0
-      (fit_all (command_data is_short) IsFitCommand (λ n c low f. data_number is_short n c ∙ f.short_data) 1 cs
+      (fit_all (command_data is_in_limit) IsFitCommand (λ n c low f. data_number is_in_limit n c ∙ f.short_data) 1 cs
       (omega arith) all);
 }
 

@@ -23,7 +23,7 @@ use Rattle.syncml_types.specs.declared.command.Command.TheVariants as command
 use Rattle.syncml_types.specs.Canonical.{is_text, text_tokens, flag_tokens, loc_tokens, meta_tokens, item_tokens}
 use Rattle.syncml_types.specs.Canonical.{items_tokens, header_tokens, verb_element, plain_tokens, member_tokens}
 use Rattle.syncml_types.specs.Canonical.{members_tokens, atomic_tokens, command_tokens}
-use Rattle.syncml_types.specs.Fitness.{is_short, header_texts, header_data, loc_texts, meta_texts, item_texts}
+use Rattle.syncml_types.specs.Fitness.{is_in_limit, header_texts, header_data, loc_texts, meta_texts, item_texts}
 use Rattle.syncml_types.specs.Fitness.{item_data, plain_texts, member_texts, atomic_texts, command_texts, member_data}
 use Rattle.syncml_types.specs.Fitness.{command_data, member_numbers, atomic_numbers, command_numbers, plain_filled}
 use Rattle.syncml_types.specs.Fitness.{member_filled, atomic_filled, command_filled, plain_correlates}
@@ -56,10 +56,10 @@ low_clear (b ∷ bs) h =
 pub low_text : (t : List ℕ) → list_all (λ b. nat_le 1 b && nat_le b 127) t ≡ true → is_text t ≡ true
 low_text t h = both _ _ (is_utf8-from_IsUtf8 t (IsUtf8-from_ascii t (low_ascii t h))) (low_clear t h)
 
-short : (t : List ℕ) → length t ≤ 10000 → is_short t ≡ true
+short : (t : List ℕ) → length t ≤ 10000 → is_in_limit t ≡ true
 short t few = le-leb (length t) 2147483648 (omega (arith, few))
 
-word_short : (t : List ℕ) → IsText 20 t → is_short t ≡ true
+word_short : (t : List ℕ) → IsText 20 t → is_in_limit t ≡ true
 word_short t w = let few = w.few in short t (omega (arith, few))
 
 -- ---- lengths
@@ -172,7 +172,7 @@ atomic_ready gone uri format media value g u w x few =
         filled = refl;
         correlators = refl;
         short_texts =
-            four is_short gone uri format media value (word_short gone g) (word_short uri u) (word_short format w)
+            four is_in_limit gone uri format media value (word_short gone g) (word_short uri u) (word_short format w)
             (word_short media x);
         short_data = both _ _ (both _ _ (short value few) refl) refl;
       };
@@ -236,7 +236,7 @@ header_ready dtd proto session target source d p s t o =
         filled = refl;
         correlators = refl;
         short_texts = both _ _
-            (five is_short dtd proto session target source (word_short dtd d) (word_short proto p)
+            (five is_in_limit dtd proto session target source (word_short dtd d) (word_short proto p)
             (word_short session s) (word_short target t) (word_short source o)) refl;
         short_data = refl;
       };

@@ -14,7 +14,7 @@ use Rattle.syncml_types.specs.declared.command.Command.TheVariants as command
 use Rattle.wbxml_tables.specs.declared.Element.TheVariants.{ESequence}
 use Rattle.syncml_types.specs.Canonical.{is_text, member_tokens, members_tokens, seq_member_tokens, seq_members_tokens}
 use Rattle.syncml_types.specs.Canonical.{sequence_tokens, command_tokens}
-use Rattle.syncml_types.specs.Fitness.{is_short, is_filled, all_of, meta_texts, item_texts, item_data, member_texts}
+use Rattle.syncml_types.specs.Fitness.{is_in_limit, is_filled, all_of, meta_texts, item_texts, item_data, member_texts}
 use Rattle.syncml_types.specs.Fitness.{seq_member_texts, atomic_texts, sequence_texts, command_texts, member_data}
 use Rattle.syncml_types.specs.Fitness.{seq_member_data, command_data, atomic_numbers, command_numbers, member_filled}
 use Rattle.syncml_types.specs.Fitness.{seq_member_filled, atomic_filled, command_filled, member_correlates}
@@ -112,13 +112,13 @@ alone_fit c fit =
       numbers = numbers_alone c fit.numbers;
       filled = filled_alone c fit.filled;
       correlators = correlates_alone c fit.correlators;
-      short_texts = texts_alone is_short c fit.short_texts;
-      short_data = data_alone is_short c fit.short_data;
+      short_texts = texts_alone is_in_limit c fit.short_texts;
+      short_data = data_alone is_in_limit c fit.short_data;
     }
 
 -- ---- and so is what is left of its Data
 
-shorter : (n : ℕ) (o : Option (List ℕ)) → all_of is_short o ≡ true → is_short (drop n (bytes_in o)) ≡ true
+shorter : (n : ℕ) (o : Option (List ℕ)) → all_of is_in_limit o ≡ true → is_in_limit (drop n (bytes_in o)) ≡ true
 shorter n None h =
     le-leb (length (drop n (bytes_in None))) 2147483648
     (let long = length-drop n (bytes_in None) in omega (arith, long))
@@ -131,7 +131,7 @@ rest_texts : (n : ℕ) (test : List ℕ → Bool) (i : Item) → item_texts test
 unfolding item_texts
 rest_texts n test i = refl
 
-rest_keeps : (n : ℕ) (i : Item) → item_data is_short i ≡ true → item_data is_short (rest_item n i) ≡ true
+rest_keeps : (n : ℕ) (i : Item) → item_data is_in_limit i ≡ true → item_data is_in_limit (rest_item n i) ≡ true
 unfolding item_data
 rest_keeps n i h = shorter n i.value h
 

@@ -15,7 +15,7 @@ use Rattle.syncml_types.specs.declared.command.Command.TheVariants as command
 use Rattle.syncml_types.specs.Canonical.{is_text, optional, text_tokens, flag_tokens, loc_tokens, meta_tokens}
 use Rattle.syncml_types.specs.Canonical.{chal_tokens, item_tokens, items_tokens, texts_tokens, alert_tokens}
 use Rattle.syncml_types.specs.Canonical.{status_tokens, results_tokens, command_tokens}
-use Rattle.syncml_types.specs.Fitness.{all_of, is_short, is_number, loc_texts, meta_texts, item_texts, item_data}
+use Rattle.syncml_types.specs.Fitness.{all_of, is_in_limit, is_number, loc_texts, meta_texts, item_texts, item_data}
 use Rattle.syncml_types.specs.Fitness.{alert_texts, status_texts, results_texts, command_texts, command_data}
 use Rattle.syncml_types.specs.Fitness.{command_numbers, command_filled, command_correlates}
 use Rattle.syncml_parts.specs.Numbering.{with_numbers}
@@ -48,7 +48,7 @@ pub record Passes (test : List ℕ → Bool) : Type 0 where
 pub texts_pass : Passes is_text
 texts_pass = record { pass = λ t text few. text }
 
-pub short_passes : Passes is_short
+pub short_passes : Passes is_in_limit
 short_passes = record { pass = λ t text few. le-leb (length t) 2147483648 (omega (arith, few)) }
 
 pass_text : (test : List ℕ → Bool) (most : ℕ) (t : List ℕ) → Passes test → most ≤ 1000 → IsText most t → test t ≡ true
@@ -192,7 +192,7 @@ status_ready msg ref cmd targets challenge code some m r c t h k =
         numbers = some_number msg some;
         filled = refl;
         correlators = refl;
-        short_texts = status_pass is_short msg ref cmd targets challenge code short_passes c t h;
+        short_texts = status_pass is_in_limit msg ref cmd targets challenge code short_passes c t h;
         short_data = refl;
       };
       short = let most = (most_status msg ref cmd targets challenge code m r c t h k).at 0 in omega (arith, most);
@@ -265,7 +265,7 @@ results_pass test msg ref uri format media value passes u f t =
 
 pub results_ready : (msg ref : ℕ) (uri format : List ℕ) (media value : Option (List ℕ)) → 0 < msg → msg < 2 ^ 32
     → ref < 2 ^ 32 → IsText 255 uri
-    → IsText 20 format → IsOptional 255 media → all_of is_short value ≡ true
+    → IsText 20 format → IsOptional 255 media → all_of is_in_limit value ≡ true
     → IsReady (fresh (results msg ref (found_item uri format media value)))
 unfolding command_data command_numbers command_filled command_correlates with_numbers item_data
 results_ready msg ref uri format media value some m r u f t few =
@@ -275,7 +275,7 @@ results_ready msg ref uri format media value some m r u f t few =
         numbers = some_number msg some;
         filled = refl;
         correlators = refl;
-        short_texts = results_pass is_short msg ref uri format media value short_passes u f t;
+        short_texts = results_pass is_in_limit msg ref uri format media value short_passes u f t;
         short_data = both _ _ few refl;
       };
       short = let most = (most_results msg ref uri format media value m r u f t).at 0 in omega (arith, most);
@@ -321,7 +321,7 @@ named_pass test [] passes is = refl
 named_pass test (uri ∷ []) passes is = rw (pass_text test 255 uri passes (omega arith) is) refl
 named_pass test (uri ∷ v ∷ uris) passes is = absurd is
 
-named_data : (uris : List (List ℕ)) → list_all (item_data is_short) (named_items uris) ≡ true
+named_data : (uris : List (List ℕ)) → list_all (item_data is_in_limit) (named_items uris) ≡ true
 unfolding item_data
 named_data [] = refl
 named_data (uri ∷ uris) = named_data uris
@@ -336,7 +336,7 @@ alert_ready code uris k is =
         numbers = refl;
         filled = refl;
         correlators = refl;
-        short_texts = named_pass is_short uris short_passes is;
+        short_texts = named_pass is_in_limit uris short_passes is;
         short_data = named_data uris;
       };
       short = let most = (most_alert code uris k is).at 0 in omega (arith, most);

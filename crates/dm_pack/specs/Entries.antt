@@ -8,7 +8,7 @@ use Rattle.syncml_types.specs.declared.command.Command.{Command}
 use Rattle.syncml_types.specs.declared.command.Command.TheVariants as command
 use Rattle.syncml_types.specs.Message.{no_meta}
 use Rattle.syncml_types.specs.Canonical.{is_text, command_tokens}
-use Rattle.syncml_types.specs.Fitness.{is_short, command_texts, command_data, command_numbers, command_filled}
+use Rattle.syncml_types.specs.Fitness.{is_in_limit, command_texts, command_data, command_numbers, command_filled}
 use Rattle.syncml_types.specs.Fitness.{command_correlates}
 use Rattle.syncml_parts.specs.Numbering.{with_numbers}
 use Rattle.syncml_parts.specs.Packing.{cut_changed, cut_data, bytes_in}
@@ -71,8 +71,8 @@ pub record IsFitCommand (c : Command) : Type 0 where
   pub numbers : command_numbers (with_numbers 1 c) ≡ true
   pub filled : command_filled c ≡ true
   pub correlators : command_correlates c ≡ true
-  pub short_texts : command_texts is_short c ≡ true
-  pub short_data : command_data is_short c ≡ true
+  pub short_texts : command_texts is_in_limit c ≡ true
+  pub short_data : command_data is_in_limit c ≡ true
 
 abbrev pub without_value : Item → Item
 without_value i = record i { value = None }

@@ -2,7 +2,7 @@
 // what went out of it is a number, so that nothing moves.
 ghost use Rattle.std.specs.Prelude.{◌≡◌, ◌<◌, ◌≤◌, ◌+◌, ◌-◌, ◌^◌, IfOk, OnOk, length, drop, true};
 ghost use Rattle.wbxml_tokens.specs.Spelling.{page_behind};
-ghost use Rattle.syncml_types.specs.Fitness.{is_short, command_data};
+ghost use Rattle.syncml_types.specs.Fitness.{is_in_limit, command_data};
 ghost use Rattle.syncml_parts.specs.Pages.{with_value};
 ghost use Rattle.syncml_types.specs.Canonical.{command_tokens};
 ghost use Rattle.syncml_types.specs.Lengths.{spelled_length};
@@ -215,7 +215,7 @@ impl Waiting {
 
     // How long it is without the Data that may be cut, and the page behind it.
     pub(crate) fn hollow_length(&self, page: u8, first: u32) -> (u64, u8)
-        requires fit { command_data is_short self.now.command ≡ true }
+        requires fit { command_data is_in_limit self.now.command ≡ true }
         requires room { first + ids_of_command self.now.command < 2 ^ 32 }
         ensures length { result.0
             ≡ spelled_length 0 page (command_tokens (with_numbers first (cut_changed hollow_item self.now.command))) }

@@ -5,7 +5,7 @@ use Rattle.std.proofs.Common.{◌∙◌, ◌≤◌, refl, sym, ap, subst, cond, 
 use Rattle.std.specs.Prelude.{is_some}
 use Rattle.dm_base.specs.declared.lines.LineReason.{LineReason}
 use Rattle.dm_base.specs.declared.lines.LineReason.TheVariants as reason
-use Rattle.syncml_codec.specs.Listing.{line_feed}
+use Rattle.dm_base.specs.Lines.{line_feed}
 use Rattle.dm_start.specs.declared.heads.Head.TheVariants as head
 use Rattle.dm_start.specs.declared.telling.Phase.TheVariants as phase
 use Rattle.dm_start.specs.declared.errors.LineError.{LineError}

@@ -1,6 +1,6 @@
 -- Both ends as the code has them.
 use Rattle.std.specs.Prelude.{◌+◌, ◌++◌, ℕ, Bool, true, false, if◌then◌else◌, List, [], ◌∷◌, codes, Option, None, Some}
-use Rattle.syncml_codec.specs.Listing.{line_feed}
+use Rattle.dm_base.specs.Lines.{line_feed}
 use Rattle.dm_pair.specs.declared.pairing.Pairing.{Pairing as Ends}
 use Rattle.dm_pair.specs.declared.text.PairOut.{PairOut}
 use Rattle.dm_pair.specs.Pairing.{Pairing, Round, half_down, last_down}

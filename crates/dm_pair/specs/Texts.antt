@@ -2,10 +2,9 @@
 use Rattle.std.specs.Prelude.{◌+◌, ℕ, Bool, true, false, if◌then◌else◌, nat_lt, List, [], ◌∷◌, ◌++◌, length}
 use Rattle.std.specs.Prelude.{bytes_eq, codes}
 use Rattle.std.specs.Prelude.{Option, Some, None, Result, Ok, Err}
-use Rattle.dm_base.specs.Lines.{run_limit}
+use Rattle.dm_base.specs.Lines.{run_limit, line_feed}
 use Rattle.dm_base.specs.declared.lines.LineReason.{LineReason}
 use Rattle.dm_base.specs.declared.lines.LineReason.TheVariants as reason
-use Rattle.syncml_codec.specs.Listing.{line_feed}
 use Rattle.dm_start.specs.declared.heads.Head.TheVariants as head
 use Rattle.dm_start.specs.Start.{Setup, Section, opening, after_line as section_after}
 use Rattle.dm_start.specs.TreeText.{tree_text}

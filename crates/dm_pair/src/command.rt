@@ -9,12 +9,9 @@ ghost use Rattle.dm_pair.specs.Texts.{pair_text, pair_exit};
 ghost use Rattle.dm_pair.specs.Seen.{text_of, exit_of};
 
 use crate::text::{PairOut, run_pair};
-use dm_base::{Sink, Source, TakeError, take_all};
+use dm_base::{RUN_LIMIT, Sink, Source, TakeError, take_all};
 use dm_exit::{Exit, put_text};
 use std::alloc::Global;
-
-// So many bytes are looked at.
-const MOST_BYTES: u64 = 67_108_864;
 
 // Puts one text behind another.
 fn put_both<K: Sink>(out: &mut K, first: &[u8], second: &[u8]) -> Result<(), Exit>
@@ -75,7 +72,7 @@ pub fn pair<S: Source, K: Sink>(alloc: Global, src: &mut S, out: &mut K) -> Exit
     ensures source { SourceCause (S.faults src.old) (S.faults src.new) result }
     ensures sink { SinkCause (K.faults out.old) (K.faults out.new) result }
 {
-    let input = match take_all(alloc, src, MOST_BYTES) {
+    let input = match take_all(alloc, src, RUN_LIMIT as u64) {
         Ok(input) => input,
         Err(TakeError::Read) => return Exit::ReadFault,
         Err(TakeError::TooLong) => return Exit::TooLong,

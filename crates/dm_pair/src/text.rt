@@ -1,6 +1,6 @@
 // The whole text.
 ghost use Rattle.std.specs.Prelude.{◌≡◌, ◌<◌, ◌≤◌, ◌+◌, ◌*◌, ◌++◌, ◌^◌, false, length, IfOk, IfErr, IfSome, OnOk};
-ghost use Rattle.syncml_codec.specs.Listing.{line_feed};
+ghost use Rattle.dm_base.specs.Lines.{line_feed};
 ghost use Rattle.dm_start.specs.declared.heads.Head.TheVariants.{Device};
 ghost use Rattle.dm_start.specs.Start.{opening, told_of};
 ghost use Rattle.dm_job.specs.declared.draft.Reading.TheVariants as reading;

@@ -7,9 +7,9 @@ use Rattle.wbxml_tokens.specs.Reasons.{word_of}
 use Rattle.dm_base.specs.declared.lines.LineReason.{LineReason}
 use Rattle.dm_base.specs.declared.lines.LineReason.TheVariants as reason
 use Rattle.dm_base.specs.Fields.{hex_text}
+use Rattle.dm_base.specs.Lines.{line_feed}
 use Rattle.syncml_types.specs.Canonical.{canonical}
 use Rattle.syncml_types.specs.Message.{Parts}
-use Rattle.syncml_codec.specs.Listing.{line_feed}
 use Rattle.dm_tree.specs.Nodes.{Nodes}
 use Rattle.dm_atomic.specs.Updates.{begun as begun_state}
 use Rattle.dm_machine.specs.declared.kinds.End.{End}

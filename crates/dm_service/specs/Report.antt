@@ -5,8 +5,8 @@ use Rattle.std.specs.Prelude.{unwrap_or}
 use Rattle.std.specs.Fmt.{decimal}
 use Rattle.std.specs.List.{list_all, flat_map}
 use Rattle.dm_base.specs.Fields.{hex_text}
+use Rattle.dm_base.specs.Lines.{line_feed}
 use Rattle.syncml_types.specs.declared.command.Step.{Step}
-use Rattle.syncml_codec.specs.Listing.{line_feed}
 use Rattle.dm_service.specs.declared.sent.KeptAlert.{KeptAlert}
 use Rattle.dm_service.specs.Service.{Told, Service}
 

@@ -9,6 +9,7 @@ use Rattle.std.specs.FinMap.{get, keys}
 use Rattle.std.specs.Io.KnownBytes.{Appends}
 use Rattle.dm_base.specs.declared.outside.Fault.{Fault}
 use Rattle.dm_base.specs.Fields.{hex_text}
+use Rattle.dm_base.specs.Lines.{line_feed}
 use Rattle.dm_uri.specs.Names.{printed_path}
 use Rattle.dm_acl.specs.declared.values.Entries.{Entries}
 use Rattle.dm_acl.specs.Grammar.{printed}
@@ -47,7 +48,7 @@ kind_text interior = if interior then codes "node " else codes "leaf "
 
 unfoldable pub node_line : ℕ → Path → Node → List ℕ
 node_line version p node =
-    kind_text node.interior ++ printed_path p ++ common_text version node ++ value_text node ++ 10 ∷ []
+    kind_text node.interior ++ printed_path p ++ common_text version node ++ value_text node ++ line_feed
 
 -- the line of the node at p
 abbrev pub line_at : ℕ → Nodes → Path → List ℕ

@@ -8,7 +8,7 @@ use Rattle.std.specs.Option.{option_map_or}
 use Rattle.std.specs.FinMap.{get, keys}
 use Rattle.std.proofs.lemmas.Bool.{and_parts, and_left, or_right}
 use Rattle.std.proofs.lemmas.Bool.Decides.{nat_tests}
-use Rattle.dm_uri.specs.Names.{is_short, printed_path, joined}
+use Rattle.dm_uri.specs.Names.{is_short_name, printed_path, joined}
 use Rattle.dm_tree.specs.declared.nodes.Node.{Node}
 use Rattle.dm_tree.specs.declared.rows.Row.{Row}
 use Rattle.dm_tree.specs.Nodes.{Path, is_below}
@@ -155,7 +155,8 @@ below_decides rows tree p name =
     apart_fits q x e apart =
         let limits = (well_formed rows tree).paths q x e in
         ap (λ r. nat_le (length (printed_path r)) 255) (unmoved p name q apart)
-        ∙ (and_parts (list_all is_short q && nat_le (length q) 16) (nat_le (length (printed_path q)) 255) limits.1).1
+        ∙ (and_parts (list_all is_short_name q && nat_le (length q) 16)
+        (nat_le (length (printed_path q)) 255) limits.1).1
 
     to_one : (q : Path) (x : Node) → get (nodes rows) q ≡ Some x → not (is_below p q) || then_fits p name q ≡ true
         → then_fits p name q ≡ true

@@ -8,7 +8,7 @@ use Rattle.std.specs.FinMap.{get}
 use Rattle.std.proofs.Math.ListN.{length-set}
 use Rattle.std.proofs.lemmas.Bool.{and_from, and_parts}
 use Rattle.std.proofs.lemmas.Bool.Decides.{nat_tests}
-use Rattle.dm_uri.specs.Names.{has_name_form, is_name, is_short, printed_path, is_within_limits}
+use Rattle.dm_uri.specs.Names.{has_name_form, is_name, is_short_name, printed_path, is_within_limits}
 use Rattle.dm_tree.specs.declared.nodes.Stamp.{Stamp}
 use Rattle.dm_tree.specs.declared.rows.Row.{Row}
 use Rattle.dm_tree.specs.declared.rows.Change.TheVariants as change
@@ -37,12 +37,12 @@ pub record MayRename (rows : List Row) (k : ℕ) (name : List ℕ) (clock : Stam
   pub named : is_name name ≡ true
   pub stamp : IsStamp clock
 
-all_short : (p : Path) → list_all is_name p ≡ true → list_all is_short p ≡ true
+all_short : (p : Path) → list_all is_name p ≡ true → list_all is_short_name p ≡ true
 all_short [] h = refl
 all_short (n ∷ ns) h =
     let both = and_parts (is_name n) (list_all is_name ns) h in
-    let named = and_parts (has_name_form n) (is_short n) both.0 in
-    and_from (is_short n) (list_all is_short ns) named.1 (all_short ns both.1)
+    let named = and_parts (has_name_form n) (is_short_name n) both.0 in
+    and_from (is_short_name n) (list_all is_short_name ns) named.1 (all_short ns both.1)
 
 few_names : (n : ℕ) → n ≤ 16 → nat_le n 16 ≡ true
 few_names n h = grind (arith, nat_tests)
@@ -192,9 +192,9 @@ module _ (rows : List Row) (tree : IsTree rows) (k : ℕ) (name : List ℕ) (clo
           let print : nat_le (length (printed_path (path_of now j))) 255 ≡ true =
           ap (λ q. nat_le (length (printed_path q)) 255) (after.1 ∙ ap (rekeyed (path_of rows k) name) (sym before.1))
           ∙ short_print j before.0 in
-          and_from (list_all is_short (path_of now j) && nat_le (length (path_of now j)) 16)
+          and_from (list_all is_short_name (path_of now j) && nat_le (length (path_of now j)) 16)
           (nat_le (length (printed_path (path_of now j))) 255)
-          (and_from (list_all is_short (path_of now j)) (nat_le (length (path_of now j)) 16)
+          (and_from (list_all is_short_name (path_of now j)) (nat_le (length (path_of now j)) 16)
           (all_short (path_of now j) names) few) print
 
   pub tree-renamed : IsTree now

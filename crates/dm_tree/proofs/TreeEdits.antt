@@ -8,7 +8,7 @@ use Rattle.std.specs.List.{list_all}
 use Rattle.std.proofs.lemmas.Bool.{and_parts}
 use Rattle.std.specs.Option.{option_map}
 use Rattle.std.specs.FinMap.{get, len, len-insert, contains_key}
-use Rattle.dm_uri.specs.Names.{is_name, is_short, printed_path, is_within_limits}
+use Rattle.dm_uri.specs.Names.{is_name, is_short_name, printed_path, is_within_limits}
 use Rattle.dm_tree.specs.declared.nodes.Node.{Node}
 use Rattle.dm_tree.specs.declared.rows.Row.{Row}
 use Rattle.dm_tree.specs.Nodes.{Path, with_mark, IsNode, IsRoot, IsChildOf}
@@ -222,9 +222,9 @@ at_most m n e = grind arith
 pub shallow : (p : Path) (name : List ℕ) → is_within_limits (p ++ name ∷ []) ≡ true → length p < 16
 shallow p name e =
     let outer =
-    and_parts (list_all is_short (p ++ name ∷ []) && nat_le (length (p ++ name ∷ [])) 16)
+    and_parts (list_all is_short_name (p ++ name ∷ []) && nat_le (length (p ++ name ∷ [])) 16)
     (nat_le (length (printed_path (p ++ name ∷ []))) 255) e in
-    let inner = and_parts (list_all is_short (p ++ name ∷ [])) (nat_le (length (p ++ name ∷ [])) 16) outer.0 in
+    let inner = and_parts (list_all is_short_name (p ++ name ∷ [])) (nat_le (length (p ++ name ∷ [])) 16) outer.0 in
     let few : length (p ++ name ∷ []) ≤ 16 = at_most _ _ inner.1 in
     omega (arith, few, length-append p (name ∷ []))
 

@@ -2,6 +2,7 @@
 ghost use Rattle.std.specs.Prelude.{ℕ, ◌≡◌, ◌<◌, ◌≤◌, ◌+◌, ◌%◌, ◌^◌, ◌↔◌, ◌++◌, ◌∷◌, [], set, true, false, length};
 ghost use Rattle.std.specs.Prelude.{IsTrue, IsSome, Option, None, Err, IfOk, IfErr, IfSome, OnOk, OnErr};
 ghost use Rattle.std.specs.FinMap as map;
+ghost use Rattle.dm_base.specs.Limits.{object_limit};
 ghost use Rattle.dm_uri.specs.Names.{is_within_limits};
 ghost use Rattle.dm_tree.specs.declared.rows.Change.TheVariants as change;
 ghost use Rattle.dm_tree.specs.declared.edits.TreeError.TheVariants as error;
@@ -271,7 +272,7 @@ impl Tree {
     pub fn set_bytes(&mut self, id: NodeId, bytes: Bytes) -> Undo
         requires live { IsLive self.old.rows id }
         requires leaf { (node_of self.old.rows id).interior ≡ false }
-        requires short { length bytes ≤ 4194304 }
+        requires short { length bytes ≤ object_limit }
         ensures nodes { nodes self.new.rows ≡ map.insert (nodes self.old.rows) (path_of self.old.rows id)
             (changed self.old.clock (with_bytes (node_of self.old.rows id) bytes)) }
         ensures ids { ids self.new.rows ≡ ids self.old.rows }

@@ -5,7 +5,7 @@ use Rattle.std.specs.Prelude.{true, ◌&&◌, nat_le, codes}
 use Rattle.std.specs.List.{list_all, slice_split}
 use Rattle.std.proofs.lemmas.Bool.{and_parts, and_from}
 use Rattle.std.proofs.lemmas.List.Splits.{length-slice_split, join_with_byte-slice_split}
-use Rattle.dm_uri.specs.Names.{has_name_form, is_short, is_name, is_within_limits, IsPath, joined, printed_path}
+use Rattle.dm_uri.specs.Names.{has_name_form, is_short_name, is_name, is_within_limits, IsPath, joined, printed_path}
 use Rattle.dm_uri.specs.Reading.{is_slash, is_root, without_front, names_in, read_path}
 use Rattle.dm_uri.specs.declared.uri.UriError.TheVariants as error
 
@@ -16,35 +16,35 @@ pub at_most_again : (m n : ℕ) → m ≤ n → nat_le m n ≡ true
 at_most_again m n h = grind arith
 
 pub record IsWithin (names : List (List ℕ)) : Type 0 where
-  pub short : list_all is_short names ≡ true
+  pub short : list_all is_short_name names ≡ true
   pub few : length names ≤ 16
   pub written : length (printed_path names) ≤ 255
 
 pub within : (names : List (List ℕ)) → is_within_limits names ≡ true → IsWithin names
 within names h =
     let last =
-    and_parts (list_all is_short names && nat_le (length names) 16) (nat_le (length (printed_path names)) 255) h in
-    let first = and_parts (list_all is_short names) (nat_le (length names) 16) last.0 in
+    and_parts (list_all is_short_name names && nat_le (length names) 16) (nat_le (length (printed_path names)) 255) h in
+    let first = and_parts (list_all is_short_name names) (nat_le (length names) 16) last.0 in
     record { short = first.0; few = at_most _ _ first.1; written = at_most _ _ last.1 }
 
-pub all_names : (names : List (List ℕ)) → list_all has_name_form names ≡ true → list_all is_short names ≡ true
+pub all_names : (names : List (List ℕ)) → list_all has_name_form names ≡ true → list_all is_short_name names ≡ true
     → list_all is_name names ≡ true
 all_names [] f s = refl
 all_names (n ∷ ns) f s =
     let form = and_parts (has_name_form n) (list_all has_name_form ns) f in
-    let short = and_parts (is_short n) (list_all is_short ns) s in
-    and_from (is_name n) (list_all is_name ns) (and_from (has_name_form n) (is_short n) form.0 short.0)
+    let short = and_parts (is_short_name n) (list_all is_short_name ns) s in
+    and_from (is_name n) (list_all is_name ns) (and_from (has_name_form n) (is_short_name n) form.0 short.0)
     (all_names ns form.1 short.1)
 
 pub all_forms : (names : List (List ℕ)) → list_all is_name names ≡ true → (list_all has_name_form names ≡ true)
-    × (list_all is_short names ≡ true)
+    × (list_all is_short_name names ≡ true)
 all_forms [] h = (refl, refl)
 all_forms (n ∷ ns) h =
     let both = and_parts (is_name n) (list_all is_name ns) h in
-    let first = and_parts (has_name_form n) (is_short n) both.0 in
+    let first = and_parts (has_name_form n) (is_short_name n) both.0 in
     let rest = all_forms ns both.1 in (
       and_from (has_name_form n) (list_all has_name_form ns) first.0 rest.0,
-      and_from (is_short n) (list_all is_short ns) first.1 rest.1,
+      and_from (is_short_name n) (list_all is_short_name ns) first.1 rest.1,
     )
 
 pub path_of_limits : (names : List (List ℕ)) → list_all has_name_form names ≡ true → is_within_limits names ≡ true
@@ -56,8 +56,8 @@ path_of_limits names f h =
 pub limits_of_path : (names : List (List ℕ)) → IsPath names → length (printed_path names) ≤ 255
     → is_within_limits names ≡ true
 limits_of_path names path h =
-    and_from (list_all is_short names && nat_le (length names) 16) (nat_le (length (printed_path names)) 255)
-    (and_from (list_all is_short names) (nat_le (length names) 16) (all_forms names path.names).1
+    and_from (list_all is_short_name names && nat_le (length names) 16) (nat_le (length (printed_path names)) 255)
+    (and_from (list_all is_short_name names) (nat_le (length names) 16) (all_forms names path.names).1
     (at_most_again _ _ path.few))
     (at_most_again _ _ h)
 

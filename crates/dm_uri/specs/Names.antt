@@ -13,11 +13,11 @@ has_name_form name =
     not (length name == 0) && list_all is_name_byte name && not (bytes_eq name (codes "."))
     && not (bytes_eq name (codes ".."))
 
-abbrev pub is_short : List ℕ → Bool
-is_short name = nat_le (length name) 64
+abbrev pub is_short_name : List ℕ → Bool
+is_short_name name = nat_le (length name) 64
 
 abbrev pub is_name : List ℕ → Bool
-is_name name = has_name_form name && is_short name
+is_name name = has_name_form name && is_short_name name
 
 -- at most 16 names
 pub record IsPath (path : List (List ℕ)) : Type 0 where
@@ -44,4 +44,5 @@ printed_path (n ∷ ns) = codes "./" ++ joined (n ∷ ns)
 
 -- the limits: 64 bytes for a name, 16 names, 255 bytes written
 abbrev pub is_within_limits : List (List ℕ) → Bool
-is_within_limits names = list_all is_short names && nat_le (length names) 16 && nat_le (length (printed_path names)) 255
+is_within_limits names =
+    list_all is_short_name names && nat_le (length names) 16 && nat_le (length (printed_path names)) 255

@@ -2,7 +2,7 @@
 use Rattle.std.specs.Prelude.{◌≡◌, ◌<◌, ◌++◌, ◌==◌, ◌||◌, ℕ, Bool, not, nat_lt, nat_eq, if◌then◌else◌, List, [], ◌∷◌}
 use Rattle.std.specs.Prelude.{length, drop, bytes_eq, codes, Option, Some, None, Result, Ok, Err, IsOk, IsTrue}
 use Rattle.std.specs.List.{list_all, slice_split, starts_with, find, flat_map}
-use Rattle.dm_uri.specs.Names.{has_name_form, is_short, is_name, is_within_limits, IsPath}
+use Rattle.dm_uri.specs.Names.{has_name_form, is_short_name, is_name, is_within_limits, IsPath}
 use Rattle.dm_uri.specs.Grammar.{query_text}
 use Rattle.dm_uri.specs.Refusals.{path_part, query_part}
 use Rattle.dm_uri.specs.declared.uri.Prop.TheVariants as prop
@@ -75,7 +75,7 @@ pub record ReadsAs (text part : List ℕ) (query : Query) : Type 0 where
 unfoldable pub parse_name_of : List ℕ → Result (List ℕ) UriError
 parse_name_of text =
     if not (has_name_form text) then Err error.Malformed
-    else if not (is_short text) then Err error.TooLong
+    else if not (is_short_name text) then Err error.TooLong
     else Ok text
 
 -- an answer is the one that is read; want of memory comes only in place of a value

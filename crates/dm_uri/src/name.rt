@@ -3,7 +3,7 @@ ghost use Rattle.std.specs.Prelude.{◌≡◌, ◌↔◌, IsTrue, IfOk, Result, 
 ghost use Rattle.std.specs.Ordering.{nat_cmp};
 ghost use Rattle.std.specs.Cmp.Lexicographic.{slice_cmp};
 ghost use Rattle.std.specs.List.{list_all, position_or_len};
-ghost use Rattle.dm_uri.specs.Names.{is_name_byte, has_name_form, is_short, is_name};
+ghost use Rattle.dm_uri.specs.Names.{is_name_byte, has_name_form, is_short_name, is_name};
 ghost use Rattle.dm_uri.specs.Reading.{Gives, parse_name_of};
 
 use crate::uri::UriError;
@@ -56,8 +56,8 @@ pub(crate) fn has_name_form(text: &[u8]) -> bool
     !text.is_empty() && all_name_bytes(text) && text != b".".as_slice() && text != b"..".as_slice()
 }
 
-pub(crate) fn is_short(text: &[u8]) -> bool
-    ensures { result ≡ is_short text.now }
+pub(crate) fn is_short_name(text: &[u8]) -> bool
+    ensures { result ≡ is_short_name text.now }
 {
     text.len() <= 64
 }
@@ -67,7 +67,7 @@ pub(crate) fn is_name_of_bytes(text: &[u8]) -> bool
     requires { IsTrue (list_all is_name_byte text.now) }
     ensures { result ≡ is_name text.now }
 {
-    !text.is_empty() && text != b".".as_slice() && text != b"..".as_slice() && is_short(text)
+    !text.is_empty() && text != b".".as_slice() && text != b"..".as_slice() && is_short_name(text)
 }
 
 /// The name that a text is. Malformed comes exactly where it isn't of the form, its length aside; TooLong exactly
@@ -83,7 +83,7 @@ pub fn parse_name(alloc: Global, text: &[u8]) -> Result<Name, UriError>
     if !has_name_form(text) {
         return Err(UriError::Malformed);
     }
-    if !is_short(text) {
+    if !is_short_name(text) {
         return Err(UriError::TooLong);
     }
     match Name::of(alloc, text) {

@@ -2,7 +2,7 @@
 ghost use Rattle.std.specs.Prelude.{◌≡◌, ◌≢◌, ◌≤◌, ◌&&◌, ◌∷◌, [], IsTrue, Ok, IfOk, IfErr, IfSome, MatchOption};
 ghost use Rattle.std.specs.Prelude.{is_ok, nat_le, length};
 ghost use Rattle.std.specs.List.{list_all, slice_split, position_or_len};
-ghost use Rattle.dm_uri.specs.Names.{has_name_form, is_short, is_name, is_within_limits};
+ghost use Rattle.dm_uri.specs.Names.{has_name_form, is_short_name, is_name, is_within_limits};
 ghost use Rattle.dm_uri.specs.Grammar.{IsUriText};
 ghost use Rattle.dm_uri.specs.Refusals.{is_question, IsRefused};
 ghost use Rattle.dm_uri.specs.Reading.{is_slash, is_root, without_front, names_in, query_of, read_path, parse_of};
@@ -10,7 +10,7 @@ ghost use Rattle.dm_uri.specs.Reading.{Gives, FirstPart, BeginsWithNames, ReadsA
 ghost use Rattle.dm_uri.specs.declared.uri.Uri.{Uri};
 ghost use Rattle.dm_uri.specs.declared.uri.UriError.TheVariants as error;
 
-use crate::name::{Name, has_name_form, is_name_of_bytes, is_short, name_end};
+use crate::name::{Name, has_name_form, is_name_of_bytes, is_short_name, name_end};
 use crate::path::Path;
 use crate::uri::{Prop, Query, Uri, UriError};
 use crate::writing::query_text;
@@ -66,9 +66,9 @@ fn all_have_form(text: &[u8]) -> bool
 }
 
 fn all_short(text: &[u8]) -> bool
-    ensures { result ≡ list_all is_short (slice_split is_slash text.now) }
+    ensures { result ≡ list_all is_short_name (slice_split is_slash text.now) }
 {
-    text.split(|b| *b == b'/').all(is_short)
+    text.split(|b| *b == b'/').all(is_short_name)
 }
 
 fn count_of(text: &[u8]) -> usize

@@ -18,7 +18,8 @@ use Rattle.syncml_types.specs.declared.command.Command.{Command}
 use Rattle.syncml_types.specs.declared.command.Command.TheVariants as command
 use Rattle.syncml_types.specs.Message.{Parts}
 use Rattle.syncml_types.specs.Canonical.{canonical, command_tokens, commands_tokens}
-use Rattle.syncml_types.specs.Fitness.{all_of, is_short, item_data, member_data, seq_member_data, command_data, IsFit}
+use Rattle.syncml_types.specs.Fitness.{all_of, is_in_limit, item_data, member_data, seq_member_data, command_data}
+use Rattle.syncml_types.specs.Fitness.{IsFit}
 use Rattle.syncml_parts.specs.Numbering.{with_number, numbered_members, numbered_seq_member, numbered_seq_members}
 use Rattle.syncml_parts.specs.Numbering.{ids_in_seq_member, ids_in_seq_members, ids_in, with_numbers}
 use Rattle.syncml_parts.specs.Packing.{bytes_in, only_changed, write_changed, member_changed, seq_member_changed}
@@ -70,16 +71,17 @@ all-behind P (suc n) (x ∷ xs) h = all-behind P n xs h.1
 
 -- what an item is changed to has its numbers in their ranges
 abbrev KeepsRange : (Item → Item) → Type 0
-KeepsRange f = (i : Item) → item_data is_short i ≡ true → ItemRange i → ItemRange (f i)
+KeepsRange f = (i : Item) → item_data is_in_limit i ≡ true → ItemRange i → ItemRange (f i)
 
-only-range : (f : Item → Item) → KeepsRange f → (is : List Item) → list_all (item_data is_short) is ≡ true
+only-range : (f : Item → Item) → KeepsRange f → (is : List Item) → list_all (item_data is_in_limit) is ≡ true
     → AllByRecursion ItemRange is
     → AllByRecursion ItemRange (only_changed f is)
 only-range f keeps [] d h = h
-only-range f keeps (i ∷ []) d h = (keeps i (and_parts (item_data is_short i) true d).0 h.0, tt)
+only-range f keeps (i ∷ []) d h = (keeps i (and_parts (item_data is_in_limit i) true d).0 h.0, tt)
 only-range f keeps (i ∷ j ∷ is) d h = h
 
-write-range : (f : Item → Item) → KeepsRange f → (v : Verb) (is : List Item) → list_all (item_data is_short) is ≡ true
+write-range : (f : Item → Item) → KeepsRange f → (v : Verb) (is : List Item)
+    → list_all (item_data is_in_limit) is ≡ true
     → AllByRecursion ItemRange is
     → AllByRecursion ItemRange (write_changed f v is)
 write-range f keeps verb.Add is d h = only-range f keeps is d h
@@ -89,14 +91,14 @@ write-range f keeps verb.Delete is d h = h
 write-range f keeps verb.Exec is d h = h
 write-range f keeps verb.Get is d h = h
 
-member-range : (f : Item → Item) → KeepsRange f → (m : Member) → member_data is_short m ≡ true → MemberRange m
+member-range : (f : Item → Item) → KeepsRange f → (m : Member) → member_data is_in_limit m ≡ true → MemberRange m
     → MemberRange (member_changed f m)
 unfolding member_data
 member-range f keeps (member.One c) d h =
     record { id = h.id; meta = h.meta; items = write-range f keeps c.verb c.items d h.items }
 member-range f keeps (member.Alert c) d h = h
 
-seq-range : (f : Item → Item) → KeepsRange f → (m : SeqMember) → seq_member_data is_short m ≡ true → SeqMemberRange m
+seq-range : (f : Item → Item) → KeepsRange f → (m : SeqMember) → seq_member_data is_in_limit m ≡ true → SeqMemberRange m
     → SeqMemberRange (seq_member_changed f m)
 unfolding seq_member_data
 seq-range f keeps (seq_member.Single m) d h = member-range f keeps m d h
@@ -110,7 +112,7 @@ last-range P test f one (x ∷ []) d h = (one x (and_parts (test x) true d).0 h.
 last-range P test f one (x ∷ y ∷ xs) d h =
     (h.0, last-range P test f one (y ∷ xs) (and_parts (test x) (list_all test (y ∷ xs)) d).1 h.1)
 
-changed-range : (f : Item → Item) → KeepsRange f → (c : Command) → command_data is_short c ≡ true → CommandRange c
+changed-range : (f : Item → Item) → KeepsRange f → (c : Command) → command_data is_in_limit c ≡ true → CommandRange c
     → CommandRange (cut_changed f c)
 unfolding command_data
 changed-range f keeps (command.Plain c) d h =
@@ -120,13 +122,13 @@ changed-range f keeps (command.Atomic b) d h = record {
   id = h.id;
   meta = h.meta;
   members =
-      last-range MemberRange (member_data is_short) (member_changed f) (member-range f keeps) b.members d h.members;
+      last-range MemberRange (member_data is_in_limit) (member_changed f) (member-range f keeps) b.members d h.members;
 }
 changed-range f keeps (command.Sequence b) d h = record {
   id = h.id;
   meta = h.meta;
   members =
-      last-range SeqMemberRange (seq_member_data is_short) (seq_member_changed f) (seq-range f keeps) b.members d
+      last-range SeqMemberRange (seq_member_data is_in_limit) (seq_member_changed f) (seq-range f keeps) b.members d
       h.members;
 }
 changed-range f keeps (command.Status c) d h = h
@@ -144,7 +146,7 @@ sized-range : (size : ℕ) (o : Option Meta) → size < 2 ^ 64 → IfSome o Meta
 sized-range size None low h = record { size = low; max_msg = tt; max_obj = tt }
 sized-range size (Some m) low h = record { size = low; max_msg = h.max_msg; max_obj = h.max_obj }
 
-short-bytes : (o : Option (List ℕ)) → all_of is_short o ≡ true → length (bytes_in o) < 2 ^ 64
+short-bytes : (o : Option (List ℕ)) → all_of is_in_limit o ≡ true → length (bytes_in o) < 2 ^ 64
 short-bytes None h = omega arith
 short-bytes (Some v) h = let low = leb-true (length v) 2147483648 h in omega (arith, low)
 

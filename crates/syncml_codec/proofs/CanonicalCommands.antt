@@ -38,7 +38,7 @@ use Rattle.syncml_types.specs.Canonical.{item_tokens, items_tokens, texts_tokens
 use Rattle.syncml_types.specs.Canonical.{plain_tokens, alert_tokens, member_tokens, members_tokens, atomic_tokens}
 use Rattle.syncml_types.specs.Canonical.{seq_member_tokens, seq_members_tokens, sequence_tokens, status_tokens}
 use Rattle.syncml_types.specs.Canonical.{results_tokens, command_tokens}
-use Rattle.syncml_types.specs.Fitness.{all_of, is_short, is_number, is_filled, is_exec, item_texts, item_data}
+use Rattle.syncml_types.specs.Fitness.{all_of, is_in_limit, is_number, is_filled, is_exec, item_texts, item_data}
 use Rattle.syncml_types.specs.Fitness.{plain_texts, alert_texts, member_texts, atomic_texts, seq_member_texts}
 use Rattle.syncml_types.specs.Fitness.{sequence_texts, status_texts, results_texts, command_texts, member_data}
 use Rattle.syncml_types.specs.Fitness.{seq_member_data, command_data, member_numbers, atomic_numbers}
@@ -60,7 +60,7 @@ use Rattle.syncml_codec.proofs.CanonicalValues.{good_meta, meta_option, GoodItem
 -- ---- lists of items and of texts
 
 good_items : (items : List Item) → list_all (item_texts is_text) items ≡ true
-    → list_all (item_data is_short) items ≡ true → AllByRecursion ItemRange items
+    → list_all (item_data is_in_limit) items ≡ true → AllByRecursion ItemRange items
     → AllByRecursion GoodItem items
 good_items [] t d r = tt
 good_items (item ∷ items) t d r =
@@ -129,7 +129,7 @@ texts_any e rows value none same texts good =
 -- what is known of a command on the tree
 pub record GoodPlain (c : Plain) : Type 0 where
   pub texts : plain_texts is_text c ≡ true
-  pub data_short : list_all (item_data is_short) c.items ≡ true
+  pub data_short : list_all (item_data is_in_limit) c.items ≡ true
   pub number : is_number c.id ≡ true
   pub filled : plain_filled c ≡ true
   pub correlates : plain_correlates c ≡ true
@@ -280,7 +280,7 @@ plain_element p n good =
 -- what is known of an Alert
 pub record GoodAlert (c : AlertCmd) : Type 0 where
   pub texts : alert_texts is_text c ≡ true
-  pub data_short : list_all (item_data is_short) c.items ≡ true
+  pub data_short : list_all (item_data is_in_limit) c.items ≡ true
   pub number : is_number c.id ≡ true
   pub range : AlertRange c
 
@@ -338,7 +338,7 @@ abbrev pub GoodMember : Member → Type 0
 GoodMember (member.One c) = GoodPlain c
 GoodMember (member.Alert c) = GoodAlert c
 
-good_member : (m : Member) → member_texts is_text m ≡ true → member_data is_short m ≡ true → member_numbers m ≡ true
+good_member : (m : Member) → member_texts is_text m ≡ true → member_data is_in_limit m ≡ true → member_numbers m ≡ true
     → member_filled m ≡ true → member_correlates m ≡ true
     → MemberRange m → GoodMember m
 unfolding member_texts member_data member_numbers member_filled member_correlates
@@ -354,7 +354,7 @@ pub record GoodAtomic (b : Block Member) : Type 0 where
   pub filled : is_filled b.members ≡ true
   pub members : AllByRecursion GoodMember b.members
 
-good_atomic : (b : Block Member) → atomic_texts is_text b ≡ true → list_all (member_data is_short) b.members ≡ true
+good_atomic : (b : Block Member) → atomic_texts is_text b ≡ true → list_all (member_data is_in_limit) b.members ≡ true
     → atomic_numbers b ≡ true → atomic_filled b ≡ true
     → list_all member_correlates b.members ≡ true → AtomicRange b → GoodAtomic b
 unfolding atomic_texts atomic_numbers atomic_filled
@@ -368,7 +368,8 @@ good_atomic b t d n f k r =
       meta = good_meta b.meta texts.0 r.meta;
       filled = filled.0;
       members =
-          zip (member_texts is_text) (member_data is_short) member_numbers member_filled member_correlates MemberRange
+          zip (member_texts is_text) (member_data is_in_limit)
+          member_numbers member_filled member_correlates MemberRange
           GoodMember good_member b.members
           texts.1 d numbers.1 filled.1 k r.members;
     }
@@ -419,7 +420,7 @@ abbrev pub GoodSeqMember : SeqMember → Type 0
 GoodSeqMember (seq_member.Single m) = GoodMember m
 GoodSeqMember (seq_member.Atomic b) = GoodAtomic b
 
-good_seq_member : (m : SeqMember) → seq_member_texts is_text m ≡ true → seq_member_data is_short m ≡ true
+good_seq_member : (m : SeqMember) → seq_member_texts is_text m ≡ true → seq_member_data is_in_limit m ≡ true
     → seq_member_numbers m ≡ true → seq_member_filled m ≡ true
     → seq_member_correlates m ≡ true → SeqMemberRange m → GoodSeqMember m
 unfolding seq_member_texts seq_member_data seq_member_numbers seq_member_filled seq_member_correlates
@@ -473,7 +474,7 @@ sequence_element b n good =
 -- what is known of a Status
 pub record GoodStatus (c : StatusCmd) : Type 0 where
   pub texts : status_texts is_text c ≡ true
-  pub data_short : list_all (item_data is_short) c.items ≡ true
+  pub data_short : list_all (item_data is_in_limit) c.items ≡ true
   pub number : is_number c.id ≡ true
   pub message_number : is_number c.msg_ref ≡ true
   pub range : StatusRange c
@@ -539,7 +540,7 @@ status_element s n good =
 -- what is known of a Results
 pub record GoodResults (c : ResultsCmd) : Type 0 where
   pub texts : results_texts is_text c ≡ true
-  pub data_short : list_all (item_data is_short) c.items ≡ true
+  pub data_short : list_all (item_data is_in_limit) c.items ≡ true
   pub number : is_number c.id ≡ true
   pub message_number : all_of is_number c.msg_ref ≡ true
   pub filled : is_filled c.items ≡ true
@@ -613,7 +614,7 @@ GoodCommand (command.Sequence b) = GoodSequence b
 GoodCommand (command.Status c) = GoodStatus c
 GoodCommand (command.Results c) = GoodResults c
 
-good_command : (c : Command) → command_texts is_text c ≡ true → command_data is_short c ≡ true
+good_command : (c : Command) → command_texts is_text c ≡ true → command_data is_in_limit c ≡ true
     → command_numbers c ≡ true → command_filled c ≡ true
     → command_correlates c ≡ true → CommandRange c → GoodCommand c
 unfolding command_texts command_data command_numbers command_filled command_correlates sequence_texts
@@ -631,7 +632,7 @@ good_command (command.Sequence b) t d n f k r =
       meta = good_meta b.meta texts.0 r.meta;
       filled = filled.0;
       members =
-          zip (seq_member_texts is_text) (seq_member_data is_short) seq_member_numbers seq_member_filled
+          zip (seq_member_texts is_text) (seq_member_data is_in_limit) seq_member_numbers seq_member_filled
           seq_member_correlates SeqMemberRange GoodSeqMember good_seq_member b.members
           texts.1 d numbers.1 filled.1 k r.members;
     }
@@ -643,11 +644,12 @@ good_command (command.Results c) t d n f k r =
     record { texts = t; data_short = d; number = numbers.0; message_number = numbers.1; filled = f; range = r }
 
 pub good_commands : (cs : List Command) → list_all (command_texts is_text) cs ≡ true
-    → list_all (command_data is_short) cs ≡ true → list_all command_numbers cs ≡ true
+    → list_all (command_data is_in_limit) cs ≡ true → list_all command_numbers cs ≡ true
     → list_all command_filled cs ≡ true → list_all command_correlates cs ≡ true → AllByRecursion CommandRange cs
     → AllByRecursion GoodCommand cs
 good_commands cs =
-    zip (command_texts is_text) (command_data is_short) command_numbers command_filled command_correlates CommandRange
+    zip (command_texts is_text) (command_data is_in_limit)
+    command_numbers command_filled command_correlates CommandRange
     GoodCommand good_command cs
 
 abbrev pub body_held : List Command → Bool → Value

@@ -26,7 +26,7 @@ use Rattle.syncml_types.specs.Message.{Parts}
 use Rattle.syncml_types.specs.Canonical.{is_text, text_tokens, number_tokens, flag_tokens, optional, loc_tokens}
 use Rattle.syncml_types.specs.Canonical.{meta_tokens, cred_tokens, header_tokens, command_tokens, commands_tokens}
 use Rattle.syncml_types.specs.Canonical.{body_children, body_tokens, message_tokens}
-use Rattle.syncml_types.specs.Fitness.{all_of, is_short, is_number, loc_texts, cred_texts, header_texts, header_data}
+use Rattle.syncml_types.specs.Fitness.{all_of, is_in_limit, is_number, loc_texts, cred_texts, header_texts, header_data}
 use Rattle.syncml_types.specs.Fitness.{IsFit}
 use Rattle.syncml_grammar.specs.declared.draft.Draft.TheVariants as drafts
 use Rattle.syncml_grammar.specs.Values.{Value, of_draft, node, fresh, with_child}
@@ -44,7 +44,7 @@ use Rattle.syncml_codec.proofs.CanonicalCommands.{many_row, GoodCommand, good_co
 -- what is known of a header
 record GoodHeader (h : Header) : Type 0 where
   texts : header_texts is_text h ≡ true
-  data_short : header_data is_short h ≡ true
+  data_short : header_data is_in_limit h ≡ true
   number : is_number h.msg ≡ true
   range : HeaderRange h
 
@@ -56,7 +56,8 @@ loc_row e rows loc none h =
     puts_then (loc_element e loc (next_here e kinds.Loc true false false rows refl) h)
     (skips e kinds.Loc true false true rows none refl)
 
-good_cred : (o : Option Cred) → all_of (cred_texts is_text) o ≡ true → all_of (λ (c : Cred). is_short c.value) o ≡ true
+good_cred : (o : Option Cred) → all_of (cred_texts is_text) o ≡ true
+    → all_of (λ (c : Cred). is_in_limit c.value) o ≡ true
     → IfSome o CredRange → IfSome o GoodCred
 good_cred None t d r = tt
 good_cred (Some c) t d r = record { texts = t; data_short = d; range = r }

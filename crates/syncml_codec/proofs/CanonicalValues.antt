@@ -28,7 +28,7 @@ use Rattle.syncml_types.specs.declared.values.Cred.{Cred}
 use Rattle.syncml_types.specs.Canonical.{is_text, text_tokens, data_tokens, number_tokens, optional, loc_tokens}
 use Rattle.syncml_types.specs.Canonical.{meta_children, meta_tokens, item_children, item_tokens, cred_tokens}
 use Rattle.syncml_types.specs.Canonical.{chal_tokens}
-use Rattle.syncml_types.specs.Fitness.{all_of, is_short, is_number, loc_texts, meta_texts, item_texts, item_data}
+use Rattle.syncml_types.specs.Fitness.{all_of, is_in_limit, is_number, loc_texts, meta_texts, item_texts, item_data}
 use Rattle.syncml_types.specs.Fitness.{cred_texts}
 use Rattle.syncml_grammar.specs.declared.digits.Digits.TheVariants.{Start}
 use Rattle.syncml_grammar.specs.declared.leaf.Leaf.TheVariants as leaves
@@ -73,15 +73,16 @@ text_element e (b ∷ bs) n h =
     puts_full e kinds.Text (simple (simples.Text (b ∷ bs))) n (puts_text (b ∷ bs) (text_clear (b ∷ bs) h) refl) refl
     (text_closed (b ∷ bs) h)
 
-short_length : (bytes : List ℕ) → is_short bytes ≡ true → length bytes < 2 ^ 32
+short_length : (bytes : List ℕ) → is_in_limit bytes ≡ true → length bytes < 2 ^ 32
 short_length bytes h = omega (arith, leb-true (length bytes) 2147483648 h)
 
-piece : {v : Value} (bytes : List ℕ) (q : Bool) → is_text bytes ≡ q → is_short bytes ≡ true
+piece : {v : Value} (bytes : List ℕ) (q : Bool) → is_text bytes ≡ q → is_in_limit bytes ≡ true
     → Puts pieces v ((if q then Text bytes else Opaque bytes) ∷ []) pieces (with_text v bytes)
 piece bytes true is short = puts_text bytes (text_clear bytes is) refl
 piece bytes false is short = puts_opaque bytes (short_length bytes short) refl
 
-pub data_element : {c d : Content} {v : Value} (t : List ℕ) → next c EData ≡ Some (kinds.Bytes, d) → is_short t ≡ true
+pub data_element : {c d : Content} {v : Value} (t : List ℕ) → next c EData ≡ Some (kinds.Bytes, d)
+    → is_in_limit t ≡ true
     → Puts c v (data_tokens t) d (with_child v EData (simple (simples.Text t)))
 unfolding data_tokens
 data_element [] n h = puts_bare EData kinds.Bytes (simple (simples.Text [])) n refl refl
@@ -314,7 +315,7 @@ good_meta (Some m) h r = record { texts = h; range = r }
 -- what is known of an item
 pub record GoodItem (item : Item) : Type 0 where
   pub texts : item_texts is_text item ≡ true
-  pub data_short : item_data is_short item ≡ true
+  pub data_short : item_data is_in_limit item ≡ true
   pub range : ItemRange item
 
 loc_option : (e : Element) (rows : List Row) (value : Option Loc → Value) (o : Option Loc)
@@ -332,12 +333,12 @@ loc_option e rows value o none h same =
     (skips e kinds.Loc false false true rows none refl)))
 
 data_option : (rows : List Row) (value : Option (List ℕ) → Value) (o : Option (List ℕ))
-    → next_row false rows EData ≡ None → all_of is_short o ≡ true
+    → next_row false rows EData ≡ None → all_of is_in_limit o ≡ true
     → ((t : List ℕ) → with_child (value None) EData (simple (simples.Text t)) ≡ value (Some t))
     → Puts (in_order false (row EData kinds.Bytes false false ∷ rows)) (value None) (optional data_tokens o)
     (in_order false rows) (value o)
 data_option rows value o none h same =
-    puts_optional (λ t. is_short t ≡ true) data_tokens value o (some_of is_short o h)
+    puts_optional (λ t. is_in_limit t ≡ true) data_tokens value o (some_of is_in_limit o h)
     (skips EData kinds.Bytes false false false rows none refl)
     (λ t is.
     subst (λ w. Puts (in_order false (row EData kinds.Bytes false false ∷ rows)) (value None) (data_tokens t)
@@ -376,7 +377,7 @@ item_element item n good =
 -- what is known of a Cred
 pub record GoodCred (cred : Cred) : Type 0 where
   pub texts : cred_texts is_text cred ≡ true
-  pub data_short : is_short cred.value ≡ true
+  pub data_short : is_in_limit cred.value ≡ true
   pub range : CredRange cred
 
 cred_puts : (e : Element) (cred : Cred) → GoodCred cred

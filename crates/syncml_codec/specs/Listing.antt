@@ -3,6 +3,7 @@ use Rattle.std.specs.Prelude.{◌&&◌, ◌==◌, ◌-◌, ℕ, zero, suc, Bool,
 use Rattle.std.specs.Prelude.{◌++◌, length, take}
 use Rattle.std.specs.List.{list_all}
 use Rattle.dm_base.specs.Fields.{hex_text}
+use Rattle.dm_base.specs.Lines.{line_feed}
 use Rattle.wbxml_tables.specs.Tables.{name_in_text}
 use Rattle.wbxml_tokens.specs.declared.token.Token.{Token}
 use Rattle.wbxml_tokens.specs.declared.token.Token.TheVariants.{Tag, End, Text, Opaque}
@@ -32,10 +33,6 @@ spaces (suc n) = 32 ∷ 32 ∷ spaces n
 abbrev pub above : ℕ → ℕ
 above zero = zero
 above (suc n) = n
-
--- what ends a line
-abbrev pub line_feed : List ℕ
-line_feed = 10 ∷ []
 
 abbrev pub feed_where : Bool → List ℕ
 feed_where c = if c then line_feed else []

@@ -27,7 +27,7 @@ use Rattle.syncml_types.specs.declared.command.ResultsCmd.{ResultsCmd}
 use Rattle.syncml_types.specs.declared.command.Command.{Command}
 use Rattle.syncml_types.specs.declared.command.Command.TheVariants as command
 use Rattle.syncml_types.specs.Canonical.{is_text}
-use Rattle.syncml_types.specs.Fitness.{all_of, is_short, is_number, is_filled, is_exec, loc_texts, meta_texts}
+use Rattle.syncml_types.specs.Fitness.{all_of, is_in_limit, is_number, is_filled, is_exec, loc_texts, meta_texts}
 use Rattle.syncml_types.specs.Fitness.{item_texts, cred_texts, header_texts, plain_texts, alert_texts, member_texts}
 use Rattle.syncml_types.specs.Fitness.{atomic_texts, seq_member_texts, sequence_texts, status_texts, results_texts}
 use Rattle.syncml_types.specs.Fitness.{command_texts, item_data, header_data, member_data, seq_member_data}
@@ -56,7 +56,7 @@ is_seq_member e kind = ((sort kind == 4) || (sort kind == 5)) || (sort kind == 6
 
 pub record FitText (text : List ℕ) : Type 0 where
   pub plain : is_text text ≡ true
-  pub short : is_short text ≡ true
+  pub short : is_in_limit text ≡ true
 
 pub record FitLoc (loc : Loc) : Type 0 where
   pub uri : FitText loc.uri
@@ -73,11 +73,11 @@ pub record FitItem (item : Item) : Type 0 where
   pub target : IfSome item.target FitLoc
   pub source : IfSome item.source FitLoc
   pub meta : IfSome item.meta FitMeta
-  pub value : IfSome item.value (λ value. is_short value ≡ true)
+  pub value : IfSome item.value (λ value. is_in_limit value ≡ true)
 
 pub record FitCred (cred : Cred) : Type 0 where
   pub meta : IfSome cred.meta FitMeta
-  pub value : is_short cred.value ≡ true
+  pub value : is_in_limit cred.value ≡ true
 
 pub record FitHeader (content : Content) (h : Header) : Type 0 where
   pub dtd : FitText h.dtd
@@ -288,36 +288,36 @@ command_passes test p (command.Results c) f = results_passes test p c f
 
 -- ---- Data
 
-short_item : (item : Item) → FitItem item → item_data is_short item ≡ true
+short_item : (item : Item) → FitItem item → item_data is_in_limit item ≡ true
 unfolding item_data
-short_item item f = some is_short (λ value. is_short value ≡ true) (λ value h. h) item.value f.value
+short_item item f = some is_in_limit (λ value. is_in_limit value ≡ true) (λ value h. h) item.value f.value
 
-short_items : (items : List Item) → AllByRecursion FitItem items → list_all (item_data is_short) items ≡ true
-short_items items f = each (item_data is_short) FitItem short_item items f
+short_items : (items : List Item) → AllByRecursion FitItem items → list_all (item_data is_in_limit) items ≡ true
+short_items items f = each (item_data is_in_limit) FitItem short_item items f
 
-short_header : (h : Header) → Ended FitHeader h → header_data is_short h ≡ true
+short_header : (h : Header) → Ended FitHeader h → header_data is_in_limit h ≡ true
 unfolding header_data
-short_header h (content, done, f) = some (λ (c : Cred). is_short c.value) FitCred (λ c g. g.value) h.cred f.cred
+short_header h (content, done, f) = some (λ (c : Cred). is_in_limit c.value) FitCred (λ c g. g.value) h.cred f.cred
 
-short_member : (m : Member) → FitMember m → member_data is_short m ≡ true
+short_member : (m : Member) → FitMember m → member_data is_in_limit m ≡ true
 unfolding member_data
 short_member (member.One c) (content, done, f) = short_items c.items f.items
 short_member (member.Alert c) (content, done, f) = short_items c.items f.items
 
-short_seq_member : (m : SeqMember) → FitSeqMember m → seq_member_data is_short m ≡ true
+short_seq_member : (m : SeqMember) → FitSeqMember m → seq_member_data is_in_limit m ≡ true
 unfolding seq_member_data
 short_seq_member (seq_member.Single m) f = short_member m f
 short_seq_member (seq_member.Atomic b) (content, done, f) =
-    each (member_data is_short) FitMember short_member b.members f.members
+    each (member_data is_in_limit) FitMember short_member b.members f.members
 
-short_command : (c : Command) → FitCommand c → command_data is_short c ≡ true
+short_command : (c : Command) → FitCommand c → command_data is_in_limit c ≡ true
 unfolding command_data
 short_command (command.Plain c) (content, done, f) = short_items c.items f.items
 short_command (command.Alert c) (content, done, f) = short_items c.items f.items
 short_command (command.Atomic b) (content, done, f) =
-    each (member_data is_short) FitMember short_member b.members f.members
+    each (member_data is_in_limit) FitMember short_member b.members f.members
 short_command (command.Sequence b) (content, done, f) =
-    each (seq_member_data is_short) FitSeqMember short_seq_member b.members f.members
+    each (seq_member_data is_in_limit) FitSeqMember short_seq_member b.members f.members
 short_command (command.Status c) (content, done, f) = short_items c.items f.items
 short_command (command.Results c) (content, done, f) = short_items c.items f.items
 
@@ -438,7 +438,7 @@ parts_fit h body f fs = record {
   filled = each command_filled FitCommand filled_command body fs;
   correlators = each command_correlates FitCommand correlated_command body fs;
   short_texts =
-      both (header_passes is_short (λ text t. t.short) h f)
-      (each (command_texts is_short) FitCommand (command_passes is_short (λ text t. t.short)) body fs);
-  short_data = both (short_header h f) (each (command_data is_short) FitCommand short_command body fs);
+      both (header_passes is_in_limit (λ text t. t.short) h f)
+      (each (command_texts is_in_limit) FitCommand (command_passes is_in_limit (λ text t. t.short)) body fs);
+  short_data = both (short_header h f) (each (command_data is_in_limit) FitCommand short_command body fs);
 }

@@ -28,7 +28,7 @@ use Rattle.syncml_shape.proofs.Accepts.{and_true}
 use Rattle.syncml_shape.proofs.Completes.{and_both}
 use Rattle.syncml_types.specs.Message.{Parts}
 use Rattle.syncml_types.specs.Canonical.{is_text}
-use Rattle.syncml_types.specs.Fitness.{is_short, is_number, is_exec, IsFit}
+use Rattle.syncml_types.specs.Fitness.{is_in_limit, is_number, is_exec, IsFit}
 use Rattle.syncml_types.specs.declared.values.Header.{Header}
 use Rattle.syncml_grammar.specs.declared.leaf.Leaf.{Leaf}
 use Rattle.syncml_grammar.specs.declared.leaf.Leaf.TheVariants as leaves
@@ -185,7 +185,7 @@ fresh_length _ e = refl
 
 -- ---- at its end
 
-short_text : (bytes : List ℕ) → length bytes ≤ text_limit → is_short bytes ≡ true
+short_text : (bytes : List ℕ) → length bytes ≤ text_limit → is_in_limit bytes ≡ true
 short_text bytes h =
     elim (nat_le (length bytes) 2147483648) as (λ (b : Bool). nat_le (length bytes) 2147483648 ≡ b → b ≡ true) [
       | true ↦ λ is. refl
@@ -205,7 +205,7 @@ same_simple a b h = cc
 no_text_kind : {A : Type 0} (k : Kind) → sort k ≡ 20 → (sort k == 20) ≡ false → A
 no_text_kind k is other = not_so (sym other ∙ ap (λ n. n == 20) is)
 
-text_closed : (k : Kind) (bytes : List ℕ) (s : Simple) → sort k ≡ 20 → is_short bytes ≡ true
+text_closed : (k : Kind) (bytes : List ℕ) (s : Simple) → sort k ≡ 20 → is_in_limit bytes ≡ true
     → closed_text k bytes ≡ Ok s → FitSimple k s
 text_closed kinds.Bytes bytes s is short h =
     subst (FitSimple kinds.Bytes) (same_simple (simples.Text bytes) s h) (refl, short, λ other. never other)

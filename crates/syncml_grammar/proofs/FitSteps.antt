@@ -30,7 +30,7 @@ use Rattle.syncml_types.specs.declared.command.StatusCmd.{StatusCmd}
 use Rattle.syncml_types.specs.declared.command.ResultsCmd.{ResultsCmd}
 use Rattle.syncml_types.specs.declared.command.Command.TheVariants as command
 use Rattle.syncml_types.specs.Canonical.{is_text}
-use Rattle.syncml_types.specs.Fitness.{is_short, is_number, is_filled, is_exec}
+use Rattle.syncml_types.specs.Fitness.{is_in_limit, is_number, is_filled, is_exec}
 use Rattle.syncml_grammar.specs.declared.leaf.Simple.{Simple}
 use Rattle.syncml_grammar.specs.declared.leaf.Simple.TheVariants as simples
 use Rattle.syncml_grammar.specs.declared.draft.BodyDraft.{BodyDraft}
@@ -92,7 +92,7 @@ draft_sort (draft.Chal meta) = 13
 draft_sort (draft.Meta meta) = 14
 
 abbrev pub FitSimple : Kind → Simple → Type 0
-FitSimple k (simples.Text text) = (sort k ≡ 20) × (is_short text ≡ true) × (is_bytes k ≡ false → is_text text ≡ true)
+FitSimple k (simples.Text text) = (sort k ≡ 20) × (is_in_limit text ≡ true) × (is_bytes k ≡ false → is_text text ≡ true)
 FitSimple k (simples.Short n) = (sort k ≡ 21) × (is_code k ≡ false → is_number n ≡ true)
 FitSimple k (simples.Long n) = sort k ≡ 22
 FitSimple k simples.Flag = sort k ≡ 23

@@ -21,12 +21,12 @@ use Rattle.syncml_types.specs.Message.{Parts, IsShortData, HasShortData, HasShor
 use Rattle.syncml_types.specs.Message.{HasShortItems, CanBeSpelled}
 use Rattle.syncml_types.specs.Canonical.{canonical}
 use Rattle.syncml_types.proofs.Pieces.{texts_short, data_short}
-use Rattle.syncml_types.specs.Fitness.{all_of, is_short, item_data, header_data, member_data, seq_member_data}
+use Rattle.syncml_types.specs.Fitness.{all_of, is_in_limit, item_data, header_data, member_data, seq_member_data}
 use Rattle.syncml_types.specs.Fitness.{command_data, message_data, message_texts, IsFit, first_unfit}
 
 -- ---- short Data can be spelled
 
-short_is : (bytes : List ℕ) → is_short bytes ≡ true → IsShortData bytes
+short_is : (bytes : List ℕ) → is_in_limit bytes ≡ true → IsShortData bytes
 short_is bytes h = leb-true (length bytes) 2147483648 h
 
 each : {A : Type 0} (test : A → Bool) (P : A → Type 0) → ((x : A) → test x ≡ true → P x)
@@ -35,51 +35,51 @@ each test P one [] h = tt
 each test P one (x ∷ xs) h =
     let parts = and_parts (test x) (list_all test xs) h in (one x parts.0, each test P one xs parts.1)
 
-some_short : (o : Option (List ℕ)) → all_of is_short o ≡ true → IfSome o IsShortData
+some_short : (o : Option (List ℕ)) → all_of is_in_limit o ≡ true → IfSome o IsShortData
 some_short None h = tt
 some_short (Some bytes) h = short_is bytes h
 
-short_item : (item : Item) → item_data is_short item ≡ true → HasShortData item
+short_item : (item : Item) → item_data is_in_limit item ≡ true → HasShortData item
 unfolding item_data
 short_item item h = some_short item.value h
 
-short_items : (items : List Item) → list_all (item_data is_short) items ≡ true → AllByRecursion HasShortData items
-short_items items h = each (item_data is_short) HasShortData short_item items h
+short_items : (items : List Item) → list_all (item_data is_in_limit) items ≡ true → AllByRecursion HasShortData items
+short_items items h = each (item_data is_in_limit) HasShortData short_item items h
 
-short_member : (m : Member) → member_data is_short m ≡ true → HasShortMember m
+short_member : (m : Member) → member_data is_in_limit m ≡ true → HasShortMember m
 unfolding member_data
 short_member (member.One c) h = short_items c.items h
 short_member (member.Alert c) h = short_items c.items h
 
-short_members : (ms : List Member) → list_all (member_data is_short) ms ≡ true → AllByRecursion HasShortMember ms
-short_members ms h = each (member_data is_short) HasShortMember short_member ms h
+short_members : (ms : List Member) → list_all (member_data is_in_limit) ms ≡ true → AllByRecursion HasShortMember ms
+short_members ms h = each (member_data is_in_limit) HasShortMember short_member ms h
 
-short_seq_member : (m : SeqMember) → seq_member_data is_short m ≡ true → HasShortSeqMember m
+short_seq_member : (m : SeqMember) → seq_member_data is_in_limit m ≡ true → HasShortSeqMember m
 unfolding seq_member_data
 short_seq_member (seq_member.Single m) h = short_member m h
 short_seq_member (seq_member.Atomic b) h = short_members b.members h
 
-short_command : (c : Command) → command_data is_short c ≡ true → HasShortItems c
+short_command : (c : Command) → command_data is_in_limit c ≡ true → HasShortItems c
 unfolding command_data
 short_command (command.Plain c) h = short_items c.items h
 short_command (command.Alert c) h = short_items c.items h
 short_command (command.Atomic b) h = short_members b.members h
-short_command (command.Sequence b) h = each (seq_member_data is_short) HasShortSeqMember short_seq_member b.members h
+short_command (command.Sequence b) h = each (seq_member_data is_in_limit) HasShortSeqMember short_seq_member b.members h
 short_command (command.Status c) h = short_items c.items h
 short_command (command.Results c) h = short_items c.items h
 
-short_cred : (o : Option Cred) → all_of (λ (c : Cred). is_short c.value) o ≡ true
+short_cred : (o : Option Cred) → all_of (λ (c : Cred). is_in_limit c.value) o ≡ true
     → IfSome o (λ (c : Cred). IsShortData c.value)
 short_cred None h = tt
 short_cred (Some c) h = short_is c.value h
 
-pub spellable_data : (h : Header) (body : List Command) → message_data is_short h body ≡ true → CanBeSpelled h body
+pub spellable_data : (h : Header) (body : List Command) → message_data is_in_limit h body ≡ true → CanBeSpelled h body
 unfolding header_data
 spellable_data h body e =
-    let parts = and_parts (header_data is_short h) (list_all (command_data is_short) body) e in
+    let parts = and_parts (header_data is_in_limit h) (list_all (command_data is_in_limit) body) e in
     record {
       cred = short_cred h.cred parts.0;
-      body = each (command_data is_short) HasShortItems short_command body parts.1;
+      body = each (command_data is_in_limit) HasShortItems short_command body parts.1;
     }
 
 pub spellable : (h : Header) (body : List Command) → IsFit h body → CanBeSpelled h body
@@ -91,11 +91,12 @@ short_or_long : (n : ℕ) (long : Bool) → nat_lt 65536 n ≡ long → long ≡
 short_or_long n long e h = ltb-false 65536 n (e ∙ h)
 
 long_where : (m : Parts) (long : Bool) → nat_lt 65536 (length (canonical m)) ≡ long
-    → message_data is_short m.header m.body ≡ false → long ≡ true
+    → message_data is_in_limit m.header m.body ≡ false → long ≡ true
 long_where m true e h = refl
 long_where m false e h = let short = data_short m (short_or_long (length (canonical m)) false e refl) in cc
 
-pub long_data : (m : Parts) → message_data is_short m.header m.body ≡ false → nat_lt 65536 (length (canonical m)) ≡ true
+pub long_data : (m : Parts) → message_data is_in_limit m.header m.body ≡ false
+    → nat_lt 65536 (length (canonical m)) ≡ true
 long_data m h = long_where m (nat_lt 65536 (length (canonical m))) refl h
 
 -- ---- parts without a reason against them are fit

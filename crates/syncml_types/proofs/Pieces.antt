@@ -36,7 +36,7 @@ use Rattle.syncml_types.specs.Canonical.{member_tokens, members_tokens, atomic_t
 use Rattle.syncml_types.specs.Canonical.{seq_members_tokens, sequence_tokens, status_tokens, results_tokens}
 use Rattle.syncml_types.specs.Canonical.{command_tokens, commands_tokens, body_children, body_tokens, message_tokens}
 use Rattle.syncml_types.specs.Canonical.{canonical}
-use Rattle.syncml_types.specs.Fitness.{all_of, is_short, loc_texts, meta_texts, item_texts, cred_texts, header_texts}
+use Rattle.syncml_types.specs.Fitness.{all_of, is_in_limit, loc_texts, meta_texts, item_texts, cred_texts, header_texts}
 use Rattle.syncml_types.specs.Fitness.{plain_texts, alert_texts, member_texts, atomic_texts, seq_member_texts}
 use Rattle.syncml_types.specs.Fitness.{sequence_texts, status_texts, results_texts, command_texts, message_texts}
 use Rattle.syncml_types.specs.Fitness.{item_data, header_data, member_data, seq_member_data, command_data, message_data}
@@ -44,15 +44,15 @@ use Rattle.syncml_types.specs.Fitness.{item_data, header_data, member_data, seq_
 is_short_piece : Token → Bool
 is_short_piece (Tag e content) = true
 is_short_piece End = true
-is_short_piece (Text text) = is_short text
-is_short_piece (Opaque bytes) = is_short bytes
+is_short_piece (Text text) = is_in_limit text
+is_short_piece (Opaque bytes) = is_in_limit bytes
 
 record AreShort (ts : List Token) : Type 0 where
   holds : list_all is_short_piece ts ≡ true
 
 -- ---- in a spelling of at most 65,536 bytes
 
-short_where : (bytes : List ℕ) → length bytes ≤ 65536 → is_short bytes ≡ true
+short_where : (bytes : List ℕ) → length bytes ≤ 65536 → is_in_limit bytes ≡ true
 short_where bytes h = grind arith
 
 both : {a b : Bool} → a ≡ true → b ≡ true → (a && b) ≡ true
@@ -114,23 +114,23 @@ where_some tokens test one (Some x) h = one x h
 
 -- ---- texts
 
-text : (e : Element) (t : List ℕ) → AreShort (text_tokens e t) → is_short t ≡ true
+text : (e : Element) (t : List ℕ) → AreShort (text_tokens e t) → is_in_limit t ≡ true
 unfolding text_tokens is_short_piece
 text e [] h = refl
-text e (b ∷ bs) h = (and_parts (is_short (b ∷ bs)) true h.holds).0
+text e (b ∷ bs) h = (and_parts (is_in_limit (b ∷ bs)) true h.holds).0
 
-option_text : (e : Element) (o : Option (List ℕ)) → AreShort (optional (text_tokens e) o) → all_of is_short o ≡ true
-option_text e o h = where_some (text_tokens e) is_short (text e) o h
+option_text : (e : Element) (o : Option (List ℕ)) → AreShort (optional (text_tokens e) o) → all_of is_in_limit o ≡ true
+option_text e o h = where_some (text_tokens e) is_in_limit (text e) o h
 
-loc : (e : Element) (l : Loc) → AreShort (loc_tokens e l) → loc_texts is_short l ≡ true
+loc : (e : Element) (l : Loc) → AreShort (loc_tokens e l) → loc_texts is_in_limit l ≡ true
 unfolding loc_tokens loc_texts
 loc e l h = inside _ (join (text _ l.uri) (option_text _ l.name)) h
 
 option_loc : (e : Element) (o : Option Loc) → AreShort (optional (loc_tokens e) o)
-    → all_of (loc_texts is_short) o ≡ true
-option_loc e o h = where_some (loc_tokens e) (loc_texts is_short) (loc e) o h
+    → all_of (loc_texts is_in_limit) o ≡ true
+option_loc e o h = where_some (loc_tokens e) (loc_texts is_in_limit) (loc e) o h
 
-meta : (m : Meta) → AreShort (meta_tokens m) → meta_texts is_short m ≡ true
+meta : (m : Meta) → AreShort (meta_tokens m) → meta_texts is_in_limit m ≡ true
 unfolding meta_tokens meta_texts
 meta m h =
     inside_any _ (meta_children m)
@@ -141,33 +141,33 @@ meta m h =
     (option_text _ m.mark)) (option_text _ m.version))
     h
 
-option_meta : (o : Option Meta) → AreShort (optional meta_tokens o) → all_of (meta_texts is_short) o ≡ true
-option_meta o h = where_some meta_tokens (meta_texts is_short) meta o h
+option_meta : (o : Option Meta) → AreShort (optional meta_tokens o) → all_of (meta_texts is_in_limit) o ≡ true
+option_meta o h = where_some meta_tokens (meta_texts is_in_limit) meta o h
 
-item : (i : Item) → AreShort (item_tokens i) → item_texts is_short i ≡ true
+item : (i : Item) → AreShort (item_tokens i) → item_texts is_in_limit i ≡ true
 unfolding item_tokens item_texts
 item i h =
     inside_any _ (item_children i)
     (front _ (front _ (join (join (option_loc _ i.target) (option_loc _ i.source)) (option_meta i.meta))))
     h
 
-items : (is : List Item) → AreShort (items_tokens is) → list_all (item_texts is_short) is ≡ true
+items : (is : List Item) → AreShort (items_tokens is) → list_all (item_texts is_in_limit) is ≡ true
 unfolding items_tokens
-items is h = each item_tokens (item_texts is_short) item is h
+items is h = each item_tokens (item_texts is_in_limit) item is h
 
-texts : (e : Element) (ts : List (List ℕ)) → AreShort (texts_tokens e ts) → list_all is_short ts ≡ true
+texts : (e : Element) (ts : List (List ℕ)) → AreShort (texts_tokens e ts) → list_all is_in_limit ts ≡ true
 unfolding texts_tokens
-texts e ts h = each (text_tokens e) is_short (text e) ts h
+texts e ts h = each (text_tokens e) is_in_limit (text e) ts h
 
-cred : (c : Cred) → AreShort (cred_tokens c) → cred_texts is_short c ≡ true
+cred : (c : Cred) → AreShort (cred_tokens c) → cred_texts is_in_limit c ≡ true
 unfolding cred_tokens cred_texts
 cred c h = inside _ (front _ (option_meta c.meta)) h
 
-chal : (m : Meta) → AreShort (chal_tokens m) → meta_texts is_short m ≡ true
+chal : (m : Meta) → AreShort (chal_tokens m) → meta_texts is_in_limit m ≡ true
 unfolding chal_tokens
 chal m h = inside _ (meta m) h
 
-header : (h : Header) → AreShort (header_tokens h) → header_texts is_short h ≡ true
+header : (h : Header) → AreShort (header_tokens h) → header_texts is_in_limit h ≡ true
 unfolding header_tokens header_texts
 header h s =
     inside _
@@ -176,53 +176,54 @@ header h s =
     (front _
     (join (join (join (front _ (join (join (text _ h.dtd) (text _ h.proto)) (text _ h.session))) (loc _ h.target))
     (loc _ h.source)) (option_text _ h.resp_uri)))
-    (where_some cred_tokens (cred_texts is_short) cred h.cred)) (option_meta h.meta))
+    (where_some cred_tokens (cred_texts is_in_limit) cred h.cred)) (option_meta h.meta))
     s
 
-plain : (c : Plain) → AreShort (plain_tokens c) → plain_texts is_short c ≡ true
+plain : (c : Plain) → AreShort (plain_tokens c) → plain_texts is_in_limit c ≡ true
 unfolding plain_tokens plain_texts
 plain c h = inside _ (join (join (back _ (option_meta c.meta)) (option_text _ c.correlator)) (items c.items)) h
 
-alert : (c : AlertCmd) → AreShort (alert_tokens c) → alert_texts is_short c ≡ true
+alert : (c : AlertCmd) → AreShort (alert_tokens c) → alert_texts is_in_limit c ≡ true
 unfolding alert_tokens alert_texts
 alert c h = inside _ (join (back _ (option_text _ c.correlator)) (items c.items)) h
 
-member_pieces : (m : Member) → AreShort (member_tokens m) → member_texts is_short m ≡ true
+member_pieces : (m : Member) → AreShort (member_tokens m) → member_texts is_in_limit m ≡ true
 unfolding member_tokens member_texts
 member_pieces (member.One c) h = plain c h
 member_pieces (member.Alert c) h = alert c h
 
-members : (ms : List Member) → AreShort (members_tokens ms) → list_all (member_texts is_short) ms ≡ true
+members : (ms : List Member) → AreShort (members_tokens ms) → list_all (member_texts is_in_limit) ms ≡ true
 unfolding members_tokens
-members ms h = each member_tokens (member_texts is_short) member_pieces ms h
+members ms h = each member_tokens (member_texts is_in_limit) member_pieces ms h
 
-atomic : (b : Block Member) → AreShort (atomic_tokens b) → atomic_texts is_short b ≡ true
+atomic : (b : Block Member) → AreShort (atomic_tokens b) → atomic_texts is_in_limit b ≡ true
 unfolding atomic_tokens atomic_texts
 atomic b h = inside _ (join (back _ (option_meta b.meta)) (members b.members)) h
 
-seq_member_pieces : (m : SeqMember) → AreShort (seq_member_tokens m) → seq_member_texts is_short m ≡ true
+seq_member_pieces : (m : SeqMember) → AreShort (seq_member_tokens m) → seq_member_texts is_in_limit m ≡ true
 unfolding seq_member_tokens seq_member_texts
 seq_member_pieces (seq_member.Single m) h = member_pieces m h
 seq_member_pieces (seq_member.Atomic b) h = atomic b h
 
-seq_members : (ms : List SeqMember) → AreShort (seq_members_tokens ms) → list_all (seq_member_texts is_short) ms ≡ true
+seq_members : (ms : List SeqMember) → AreShort (seq_members_tokens ms)
+    → list_all (seq_member_texts is_in_limit) ms ≡ true
 unfolding seq_members_tokens
-seq_members ms h = each seq_member_tokens (seq_member_texts is_short) seq_member_pieces ms h
+seq_members ms h = each seq_member_tokens (seq_member_texts is_in_limit) seq_member_pieces ms h
 
-sequence : (b : Block SeqMember) → AreShort (sequence_tokens b) → sequence_texts is_short b ≡ true
+sequence : (b : Block SeqMember) → AreShort (sequence_tokens b) → sequence_texts is_in_limit b ≡ true
 unfolding sequence_tokens sequence_texts
 sequence b h = inside _ (join (back _ (option_meta b.meta)) (seq_members b.members)) h
 
-status : (c : StatusCmd) → AreShort (status_tokens c) → status_texts is_short c ≡ true
+status : (c : StatusCmd) → AreShort (status_tokens c) → status_texts is_in_limit c ≡ true
 unfolding status_tokens status_texts
 status c h =
     inside _
     (join
     (front _ (join (join (join (back _ (text _ c.cmd)) (texts _ c.target_refs)) (texts _ c.source_refs))
-    (where_some chal_tokens (meta_texts is_short) chal c.chal))) (items c.items))
+    (where_some chal_tokens (meta_texts is_in_limit) chal c.chal))) (items c.items))
     h
 
-results : (c : ResultsCmd) → AreShort (results_tokens c) → results_texts is_short c ≡ true
+results : (c : ResultsCmd) → AreShort (results_tokens c) → results_texts is_in_limit c ≡ true
 unfolding results_tokens results_texts
 results c h =
     inside _
@@ -230,7 +231,7 @@ results c h =
     (items c.items))
     h
 
-command_pieces : (c : Command) → AreShort (command_tokens c) → command_texts is_short c ≡ true
+command_pieces : (c : Command) → AreShort (command_tokens c) → command_texts is_in_limit c ≡ true
 unfolding command_tokens command_texts
 command_pieces (command.Plain c) h = plain c h
 command_pieces (command.Alert c) h = alert c h
@@ -242,75 +243,76 @@ command_pieces (command.Results c) h = results c h
 -- ---- Data
 
 piece_data : (as_text : Bool) (bytes : List ℕ) → is_short_piece (if as_text then Text bytes else Opaque bytes) ≡ true
-    → is_short bytes ≡ true
+    → is_in_limit bytes ≡ true
 unfolding is_short_piece
 piece_data true bytes h = h
 piece_data false bytes h = h
 
-data_pieces : (bytes : List ℕ) → AreShort (data_tokens bytes) → is_short bytes ≡ true
+data_pieces : (bytes : List ℕ) → AreShort (data_tokens bytes) → is_in_limit bytes ≡ true
 unfolding data_tokens is_short_piece
 data_pieces [] h = refl
 data_pieces (b ∷ bs) h =
     piece_data (is_text (b ∷ bs)) (b ∷ bs) (and_parts (is_short_piece (data_piece (b ∷ bs))) true h.holds).0
 
-item_value : (i : Item) → AreShort (item_tokens i) → item_data is_short i ≡ true
+item_value : (i : Item) → AreShort (item_tokens i) → item_data is_in_limit i ≡ true
 unfolding item_tokens item_data
 item_value i h =
-    inside_any _ (item_children i) (front _ (back _ (where_some data_tokens is_short data_pieces i.value))) h
+    inside_any _ (item_children i) (front _ (back _ (where_some data_tokens is_in_limit data_pieces i.value))) h
 
-items_value : (is : List Item) → AreShort (items_tokens is) → list_all (item_data is_short) is ≡ true
+items_value : (is : List Item) → AreShort (items_tokens is) → list_all (item_data is_in_limit) is ≡ true
 unfolding items_tokens
-items_value is h = each item_tokens (item_data is_short) item_value is h
+items_value is h = each item_tokens (item_data is_in_limit) item_value is h
 
-cred_value : (c : Cred) → AreShort (cred_tokens c) → is_short c.value ≡ true
+cred_value : (c : Cred) → AreShort (cred_tokens c) → is_in_limit c.value ≡ true
 unfolding cred_tokens
 cred_value c h = inside _ (back _ (data_pieces c.value)) h
 
-header_value : (h : Header) → AreShort (header_tokens h) → header_data is_short h ≡ true
+header_value : (h : Header) → AreShort (header_tokens h) → header_data is_in_limit h ≡ true
 unfolding header_tokens header_data
 header_value h s =
-    inside _ (front _ (back _ (where_some cred_tokens (λ (c : Cred). is_short c.value) cred_value h.cred))) s
+    inside _ (front _ (back _ (where_some cred_tokens (λ (c : Cred). is_in_limit c.value) cred_value h.cred))) s
 
-plain_value : (c : Plain) → AreShort (plain_tokens c) → list_all (item_data is_short) c.items ≡ true
+plain_value : (c : Plain) → AreShort (plain_tokens c) → list_all (item_data is_in_limit) c.items ≡ true
 unfolding plain_tokens
 plain_value c h = inside _ (back _ (items_value c.items)) h
 
-alert_value : (c : AlertCmd) → AreShort (alert_tokens c) → list_all (item_data is_short) c.items ≡ true
+alert_value : (c : AlertCmd) → AreShort (alert_tokens c) → list_all (item_data is_in_limit) c.items ≡ true
 unfolding alert_tokens
 alert_value c h = inside _ (back _ (items_value c.items)) h
 
-member_value : (m : Member) → AreShort (member_tokens m) → member_data is_short m ≡ true
+member_value : (m : Member) → AreShort (member_tokens m) → member_data is_in_limit m ≡ true
 unfolding member_tokens member_data
 member_value (member.One c) h = plain_value c h
 member_value (member.Alert c) h = alert_value c h
 
-members_value : (ms : List Member) → AreShort (members_tokens ms) → list_all (member_data is_short) ms ≡ true
+members_value : (ms : List Member) → AreShort (members_tokens ms) → list_all (member_data is_in_limit) ms ≡ true
 unfolding members_tokens
-members_value ms h = each member_tokens (member_data is_short) member_value ms h
+members_value ms h = each member_tokens (member_data is_in_limit) member_value ms h
 
-atomic_value : (b : Block Member) → AreShort (atomic_tokens b) → list_all (member_data is_short) b.members ≡ true
+atomic_value : (b : Block Member) → AreShort (atomic_tokens b) → list_all (member_data is_in_limit) b.members ≡ true
 unfolding atomic_tokens
 atomic_value b h = inside _ (back _ (members_value b.members)) h
 
-seq_member_value : (m : SeqMember) → AreShort (seq_member_tokens m) → seq_member_data is_short m ≡ true
+seq_member_value : (m : SeqMember) → AreShort (seq_member_tokens m) → seq_member_data is_in_limit m ≡ true
 unfolding seq_member_tokens seq_member_data
 seq_member_value (seq_member.Single m) h = member_value m h
 seq_member_value (seq_member.Atomic b) h = atomic_value b h
 
 sequence_value : (b : Block SeqMember) → AreShort (sequence_tokens b)
-    → list_all (seq_member_data is_short) b.members ≡ true
+    → list_all (seq_member_data is_in_limit) b.members ≡ true
 unfolding sequence_tokens seq_members_tokens
-sequence_value b h = inside _ (back _ (each seq_member_tokens (seq_member_data is_short) seq_member_value b.members)) h
+sequence_value b h =
+    inside _ (back _ (each seq_member_tokens (seq_member_data is_in_limit) seq_member_value b.members)) h
 
-status_value : (c : StatusCmd) → AreShort (status_tokens c) → list_all (item_data is_short) c.items ≡ true
+status_value : (c : StatusCmd) → AreShort (status_tokens c) → list_all (item_data is_in_limit) c.items ≡ true
 unfolding status_tokens
 status_value c h = inside _ (back _ (items_value c.items)) h
 
-results_value : (c : ResultsCmd) → AreShort (results_tokens c) → list_all (item_data is_short) c.items ≡ true
+results_value : (c : ResultsCmd) → AreShort (results_tokens c) → list_all (item_data is_in_limit) c.items ≡ true
 unfolding results_tokens
 results_value c h = inside _ (back _ (items_value c.items)) h
 
-command_value : (c : Command) → AreShort (command_tokens c) → command_data is_short c ≡ true
+command_value : (c : Command) → AreShort (command_tokens c) → command_data is_in_limit c ≡ true
 unfolding command_tokens command_data
 command_value (command.Plain c) h = plain_value c h
 command_value (command.Alert c) h = alert_value c h
@@ -331,10 +333,10 @@ short_message : (m : Parts) → length (canonical m) ≤ 65536 → AreShort (mes
 unfolding canonical
 short_message m h = short_spelled 0 (message_tokens m) (omega (arith, h))
 
-pub texts_short : (m : Parts) → length (canonical m) ≤ 65536 → message_texts is_short m.header m.body ≡ true
+pub texts_short : (m : Parts) → length (canonical m) ≤ 65536 → message_texts is_in_limit m.header m.body ≡ true
 unfolding message_tokens
 texts_short m h = inside _ (join (header m.header) (body_pieces command_pieces m.body m.last)) (short_message m h)
 
-pub data_short : (m : Parts) → length (canonical m) ≤ 65536 → message_data is_short m.header m.body ≡ true
+pub data_short : (m : Parts) → length (canonical m) ≤ 65536 → message_data is_in_limit m.header m.body ≡ true
 unfolding message_tokens
 data_short m h = inside _ (join (header_value m.header) (body_pieces command_value m.body m.last)) (short_message m h)

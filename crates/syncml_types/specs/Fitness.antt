@@ -219,16 +219,16 @@ command_correlates (command.Results c) = true
 -- ---- the message
 
 -- within the limit of texts and Data
-abbrev pub is_short : List ℕ → Bool
-is_short bytes = nat_le (length bytes) text_limit
+abbrev pub is_in_limit : List ℕ → Bool
+is_in_limit bytes = nat_le (length bytes) text_limit
 
 pub record IsFit (h : Header) (body : List Command) : Type 0 where
   pub texts : message_texts is_text h body ≡ true
   pub numbers : message_numbers h body ≡ true
   pub filled : list_all command_filled body ≡ true
   pub correlators : list_all command_correlates body ≡ true
-  pub short_texts : message_texts is_short h body ≡ true
-  pub short_data : message_data is_short h body ≡ true
+  pub short_texts : message_texts is_in_limit h body ≡ true
+  pub short_data : message_data is_in_limit h body ≡ true
 
 -- the first reason, in this order, why parts make no message
 unfoldable pub first_unfit : Parts → Option Unfit

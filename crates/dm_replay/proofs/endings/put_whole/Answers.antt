@@ -1,6 +1,6 @@
 use Rattle.std.proofs.Common.{◌++◌, append_assoc, subst, sym}
 use Rattle.std.specs.Prelude.{codes}
-use Rattle.syncml_codec.specs.Listing.{line_feed}
+use Rattle.dm_base.specs.Lines.{line_feed}
 use Rattle.dm_tree.specs.Rows.{nodes}
 use Rattle.dm_start.specs.TreeText.{tree_text}
 use Rattle.dm_exit.specs.declared.exit.Exit.TheVariants as exit

@@ -1,13 +1,13 @@
 use Rattle.std.proofs.Common.{rules, tests}
 use Rattle.std.proofs.lemmas.Iterator.Search.{all_from_yields_List}
 use Rattle.std.proofs.lemmas.Iterator.Splits.{YieldsList-from_slice_split}
-use Rattle.dm_uri.specs.Names.{is_short}
+use Rattle.dm_uri.specs.Names.{is_short_name}
 use Rattle.dm_uri.specs.Reading.{is_slash}
 use Rattle.dm_uri.proofs.reading.all_short.Goals as goal
 
 pub returns : goal.returns
 returns c =
-    all_from_yields_List is_short _ _ _ c.all.ensures.ran
+    all_from_yields_List is_short_name _ _ _ c.all.ensures.ran
     (YieldsList-from_slice_split _ is_slash c.args.text.now c.split.ensures.rest c.split.ensures.done
     c.split.ensures.closure (λ x r q k. search (rules, tests)))
     (λ x b q k. search (rules, tests))
