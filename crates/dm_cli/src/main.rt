@@ -2,12 +2,14 @@
 #![tactic(auto)]
 
 mod adapters;
+mod heap;
 mod run;
 #[cfg(test)]
 mod tests;
 
 use adapters::{StdSink, StdSource};
 use dm_exit::Exit;
+use heap::keep_heap;
 use run::{run, status};
 use std::io::ErrorKind;
 use std::process::ExitCode;
@@ -23,6 +25,7 @@ fn words_of(rt: &HostRuntime) -> io::Result<Vec<String>> {
 }
 
 fn main(rt: HostRuntime) -> ExitCode {
+    keep_heap(rt.alloc());
     let mut source = StdSource::new(rt.reader());
     let mut sink = StdSink::new(io::writer(&rt));
     let exit = match words_of(&rt) {

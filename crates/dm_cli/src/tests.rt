@@ -4,7 +4,7 @@ ghost use Rattle.std.specs.Prelude.{◌<◌};
 mod texts;
 
 use crate::run::run;
-use crate::tests::texts::{Text, bytes_of};
+use crate::tests::texts::{BEHIND, FRONT, TREE_BEHIND, TREE_FRONT, Text, bytes_of};
 use anyhow::Result;
 use dm_base::{Bytes, List, MemSink, MemSource};
 use dm_exit::Exit;
@@ -250,8 +250,8 @@ const ROWS: [Row; 31] = [
     },
 ];
 
-// Runs a row, and says whether it answers and writes what the row says.
-fn passes(alloc: Global, row: &Row) -> Result<bool>
+// Runs a row on an input, and says whether it answers as the row says and writes the output.
+fn writes(alloc: Global, row: &Row, input: &[u8], output: &[u8]) -> Result<bool>
     requires { 0 < row.now.piece }
 {
     let mut words = Vec::new(alloc);
@@ -259,20 +259,59 @@ fn passes(alloc: Global, row: &Row) -> Result<bool>
         words.push(String::from_str(alloc, word)?)?;
     }
     let mut source = MemSource::new(
-        Bytes::of_vec(Vec::from_slice(alloc, bytes_of(row.input))?),
+        Bytes::of_vec(Vec::from_slice(alloc, input)?),
         row.piece,
         List::of_vec(Vec::from_slice(alloc, row.source_fails)?),
     );
     let mut sink = MemSink::new(alloc, List::of_vec(Vec::from_slice(alloc, row.sink_fails)?));
     let exit = run(alloc, words.as_slice(), &mut source, &mut sink);
-    Ok(exit == row.exit && sink.bytes() == bytes_of(row.output))
+    Ok(exit == row.exit && sink.bytes() == output)
 }
 
 #[test]
 fn worked_rows(rt: HostRuntime) -> Result<()> {
     for row in &ROWS {
         assert!(rt; row.piece > 0, "{}", row.name);
-        let passed = passes(rt.alloc(), row)?;
+        let passed = writes(rt.alloc(), row, bytes_of(row.input), bytes_of(row.output))?;
+        assert!(rt; passed, "{}", row.name);
+    }
+    Ok(())
+}
+
+const ROWS_OF_DIGITS: [Row; 3] = [
+    Row {
+        name: "a line longer than any piece, in pieces of 4,096",
+        ..PLAIN
+    },
+    Row {
+        name: "a line longer than any piece, in pieces of 64",
+        piece: 64,
+        ..PLAIN
+    },
+    Row {
+        name: "a line longer than any piece, in pieces of 1",
+        piece: 1,
+        ..PLAIN
+    },
+];
+
+// The digits of a value of 2,500 bytes between two texts.
+fn with_digits(alloc: Global, front: &[u8], behind: &[u8]) -> Result<Vec<u8>> {
+    let mut text = Vec::from_slice(alloc, front)?;
+    for _ in 0..2_500 {
+        text.extend_from_slice(b"78")?;
+    }
+    text.extend_from_slice(behind)?;
+    Ok(text)
+}
+
+#[test]
+fn line_longer_than_any_piece(rt: HostRuntime) -> Result<()> {
+    let input = with_digits(rt.alloc(), FRONT, BEHIND)?;
+    let output = with_digits(rt.alloc(), TREE_FRONT, TREE_BEHIND)?;
+    for row in &ROWS_OF_DIGITS {
+        assert!(rt; row.piece > 0, "{}", row.name);
+        let passed = writes(rt.alloc(), row, input.as_slice(), output.as_slice())?;
         assert!(rt; passed, "{}", row.name);
     }
     Ok(())

@@ -302,6 +302,31 @@ result 2e2f41 636872 746578742f706c61696e 78\n\
 state over\n\
 done\n";
 
+// A trace with one long line: what stands in front of the digits of a leaf's value, and behind them.
+pub const FRONT: &[u8] = b"\
+dm-trace 1\n\
+device d1 Acme Box 1.2 en\n\
+limits 16384 4194304\n\
+account s1 - - - - -\n\
+leaf ./A chr text/plain ";
+
+pub const BEHIND: &[u8] = b"\n\
+begin\n\
+end\n";
+
+pub const TREE_FRONT: &[u8] = b"\
+node . 0 p Add=*&Get=* - -\n\
+leaf ./A 0 - - - chr 746578742f706c61696e ";
+
+pub const TREE_BEHIND: &[u8] = b"\n\
+node ./DevInfo 0 p - - -\n\
+leaf ./DevInfo/DevId 0 p - - chr 746578742f706c61696e 6431\n\
+leaf ./DevInfo/DmV 0 p - - chr 746578742f706c61696e 312e32\n\
+leaf ./DevInfo/Lang 0 p - - chr 746578742f706c61696e 656e\n\
+leaf ./DevInfo/Man 0 p - - chr 746578742f706c61696e 41636d65\n\
+leaf ./DevInfo/Mod 0 p - - chr 746578742f706c61696e 426f78\n\
+done\n";
+
 /// The texts by name, since a table of the texts themselves is too large a constant.
 #[derive(Clone, Copy)]
 pub enum Text {
