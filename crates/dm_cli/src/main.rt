@@ -10,7 +10,7 @@ mod tests;
 use adapters::{StdSink, StdSource};
 use dm_exit::Exit;
 use heap::keep_heap;
-use run::{run, status};
+use run::{ended, run};
 use std::io::ErrorKind;
 use std::process::ExitCode;
 use std::{env, io};
@@ -36,5 +36,5 @@ fn main(rt: HostRuntime) -> ExitCode {
         }
         Err(_) => Exit::NoMemory,
     };
-    ExitCode::from(status(exit))
+    ended(exit)
 }

@@ -1,5 +1,6 @@
 // The top call.
 ghost use Rattle.std.specs.Prelude.{◌≡◌, ◌≢◌, ◌<◌, ℕ, List, Option, Some, None, map, string_bytes};
+ghost use Rattle.std.specs.Process.{exit_status};
 ghost use Rattle.dm_exit.specs.Causes.{SourceCause, SinkCause};
 ghost use Rattle.dm_words.specs.declared.forms.Form.TheVariants as forms;
 ghost use Rattle.dm_words.specs.Forms.{form_of, IsWithinBounds};
@@ -13,6 +14,7 @@ use dm_pair::pair;
 use dm_replay::replay;
 use dm_words::{Form, USAGE, read_form};
 use std::alloc::Global;
+use std::process::ExitCode;
 
 // Puts the usage line.
 #[tactic(auto, unfolding(crate::specs::Forms::Runs))]
@@ -131,8 +133,8 @@ pub fn run<S: Source, K: Sink>(alloc: Global, words: &[String], src: &mut S, out
     }
 }
 
-/// The status that the program ends with.
-pub fn status(exit: Exit) -> u8
+// The status that the program ends with.
+fn status(exit: Exit) -> u8
     ensures { result ≡ status_of exit }
 {
     match exit {
@@ -144,4 +146,11 @@ pub fn status(exit: Exit) -> u8
         Exit::NoMemory => 6,
         Exit::TooLong => 9,
     }
+}
+
+/// What the program ends with.
+pub fn ended(exit: Exit) -> ExitCode
+    ensures { exit_status result ≡ status_of exit }
+{
+    ExitCode::from(status(exit))
 }

@@ -1,5 +1,5 @@
 // A message's header, read whole.
-ghost use Rattle.std.specs.Prelude.{◌≡◌, IfOk, unwrap_or, option_map};
+ghost use Rattle.std.specs.Prelude.{◌≡◌, None, IfOk, unwrap_or, option_map};
 ghost use Rattle.dm_headers.specs.Checks.{with_nonce, with_both, other as other_side};
 ghost use Rattle.dm_headers.specs.Standings.{hears};
 ghost use Rattle.dm_headers.specs.Views.{Tells};
@@ -54,8 +54,9 @@ fn renew(
     told: Option<Bytes>,
     asked: Option<&Nonce>,
 ) -> Result<Option<Account>, Memory>
-    ensures { IfOk result (λ next. unwrap_or next account.now
+    ensures account { IfOk result (λ next. unwrap_or next account.now
         ≡ with_both theirs (option_map (λ n. n.now.bytes) asked.entry) told account.now) }
+    ensures kept { told ≡ None → asked.entry ≡ None → IfOk result (λ next. next ≡ None) }
 {
     if told.is_none() && asked.is_none() {
         return Ok(None);

@@ -28,8 +28,8 @@ use dm_session::Client;
 use dm_start::{Start, tree_text};
 use std::alloc::Global;
 
-/// What is written for a text, in three parts, so that none is copied: the lines of its events, or of what is refused
-/// behind them; and of a text that is whole the tree, and the report with `done`.
+/// What is written for a text, in three pieces that follow one another, so that none is copied: mostly the lines of its
+/// events, the tree, and the report with `done`. Only the whole of them is promised.
 #[derive(Drop)]
 pub struct PairOut {
     pub lines: Bytes,

@@ -11,3 +11,4 @@ pub mod Running
 pub mod Whole
 pub mod WholeTraces
 pub mod Back
+pub mod Faults

@@ -1,5 +1,5 @@
 // The lines that answer events.
-ghost use Rattle.std.specs.Prelude.{◌≡◌, ◌++◌, ◌<◌, length, IfOk, IfSome, IsSome, OnOk};
+ghost use Rattle.std.specs.Prelude.{◌≡◌, ◌++◌, ◌<◌, length, IfOk, IfSome, IsSome, OnOk, OnErr};
 ghost use Rattle.std.specs.Fmt.{decimal};
 ghost use Rattle.dm_base.specs.Fields.{hex_text};
 ghost use Rattle.syncml_codec.specs.Decoding.{read_of};
@@ -27,9 +27,10 @@ fn number_line(alloc: Global, word: &[u8], number: u64) -> Result<Bytes, Memory>
     Ok(line)
 }
 
-/// Adds a number in decimal digits. After want of memory some of them may stand there.
+/// Adds a number in decimal digits. After want of memory the line is as before.
 pub fn add_number(line: &mut Bytes, number: u64) -> Result<(), Memory>
-    ensures { OnOk result (line.new ≡ line.old ++ decimal number) }
+    ensures ok { OnOk result (line.new ≡ line.old ++ decimal number) }
+    ensures err { OnErr result (line.new ≡ line.old) }
 {
     let mut buffer = Buffer::new();
     line.extend(buffer.format(number).as_bytes())

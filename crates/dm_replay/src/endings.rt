@@ -1,5 +1,5 @@
 // What a run puts, and how it ends.
-ghost use Rattle.std.specs.Prelude.{◌≡◌, ◌≢◌, ◌≤◌, ◌++◌, [], IfOk, OnOk, MatchResult};
+ghost use Rattle.std.specs.Prelude.{◌≡◌, ◌≢◌, ◌<◌, ◌≤◌, ◌++◌, [], length, IfOk, OnOk, MatchResult};
 ghost use Rattle.std.specs.Io.KnownBytes.{Appends};
 ghost use Rattle.dm_base.specs.Lines.{CountsTaken, IsFeedless};
 ghost use Rattle.dm_tree.specs.Rows.{nodes};
@@ -25,6 +25,7 @@ const PIECE: usize = 65_536;
 pub(crate) fn put_due<K: Sink>(lines: &Lines, out: &mut K, due: &mut Bytes) -> Result<(), Exit>
     ensures bytes { PutsOn (K.got out.old) (K.got out.new) due.old due.new result }
     ensures all { OnOk result (IsFeedless lines.now.pending → due.new ≡ []) }
+    ensures few { OnOk result (length due.new < 65536) }
     ensures count { MatchResult result (λ _. K.faults out.new ≡ K.faults out.old)
         (λ e. SinkCause (K.faults out.old) (K.faults out.new) e) }
 {
@@ -135,7 +136,7 @@ pub(crate) fn put_due_and_halt<K: Sink>(alloc: Global, out: &mut K, due: &[u8], 
 }
 
 /// Ends a run behind its `end` line, which is not to have another line behind it: puts the answers that are due before
-/// the source is asked.
+/// the source is asked, so that all of them were put where it fails.
 pub(crate) fn put_end<S: Source, K: Sink>(
     alloc: Global,
     lines: &mut Lines,
@@ -151,6 +152,7 @@ pub(crate) fn put_end<S: Source, K: Sink>(
         (due.now ++ ending_text version (nodes tree.now.rows) (ending_at number i))
         (ending_exit (ending_at number i)) (K.got out.old) (K.got out.new) result) }
     ensures usage { result ≢ Exit.Usage }
+    ensures asked { result ≡ Exit.ReadFault → Appends (K.got out.old) (K.got out.new) due.now }
     ensures taken { CountsTaken (S.left src.old) (S.left src.new) lines.old.taken lines.new.taken }
     ensures limit { lines.new.taken ≤ 67108865 }
     ensures source { SourceCause (S.faults src.old) (S.faults src.new) result }

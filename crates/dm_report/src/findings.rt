@@ -1,5 +1,6 @@
 // What is known of a job.
-ghost use Rattle.std.specs.Prelude.{◌≡◌, ◌+◌, [], replicate, None, if◌then◌else◌, IfOk, OnOk, OnErr};
+ghost use Rattle.std.specs.Prelude.{◌≡◌, ◌+◌, ◌∷◌, [], replicate, None, if◌then◌else◌, IfOk, OnOk, OnErr};
+ghost use Rattle.dm_objects.specs.Seen.{present};
 ghost use Rattle.dm_service.specs.Laws.{AreInOrder};
 ghost use Rattle.dm_service.specs.Matching.{untold, matched};
 ghost use Rattle.dm_report.specs.Known.{Tells, matched_of, is_within, forgotten_within, IsReport};
@@ -81,6 +82,7 @@ fn take_body(
         ≡ matched inbox.old.max_obj sent.now (matched_of (known_of kept.old) (gathered_of inbox.old))
         body.now) }
     ensures max_obj { inbox.new.max_obj ≡ inbox.old.max_obj }
+    ensures settled { OnOk result (inbox.new.objects ≡ present inbox.new.objects ∷ []) }
     ensures err_kept { OnErr result (kept.new ≡ kept.old) }
     ensures err_inbox { OnErr result (inbox.new ≡ inbox.old) }
 {

@@ -37,18 +37,26 @@ common_text version node =
     spaced (decimal node.verno) ++ stamp_text version node.stamp ++ spaced (mark_text node.permanent)
     ++ spaced (acl_text node.acl) ++ spaced (hex_text node.title)
 
--- TYPE, or FORMAT TYPE VALUE
-abbrev pub value_text : Node → List ℕ
-value_text node =
+-- TYPE, or FORMAT TYPE
+abbrev pub type_text : Node → List ℕ
+type_text node =
     if node.interior then spaced (hex_text node.value.media)
-    else spaced node.value.format ++ spaced (hex_text node.value.media) ++ spaced (hex_text node.value.bytes)
+    else spaced node.value.format ++ spaced (hex_text node.value.media)
+
+-- the VALUE of a leaf
+abbrev pub bytes_text : Node → List ℕ
+bytes_text node = if node.interior then [] else spaced (hex_text node.value.bytes)
 
 abbrev pub kind_text : Bool → List ℕ
 kind_text interior = if interior then codes "node " else codes "leaf "
 
+-- the line of a node as far as a leaf's value
+abbrev pub line_front : ℕ → Path → Node → List ℕ
+line_front version p node =
+    kind_text node.interior ++ printed_path p ++ common_text version node ++ type_text node
+
 unfoldable pub node_line : ℕ → Path → Node → List ℕ
-node_line version p node =
-    kind_text node.interior ++ printed_path p ++ common_text version node ++ value_text node ++ line_feed
+node_line version p node = line_front version p node ++ bytes_text node ++ line_feed
 
 -- the line of the node at p
 abbrev pub line_at : ℕ → Nodes → Path → List ℕ

@@ -9,6 +9,7 @@ pub mod heads;
 pub mod laws;
 mod new_nodes;
 mod node_lines;
+mod pieces;
 pub mod reader;
 pub mod shorts;
 mod start_trees;
@@ -17,6 +18,7 @@ mod texts;
 mod updates;
 
 pub use errors::LineError;
+pub use pieces::put_tree;
 pub use reader::StartReader;
 pub use telling::Start;
-pub use texts::{put_tree, tree_text};
+pub use texts::tree_text;

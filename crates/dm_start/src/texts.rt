@@ -3,21 +3,16 @@ ghost use Rattle.std.specs.Prelude.{◌≡◌, ◌++◌, IfOk, OnOk};
 ghost use Rattle.std.specs.Fmt.{decimal};
 ghost use Rattle.std.specs.Option.{option_copied};
 ghost use Rattle.dm_base.specs.Fields.{hex_text};
-ghost use Rattle.dm_base.specs.Outside.{PutsAll, PutCounts};
 ghost use Rattle.dm_uri.specs.Names.{printed_path};
-ghost use Rattle.dm_tree.specs.Rows.{nodes, path_of, IsLive};
+ghost use Rattle.dm_tree.specs.Rows.{nodes, node_of, path_of, IsLive};
 ghost use Rattle.dm_tree.specs.Views.{shown};
 ghost use Rattle.dm_start.specs.TreeText as Spec;
-ghost use Rattle.dm_start.specs.TreeText.{PutsOn};
 
 use dm_acl::Acl;
-use dm_base::{Bytes, Fault, Memory, Sink, hex_into, put_all};
+use dm_base::{Bytes, Memory, hex_into};
 use dm_tree::{NodeId, Stamp, Tree, View};
 use itoa::Buffer;
 use std::alloc::Global;
-
-// So much of the text is put at a time: enough that a put costs little beside what is put.
-const PIECE: usize = 65_536;
 
 // Goes down from the root.
 fn put_path(out: &mut Bytes, tree: &Tree, id: NodeId) -> Result<(), Memory>
@@ -88,18 +83,42 @@ fn put_common(alloc: Global, out: &mut Bytes, version: u8, view: View) -> Result
     Ok(())
 }
 
-fn put_value(out: &mut Bytes, view: View) -> Result<(), Memory>
-    ensures { OnOk result (out.new ≡ out.old ++ Spec.value_text (shown view.entry)) }
+fn put_type(out: &mut Bytes, view: View) -> Result<(), Memory>
+    ensures { OnOk result (out.new ≡ out.old ++ Spec.type_text (shown view.entry)) }
 {
     if !view.interior {
         out.push(b' ')?;
         out.extend(view.value.format.as_slice())?;
     }
-    put_hex(out, view.value.media.as_slice())?;
-    if !view.interior {
-        put_hex(out, view.value.bytes.as_slice())?;
+    put_hex(out, view.value.media.as_slice())
+}
+
+/// Appends the line of a node as far as a leaf's value.
+pub(crate) fn put_front(
+    alloc: Global,
+    out: &mut Bytes,
+    tree: &Tree,
+    version: u8,
+    id: NodeId,
+) -> Result<(), Memory>
+    requires { IsLive tree.now.rows id }
+    ensures { OnOk result (out.new ≡ out.old
+        ++ Spec.line_front version (path_of tree.now.rows id) (node_of tree.now.rows id)) }
+{
+    let view = tree.view(id);
+    out.extend(if view.interior { b"node " } else { b"leaf " })?;
+    put_path(out, tree, id)?;
+    put_common(alloc, out, version, view)?;
+    put_type(out, view)
+}
+
+fn put_bytes(out: &mut Bytes, view: View) -> Result<(), Memory>
+    ensures { OnOk result (out.new ≡ out.old ++ Spec.bytes_text (shown view.entry)) }
+{
+    if view.interior {
+        return Ok(());
     }
-    Ok(())
+    put_hex(out, view.value.bytes.as_slice())
 }
 
 // Appends the line of a node.
@@ -114,13 +133,9 @@ fn put_node(
     requires { IsLive tree.now.rows id }
     ensures { OnOk result (out.new ≡ out.old ++ Spec.line_at version (nodes tree.now.rows) (path_of tree.now.rows id)) }
 {
-    let view = tree.view(id);
-    out.extend(if view.interior { b"node " } else { b"leaf " })?;
-    put_path(out, tree, id)?;
-    put_common(alloc, out, version, view)?;
-    put_value(out, view)?;
-    out.push(b'\n')?;
-    Ok(())
+    put_front(alloc, out, tree, version, id)?;
+    put_bytes(out, tree.view(id))?;
+    out.push(b'\n')
 }
 
 /// The tree text of version 2, or of version 1 where another number is given: one line for each node, parents first,
@@ -138,47 +153,4 @@ pub fn tree_text(alloc: Global, tree: &Tree, version: u8) -> Result<Bytes, Memor
         at = tree.next_below(root, here, false);
     }
     Ok(out)
-}
-
-// Puts the text where it is a piece, and empties it.
-fn put_piece<K: Sink>(out: &mut K, text: &mut Bytes) -> Result<(), Fault>
-    ensures bytes { PutsOn (K.got out.old) (K.got out.new) text.old text.new result }
-    ensures count { PutCounts (K.faults out.old) (K.faults out.new) result }
-    ensures source { K.as_source out.new ≡ K.as_source out.old }
-{
-    if text.len() < PIECE {
-        return Ok(());
-    }
-    match put_all(out, text.as_slice()) {
-        Ok(()) => {}
-        Err(fault) => return Err(fault),
-    }
-    text.cut_to(0);
-    Ok(())
-}
-
-/// Puts the tree text, a piece at a time. Beside the tree it holds one piece of 64 KB and one line. After an error a
-/// proper prefix of the text was put: `Failed` where the sink failed, and `Memory` at any place.
-pub fn put_tree<K: Sink>(alloc: Global, out: &mut K, tree: &Tree, version: u8) -> Result<(), Fault>
-    ensures bytes { PutsAll (K.got out.old) (K.got out.new) result (Spec.tree_text version (nodes tree.now.rows)) }
-    ensures count { PutCounts (K.faults out.old) (K.faults out.new) result }
-    ensures source { K.as_source out.new ≡ K.as_source out.old }
-{
-    let root = tree.root();
-    // Its contract says that the root is there.
-    let _ = tree.view(root);
-    let mut text = Bytes::new(alloc);
-    let mut at = Some(root);
-    while let Some(id) = at {
-        match put_node(alloc, &mut text, tree, version, id) {
-            Ok(()) => {}
-            Err(_) => return Err(Fault::Memory),
-        }
-        match put_piece(out, &mut text) {
-            Ok(()) => {}
-            Err(fault) => return Err(fault),
-        }
-        at = tree.next_below(root, id, false);
-    }
-    put_all(out, text.as_slice())
 }

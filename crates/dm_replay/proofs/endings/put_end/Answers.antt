@@ -1,4 +1,7 @@
+use Rattle.std.proofs.Common.{◌≡◌}
+use Rattle.dm_exit.specs.declared.exit.Exit.TheVariants as exit
 use Rattle.dm_replay.specs.From.{ending_at}
+use Rattle.dm_replay.proofs.Faults.{part_is_no_fault, end_is_no_fault, fault_behind}
 use Rattle.dm_replay.proofs.Running.{so_breaks, so_whole, so_halts}
 use Rattle.dm_replay.proofs.endings.put_end.Goals as goal
 
@@ -15,3 +18,14 @@ pub returns-in-Err-read_end-clause-output : goal.returns-in-Err-read_end-clause-
 returns-in-Err-read_end-clause-output g c =
     so_halts _ c.args.version _ (ending_at c.args.number) c.in-Err-read_end.halt c.args.due.now _ _ _ _
     c.in-Ok.ensures.bytes c.in-Err-read_end.ensures.ending c.put_halt.ensures.bytes
+
+pub returns-in-Err-clause-asked : goal.returns-in-Err-clause-asked
+returns-in-Err-clause-asked g c is = absurd (part_is_no_fault _ _ c.args.due.now c.in-Err.exit c.in-Err.ensures.bytes is)
+
+pub returns-in-Ok-read_end-clause-asked : goal.returns-in-Ok-read_end-clause-asked
+returns-in-Ok-read_end-clause-asked g c is =
+    absurd (end_is_no_fault _ exit.Done _ _ _ (λ same. cc) c.put_whole.ensures.bytes is)
+
+pub returns-in-Err-read_end-clause-asked : goal.returns-in-Err-read_end-clause-asked
+returns-in-Err-read_end-clause-asked g c is =
+    fault_behind c.in-Err-read_end.halt c.args.due.now _ _ _ _ c.in-Ok.ensures.bytes c.put_halt.ensures.bytes is

@@ -1,9 +1,8 @@
-use Rattle.std.proofs.Common.{◌≡◌, ◌++◌, ◌<◌, length, Some, ap, sym, subst, ◌∙◌, arith}
+use Rattle.std.proofs.Common.{◌≡◌, ◌++◌, ap, sym, subst, ◌∙◌, arith}
 use Rattle.std.proofs.lemmas.Result.{on_ok_weaker}
 use Rattle.std.specs.Prelude.{OnOk}
 use Rattle.std.specs.Option.{option_copied}
 use Rattle.dm_uri.specs.Names.{printed_path}
-use Rattle.dm_tree.specs.Rows.{path_of}
 use Rattle.dm_start.proofs.NodePaths.{no_name, shorter, path_added, has_above}
 use Rattle.dm_start.proofs.texts.+put_path.Goals as goal
 

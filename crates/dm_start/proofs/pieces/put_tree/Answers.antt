@@ -1,10 +1,10 @@
-use Rattle.std.proofs.Common.{◌≡◌, ◌<◌, false, length, None, Some, refl, sym, subst, ◌∙◌}
+use Rattle.std.proofs.Common.{◌≡◌, ◌<◌, false, length, Some, refl, sym, subst, ◌∙◌}
 use Rattle.dm_base.specs.Outside.{PutsAll}
 use Rattle.dm_tree.specs.Rows.{nodes, path_of}
 use Rattle.dm_tree.specs.Order.{next_below}
 use Rattle.dm_start.proofs.TextWalk.{left, less_left, on_next}
-use Rattle.dm_start.proofs.Putting.{IsPutSoFar, put-starts, put-goes_on, line_breaks, line_wants, put-ends}
-use Rattle.dm_start.proofs.texts.put_tree.Goals as goal
+use Rattle.dm_start.proofs.Putting.{IsPutSoFar, put-starts, put-goes_on, line_breaks, put-ends}
+use Rattle.dm_start.proofs.pieces.put_tree.Goals as goal
 
 pub loop-at-init : goal.loop-at-init
 loop-at-init g c =
@@ -37,10 +37,10 @@ loop-at-preserved g c =
     let on = on_next rows t (λ k. next_below (nodes rows) t (path_of rows here) false ≡ Some (path_of rows k)) next
     c.next_below-at.ensures.live c.next_below-at.ensures.within in
     record {
-      so_far = put-goes_on rows c.args.version t _ _ _ c.loop-at.text c.put_node.new.out c.put_piece.new.text here next
-          so_far c.in-Ok.ensures c.in-Ok-put_piece.ensures.bytes c.next_below-at.ensures.behind on;
-      count = c.in-Ok-put_piece.ensures.count ∙ c.loop-at.invariant.count;
-      source = c.put_piece.ensures.source ∙ c.loop-at.invariant.source;
+      so_far = put-goes_on rows c.args.version t _ _ _ c.loop-at.text _ c.put_line.new.text here next so_far refl
+          c.in-Ok.ensures.bytes c.next_below-at.ensures.behind on;
+      count = c.in-Ok.ensures.count ∙ c.loop-at.invariant.count;
+      source = c.put_line.ensures.source ∙ c.loop-at.invariant.source;
     }
 
 pub returns-in-Err-clause-bytes : goal.returns-in-Err-clause-bytes
@@ -49,17 +49,8 @@ returns-in-Err-clause-bytes g c =
     let t = path_of rows c.root-root.result in
     let so_far = subst (λ at. IsPutSoFar rows c.args.version t (g.K.Sink.got c.args.out.now)
     (g.K.Sink.got c.loop-at.out) c.loop-at.text at) c.in-Some.is c.loop-at.invariant.so_far in
-    line_wants rows c.args.version t _ _ c.loop-at.text c.in-Some.id c.root-root.ensures.sound
-    c.root-root.ensures.live.1 so_far
-
-pub returns-in-Err-put_piece-clause-bytes : goal.returns-in-Err-put_piece-clause-bytes
-returns-in-Err-put_piece-clause-bytes g c =
-    let rows = c.args.tree.now.rows in
-    let t = path_of rows c.root-root.result in
-    let so_far = subst (λ at. IsPutSoFar rows c.args.version t (g.K.Sink.got c.args.out.now)
-    (g.K.Sink.got c.loop-at.out) c.loop-at.text at) c.in-Some.is c.loop-at.invariant.so_far in
-    line_breaks rows c.args.version t _ _ _ c.loop-at.text c.put_node.new.out c.in-Some.id
-    c.root-root.ensures.live.1 so_far c.in-Ok.ensures c.in-Err-put_piece.ensures.bytes
+    line_breaks rows c.args.version t _ _ _ c.loop-at.text _ c.in-Some.id c.root-root.ensures.live.1 so_far refl
+    c.in-Err.ensures.bytes
 
 pub returns-clause-bytes : goal.returns-clause-bytes
 returns-clause-bytes g c =

@@ -2,7 +2,7 @@ use Rattle.std.proofs.Common.{◌≡◌, length}
 use Rattle.dm_tree.specs.Rows.{path_of}
 use Rattle.dm_start.proofs.TextWalk.{left}
 use Rattle.dm_start.proofs.Putting.{IsPutSoFar}
-use Rattle.dm_start.proofs.texts.put_tree.Given as goal
+use Rattle.dm_start.proofs.pieces.put_tree.Given as goal
 
 abbrev pub invariant-loop-at : goal.invariant-loop-at
 invariant-loop-at g l = record {
