@@ -4,7 +4,7 @@ ghost use Rattle.std.specs.Borrow.{ftrue};
 
 use std::marker::Model;
 
-/// It takes no memory, and its calls do nothing at run time.
+/// The bytes that something was given, for proofs alone: it takes no memory, and its calls do nothing at run time.
 #[derive(Drop)]
 pub struct Given {
     pub ghost bytes: { List ℕ },

@@ -269,7 +269,7 @@ fn writes(alloc: Global, row: &Row, input: &[u8], output: &[u8]) -> Result<bool>
 }
 
 #[test]
-fn worked_rows(rt: HostRuntime) -> Result<()> {
+fn each_run_writes_its_row(rt: HostRuntime) -> Result<()> {
     for row in &ROWS {
         assert!(rt; row.piece > 0, "{}", row.name);
         let passed = writes(rt.alloc(), row, bytes_of(row.input), bytes_of(row.output))?;

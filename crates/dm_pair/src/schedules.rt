@@ -2,8 +2,9 @@
 
 ghost use Rattle.dm_pair.specs.Schedules.{RunsOnSchedules};
 
-/// Law: whatever lines stand behind a job, taken or refused, a schedule brings the world to the two machines and the
-/// messages that they bring both ends to, so the laws over schedules hold of what a text makes of them.
+/// Law: from a client and a job such as schedules begin with, whatever lines stand behind the job, taken or refused, a
+/// schedule brings the world to the two machines and the messages that they bring both ends to. So the laws over schedules
+/// hold of what such lines make of them.
 pub fn runs_on_schedules()
     ensures { RunsOnSchedules }
 {}

@@ -14,7 +14,7 @@ use Rattle.dm_service.specs.Messages.{first_service}
 use Rattle.dm_world.specs.World.{World, Happening, opens, up_comes, down_comes, acts, clock_moves, is_lost}
 use Rattle.dm_world.specs.World.{finds_no_memory}
 
--- a client that no session was begun on, and a server with this job that no message came to
+-- this client, and a server with this job that no message came to
 abbrev pub at_start : Machine → Job → World
 at_start c job = record { client = c; server = first_service job; downs = []; ups = []; executed = []; made = [] }
 
