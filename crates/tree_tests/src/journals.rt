@@ -8,6 +8,7 @@ ghost use Rattle.dm_undo.specs.Sound.{IsSound};
 ghost use Rattle.dm_undo.specs.Notes.{Notes};
 
 use crate::asserts::assert_no_place_wrong;
+use crate::rows::rows_of;
 use crate::trees::{Start, add_all, at, bare_tree, chr, put, rename};
 use dm_tree::{NodeId, Role, Tree, Undo};
 use dm_undo::{Journal, Mark};
@@ -18,6 +19,8 @@ use std::alloc::Global;
 enum Edit {
     /// A leaf comes in.
     Add(&'static [u8]),
+    /// An interior node comes in.
+    Open(&'static [u8]),
     Detach(&'static [u8]),
     /// The node gets this name.
     Rename(&'static [u8], &'static [u8]),
@@ -25,7 +28,7 @@ enum Edit {
     Set(&'static [u8], &'static [u8]),
 }
 
-use Edit::{Add, Detach, Rename, Set};
+use Edit::{Add, Detach, Open, Rename, Set};
 
 // What stands below the root at first: interior nodes, and leaves below them.
 const NODES: &[Start] = &[
@@ -93,11 +96,11 @@ fn set(alloc: Global, tree: &mut Tree, uri: &[u8], bytes: &[u8]) -> Option<Undo>
     Some(tree.set_value(id, chr(alloc, bytes)?))
 }
 
-fn leaf(uri: &'static [u8]) -> Start {
+fn start(uri: &'static [u8], interior: bool) -> Start {
     Start {
         uri,
         acl: b"",
-        interior: false,
+        interior,
     }
 }
 
@@ -105,7 +108,8 @@ fn edited(alloc: Global, tree: &mut Tree, edit: Edit) -> Option<Undo>
     ensures { IfSome result (λ undo. TakesEditBack undo tree.old.rows tree.new.rows) }
 {
     match edit {
-        Add(uri) => put(alloc, tree, &leaf(uri), Role::Plain),
+        Add(uri) => put(alloc, tree, &start(uri, false), Role::Plain),
+        Open(uri) => put(alloc, tree, &start(uri, true), Role::Plain),
         Detach(uri) => detach(alloc, tree, uri),
         Rename(uri, name) => rename(alloc, tree, uri, name),
         Set(uri, bytes) => set(alloc, tree, uri, bytes),
@@ -263,4 +267,35 @@ fn wrong_case(alloc: Global) -> Option<usize> {
 #[test]
 fn marks_bring_their_trees_back(rt: HostRuntime) {
     assert_no_place_wrong(&rt, wrong_case(rt.alloc()));
+}
+
+fn forget(tree: &mut Tree, journal: &mut Journal)
+    requires { IsSound journal.old.entries tree.old.rows }
+{
+    let mark = journal.mark();
+    let _ = journal.settle(tree, mark);
+}
+
+// Three nodes, each below the one before, are rolled back and then given up, the uppermost one first: the row of each
+// but the last waits for the one below. The answer is how many rows the tree had with them.
+fn rows_before_a_roll_back(alloc: Global, tree: &mut Tree, journal: &mut Journal) -> Option<usize>
+    requires { IsSound journal.old.entries tree.old.rows }
+{
+    let first = journal.mark();
+    noted(alloc, tree, journal, Open(b"./X"))?;
+    noted(alloc, tree, journal, Open(b"./X/y"))?;
+    noted(alloc, tree, journal, Add(b"./X/y/z"))?;
+    let rows = rows_of(alloc, tree)?;
+    back_to(tree, journal, first)?;
+    forget(tree, journal);
+    Some(rows)
+}
+
+// The same with a journal of their own.
+pub(crate) fn rows_with_rolled_back(alloc: Global, tree: &mut Tree) -> Option<usize> {
+    let _ = tree.root();
+    match Journal::new(alloc) {
+        Ok(mut journal) => rows_before_a_roll_back(alloc, tree, &mut journal),
+        Err(_) => None,
+    }
 }

@@ -1,6 +1,7 @@
 // Rows that are used again: nodes come and go in all orders, beside a table of those that are there.
 ghost use Rattle.dm_tree.specs.Undos.{Fits};
 
+use crate::journals::rows_with_rolled_back;
 use crate::large_trees::{add_at, give_up};
 use crate::rows::rows_of;
 use crate::trees::{Start, at, bare_tree, put};
@@ -165,22 +166,42 @@ fn rows_with_deep(alloc: Global, tree: &mut Tree) -> Option<usize> {
     if tree.count() == 1 { Some(rows) } else { None }
 }
 
-fn most_rows(alloc: Global, tree: &mut Tree, turns: u32) -> Option<usize> {
+// How nodes that came in go again.
+#[derive(Clone, Copy)]
+enum Way {
+    GivenUp,
+    RolledBack,
+}
+
+fn rows_of_turn(alloc: Global, tree: &mut Tree, way: Way) -> Option<usize> {
+    match way {
+        Way::GivenUp => rows_with_deep(alloc, tree),
+        Way::RolledBack => rows_with_rolled_back(alloc, tree),
+    }
+}
+
+fn most_rows(alloc: Global, tree: &mut Tree, way: Way, turns: u32) -> Option<usize> {
     let mut rows = 0;
     for _ in 0..turns {
-        rows = rows_with_deep(alloc, tree)?.max(rows);
+        rows = rows_of_turn(alloc, tree, way)?.max(rows);
     }
     Some(rows)
 }
 
-// How many rows a tree takes in which such a subtree comes and goes some times.
-fn rows_after(alloc: Global, turns: u32) -> Option<usize> {
+// How many rows a tree takes in which nodes come and go some times.
+fn rows_after(alloc: Global, way: Way, turns: u32) -> Option<usize> {
     let mut tree = bare_tree(alloc)?;
-    most_rows(alloc, &mut tree, turns)
+    most_rows(alloc, &mut tree, way, turns)
 }
 
 #[test]
 fn the_rows_of_a_deep_subtree_are_taken_again(rt: HostRuntime) {
-    assert_eq!(rt; rows_after(rt.alloc(), 1), Some(17));
-    assert_eq!(rt; rows_after(rt.alloc(), 10), Some(17));
+    assert_eq!(rt; rows_after(rt.alloc(), Way::GivenUp, 1), Some(17));
+    assert_eq!(rt; rows_after(rt.alloc(), Way::GivenUp, 10), Some(17));
+}
+
+#[test]
+fn the_rows_of_what_was_rolled_back_are_taken_again(rt: HostRuntime) {
+    assert_eq!(rt; rows_after(rt.alloc(), Way::RolledBack, 1), Some(4));
+    assert_eq!(rt; rows_after(rt.alloc(), Way::RolledBack, 20), Some(4));
 }
