@@ -2,6 +2,8 @@
 #![tactic(auto)]
 
 #[cfg(test)]
+mod exits;
+#[cfg(test)]
 mod messages;
 #[cfg(test)]
 mod words;

@@ -8,6 +8,8 @@ mod containers;
 #[cfg(test)]
 mod decoding;
 #[cfg(test)]
+mod errors;
+#[cfg(test)]
 mod judging;
 #[cfg(test)]
 mod judging_values;

@@ -8,6 +8,8 @@ mod calls;
 #[cfg(test)]
 mod credential_rows;
 #[cfg(test)]
+mod errors;
+#[cfg(test)]
 mod group_rows;
 #[cfg(test)]
 mod header_rows;

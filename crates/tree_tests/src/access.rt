@@ -1,9 +1,9 @@
 // Access lists: what is read, what is printed of it, whom it allows what.
 use crate::access_rows::{ALLOWED, AllowRow, FAULTS, NAMED, NameRow, PRINTED, PrintRow};
-use crate::asserts::{assert_no_text_wrong, assert_none_wrong};
+use crate::asserts::assert_none_wrong;
 use dm_acl::{Acl, AclError};
 use dm_base::{Bytes, Memory};
-use std::alloc::{AllocError, Global};
+use std::alloc::Global;
 
 // Each of the helpers below that looks for a wrong row answers the text of the first, for the test to show.
 
@@ -224,45 +224,4 @@ fn wrong_pair(alloc: Global) -> Option<&'static [u8]> {
 fn copies_are_the_same(rt: HostRuntime) {
     assert!(rt; is_the_same_as_its_copy(rt.alloc(), b"Get=*&Add=a+b&Exec="));
     assert_none_wrong(&rt, wrong_pair(rt.alloc()));
-}
-
-struct ErrorRow {
-    error: AclError,
-    text: &'static str,
-}
-
-const ERRORS: [ErrorRow; 2] = [
-    ErrorRow {
-        error: AclError::Malformed(7),
-        text: "no access list from byte 7 on",
-    },
-    ErrorRow {
-        error: AclError::Memory,
-        text: "out of memory",
-    },
-];
-
-fn error_text(alloc: Global, error: &AclError) -> Result<String, AllocError> {
-    format!(in alloc; "{error}")
-}
-
-fn is_told(alloc: Global, row: &ErrorRow) -> bool {
-    match error_text(alloc, &row.error) {
-        Ok(text) => text.as_str() == row.text,
-        Err(_) => false,
-    }
-}
-
-fn wrong_error(alloc: Global) -> Option<&'static str> {
-    for row in &ERRORS {
-        if !is_told(alloc, row) {
-            return Some(row.text);
-        }
-    }
-    None
-}
-
-#[test]
-fn errors_are_told(rt: HostRuntime) {
-    assert_no_text_wrong(&rt, wrong_error(rt.alloc()));
 }

@@ -8,6 +8,8 @@ mod access_rows;
 #[cfg(test)]
 mod asserts;
 #[cfg(test)]
+mod errors;
+#[cfg(test)]
 mod journals;
 #[cfg(test)]
 mod large_trees;

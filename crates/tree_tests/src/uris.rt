@@ -7,7 +7,7 @@ use crate::uri_rows::{
 };
 use dm_base::Bytes;
 use dm_uri::{Name, Path, Prop, Query, Uri, UriError, is_uri, parse, parse_name, print};
-use std::alloc::{AllocError, Global};
+use std::alloc::Global;
 
 // Each of the helpers below that looks for a wrong row answers the text of the first, for the test to show.
 
@@ -248,53 +248,4 @@ fn is_cleared(alloc: Global) -> bool {
 fn edits_paths(rt: HostRuntime) {
     assert!(rt; loses_its_last(rt.alloc()));
     assert!(rt; is_cleared(rt.alloc()));
-}
-
-struct ErrorRow {
-    error: UriError,
-    text: &'static str,
-}
-
-const ERRORS: [ErrorRow; 4] = [
-    ErrorRow {
-        error: UriError::Malformed,
-        text: "malformed URI",
-    },
-    ErrorRow {
-        error: UriError::TooLong,
-        text: "URI too long",
-    },
-    ErrorRow {
-        error: UriError::UnknownQuery,
-        text: "unknown query",
-    },
-    ErrorRow {
-        error: UriError::Memory,
-        text: "out of memory",
-    },
-];
-
-fn error_text(alloc: Global, error: &UriError) -> Result<String, AllocError> {
-    format!(in alloc; "{error}")
-}
-
-fn is_told(alloc: Global, row: &ErrorRow) -> bool {
-    match error_text(alloc, &row.error) {
-        Ok(text) => text.as_str() == row.text,
-        Err(_) => false,
-    }
-}
-
-fn wrong_error(alloc: Global) -> Option<&'static str> {
-    for row in &ERRORS {
-        if !is_told(alloc, row) {
-            return Some(row.text);
-        }
-    }
-    None
-}
-
-#[test]
-fn errors_are_told(rt: HostRuntime) {
-    assert_no_text_wrong(&rt, wrong_error(rt.alloc()));
 }
