@@ -1,6 +1,7 @@
 // A reader and a writer of the standard library as a source and a sink, which tell the bytes that those tell. Of
 // standard input and output that is nothing.
-ghost use Rattle.std.specs.Prelude.{None};
+ghost use Rattle.std.specs.Prelude.{◌≡◌, ◌<◌, None, length, IfErr};
+ghost use Rattle.dm_base.specs.Outside.{PutsSome, PutCounts};
 
 use dm_base::{Failed, Fault, Sink, Source};
 use std::io::{Read, Write};
@@ -54,7 +55,13 @@ impl<W: Write + Drop> Sink for StdSink<W> {
 
     ghost faults = { λ s. s.faults };
 
-    fn put(&mut self, piece: &[u8]) -> Result<usize, Fault> {
+    /// A fault is `Failed`, never want of memory.
+    fn put(&mut self, piece: &[u8]) -> Result<usize, Fault>
+        requires { 0 < length piece.now }
+        ensures bytes { PutsSome (W.contents self.old.inner) (W.contents self.new.inner) result piece.now }
+        ensures count { PutCounts self.old.faults self.new.faults result }
+        ensures failed { IfErr result (λ fault. fault ≡ Fault.Failed) }
+    {
         match self.inner.write(piece) {
             Ok(count) if count > 0 => Ok(count),
             _ => {
