@@ -22,7 +22,7 @@ use Rattle.dm_service.specs.Events as server
 use Rattle.dm_service.specs.History as server_runs
 use Rattle.dm_world.specs.World.{Reply, World, Happening, opens, up_comes, down_comes, acts, is_lost, with_new, said}
 use Rattle.dm_world.specs.World.{replied, arrival, client_has, down_delivered, up_delivered, happens, run}
-use Rattle.dm_world.specs.Start.{at_start, IsStart, IsNonce, IsInRange}
+use Rattle.dm_world.specs.Start.{at_start, IsWorldStart, IsNonce, IsInRange}
 use Rattle.dm_world.proofs.Ranges.{all-append}
 use Rattle.dm_world.proofs.ReadAgain.{reads_the_sent}
 use Rattle.dm_world.proofs.ToldMade.{run-snoc}
@@ -182,7 +182,7 @@ nonce-is p = record { long = high-long 16 (p.deliveries + 1); bytes = λ k h. hi
 
 -- ---- deliveries
 
-up-on : (c : Machine) (job : Job) (p : Pairing) (k : ℕ) (m : Parts) → IsStart c job → (o : OnSchedule c job p)
+up-on : (c : Machine) (job : Job) (p : Pairing) (k : ℕ) (m : Parts) → IsWorldStart c job → (o : OnSchedule c job p)
     → slice_get (run (at_start c job) o.schedule).ups k ≡ Some m
     → OnSchedule c job (comes_up p (canonical m))
 unfolding happens
@@ -195,7 +195,7 @@ up-on c job p k m start o e =
     (subst (λ r. IsWorld (counted (to_server p (record { read = r; nonce = nonce }))) (up_delivered w (Some m) nonce))
     (sym read) (server-world p w m nonce o.is_world)))
 
-down-on : (c : Machine) (job : Job) (p : Pairing) (k : ℕ) (d : Reply) → IsStart c job → (o : OnSchedule c job p)
+down-on : (c : Machine) (job : Job) (p : Pairing) (k : ℕ) (d : Reply) → IsWorldStart c job → (o : OnSchedule c job p)
     → slice_get (run (at_start c job) o.schedule).downs k ≡ Some d
     → OnSchedule c job (comes_down p (canonical d.message))
 unfolding happens
@@ -224,7 +224,7 @@ counted-on c job p o = record {
   };
 }
 
-half-on : (c : Machine) (job : Job) (p : Pairing) (m : Option Parts) → IsStart c job → (o : OnSchedule c job p)
+half-on : (c : Machine) (job : Job) (p : Pairing) (m : Option Parts) → IsWorldStart c job → (o : OnSchedule c job p)
     → p.server.sent ≡ m
     → OnSchedule c job (half_down p (option_map (λ (m : Parts). canonical m) m)).behind
 half-on c job p None start o e = counted-on c job p o
@@ -233,7 +233,7 @@ half-on c job p (Some m) start o e =
     subst (λ (x : Parts). OnSchedule c job (comes_down p (canonical x))) f.message_is
     (down-on c job p 0 f.reply start o f.first)
 
-round-on : (c : Machine) (job : Job) (p : Pairing) (s : Option Session) → IsStart c job → (o : OnSchedule c job p)
+round-on : (c : Machine) (job : Job) (p : Pairing) (s : Option Session) → IsWorldStart c job → (o : OnSchedule c job p)
     → p.client.session ≡ s
     → OnSchedule c job (round_up p (option_map (λ (s : Session). canonical s.sent) s)).behind
 round-on c job p None start o e = o
@@ -251,7 +251,7 @@ stopped-on c job r rest h k = by r.stop
     by None = k
     by (Some word) = h
 
-rounds-on : (c : Machine) (job : Job) (n : ℕ) (p : Pairing) → IsStart c job → OnSchedule c job p
+rounds-on : (c : Machine) (job : Job) (n : ℕ) (p : Pairing) → IsWorldStart c job → OnSchedule c job p
     → OnSchedule c job (rounds n p).behind
 unfolding round
 rounds-on c job zero p start o = o
@@ -261,7 +261,7 @@ rounds-on c job (suc n) p start o =
 
 -- ---- any event
 
-step-on : (c : Machine) (job : Job) (p : Pairing) (e : Event) → IsStart c job
+step-on : (c : Machine) (job : Job) (p : Pairing) (e : Event) → IsWorldStart c job
     → IsOf (length c.accounts) (length p.ups) (length p.downs) e
     → IsNumber e
     → OnSchedule c job p
@@ -313,7 +313,7 @@ unfolding turn
 over-on c job [] q p o h = subst (OnSchedule c job) h o
 over-on c job (line ∷ lines) q p o h = subst (OnSchedule c job) h o
 
-line-on : (c : Machine) (job : Job) (line : List ℕ) (lines : List (List ℕ)) (q p : Pairing) → IsStart c job
+line-on : (c : Machine) (job : Job) (line : List ℕ) (lines : List (List ℕ)) (q p : Pairing) → IsWorldStart c job
     → OnSchedule c job q
     → ((r : Pairing) → OnSchedule c job r → HasEnds p (brought (happening (ids_of c.accounts) r) lines)
     → OnSchedule c job p)
@@ -354,7 +354,7 @@ line-on c job line lines q p start o rest h =
     by (Ok said) e h =
         turned said (event-is (ids_of c.accounts) (length q.ups) (length q.downs) line said e) h
 
-lines-on : (c : Machine) (job : Job) (lines : List (List ℕ)) (q p : Pairing) → IsStart c job → OnSchedule c job q
+lines-on : (c : Machine) (job : Job) (lines : List (List ℕ)) (q p : Pairing) → IsWorldStart c job → OnSchedule c job q
     → HasEnds p (brought (happening (ids_of c.accounts) q) lines)
     → OnSchedule c job p
 lines-on c job [] q p start o h = subst (OnSchedule c job) h o

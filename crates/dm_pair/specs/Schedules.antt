@@ -7,7 +7,7 @@ use Rattle.dm_job.specs.declared.job.Job.{Job}
 use Rattle.dm_machine.specs.Machine.{Machine}
 use Rattle.dm_service.specs.Messages.{first_service}
 use Rattle.dm_world.specs.World.{Reply, World, Happening, run}
-use Rattle.dm_world.specs.Start.{at_start, IsStart, IsSchedule}
+use Rattle.dm_world.specs.Start.{at_start, IsWorldStart, IsSchedule}
 use Rattle.dm_replay.specs.Trace.{ids_of}
 use Rattle.dm_pair.specs.Pairing.{Pairing}
 use Rattle.dm_pair.specs.Texts.{Stage, first, starting, jobbing, happening, over, Turn, turn}
@@ -59,6 +59,6 @@ pub record OnSchedule (c : Machine) (job : Job) (p : Pairing) : Type 0 where
 
 -- so whatever lines stand behind a job
 abbrev pub RunsOnSchedules : Type 0
-RunsOnSchedules = (c : Machine) (job : Job) (lines : List (List ℕ)) (p : Pairing) → IsStart c job
+RunsOnSchedules = (c : Machine) (job : Job) (lines : List (List ℕ)) (p : Pairing) → IsWorldStart c job
     → HasEnds p (brought (happening (ids_of c.accounts) (first_pairing c job)) lines)
     → OnSchedule c job p

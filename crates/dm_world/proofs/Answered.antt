@@ -38,7 +38,7 @@ use Rattle.dm_world.specs.Deeds.{all_deeds}
 use Rattle.dm_world.specs.World.{InSession, World, Reply, Happening, opens, up_comes, down_comes, acts, clock_moves}
 use Rattle.dm_world.specs.World.{is_lost, finds_no_memory, with_new, replied, in_session, heard_by, deeds_in, made_in}
 use Rattle.dm_world.specs.World.{deeds_by, made_by, arrival, down_delivered, up_delivered, happens, run}
-use Rattle.dm_world.specs.Start.{at_start, IsStart}
+use Rattle.dm_world.specs.Start.{at_start, IsWorldStart}
 use Rattle.dm_world.specs.Commands.{WasExecuted, AnswersTheExecuted, StandsInMessage, ExecutesTheSent}
 use Rattle.dm_world.proofs.Lists.{either, and-left, Each, each-map, each-append}
 use Rattle.dm_world.proofs.Numbers.{eq-of, eq-self, same-tests}
@@ -377,7 +377,7 @@ run-balanced : (n : ℕ) (weight : Post → ℕ) (w : World) (es : List Happenin
 run-balanced n weight w [] h = h
 run-balanced n weight w (e ∷ es) h = run-balanced n weight (happens w e) es (happens-balanced n weight w e h)
 
-start-balanced : (n : ℕ) (weight : Post → ℕ) (c : Machine) (job : Job) → IsStart c job
+start-balanced : (n : ℕ) (weight : Post → ℕ) (c : Machine) (job : Job) → IsWorldStart c job
     → Balanced n weight (at_start c job)
 start-balanced n weight c job h =
     subst (λ o. AtMost n weight [] o c.engine.group []) (sym h.unused.1) (omega arith)

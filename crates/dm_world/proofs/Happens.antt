@@ -19,7 +19,7 @@ use Rattle.dm_service.specs.History as server_runs
 use Rattle.dm_world.specs.World.{World, Reply, Happening, opens, up_comes, down_comes, acts, clock_moves, is_lost}
 use Rattle.dm_world.specs.World.{finds_no_memory, with_new, said, replied, arrival, down_delivered}
 use Rattle.dm_world.specs.World.{up_delivered, happens, run}
-use Rattle.dm_world.specs.Start.{at_start, IsStart, IsInRange, IsSchedule}
+use Rattle.dm_world.specs.Start.{at_start, IsWorldStart, IsInRange, IsSchedule}
 use Rattle.dm_world.proofs.Lists.{either, both-ways, and-left, and-right, Each, each-within, StandsIn, picked}
 use Rattle.dm_world.proofs.Numbers.{session_number, IsRead, Order, order, lt-of, eq-of, same-tests}
 use Rattle.dm_world.proofs.Client.{OpenAs, Begun, Turns, Turned, begins-begun, message-turned}
@@ -418,7 +418,7 @@ pub run-sound : (w : World) (es : List Happening) → Each InRange es → Sound 
 run-sound w [] r h = h
 run-sound w (e ∷ es) r h = run-sound (happens w e) es r.1 (happens-sound w e r.0 h)
 
-pub start-sound : (c : Machine) (job : Job) → IsStart c job → Sound (at_start c job)
+pub start-sound : (c : Machine) (job : Job) → IsWorldStart c job → Sound (at_start c job)
 start-sound c job h =
     let begun = h.unused.0 in
     let session = h.unused.1 in

@@ -26,7 +26,7 @@ use Rattle.dm_service.specs.History as server_runs
 use Rattle.dm_world.specs.World.{World, Reply, Happening, opens, up_comes, down_comes, acts, clock_moves, is_lost}
 use Rattle.dm_world.specs.World.{finds_no_memory, with_new, said, replied, arrival, down_delivered, up_delivered}
 use Rattle.dm_world.specs.World.{happens, run}
-use Rattle.dm_world.specs.Start.{at_start, IsStart}
+use Rattle.dm_world.specs.Start.{at_start, IsWorldStart}
 use Rattle.dm_world.proofs.Lists.{either, both-ways}
 use Rattle.dm_world.proofs.Client.{Turned, message-turned}
 use Rattle.dm_world.proofs.Happens.{refusal-said, loss-said, refusal-silent}
@@ -199,7 +199,7 @@ run-heads : (w : World) (es : List Happening) → Heads w → Heads (run w es)
 run-heads w [] h = h
 run-heads w (e ∷ es) h = run-heads (happens w e) es (happens-heads w e h)
 
-pub all-heads : (c : Machine) (job : Job) (hs : List Happening) → IsStart c job → Heads (run (at_start c job) hs)
+pub all-heads : (c : Machine) (job : Job) (hs : List Happening) → IsWorldStart c job → Heads (run (at_start c job) hs)
 all-heads c job hs start =
     run-heads (at_start c job) hs
     (record { up = λ s e. absurd (none-some c.session s start.unused.1 e); down = λ m e. absurd (cc) })

@@ -26,7 +26,7 @@ use Rattle.dm_machine.proofs.Accounts.{accounts_stay}
 use Rattle.dm_world.specs.World.{InSession, World, Reply, Happening, opens, up_comes, down_comes, acts}
 use Rattle.dm_world.specs.World.{clock_moves, is_lost, finds_no_memory, client_has}
 use Rattle.dm_world.specs.World.{down_delivered, up_delivered, happens, run}
-use Rattle.dm_world.specs.Start.{at_start, IsStart, IsNonce, IsInRange, IsSchedule}
+use Rattle.dm_world.specs.Start.{at_start, IsWorldStart, IsNonce, IsInRange, IsSchedule}
 use Rattle.dm_world.specs.Acts.{Act, block, does, Joined, and_then, with_more, is_part_of, join, item_acts}
 use Rattle.dm_world.specs.Acts.{members_acts}
 use Rattle.dm_world.specs.Acts.{seq_members_acts, command_acts, deeds_acts, entries_acts, job_acts}
@@ -285,10 +285,10 @@ begun-order packages executed whole h =
     by None e w = tt
     by (Some p) e w = part-next p h.0 e w
 
-job-whole : (c : Machine) (job : Job) → IsStart c job → AreWhole (job_acts job.packages)
+job-whole : (c : Machine) (job : Job) → IsWorldStart c job → AreWhole (job_acts job.packages)
 job-whole c job h = entries-whole (all_entries job.packages) h.sound.entries
 
-start-fair : (c : Machine) (job : Job) → IsStart c job
+start-fair : (c : Machine) (job : Job) → IsWorldStart c job
     → Fair (job_acts job.packages) (length c.accounts) (at_start c job)
 start-fair c job h = record {
   sound = start-sound c job h;
@@ -324,7 +324,7 @@ ranges-of : (c : Machine) (es : List Happening) → IsSchedule c es → Each (In
 ranges-of c [] h = tt
 ranges-of c (e ∷ es) h = (range-of c e h.0, ranges-of c es h.1)
 
-pub all-fair : (c : Machine) (job : Job) (hs : List Happening) → IsStart c job → IsSchedule c hs
+pub all-fair : (c : Machine) (job : Job) (hs : List Happening) → IsWorldStart c job → IsSchedule c hs
     → Fair (job_acts job.packages) (length c.accounts) (run (at_start c job) hs)
 all-fair c job hs start range =
     run-fair (job_acts job.packages) (length c.accounts) (at_start c job) hs (ranges-of c hs range)

@@ -41,7 +41,7 @@ use Rattle.dm_world.specs.Deeds.{all_deeds}
 use Rattle.dm_world.specs.World.{World, Reply, Happening, opens, up_comes, down_comes, acts, clock_moves, is_lost}
 use Rattle.dm_world.specs.World.{finds_no_memory, with_new, replied, arrival, down_delivered, up_delivered, happens}
 use Rattle.dm_world.specs.World.{run}
-use Rattle.dm_world.specs.Start.{at_start, IsStart}
+use Rattle.dm_world.specs.Start.{at_start, IsWorldStart}
 use Rattle.dm_world.specs.Commands.{StandsAs, NotesTheSent}
 use Rattle.dm_world.proofs.Lists.{either, both-ways, Each, each-new}
 use Rattle.dm_world.proofs.Rising.{IsRising, fill-rises, farewell-rises}
@@ -592,12 +592,12 @@ session-noted : (packages : List (List JobEntry)) (downs : List Reply) (o : Opti
     → AllNoted packages downs s
 session-noted packages downs o s h e = subst (λ o. IfSome o (AllNoted packages downs)) e h
 
-all-notes : (c : Machine) (job : Job) (hs : List Happening) → IsStart c job
+all-notes : (c : Machine) (job : Job) (hs : List Happening) → IsWorldStart c job
     → WorldNotes job.packages (run (at_start c job) hs)
 all-notes c job hs start =
     run-notes job.packages (at_start c job) hs (job-is job.packages start.sound.entries) (start-notes c job)
 
-pub all-rise : (c : Machine) (job : Job) (hs : List Happening) → IsStart c job
+pub all-rise : (c : Machine) (job : Job) (hs : List Happening) → IsWorldStart c job
     → Each ReplyRises (run (at_start c job) hs).downs
 all-rise c job hs start = (all-notes c job hs start).rising
 

@@ -25,7 +25,7 @@ use Rattle.dm_service.proofs.Stays.{stays_ready as server_stays}
 use Rattle.dm_world.specs.World.{World, Reply, Happening, opens, up_comes, down_comes, acts, clock_moves, is_lost}
 use Rattle.dm_world.specs.World.{finds_no_memory, said, client_has, arrival, down_delivered, up_delivered}
 use Rattle.dm_world.specs.World.{happens, run}
-use Rattle.dm_world.specs.Start.{at_start, IsStart, IsNonce, IsInRange, IsSchedule}
+use Rattle.dm_world.specs.Start.{at_start, IsWorldStart, IsNonce, IsInRange, IsSchedule}
 use Rattle.dm_world.specs.Held.{IsReadAgain, ReadsTheSent}
 use Rattle.dm_world.proofs.Lists.{Each, each-within, each-new, picked}
 use Rattle.dm_world.proofs.Ranges.{IsShortHeld, AllEntryRange}
@@ -129,7 +129,7 @@ jobs-go : (es : List JobEntry) → AllByRecursion IsEntry es
 jobs-go [] h k = tt
 jobs-go (e ∷ es) h k = ((h.0.ready, k.0), jobs-go es h.1 k.1)
 
-start-reads : (c : Machine) (job : Job) → IsStart c job → Reads (length c.accounts) (at_start c job)
+start-reads : (c : Machine) (job : Job) → IsWorldStart c job → Reads (length c.accounts) (at_start c job)
 start-reads c job h =
     let server = first_is_ready job h.sound in
     let all : JobsGo job.packages = jobs-go (all_entries job.packages) h.sound.entries h.numbers in
@@ -153,7 +153,7 @@ start-reads c job h =
       ups = tt;
     }
 
-pub all-read : (c : Machine) (job : Job) (hs : List Happening) → IsStart c job → IsSchedule c hs
+pub all-read : (c : Machine) (job : Job) (hs : List Happening) → IsWorldStart c job → IsSchedule c hs
     → Reads (length c.accounts) (run (at_start c job) hs)
 all-read c job hs start range = run-reads c (at_start c job) hs range (start-reads c job start)
 

@@ -51,7 +51,7 @@ use Rattle.dm_service.proofs.Codes.{first_in, later_in}
 use Rattle.dm_world.specs.World.{InSession, World, Reply, Happening, opens, up_comes, down_comes, acts, clock_moves}
 use Rattle.dm_world.specs.World.{is_lost, finds_no_memory, said, in_session, heard_by, made_in, made_by}
 use Rattle.dm_world.specs.World.{client_has, down_delivered, up_delivered, happens, run}
-use Rattle.dm_world.specs.Start.{at_start, IsStart, IsSchedule}
+use Rattle.dm_world.specs.Start.{at_start, IsWorldStart, IsSchedule}
 use Rattle.dm_world.specs.Commands.{WasMade, IsPartOf, WasFound, SaysTheMade, SaysTheFound}
 use Rattle.dm_world.proofs.Lists.{either, either_is, both-ways, Each, each-map, each-append, each-within, each-new}
 use Rattle.dm_world.proofs.Lists.{picked}
@@ -625,7 +625,7 @@ run-honest : (w : World) (es : List Happening) → Each InRange es → Honest w 
 run-honest w [] r h = h
 run-honest w (e ∷ es) r h = run-honest (happens w e) es r.1 (happens-honest w e r.0 h)
 
-start-honest : (c : Machine) (job : Job) → IsStart c job → Honest (at_start c job)
+start-honest : (c : Machine) (job : Job) → IsWorldStart c job → Honest (at_start c job)
 start-honest c job h = record {
   sound = start-sound c job h;
   queue = subst (OpenTell [] c.queue) (sym h.unused.1) tt;
@@ -643,7 +643,8 @@ same-session : (a b : ℕ) (o : Option ℕ) → o ≡ Some a → o ≡ Some b �
 same-session a b o e f = cc
 
 -- a command in a message of the client
-sent-tells : (c : Machine) (job : Job) (hs : List Happening) (k : ℕ) (m : Parts) (n : ℕ) (x : Command) → IsStart c job
+sent-tells : (c : Machine) (job : Job) (hs : List Happening) (k : ℕ) (m : Parts) (n : ℕ) (x : Command)
+    → IsWorldStart c job
     → IsSchedule c hs
     → slice_get (run (at_start c job) hs).ups k ≡ Some m
     → session_of m ≡ Some n

@@ -35,7 +35,7 @@ use Rattle.dm_service.proofs.Codes.{codes_are_told, still_within, told_still}
 use Rattle.dm_world.specs.World.{InSession, World, Happening, opens, up_comes, down_comes, acts, clock_moves, is_lost}
 use Rattle.dm_world.specs.World.{with_new, replied, finds_no_memory, arrival, made_by, up_delivered, down_delivered}
 use Rattle.dm_world.specs.World.{happens, run, Reply}
-use Rattle.dm_world.specs.Start.{at_start, IsStart, IsInRange, IsSchedule}
+use Rattle.dm_world.specs.Start.{at_start, IsWorldStart, IsInRange, IsSchedule}
 use Rattle.dm_world.specs.Commands.{WasMade, SaysWhatItMade, WasExecuted, StandsAs}
 use Rattle.dm_world.proofs.Lists.{either, Each, each-append}
 use Rattle.dm_world.proofs.Numbers.{eq-of}
@@ -456,7 +456,7 @@ downs-snoc w done e =
 abbrev Traced : Machine → Job → List Happening → Type 0
 Traced c job hs = (place code : ℕ) → CodeIs (run (at_start c job) hs) place code → WasToldAsMade c job hs place code
 
-told-before : (c : Machine) (job : Job) (done : List Happening) (e : Happening) (place code : ℕ) → IsStart c job
+told-before : (c : Machine) (job : Job) (done : List Happening) (e : Happening) (place code : ℕ) → IsWorldStart c job
     → IsSchedule c (done ++ e ∷ [])
     → WasToldAsMade c job done place code
     → WasToldAsMade c job (done ++ e ∷ []) place code
@@ -480,7 +480,7 @@ told-before c job done e place code start range h =
       made = made;
     }
 
-told-now : (c : Machine) (job : Job) (done : List Happening) (e : Happening) (place code : ℕ) → IsStart c job
+told-now : (c : Machine) (job : Job) (done : List Happening) (e : Happening) (place code : ℕ) → IsWorldStart c job
     → IsSchedule c (done ++ e ∷ [])
     → NewCode job.packages (run (at_start c job) done) place code
     → WasToldAsMade c job (done ++ e ∷ []) place code
@@ -504,7 +504,7 @@ told-now c job done e place code start range h =
       made = made;
     }
 
-step-traced : (c : Machine) (job : Job) (done : List Happening) (e : Happening) → IsStart c job
+step-traced : (c : Machine) (job : Job) (done : List Happening) (e : Happening) → IsWorldStart c job
     → IsSchedule c (done ++ e ∷ [])
     → Traced c job done
     → Traced c job (done ++ e ∷ [])
@@ -521,7 +521,7 @@ step-traced c job done e start all h place code k =
     by (inl x) = told-before c job done e place code start all (h place code x)
     by (inr x) = told-now c job done e place code start all x
 
-all-traced : (c : Machine) (job : Job) (done es : List Happening) → IsStart c job → IsSchedule c (done ++ es)
+all-traced : (c : Machine) (job : Job) (done es : List Happening) → IsWorldStart c job → IsSchedule c (done ++ es)
     → Traced c job done
     → Traced c job (done ++ es)
 all-traced c job done [] start range h = subst (Traced c job) (sym (append-nil done)) h
@@ -542,7 +542,8 @@ start-traced : (c : Machine) (job : Job) → Traced c job []
 start-traced c job place code h =
     absurd (let e = ap (λ (t : Told). t.code) (untold-at (commands_in (all_entries job.packages)) place) in cc)
 
-pub told-as-made : (c : Machine) (job : Job) (hs : List Happening) (place code : ℕ) → IsStart c job → IsSchedule c hs
+pub told-as-made : (c : Machine) (job : Job) (hs : List Happening) (place code : ℕ) → IsWorldStart c job
+    → IsSchedule c hs
     → code_at (run (at_start c job) hs).server.told place ≡ Some code
     → WasToldAsMade c job hs place code
 told-as-made c job hs place code start range h =

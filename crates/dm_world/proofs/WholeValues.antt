@@ -25,7 +25,7 @@ use Rattle.dm_service.proofs.Codes.{first_in, later_in}
 use Rattle.dm_world.specs.Deeds.{Deed, all_deeds}
 use Rattle.dm_world.specs.World.{InSession, World, Reply, Happening, opens, up_comes, down_comes, acts, clock_moves}
 use Rattle.dm_world.specs.World.{is_lost, finds_no_memory, down_delivered, up_delivered, happens, run}
-use Rattle.dm_world.specs.Start.{at_start, IsStart, IsInRange, IsSchedule}
+use Rattle.dm_world.specs.Start.{at_start, IsWorldStart, IsInRange, IsSchedule}
 use Rattle.dm_world.specs.Acts.{deeds_acts, job_acts}
 use Rattle.dm_world.specs.Commands.{SaysWhatItFound}
 use Rattle.dm_world.specs.Report.{IsFoundFor, ValuesAreFoundFor}
@@ -66,7 +66,8 @@ message-low w y r at d e h p s k =
     (all-of (origin_of r.message) r.message.body) k in
     omega (arith, low, is)
 
-found-low : (c : Machine) (job : Job) (hs : List Happening) (z : Going) (y : Serving) → IsStart c job → IsSchedule c hs
+found-low : (c : Machine) (job : Job) (hs : List Happening) (z : Going) (y : Serving) → IsWorldStart c job
+    → IsSchedule c hs
     → (run (at_start c job) hs).server.session ≡ Some y
     → WasFoundAs (run (at_start c job) hs).made y.progress.number z
     → z.msg ≤ sent_by y
@@ -117,7 +118,7 @@ up-silent w k u e read says none =
 abbrev KeepsWorld : World → Type 0
 KeepsWorld w = Keeps w.client w.server w.ups w.made (deeds_acts w.executed)
 
-beside-of : (c : Machine) (job : Job) (hs : List Happening) (k : ℕ) (u : Parts) → IsStart c job → IsSchedule c hs
+beside-of : (c : Machine) (job : Job) (hs : List Happening) (k : ℕ) (u : Parts) → IsWorldStart c job → IsSchedule c hs
     → slice_get (run (at_start c job) hs).ups k ≡ Some u
     → KeepsWorld (run (at_start c job) hs)
     → Beside (job_acts job.packages) (deeds_acts (run (at_start c job) hs).executed) (run (at_start c job) hs).client
@@ -149,7 +150,8 @@ record Kept (w x : World) : Type 0 where
 same-values : (w : World) → Values w.made w.server w.server
 same-values w place value k = inl k
 
-up-keeps : (c : Machine) (job : Job) (hs : List Happening) (k : ℕ) (o : Option Parts) (nonce : List ℕ) → IsStart c job
+up-keeps : (c : Machine) (job : Job) (hs : List Happening) (k : ℕ) (o : Option Parts) (nonce : List ℕ)
+    → IsWorldStart c job
     → IsSchedule c hs
     → slice_get (run (at_start c job) hs).ups k ≡ o
     → KeepsWorld (run (at_start c job) hs)
@@ -163,7 +165,7 @@ up-keeps c job hs k (Some u) nonce start range e h =
     record { keeps = x.keeps; values = x.values }
 
 down-keeps : (c : Machine) (job : Job) (hs : List Happening) (k : ℕ) (o : Option Reply) (nonce : List ℕ)
-    → IsStart c job
+    → IsWorldStart c job
     → IsSchedule c hs
     → slice_get (run (at_start c job) hs).downs k ≡ o
     → KeepsWorld (run (at_start c job) hs)
@@ -175,7 +177,7 @@ down-keeps c job hs k (Some d) nonce start range e h =
     message-keeps (job_acts job.packages) w.executed w.client w.server w.downs w.ups w.made k d nonce e fair.sound
     fair.placed fair.ready h
 
-happens-keeps : (c : Machine) (job : Job) (hs : List Happening) (e : Happening) → IsStart c job → IsSchedule c hs
+happens-keeps : (c : Machine) (job : Job) (hs : List Happening) (e : Happening) → IsWorldStart c job → IsSchedule c hs
     → InRange e
     → KeepsWorld (run (at_start c job) hs)
     → Kept (run (at_start c job) hs) (happens (run (at_start c job) hs) e)
@@ -218,7 +220,7 @@ happens-keeps c job hs finds_no_memory start range r h =
     record { keeps = h; values = same-values (run (at_start c job) hs) }
 
 -- at first nothing was made, sent and told
-start-keeps : (c : Machine) (job : Job) → IsStart c job → KeepsWorld (at_start c job)
+start-keeps : (c : Machine) (job : Job) → IsWorldStart c job → KeepsWorld (at_start c job)
 start-keeps c job h = record {
   low = λ x k. none k;
   none_yet = λ y e. absurd (cc);
@@ -283,7 +285,7 @@ step-range c done e range = of done (schedule-range c (done ++ e ∷ []) range)
     of [] h = h.0
     of (x ∷ xs) h = of xs h.1
 
-step-traced : (c : Machine) (job : Job) (done : List Happening) (e : Happening) → IsStart c job
+step-traced : (c : Machine) (job : Job) (done : List Happening) (e : Happening) → IsWorldStart c job
     → IsSchedule c (done ++ e ∷ [])
     → Traced c job done
     → Traced c job (done ++ e ∷ [])
@@ -311,7 +313,7 @@ step-traced c job done e start all h =
         now-found job.packages (run (at_start c job) done) place value
         (λ s z. notes_the_sent c job done s z start (all-first (IsInRange c) done (e ∷ []) all)) x
 
-all-traced : (c : Machine) (job : Job) (done es : List Happening) → IsStart c job → IsSchedule c (done ++ es)
+all-traced : (c : Machine) (job : Job) (done es : List Happening) → IsWorldStart c job → IsSchedule c (done ++ es)
     → Traced c job done
     → Traced c job (done ++ es)
 all-traced c job done [] start range h = subst (Traced c job) (sym (append-nil done)) h
@@ -328,7 +330,7 @@ untold-at zero place = refl
 untold-at (suc n) zero = refl
 untold-at (suc n) (suc place) = untold-at n place
 
-start-traced : (c : Machine) (job : Job) → IsStart c job → Traced c job []
+start-traced : (c : Machine) (job : Job) → IsWorldStart c job → Traced c job []
 start-traced c job start = record {
   keeps = start-keeps c job start;
   values = λ place value h.

@@ -25,7 +25,7 @@ use Rattle.dm_machine.specs.Messages.{origin_of}
 use Rattle.dm_world.specs.Acts.{Act, block, does, command_acts, doing_acts}
 use Rattle.dm_world.specs.Deeds.{Deed, all_deeds}
 use Rattle.dm_world.specs.World.{Reply, InSession, World, Happening, run}
-use Rattle.dm_world.specs.Start.{at_start, IsStart, IsSchedule}
+use Rattle.dm_world.specs.Start.{at_start, IsWorldStart, IsSchedule}
 
 -- ---- what the client made and found
 
@@ -45,7 +45,7 @@ SaysWhatItMade w = (k : ℕ) (m : Parts) (n : ℕ) (status : StatusCmd) → slic
     → WasMade w.made n status.msg_ref status.cmd_ref status.code
 
 abbrev pub SaysTheMade : Type 0
-SaysTheMade = (c : Machine) (job : Job) (hs : List Happening) → IsStart c job → IsSchedule c hs
+SaysTheMade = (c : Machine) (job : Job) (hs : List Happening) → IsWorldStart c job → IsSchedule c hs
     → SaysWhatItMade (run (at_start c job) hs)
 
 -- an Item of Results tells of a value that was found: its URI, Format and Type, and its bytes or a part of them
@@ -78,7 +78,7 @@ SaysWhatItFound w = (k : ℕ) (m : Parts) (n : ℕ) (results : ResultsCmd) → s
     → WasFound w.made n results.msg_ref results.cmd_ref results.items
 
 abbrev pub SaysTheFound : Type 0
-SaysTheFound = (c : Machine) (job : Job) (hs : List Happening) → IsStart c job → IsSchedule c hs
+SaysTheFound = (c : Machine) (job : Job) (hs : List Happening) → IsWorldStart c job → IsSchedule c hs
     → SaysWhatItFound (run (at_start c job) hs)
 
 -- something was executed in this session, that stood in a message under these two numbers
@@ -90,7 +90,7 @@ pub record WasExecuted (executed : List (InSession Deed)) (session msg command :
 
 -- each Status that was made answers something that was executed
 abbrev pub AnswersTheExecuted : Type 0
-AnswersTheExecuted = (c : Machine) (job : Job) (hs : List Happening) (n msg cmd code : ℕ) → IsStart c job
+AnswersTheExecuted = (c : Machine) (job : Job) (hs : List Happening) (n msg cmd code : ℕ) → IsWorldStart c job
     → IsSchedule c hs
     → WasMade (run (at_start c job) hs).made n msg cmd code
     → WasExecuted (run (at_start c job) hs).executed n msg cmd
@@ -104,7 +104,7 @@ pub record StandsInMessage (downs : List Reply) (x : InSession Deed) : Type 0 wh
   pub within : Contains (all_deeds (origin_of reply.message) reply.message.body) x.what
 
 abbrev pub ExecutesTheSent : Type 0
-ExecutesTheSent = (c : Machine) (job : Job) (hs : List Happening) (x : InSession Deed) → IsStart c job
+ExecutesTheSent = (c : Machine) (job : Job) (hs : List Happening) (x : InSession Deed) → IsWorldStart c job
     → IsSchedule c hs
     → Contains (run (at_start c job) hs).executed x
     → StandsInMessage (run (at_start c job) hs).downs x
@@ -153,7 +153,7 @@ pub record StandsAs (packages : List (List JobEntry)) (downs : List Reply) (sess
 
 -- all that the server notes of its present session stands so in its messages
 abbrev pub NotesTheSent : Type 0
-NotesTheSent = (c : Machine) (job : Job) (hs : List Happening) (s : Session) (x : Sent) → IsStart c job
+NotesTheSent = (c : Machine) (job : Job) (hs : List Happening) (s : Session) (x : Sent) → IsWorldStart c job
     → IsSchedule c hs
     → (run (at_start c job) hs).server.session ≡ Some s
     → Contains s.sent x

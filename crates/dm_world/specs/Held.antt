@@ -8,7 +8,7 @@ use Rattle.syncml_codec.specs.Decoding.{read_of}
 use Rattle.dm_job.specs.declared.job.Job.{Job}
 use Rattle.dm_machine.specs.Machine.{Machine}
 use Rattle.dm_world.specs.World.{Reply, World, Happening, run}
-use Rattle.dm_world.specs.Start.{at_start, IsStart, IsSchedule}
+use Rattle.dm_world.specs.Start.{at_start, IsWorldStart, IsSchedule}
 
 -- a message is fit, and its numbers are in the ranges of their types
 pub record IsHeld (m : Parts) : Type 0 where
@@ -26,5 +26,5 @@ pub record ReadsAll (w : World) : Type 0 where
   pub server_end : (k : ℕ) (m : Parts) → slice_get w.ups k ≡ Some m → IsReadAgain m
 
 abbrev pub ReadsTheSent : Type 0
-ReadsTheSent = (c : Machine) (job : Job) (hs : List Happening) → IsStart c job → IsSchedule c hs
+ReadsTheSent = (c : Machine) (job : Job) (hs : List Happening) → IsWorldStart c job → IsSchedule c hs
     → ReadsAll (run (at_start c job) hs)

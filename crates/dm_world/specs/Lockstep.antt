@@ -10,7 +10,7 @@ use Rattle.dm_service.specs.Events as server
 use Rattle.dm_job.specs.declared.job.Job.{Job}
 use Rattle.dm_world.specs.World.{World, Reply, Happening, opens, up_comes, down_comes, acts, clock_moves, is_lost}
 use Rattle.dm_world.specs.World.{finds_no_memory, happens, run}
-use Rattle.dm_world.specs.Start.{at_start, IsStart, IsSchedule}
+use Rattle.dm_world.specs.Start.{at_start, IsWorldStart, IsSchedule}
 
 -- ---- taking turns
 
@@ -63,7 +63,7 @@ pub record Lockstep (w : World) : Type 0 where
   pub server_takes : ServesNewest w
 
 abbrev pub TakesTurns : Type 0
-TakesTurns = (c : Machine) (job : Job) (hs : List Happening) → IsStart c job → IsSchedule c hs
+TakesTurns = (c : Machine) (job : Job) (hs : List Happening) → IsWorldStart c job → IsSchedule c hs
     → Lockstep (run (at_start c job) hs)
 
 -- ---- understanding each other
@@ -82,5 +82,5 @@ pub record RefusesNone (w : World) : Type 0 where
   pub server_end : (k : ℕ) (m : Parts) → slice_get w.ups k ≡ Some m → IsUnderstood m
 
 abbrev pub Understands : Type 0
-Understands = (c : Machine) (job : Job) (hs : List Happening) → IsStart c job → IsSchedule c hs
+Understands = (c : Machine) (job : Job) (hs : List Happening) → IsWorldStart c job → IsSchedule c hs
     → RefusesNone (run (at_start c job) hs)

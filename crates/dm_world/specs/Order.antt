@@ -7,7 +7,7 @@ use Rattle.dm_machine.specs.Machine.{Machine}
 use Rattle.dm_world.specs.Deeds.{Deed}
 use Rattle.dm_world.specs.World.{InSession, Happening, run}
 use Rattle.dm_world.specs.Acts.{Act, block, does, job_acts, deeds_acts, join}
-use Rattle.dm_world.specs.Start.{at_start, IsStart, IsSchedule}
+use Rattle.dm_world.specs.Start.{at_start, IsWorldStart, IsSchedule}
 
 -- a step is what came of it, with more bytes of its value
 abbrev pub GoesOnAs : Step → Step → Type 0
@@ -27,5 +27,5 @@ pub record ExecutesInOrder (packages : List (List JobEntry)) (executed : List (I
   pub next : IfSome (join None (deeds_acts executed)).part (IsNext rest)
 
 abbrev pub RunsInOrder : Type 0
-RunsInOrder = (c : Machine) (job : Job) (hs : List Happening) → IsStart c job → IsSchedule c hs
+RunsInOrder = (c : Machine) (job : Job) (hs : List Happening) → IsWorldStart c job → IsSchedule c hs
     → ExecutesInOrder job.packages (run (at_start c job) hs).executed

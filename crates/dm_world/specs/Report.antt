@@ -24,7 +24,7 @@ use Rattle.dm_service.specs.Laws.{code_at, found_at}
 use Rattle.dm_world.specs.Acts.{Act, doing_acts}
 use Rattle.dm_world.specs.Deeds.{Deed}
 use Rattle.dm_world.specs.World.{World, Happening, run}
-use Rattle.dm_world.specs.Start.{at_start, IsStart, IsSchedule}
+use Rattle.dm_world.specs.Start.{at_start, IsWorldStart, IsSchedule}
 use Rattle.dm_world.specs.Commands.{WasMade, outline, IsWholeDeed, IsJobAct, StandsAs}
 
 -- a Status with this code in a message
@@ -73,7 +73,7 @@ pub record IsGiven (packages : List (List JobEntry)) (w : World) (place code : �
 
 -- so is each code that the server holds
 abbrev pub CodesAreGiven : Type 0
-CodesAreGiven = (c : Machine) (job : Job) (hs : List Happening) (place code : ℕ) → IsStart c job → IsSchedule c hs
+CodesAreGiven = (c : Machine) (job : Job) (hs : List Happening) (place code : ℕ) → IsWorldStart c job → IsSchedule c hs
     → code_at (run (at_start c job) hs).server.told place ≡ Some code
     → IsGiven job.packages (run (at_start c job) hs) place code
 
@@ -106,7 +106,7 @@ pub record IsFoundFor (packages : List (List JobEntry)) (w : World) (place : ℕ
 
 -- so is each value that it holds
 abbrev pub ValuesAreFoundFor : Type 0
-ValuesAreFoundFor = (c : Machine) (job : Job) (hs : List Happening) (place : ℕ) (value : Step) → IsStart c job
+ValuesAreFoundFor = (c : Machine) (job : Job) (hs : List Happening) (place : ℕ) (value : Step) → IsWorldStart c job
     → IsSchedule c hs
     → Contains (found_at (run (at_start c job) hs).server.told place) value
     → IsFoundFor job.packages (run (at_start c job) hs) place value

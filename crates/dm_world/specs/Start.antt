@@ -28,7 +28,7 @@ JobsAreInRange = (text : List ℕ) (job : Job) → job_of text ≡ Ok job → Ar
 
 -- nothing waits and no group is open at the client, all that it makes can be sent, and the job was read, with numbers
 -- in the ranges of their types
-pub record IsStart (c : Machine) (job : Job) : Type 0 where
+pub record IsWorldStart (c : Machine) (job : Job) : Type 0 where
   pub unused : IsUnused c
   pub empty : c.queue ≡ []
   pub no_group : c.engine.group ≡ None
