@@ -8,7 +8,7 @@ use Rattle.dm_tree.specs.declared.rows.Change.{Change}
 use Rattle.dm_tree.specs.declared.rows.Change.TheVariants as change
 use Rattle.dm_tree.specs.Nodes.{counted, with_value, with_bytes, with_acl, with_title}
 use Rattle.dm_tree.specs.Rows.{blank, row_at, nodes, ids, IsTree, IsParkedTop}
-use Rattle.dm_tree.specs.Undos.{row_of, flipped, turned, Fits, FitAll, all_flipped, IsReady}
+use Rattle.dm_tree.specs.Undos.{row_of, flipped, turned, Fits, FitAll, all_flipped, IsReadyChange}
 use Rattle.dm_tree.specs.Notes.{AreAt, GoesAlike}
 use Rattle.dm_tree.proofs.FlippedRows.{sets_apart}
 use Rattle.dm_tree.specs.Reuse.{IsUsed, IsClear}
@@ -36,8 +36,8 @@ flipped-set rows k r (change.Name j name verno stamp) d =
 flipped-set rows k r (change.TakeOut j) d = one_set rows k r j (λ (s : Row). record s { attached = false }) d
 flipped-set rows k r (change.PutIn j) d = one_set rows k r j (λ (s : Row). record s { attached = true }) d
 
-ready-set : (rows : List Row) (k : ℕ) (r : Row) (u : Change) → (row_of u ≡ k → ⊥) → IsReady rows u
-    → IsReady (set rows k r) u
+ready-set : (rows : List Row) (k : ℕ) (r : Row) (u : Change) → (row_of u ≡ k → ⊥) → IsReadyChange rows u
+    → IsReadyChange (set rows k r) u
 ready-set rows k r (change.Value j value verno stamp) d e = tt
 ready-set rows k r (change.Bytes j bytes verno stamp) d e = tt
 ready-set rows k r (change.Acl j acl verno stamp) d e = tt

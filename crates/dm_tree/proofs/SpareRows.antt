@@ -10,7 +10,7 @@ use Rattle.dm_tree.specs.declared.rows.Change.TheVariants as change
 use Rattle.dm_tree.specs.Nodes.{counted, with_value, with_bytes, with_acl, with_title}
 use Rattle.dm_tree.specs.Rows.{row_at, ids, nodes, IsTree, path_of}
 use Rattle.dm_tree.specs.Edits.{attached_as, new_row}
-use Rattle.dm_tree.specs.Undos.{TakesOut, IsInserted, Fits, IsReady, FitAll, row_of, flipped, all_flipped}
+use Rattle.dm_tree.specs.Undos.{TakesOut, IsInserted, Fits, IsReadyChange, FitAll, row_of, flipped, all_flipped}
 use Rattle.dm_tree.proofs.NodeEdits.{of_both, live_row}
 use Rattle.dm_tree.proofs.RowAppends.{at_end_of, before_end, nodes-append, ids-append, with_row-end, nodes-parked}
 use Rattle.dm_tree.proofs.RowAppends.{ids-parked, set_last}
@@ -51,8 +51,8 @@ depth-flipped rows (change.Name k name verno stamp) l j = of_both rows k _ (λ s
 depth-flipped rows (change.TakeOut k) l j = of_both rows k _ (λ s. s.depth) refl j l
 depth-flipped rows (change.PutIn k) l j = of_both rows k _ (λ s. s.depth) refl j l
 
-ready-spare : (rows : List Row) (r : Row) (u : Change) → row_of u < length rows → IsReady rows u
-    → IsReady (rows ++ r ∷ []) u
+ready-spare : (rows : List Row) (r : Row) (u : Change) → row_of u < length rows → IsReadyChange rows u
+    → IsReadyChange (rows ++ r ∷ []) u
 ready-spare rows r (change.Value k value verno stamp) l e = tt
 ready-spare rows r (change.Bytes k bytes verno stamp) l e = tt
 ready-spare rows r (change.Acl k acl verno stamp) l e = tt

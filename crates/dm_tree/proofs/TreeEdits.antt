@@ -16,7 +16,7 @@ use Rattle.dm_tree.specs.Rows.{blank, row_at, node_of, walk, path_below, ids_bel
 use Rattle.dm_tree.specs.Rows.{IsLive, path_of}
 use Rattle.dm_tree.specs.Edits.{with_node, new_row, IsGrown}
 use Rattle.dm_tree.specs.declared.rows.Change.{Change}
-use Rattle.dm_tree.specs.Undos.{TakesBack, row_of, IsReady, flipped}
+use Rattle.dm_tree.specs.Undos.{TakesBack, row_of, IsReadyChange, flipped}
 use Rattle.dm_tree.proofs.Paths.{below_or_not, same_or_not, tree_total}
 use Rattle.dm_tree.proofs.RowPaths.{depth_is, not_zero, attached_row, same_number, at_bottom}
 use Rattle.dm_tree.proofs.RowMaps.{get_nodes}
@@ -155,7 +155,7 @@ tree-with_mark rows tree k l above = tree-still rows _ tree (record {
 
 -- ---- Undos
 
-pub takes_back : (rows new : List Row) (u : Change) → IsTree rows → row_of u < length new → IsReady new u
+pub takes_back : (rows new : List Row) (u : Change) → IsTree rows → row_of u < length new → IsReadyChange new u
     → flipped new u ≡ rows → TakesBack u rows new
 takes_back rows new u tree inside ready e =
     record { fits = record { inside = inside; ready = ready; sound = subst IsTree (sym e) tree }; rows = e }

@@ -7,7 +7,7 @@ use Rattle.dm_tree.specs.declared.rows.Change.{Change}
 use Rattle.dm_tree.specs.declared.rows.Change.TheVariants as change
 use Rattle.dm_tree.specs.Nodes.{counted, with_value, with_bytes, with_acl, with_title}
 use Rattle.dm_tree.specs.Rows.{blank, row_at, node_of, IsTree, IsParkedTop}
-use Rattle.dm_tree.specs.Undos.{row_of, flipped, turned, IsReady, Fits, IsHeld, TakesBack}
+use Rattle.dm_tree.specs.Undos.{row_of, flipped, turned, IsReadyChange, Fits, IsHeld, TakesBack}
 use Rattle.dm_tree.proofs.RowAppends.{set_twice}
 use Rattle.dm_tree.proofs.TreeEdits.{takes_back, back-node}
 
@@ -18,7 +18,7 @@ set_back rows k r f l e =
     ap (λ s. set (set rows k r) k (f s)) (get_or-set_same rows k r blank l) ∙ set_twice rows k r (f r)
     ∙ ap (set rows k) e ∙ set-get_or rows k blank
 
-pub flipped_twice : (rows : List Row) (u : Change) → row_of u < length rows → IsReady rows u
+pub flipped_twice : (rows : List Row) (u : Change) → row_of u < length rows → IsReadyChange rows u
     → flipped (flipped rows u) (turned rows u) ≡ rows
 flipped_twice rows (change.Value k value verno stamp) l r =
     back-node rows k _ l
@@ -83,7 +83,7 @@ length-flipped rows (change.Name k name verno stamp) = length-set rows k _
 length-flipped rows (change.TakeOut k) = length-set rows k _
 length-flipped rows (change.PutIn k) = length-set rows k _
 
-ready_again : (rows : List Row) (u : Change) → row_of u < length rows → IsReady (flipped rows u) (turned rows u)
+ready_again : (rows : List Row) (u : Change) → row_of u < length rows → IsReadyChange (flipped rows u) (turned rows u)
 ready_again rows (change.Value k value verno stamp) l = tt
 ready_again rows (change.Bytes k bytes verno stamp) l = tt
 ready_again rows (change.Acl k acl verno stamp) l = tt

@@ -13,7 +13,7 @@ use Rattle.dm_tree.specs.declared.rows.Change.TheVariants as change
 use Rattle.dm_tree.specs.Nodes.{counted, with_value, with_bytes, with_acl, with_title}
 use Rattle.dm_tree.specs.Rows.{blank, row_at, walk, nodes, ids, IsTree, IsLive, IsParkedTop}
 use Rattle.dm_tree.specs.Edits.{with_node, with_name, attached_as, new_row, without_content}
-use Rattle.dm_tree.specs.Undos.{row_of, flipped, turned, Fits, FitAll, all_flipped, IsReady, IsHeld, TakesBack}
+use Rattle.dm_tree.specs.Undos.{row_of, flipped, turned, Fits, FitAll, all_flipped, IsReadyChange, IsHeld, TakesBack}
 use Rattle.dm_tree.specs.Notes.{AreAt, GoesAlike, IsFresh, Begins, TakesEditBack, held_by}
 use Rattle.dm_tree.specs.Reuse.{IsUsed, IsClear}
 use Rattle.dm_tree.proofs.SubtreeCuts.{live_attached, still_attached}
@@ -79,8 +79,8 @@ flipped-beside rows (change.PutIn j) k d =
 given_row : (rows : List Row) (k j : ℕ) → (j ≡ k → ⊥) → row_at (without_content rows k) j ≡ row_at rows j
 given_row rows k j d = get_or-set_other rows k j _ blank d
 
-ready-beside : (rows : List Row) (u : Change) (k : ℕ) → (row_of u ≡ k → ⊥) → IsReady rows u
-    → IsReady (without_content rows k) u
+ready-beside : (rows : List Row) (u : Change) (k : ℕ) → (row_of u ≡ k → ⊥) → IsReadyChange rows u
+    → IsReadyChange (without_content rows k) u
 ready-beside rows (change.Value j value verno stamp) k d r = tt
 ready-beside rows (change.Bytes j bytes verno stamp) k d r = tt
 ready-beside rows (change.Acl j acl verno stamp) k d r = tt

@@ -48,19 +48,19 @@ turned rows (change.TakeOut k) = change.PutIn k
 turned rows (change.PutIn k) = change.TakeOut k
 
 -- a subtree that is to be taken out is in, and one that is to be put in is out
-abbrev pub IsReady : List Row → Change → Type 0
-IsReady rows (change.Value k value verno stamp) = ⊤
-IsReady rows (change.Bytes k bytes verno stamp) = ⊤
-IsReady rows (change.Acl k acl verno stamp) = ⊤
-IsReady rows (change.Title k title verno stamp) = ⊤
-IsReady rows (change.Name k name verno stamp) = ⊤
-IsReady rows (change.TakeOut k) = (row_at rows k).attached ≡ true
-IsReady rows (change.PutIn k) = (row_at rows k).attached ≡ false
+abbrev pub IsReadyChange : List Row → Change → Type 0
+IsReadyChange rows (change.Value k value verno stamp) = ⊤
+IsReadyChange rows (change.Bytes k bytes verno stamp) = ⊤
+IsReadyChange rows (change.Acl k acl verno stamp) = ⊤
+IsReadyChange rows (change.Title k title verno stamp) = ⊤
+IsReadyChange rows (change.Name k name verno stamp) = ⊤
+IsReadyChange rows (change.TakeOut k) = (row_at rows k).attached ≡ true
+IsReadyChange rows (change.PutIn k) = (row_at rows k).attached ≡ false
 
 -- it may be flipped here: what it speaks of is there, and what it gives is a tree
 pub record Fits (rows : List Row) (undo : Change) : Type 0 where
   pub inside : row_of undo < length rows
-  pub ready : IsReady rows undo
+  pub ready : IsReadyChange rows undo
   pub sound : IsTree (flipped rows undo)
 
 -- the subtree that it holds, where it holds one, is parked
