@@ -16,7 +16,7 @@ use Rattle.dm_service.specs.Service.{Waiting, Service}
 use Rattle.dm_waiting.specs.View.{entries_of}
 use Rattle.dm_server.specs.declared.held.Run.{Run}
 use Rattle.dm_server.specs.declared.held.Outbox.{Outbox}
-use Rattle.dm_server.specs.Inside.{at_work, service_of, session_of}
+use Rattle.dm_server.specs.Inside.{at_work, service_of, session_with}
 
 abbrev pub filling_of : Service → Progress → Parts → Filling
 filling_of v p m = fill (entries_of v.queue) (header_for v p m) p.standing.room p.standing.heard
@@ -42,7 +42,7 @@ pub sent_is : (job : Job) (run : Run) (p next : Progress) (o now : Outbox) (g : 
     → over ≡ is_last (at_work job run p o g k before) p.standing m code f
     → runs ≡ runs_in_after run.runs_in p.number (goes_out (p.standing.own + 1) 1 filled.whole filled.cut o.queue)
     → at_work job (record run { runs_in = runs }) next now g k (Some filled.message)
-    ≡ sends (at_work job run p o g k before) (session_of p o g) m code
+    ≡ sends (at_work job run p o g k before) (session_with p o g) m code
 unfolding sends
 sent_is job run p next o now g k before m code filled runs over f is message whole cut queue sent next_is over_is
     runs_is =

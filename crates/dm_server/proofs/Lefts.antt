@@ -16,7 +16,7 @@ use Rattle.dm_service.specs.Ready.{AreReadyWaiting}
 use Rattle.dm_service.specs.Service.{Waiting, Told, Service}
 use Rattle.dm_server.specs.declared.held.Run.{Run}
 use Rattle.dm_server.specs.declared.held.Outbox.{Outbox}
-use Rattle.dm_server.specs.Inside.{at_work, newest_of, session_of, IsNumberedJob, IsPlace}
+use Rattle.dm_server.specs.Inside.{at_work, newest_of, session_with, IsNumberedJob, IsPlace}
 use Rattle.dm_server.specs.Working.{sent_without, Holds, IsRow}
 use Rattle.dm_server.proofs.Rows.{forgotten_is, left_commands, left_in_order, sent_is}
 use Rattle.dm_server.proofs.Runs.{put_back_is}
@@ -39,7 +39,7 @@ pub given_up_is : (job : Job) (run : Run) (p : Progress) (o : Outbox) (g : Gathe
     → queue ≡ filter (λ w. not (is_of_job w)) o.queue → sent ≡ sent_without first count o.sent
     → known ≡ known_left first count k
     → at_work job (run_left next runs) p (outbox_left queue sent) g known before
-    ≡ gives_up (at_work job run p o g k before) (session_of p o g)
+    ≡ gives_up (at_work job run p o g k before) (session_with p o g)
 unfolding gives_up
 given_up_is job run p o g k known before next first count runs queue sent numbered place row next_is runs_is queue_is
     sent_so known_is =

@@ -33,7 +33,7 @@ use Rattle.dm_service.specs.Service.{Session, Service}
 use Rattle.dm_server.specs.declared.held.Run.{Run}
 use Rattle.dm_server.specs.declared.held.Outbox.{Outbox}
 use Rattle.dm_server.specs.declared.held.Session.{Session as Held}
-use Rattle.dm_server.specs.Inside.{at_work, session_of}
+use Rattle.dm_server.specs.Inside.{at_work, session_with}
 use Rattle.dm_server.specs.Working.{by_header_after, with_account, CanAccept, CanWork, IsFaultTold}
 
 pub if_so : {A : Type 0} (b : Bool) (x y : A) → b ≡ true → cond b x y ≡ x
@@ -66,7 +66,7 @@ pub denied_sends : (job : Job) (run : Run) (p : Progress) (o : Outbox) (g : Gath
     (before : Option Parts) (m : Parts) (code : ℕ) (nonce : List ℕ) (sent : Parts)
     → sent ≡ farewell (header_for (at_work job run p o g k before) p m) m code nonce
     → at_work job run (denied_progress p) o g k (Some sent)
-    ≡ denies (at_work job run p o g k before) (session_of p o g) m code nonce
+    ≡ denies (at_work job run p o g k before) (session_with p o g) m code nonce
 unfolding denies
 denied_sends job run p o g k before m code nonce sent is =
     ap (λ x. at_work job run (denied_progress p) o g k (Some x)) is
@@ -146,20 +146,20 @@ pub accepted_is : (job : Job) (run : Run) (p next : Progress) (o : Outbox) (g : 
     → account ≡ (heard_of job p m nonce).account → status ≡ (heard_of job p m nonce).status
     → next ≡ progress_heard p (heard_of job p m nonce)
     → v
-    ≡ by_header_after (after_status (at_work (with_account job account) run next o g k before) (session_of next o g)
-    p.standing.we_failed status) (session_of next o g) m (heard_of job p m nonce) nonce
-    → v ≡ accepts (at_work job run p o g k before) (session_of p o g) m nonce
+    ≡ by_header_after (after_status (at_work (with_account job account) run next o g k before) (session_with next o g)
+    p.standing.we_failed status) (session_with next o g) m (heard_of job p m nonce) nonce
+    → v ≡ accepts (at_work job run p o g k before) (session_with p o g) m nonce
 unfolding accepts
 accepted_is job run p next o g k before m nonce account status v e c f is =
     let h = heard_of job p m nonce in
     let failed = p.standing.we_failed in
     is
-    ∙ ap (λ a. by_header_after (after_status (at_work (with_account job a) run next o g k before) (session_of next o g)
-    failed status) (session_of next o g) m h nonce) e
+    ∙ ap (λ a. by_header_after (after_status (at_work (with_account job a) run next o g k before)
+    (session_with next o g) failed status) (session_with next o g) m h nonce) e
     ∙ ap (λ n. by_header_after (after_status (at_work (with_account job h.account) run next o g k before)
-    (session_of next o g) failed n) (session_of next o g) m h nonce) c
+    (session_with next o g) failed n) (session_with next o g) m h nonce) c
     ∙ ap (λ x. by_header_after (after_status (at_work (with_account job h.account) run x o g k before)
-    (session_of x o g) failed h.status) (session_of x o g) m h nonce) f
+    (session_with x o g) failed h.status) (session_with x o g) m h nonce) f
 
 -- what its header leaves can be worked with
 pub can_work : (job : Job) (run : Run) (s : Held) (m : Parts) (nonce : List ℕ) (account : Account) (standing : Standing)

@@ -44,15 +44,15 @@ service_of job run queue known session sent = record {
   sent = sent;
 }
 
-abbrev pub session_of : Progress → Outbox → GatheredSoFar → Session
-session_of p o g = record { progress = p; object = g.object; sent = o.sent }
+abbrev pub session_with : Progress → Outbox → GatheredSoFar → Session
+session_with p o g = record { progress = p; object = g.object; sent = o.sent }
 
 -- the machine in a session
 abbrev pub at_work : Job → Run → Progress → Outbox → GatheredSoFar → Known → Option Parts → Service
-at_work job run p o g known sent = service_of job run o.queue known (Some (session_of p o g)) sent
+at_work job run p o g known sent = service_of job run o.queue known (Some (session_with p o g)) sent
 
 abbrev pub session_in : Held → Session
-session_in s = session_of s.progress s.outbox s.gathering
+session_in s = session_with s.progress s.outbox s.gathering
 
 abbrev pub queue_in : Option Held → List Waiting
 queue_in None = []

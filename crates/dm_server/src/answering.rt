@@ -11,7 +11,7 @@ ghost use Rattle.dm_service.specs.Messages.{answer_waiting, answers_message};
 ghost use Rattle.dm_service.specs.Packages.{next_package};
 ghost use Rattle.dm_service.specs.Ready.{AreReadyPackages, AreReadyWaiting};
 ghost use Rattle.dm_service.specs.Service.{Session as ASession};
-ghost use Rattle.dm_server.specs.Inside.{at_work, service_of, session_of, IsNumberedJob, IsPlace, Stands};
+ghost use Rattle.dm_server.specs.Inside.{at_work, service_of, session_with, IsNumberedJob, IsPlace, Stands};
 ghost use Rattle.dm_server.specs.Working.{answered_from, behind, with_account, CanWork, IsReadyBody, IsReply};
 
 use crate::bodies::answers_to;
@@ -75,7 +75,7 @@ fn answer_behind(
     ensures state { IfOk result (λ next. (before : OptionOf Parts)
         → behind plan.now.job account.now next outbox.new gathering.new findings.new before
         ≡ answered_from (at_work (with_account plan.now.job account.now) run progress.now outbox.old gathering.old
-        findings.old before) (session_of progress.now outbox.old gathering.old) message.now code) }
+        findings.old before) (session_with progress.now outbox.old gathering.old) message.now code) }
     ensures stands { IfOk result (λ next. Stands plan.now.job next.run outbox.new gathering.new) }
     ensures reply { IfOk result (λ next. IsReply next.progress next.sent) }
     ensures err_queue { OnErr result (take (length outbox.old.queue) outbox.new.queue ≡ outbox.old.queue) }
@@ -115,7 +115,7 @@ pub(crate) fn answered(
     ensures state { IfOk result (λ next. (before : OptionOf Parts)
         → behind plan.now.job account.now next outbox.new gathering.new findings.new before
         ≡ answers_message (at_work (with_account plan.now.job account.now) run progress.now outbox.old gathering.old
-        findings.old before) (session_of progress.now outbox.old gathering.old) message.now code nonce.now.bytes) }
+        findings.old before) (session_with progress.now outbox.old gathering.old) message.now code nonce.now.bytes) }
     ensures stands { IfOk result (λ next. Stands plan.now.job next.run outbox.new gathering.new) }
     ensures reply { IfOk result (λ next. IsReply next.progress next.sent) }
     ensures err_outbox { OnErr result (outbox.new ≡ outbox.old) }

@@ -7,7 +7,7 @@ ghost use Rattle.dm_report.specs.Known.{GatheredSoFar, is_within};
 ghost use Rattle.dm_service.specs.declared.progress.Progress.{Progress as AProgress};
 ghost use Rattle.dm_service.specs.Packages.{gives_up, runs_after};
 ghost use Rattle.dm_service.specs.Ready.{IsReadyEntry, AreReadyPackages};
-ghost use Rattle.dm_server.specs.Inside.{at_work, newest_of, session_of, IsNumberedJob, IsPlace};
+ghost use Rattle.dm_server.specs.Inside.{at_work, newest_of, session_with, IsNumberedJob, IsPlace};
 ghost use Rattle.dm_server.specs.Working.{with_account, sent_without, Holds, AreInARow, IsRow};
 
 use crate::held::{Outbox, Plan, Run};
@@ -105,7 +105,7 @@ pub(crate) fn give_up(
         (before : OptionOf Parts)
         → at_work (with_account plan.now.job account) left.run p left.outbox g left.findings before
         ≡ gives_up (at_work (with_account plan.now.job account) run p outbox.now g findings.now before)
-        (session_of p outbox.now g)) }
+        (session_with p outbox.now g)) }
     ensures holds { IfOk result (λ left. Holds plan.now.job left.run left.outbox) }
 {
     let (first, count) = row_of(newest(plan, run))?;

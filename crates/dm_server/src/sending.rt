@@ -10,7 +10,7 @@ ghost use Rattle.dm_service.specs.declared.sent.Sent.{Sent as ASent};
 ghost use Rattle.dm_service.specs.Service.{Service};
 ghost use Rattle.dm_service.specs.Sending as Spec;
 ghost use Rattle.dm_service.specs.Laws.{AreInOrder};
-ghost use Rattle.dm_server.specs.Inside.{at_work, session_of, Stands};
+ghost use Rattle.dm_server.specs.Inside.{at_work, session_with, Stands};
 ghost use Rattle.dm_server.specs.Working.{behind, with_account, CanWork, IsReply, ToldBy};
 
 use crate::bodies::is_done_there;
@@ -134,7 +134,7 @@ pub(crate) fn send(
     ensures state { IfOk result (λ next. (before : OptionOf Parts)
         → behind plan.now.job account.now next outbox.new gathering.new findings.new before
         ≡ Spec.sends (at_work (with_account plan.now.job account.now) run progress.now outbox.old gathering.new
-        findings.new before) (session_of progress.now outbox.old gathering.new) message.now code) }
+        findings.new before) (session_with progress.now outbox.old gathering.new) message.now code) }
     ensures told { IfOk result (λ next. ToldBy (passing code) outbox.old.sent message.now.body findings.old
         findings.new gathering.old gathering.new) }
     ensures stands { IfOk result (λ next. Stands plan.now.job next.run outbox.new gathering.new) }

@@ -10,7 +10,7 @@ ghost use Rattle.dm_report.specs.Known.{Known as AKnown, GatheredSoFar};
 ghost use Rattle.dm_service.specs.Messages as Spec;
 ghost use Rattle.dm_service.specs.Packages.{gives_up};
 ghost use Rattle.dm_server.specs.declared.held.Outbox.{Outbox as AnOutbox};
-ghost use Rattle.dm_server.specs.Inside.{at_work, session_in, session_of, Stands};
+ghost use Rattle.dm_server.specs.Inside.{at_work, session_in, session_with, Stands};
 ghost use Rattle.dm_server.specs.Working.{behind, by_header_after, drafted, with_account};
 ghost use Rattle.dm_server.specs.Working.{CanAccept, CanWork, IsFaultTold, IsReply};
 
@@ -32,7 +32,7 @@ fn ended(run: Run, progress: &Progress) -> Next
     ensures state { (job : AJob) (account : AnAccount) (o : AnOutbox) (g : GatheredSoFar) (known : AKnown)
         (before : OptionOf Parts) → behind job account result o g known before
         ≡ Spec.ended (at_work (with_account job account) run progress.now o g known before)
-        (session_of progress.now o g) }
+        (session_with progress.now o g) }
     ensures run { result.run ≡ run }
     ensures reply { IsReply result.progress result.sent }
 {
@@ -65,7 +65,7 @@ fn denied(
     ensures state { IfOk result (λ next. (o : AnOutbox) (g : GatheredSoFar) (known : AKnown) (before : OptionOf Parts)
         → behind plan.now.job account.now next o g known before
         ≡ Spec.denies (at_work (with_account plan.now.job account.now) run progress.now o g known before)
-        (session_of progress.now o g) message.now code nonce.now.bytes) }
+        (session_with progress.now o g) message.now code nonce.now.bytes) }
     ensures run { IfOk result (λ next. next.run ≡ run) }
     ensures reply { IfOk result (λ next. IsReply next.progress next.sent) }
 {
@@ -112,7 +112,7 @@ fn by_header(
         → h.code ≡ heard.now.code → h.second ≡ heard.now.second
         → behind plan.now.job account.now next outbox.new gathering.new findings.new before
         ≡ Spec.by_header (at_work (with_account plan.now.job account.now) run progress.now outbox.old gathering.old
-        findings.old before) (session_of progress.now outbox.old gathering.old) message.now h nonce.now.bytes) }
+        findings.old before) (session_with progress.now outbox.old gathering.old) message.now h nonce.now.bytes) }
     ensures stands { IfOk result (λ next. Stands plan.now.job next.run outbox.new gathering.new) }
     ensures reply { IfOk result (λ next. IsReply next.progress next.sent) }
     ensures err_outbox { OnErr result (outbox.new ≡ outbox.old) }
@@ -151,8 +151,8 @@ fn by_header_anew(
         → h.code ≡ heard.now.code → h.second ≡ heard.now.second
         → behind plan.now.job account.now next outbox.new gathering.new findings.new before
         ≡ by_header_after (gives_up (at_work (with_account plan.now.job account.now) run progress.now outbox.old
-        gathering.old findings.old before) (session_of progress.now outbox.old gathering.old))
-        (session_of progress.now outbox.old gathering.old) message.now h nonce.now.bytes) }
+        gathering.old findings.old before) (session_with progress.now outbox.old gathering.old))
+        (session_with progress.now outbox.old gathering.old) message.now h nonce.now.bytes) }
     ensures stands { IfOk result (λ next. Stands plan.now.job next.run outbox.new gathering.new) }
     ensures reply { IfOk result (λ next. IsReply next.progress next.sent) }
     ensures err_outbox { OnErr result (outbox.new ≡ outbox.old) }
@@ -198,8 +198,8 @@ fn by_status(
         → h.code ≡ heard.now.code → h.second ≡ heard.now.second
         → behind plan.now.job account.now next outbox.new gathering.new findings.new before
         ≡ by_header_after (Spec.after_status (at_work (with_account plan.now.job account.now) run progress.now
-        outbox.old gathering.old findings.old before) (session_of progress.now outbox.old gathering.old) failed
-        heard.now.status) (session_of progress.now outbox.old gathering.old) message.now h nonce.now.bytes) }
+        outbox.old gathering.old findings.old before) (session_with progress.now outbox.old gathering.old) failed
+        heard.now.status) (session_with progress.now outbox.old gathering.old) message.now h nonce.now.bytes) }
     ensures stands { IfOk result (λ next. Stands plan.now.job next.run outbox.new gathering.new) }
     ensures reply { IfOk result (λ next. IsReply next.progress next.sent) }
     ensures err_outbox { OnErr result (outbox.new ≡ outbox.old) }

@@ -38,7 +38,7 @@ use Rattle.dm_session.specs.declared.rest.Rest.{Rest}
 use Rattle.dm_session.specs.declared.rest.Session.{Session as Held}
 use Rattle.dm_session.specs.declared.rest.Sent.{Sent}
 use Rattle.dm_session.specs.Inside as inside
-use Rattle.dm_session.specs.Inside.{CanGoOn, IsSpelled, session_of}
+use Rattle.dm_session.specs.Inside.{CanGoOn, IsSpelled, session_in}
 use Rattle.dm_session.specs.View.{Whole, Tells}
 use Rattle.dm_session.proofs.Closed.{closed_behind}
 use Rattle.dm_session.specs.Working.{outcome, answer_of, rest_behind, told, ended_rest, begun_rest, account_behind}
@@ -54,7 +54,7 @@ seen_as w stamp q r = record {
     engine = w.state;
     queue = q;
     accounts = r.accounts;
-    session = option_map session_of r.session;
+    session = option_map session_in r.session;
     begun = r.begun;
     results = r.results;
     resp_uri = r.resp_uri;
@@ -185,7 +185,7 @@ next_goes_on f q r c e s m is ready event = record {
   ready = subst IsReadyMachine (sym is) (stays_ready c e ready event);
 }
 
-no_session : (o : Option Held) → option_map session_of o ≡ None → o ≡ None
+no_session : (o : Option Held) → option_map session_in o ≡ None → o ≡ None
 no_session None h = refl
 no_session (Some s) h = absurd (cc)
 
@@ -329,10 +329,10 @@ begun_machine_is g q r x number first c d account kind e is same =
     ap (inside.machine_of g q) e ∙ is ∙ ap (λ y. begins y account kind number) same
 
 pub begun_some : (x r : Rest) (number : ℕ) (first : Held) (a : events.Answer) → x ≡ begun_rest r number first
-    → a ≡ events.sent (session_of first).sent
-    → IsSomeAnd (option_map session_of x.session) (λ (s : Session). a ≡ events.sent s.sent)
+    → a ≡ events.sent (session_in first).sent
+    → IsSomeAnd (option_map session_in x.session) (λ (s : Session). a ≡ events.sent s.sent)
 begun_some x r number first a e is =
-    subst (λ (y : Rest). IsSomeAnd (option_map session_of y.session) (λ (s : Session). a ≡ events.sent s.sent)) (sym e)
+    subst (λ (y : Rest). IsSomeAnd (option_map session_in y.session) (λ (s : Session). a ≡ events.sent s.sent)) (sym e)
     is
 
 -- ---- a message that was accepted

@@ -18,7 +18,7 @@ use Rattle.dm_machine.specs.Events.{act, takes}
 use Rattle.dm_session.specs.declared.client.Client.TheInside.{Inside}
 use Rattle.dm_session.specs.declared.rest.Rest.{Rest}
 use Rattle.dm_session.specs.declared.rest.Session.{Session}
-use Rattle.dm_session.specs.Inside.{machine_of, session_of, whole_client}
+use Rattle.dm_session.specs.Inside.{machine_of, session_in, whole_client}
 use Rattle.dm_session.specs.View.{Whole}
 use Rattle.dm_session.specs.Stays.{body_covers, read_covers, engine_in}
 
@@ -75,7 +75,7 @@ pub not_open : (e : Engine) (q : List Entry) (r : Rest) (ok : Bool) → takes (m
 unfolding takes
 not_open e q r ok t = none r.session (is_updating (state_of e).tree) t
   where
-    none : (s : Option Session) (b : Bool) → not (is_some (option_map session_of s)) && b ≡ true → s ≡ None
+    none : (s : Option Session) (b : Bool) → not (is_some (option_map session_in s)) && b ≡ true → s ≡ None
     none None b h = refl
     none (Some s) b h = absurd (cc)
 

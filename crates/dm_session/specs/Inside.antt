@@ -15,8 +15,8 @@ use Rattle.dm_session.specs.declared.rest.Rest.{Rest}
 use Rattle.dm_session.specs.declared.client.Client.TheInside.{Inside}
 use Rattle.dm_session.specs.View.{Whole}
 
-abbrev pub session_of : Held → Session
-session_of s = record { progress = s.progress; sent = s.sent.message }
+abbrev pub session_in : Held → Session
+session_in s = record { progress = s.progress; sent = s.sent.message }
 
 abbrev pub message_in : Sent → Parts
 message_in s = s.message
@@ -29,7 +29,7 @@ machine_of e q r = record {
   engine = state_of e;
   queue = q;
   accounts = r.accounts;
-  session = option_map session_of r.session;
+  session = option_map session_in r.session;
   begun = r.begun;
   results = r.results;
   resp_uri = r.resp_uri;

@@ -6,7 +6,7 @@ use Rattle.dm_atomic.specs.Updates.{TellsStarted}
 use Rattle.dm_machine.specs.Events.{message}
 use Rattle.dm_machine.specs.Machine.{Machine}
 use Rattle.dm_machine.specs.Events.{takes}
-use Rattle.dm_session.specs.Inside.{machine_of, session_of}
+use Rattle.dm_session.specs.Inside.{machine_of, session_in}
 use Rattle.dm_session.specs.View.{Whole}
 use Rattle.dm_session.proofs.Clients.{back_goes_on, same_client, drafted_lives, steady_of}
 use Rattle.dm_session.specs.Stays.{body_covers}
@@ -44,9 +44,9 @@ invariant_of-self-in-Ok c =
     let old = ap (λ (w : Whole). w.machine) c.self.view_is in
     let came = message (Ok c.args.message.now) c.args.nonce.now.bytes in
     drafted_lives c.accept.new.engine c.settle.new.self c.accept.new.queue r c.take_up.new.self
-    c.in-Some.session.progress.account c.in-Ok.draft (machine_of e c.self.inside.queue r) (session_of c.in-Some.session)
+    c.in-Some.session.progress.account c.in-Ok.draft (machine_of e c.self.inside.queue r) (session_in c.in-Some.session)
     c.args.message.now c.args.nonce.now.bytes c.take_up.ensures.rest
-    (subst (λ x. takes x came ≡ true) (sym old) c.requires.takes) (ap (option_map session_of) c.in-Some.is)
+    (subst (λ x. takes x came ≡ true) (sym old) c.requires.takes) (ap (option_map session_in) c.in-Some.is)
     c.in-Ok.ensures.state
     c.settle.ensures.whole c.settle.ensures.clock c.settle.ensures.sound
     (c.settle.ensures.max_obj ∙ c.accept.ensures.max_obj ∙ c.self.invariant.goes_on.max_obj)

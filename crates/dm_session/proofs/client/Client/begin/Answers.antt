@@ -15,7 +15,7 @@ use Rattle.dm_machine.proofs.ToldGroups.{abandoned_ready}
 use Rattle.dm_machine.specs.Machine.{Machine}
 use Rattle.dm_machine.specs.Events.{opened}
 use Rattle.dm_machine.specs.History.{answer_now}
-use Rattle.dm_session.specs.Inside.{machine_of, session_of}
+use Rattle.dm_session.specs.Inside.{machine_of, session_in}
 use Rattle.dm_session.specs.View.{Whole}
 use Rattle.dm_session.proofs.Clients.{back_goes_on, same_client, begun_is, begun_lives, begun_machine_is, begun_next}
 use Rattle.dm_session.proofs.Clients.{begun_answer, begun_some}
@@ -90,7 +90,7 @@ returns-in-Ok-clause-answer c =
     c.settle.ensures.clock
     c.in-Ok.ensures.state in
     let answer = begun_answer (machine_of e c.self.inside.queue r) _ c.args.account c.args.kind c.args.session
-    (session_of c.in-Ok.first) later is refl in
+    (session_in c.in-Ok.first) later is refl in
     begun_some c.begin.new.self r c.args.session c.in-Ok.first _ c.begin.ensures
     (ap (λ x. answer_now x (opened c.args.account c.args.kind c.args.session)) (sym old) ∙ answer)
 
