@@ -10,7 +10,7 @@ use Rattle.std.proofs.lemmas.Grind.{common_steps}
 use Rattle.dm_service.specs.declared.sent.Sent.{Sent}
 use Rattle.dm_service.specs.Laws.{IsSentBefore, AreInOrder}
 use Rattle.dm_service.specs.Matching.{is_for, find_sent}
-use Rattle.dm_report.specs.Sending.{is_before, AreCommands}
+use Rattle.dm_report.specs.Sending.{is_sent_before, AreCommands}
 
 -- ---- parts of a list in order
 
@@ -56,7 +56,7 @@ numbers-higher : (a b m n msg command : ℕ) → a ≡ m → b < n → (a == msg
 numbers-higher a b m n msg command h k e f = grind (arith, common_steps)
 
 -- one that stands before another that isn't behind the place isn't meant
-earlier : (s t : Sent) (msg command : ℕ) → IsSentBefore s t → is_before t msg command ≡ true
+earlier : (s t : Sent) (msg command : ℕ) → IsSentBefore s t → is_sent_before t msg command ≡ true
     → is_for msg command s ≡ false
 earlier s t msg command (inl h) e = numbers-earlier s.msg s.command t.msg t.command msg command h e
 earlier s t msg command (inr h) e = numbers-lower s.msg s.command t.msg t.command msg command h.0 h.1 e
@@ -67,7 +67,7 @@ at-place s t msg command (inl h) e = numbers-apart s.msg s.command t.msg t.comma
 at-place s t msg command (inr h) e = numbers-below s.msg s.command t.msg t.command msg command h.0 h.1 e
 
 later : (s t : Sent) (msg command : ℕ) → IsSentBefore s t → is_for msg command s ≡ false
-    → is_before s msg command ≡ false → is_for msg command t ≡ false
+    → is_sent_before s msg command ≡ false → is_for msg command t ≡ false
 later s t msg command (inl h) e f = numbers-later s.msg s.command t.msg t.command msg command h e f
 later s t msg command (inr h) e f = numbers-higher s.msg s.command t.msg t.command msg command h.0 h.1 e f
 
@@ -75,17 +75,17 @@ numbers-other : (a b msg command : ℕ) → (nat_lt a msg || (a == msg && nat_lt
     → (a == msg && b == command) ≡ false
 numbers-other a b msg command e = grind (arith, common_steps)
 
-before-is-other : (s : Sent) (msg command : ℕ) → is_before s msg command ≡ true → is_for msg command s ≡ false
+before-is-other : (s : Sent) (msg command : ℕ) → is_sent_before s msg command ≡ true → is_for msg command s ≡ false
 before-is-other s msg command e = numbers-other s.msg s.command msg command e
 
 find-none : (msg command : ℕ) (s : Sent) (ss : List Sent) → is_for msg command s ≡ false
-    → is_before s msg command ≡ false → AllByRecursion (IsSentBefore s) ss → find_sent msg command ss ≡ None
+    → is_sent_before s msg command ≡ false → AllByRecursion (IsSentBefore s) ss → find_sent msg command ss ≡ None
 find-none msg command s [] e f h = refl
 find-none msg command s (t ∷ ts) e f h =
     rw (later s t msg command h.0 e f) (find-none msg command s ts e f h.1)
 
 pub find-behind : (msg command : ℕ) (front : List Sent) (s : Sent) (behind : List Sent)
-    → AreInOrder (front ++ s ∷ behind) → is_before s msg command ≡ true
+    → AreInOrder (front ++ s ∷ behind) → is_sent_before s msg command ≡ true
     → find_sent msg command (front ++ s ∷ behind) ≡ find_sent msg command behind
 find-behind msg command [] s behind h e = rw (before-is-other s msg command e) refl
 find-behind msg command (t ∷ ts) s behind h e =
@@ -107,7 +107,7 @@ find-at msg command (t ∷ ts) s behind h e =
     middle (u ∷ us) k = middle us k.1
 
 pub find-front : (msg command : ℕ) (front : List Sent) (s : Sent) (behind : List Sent)
-    → AreInOrder (front ++ s ∷ behind) → is_for msg command s ≡ false → is_before s msg command ≡ false
+    → AreInOrder (front ++ s ∷ behind) → is_for msg command s ≡ false → is_sent_before s msg command ≡ false
     → find_sent msg command (front ++ s ∷ behind) ≡ find_sent msg command front
 find-front msg command [] s behind h e f = rw e (find-none msg command s behind e f h.0)
 find-front msg command (t ∷ ts) s behind h e f =
@@ -153,7 +153,7 @@ middle-found msg command rest front back s h o e =
     ∙ find-at msg command front s (drop 1 back) (rw h.parts at o) e
 
 pub behind-found : (msg command : ℕ) (rest front back behind : List Sent) (s : Sent) → IsHalved rest front back s
-    → behind ≡ drop 1 back → AreInOrder rest → is_before s msg command ≡ true
+    → behind ≡ drop 1 back → AreInOrder rest → is_sent_before s msg command ≡ true
     → (find_sent msg command rest ≡ find_sent msg command behind) × AreInOrder behind
 behind-found msg command rest front back behind s h b o e =
     let p : AreInOrder (front ++ s ∷ drop 1 back) = rw h.parts at o in
@@ -164,7 +164,7 @@ behind-found msg command rest front back behind s h b o e =
     )
 
 pub front-found : (msg command : ℕ) (rest front back : List Sent) (s : Sent) → IsHalved rest front back s
-    → AreInOrder rest → is_for msg command s ≡ false → is_before s msg command ≡ false
+    → AreInOrder rest → is_for msg command s ≡ false → is_sent_before s msg command ≡ false
     → (find_sent msg command rest ≡ find_sent msg command front) × AreInOrder front
 front-found msg command rest front back s h o e f =
     let p : AreInOrder (front ++ s ∷ drop 1 back) = rw h.parts at o in (

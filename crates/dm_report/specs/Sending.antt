@@ -8,5 +8,5 @@ abbrev pub AreCommands : List Sent → Type 0
 AreCommands = AllByRecursion (λ (s : Sent). 0 < s.number)
 
 -- in an earlier message, or in the same one with a lower CmdID
-abbrev pub is_before : Sent → ℕ → ℕ → Bool
-is_before s msg command = nat_lt s.msg msg || (s.msg == msg && nat_lt s.command command)
+abbrev pub is_sent_before : Sent → ℕ → ℕ → Bool
+is_sent_before s msg command = nat_lt s.msg msg || (s.msg == msg && nat_lt s.command command)

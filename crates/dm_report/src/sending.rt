@@ -2,7 +2,7 @@
 ghost use Rattle.std.specs.Prelude.{◌≡◌, ◌<◌, IfSome, option_and_then};
 ghost use Rattle.dm_service.specs.Laws.{AreInOrder};
 ghost use Rattle.dm_service.specs.Matching as Spec;
-ghost use Rattle.dm_report.specs.Sending.{is_before, AreCommands};
+ghost use Rattle.dm_report.specs.Sending.{is_sent_before, AreCommands};
 
 use dm_service::Sent;
 use syncml_types::ResultsCmd;
@@ -14,7 +14,7 @@ fn is_for(sent: &Sent, msg: u32, command: u32) -> bool
 }
 
 fn is_before(sent: &Sent, msg: u32, command: u32) -> bool
-    ensures { result ≡ is_before sent.now msg command }
+    ensures { result ≡ is_sent_before sent.now msg command }
 {
     sent.msg < msg || (sent.msg == msg && sent.command < command)
 }

@@ -13,7 +13,7 @@ use Rattle.dm_tree.specs.declared.rows.Change.{Change}
 use Rattle.dm_tree.specs.declared.rows.Change.TheVariants as change
 use Rattle.dm_tree.specs.Rows.{blank, row_at, node_of, IsShaped, IsParkedTop}
 use Rattle.dm_tree.specs.Edits.{attached_as, with_node, with_name, emptied, without_content}
-use Rattle.dm_tree.specs.Index.{ChildList, no_children, children_at, is_before, is_parked_below, parked_below}
+use Rattle.dm_tree.specs.Index.{ChildList, no_children, children_at, is_named_before, is_parked_below, parked_below}
 use Rattle.dm_tree.specs.Index.{IsInOrder, IsChildList, IsIndex, IsPlace, IsPut, IsTaken}
 use Rattle.dm_tree.specs.Index.{IsSized}
 use Rattle.dm_tree.specs.Undos.{Fits, row_of, flipped}
@@ -42,10 +42,10 @@ once rows ids order i j l m e =
       | inr d ↦ elim (below_or_not i j) [
         | inl h ↦
             absurd (not_before_itself (row_at rows (get_or ids j 0)).name
-            (subst (λ x. is_before rows (row_at rows (get_or ids j 0)).name x ≡ true) e (order i j h m)))
+            (subst (λ x. is_named_before rows (row_at rows (get_or ids j 0)).name x ≡ true) e (order i j h m)))
         | inr h ↦
             absurd (not_before_itself (row_at rows (get_or ids i 0)).name
-            (subst (λ x. is_before rows (row_at rows (get_or ids i 0)).name x ≡ true) (sym e)
+            (subst (λ x. is_named_before rows (row_at rows (get_or ids i 0)).name x ≡ true) (sym e)
             (order j i (omega (arith, h, d)) l)))
       ]
     ]
@@ -66,13 +66,13 @@ child_place rows k c h j a p place at =
       | inr d ↦ elim (below_or_not listed.0 place) [
         | inl l ↦
             absurd (not_before_itself (row_at rows j).name
-            (subst (λ x. is_before rows (row_at rows j).name x ≡ true) listed.2 (at.before listed.0 l)))
+            (subst (λ x. is_named_before rows (row_at rows j).name x ≡ true) listed.2 (at.before listed.0 l)))
         | inr l ↦
             let m : place < listed.0 = omega (arith, l, d) in
-            let yes : is_before rows (row_at rows j).name (get_or c.ids place 0) ≡ true =
-            subst (λ x. is_before rows (row_at rows x).name (get_or c.ids place 0) ≡ true) listed.2
+            let yes : is_named_before rows (row_at rows j).name (get_or c.ids place 0) ≡ true =
+            subst (λ x. is_named_before rows (row_at rows x).name (get_or c.ids place 0) ≡ true) listed.2
             (h.order place listed.0 m listed.1) in
-            let no : is_before rows (row_at rows j).name (get_or c.ids place 0) ≡ false =
+            let no : is_named_before rows (row_at rows j).name (get_or c.ids place 0) ≡ false =
             at.behind place (omega arith) (omega (arith, m, listed.1)) in
             absurd (cc)
       ]

@@ -9,7 +9,7 @@ use Rattle.std.proofs.lemmas.List.Edits.{length-insert, get_or-insert_below, get
 use Rattle.std.proofs.lemmas.List.Edits.{length-remove, get_or-remove_below, get_or-remove_above}
 use Rattle.dm_tree.specs.declared.rows.Row.{Row}
 use Rattle.dm_tree.specs.Rows.{row_at}
-use Rattle.dm_tree.specs.Index.{is_before, IsInOrder, IsPlace}
+use Rattle.dm_tree.specs.Index.{is_named_before, IsInOrder, IsPlace}
 use Rattle.dm_tree.proofs.Paths.{below_or_not, same_or_not}
 use Rattle.dm_tree.proofs.PathOrder.{name_order, name_total, name_exact}
 
@@ -61,7 +61,7 @@ module _ (ids : List ℕ) (place id : ℕ) (within : place ≤ length ids) where
 module _ (rows : List Row) (ids : List ℕ) where
   -- the i-th stands before the j-th
   abbrev pub Before : ℕ → ℕ → Type 0
-  Before a b = is_before rows (row_at rows b).name a ≡ true
+  Before a b = is_named_before rows (row_at rows b).name a ≡ true
 
   pub insert_order : (place id : ℕ) → IsInOrder rows ids → IsPlace rows ids (row_at rows id).name place
       → ((i : ℕ) → i < length ids → (row_at rows (get_or ids i 0)).name ≡ (row_at rows id).name → ⊥)
@@ -134,6 +134,6 @@ remove_order rows ids place within order i j l m =
         | inr k ↦ omega (arith, a.5 h, b.5 k, l)
       ]
     ] in
-    subst (λ x. is_before rows (row_at rows (get_or (remove ids place) j 0)).name x ≡ true) (sym a.3)
-    (subst (λ y. is_before rows (row_at rows y).name (get_or ids a.0 0) ≡ true) (sym b.3)
+    subst (λ x. is_named_before rows (row_at rows (get_or (remove ids place) j 0)).name x ≡ true) (sym a.3)
+    (subst (λ y. is_named_before rows (row_at rows y).name (get_or ids a.0 0) ≡ true) (sym b.3)
     (order a.0 b.0 apart b.1))

@@ -13,8 +13,8 @@ use Rattle.std.proofs.lemmas.Option.{slice_get-get_or, slice_get_past, slice_get
 use Rattle.std.specs.Cmp.Lexicographic.{same_text, nat_list_eq_equiv}
 use Rattle.dm_tree.specs.declared.rows.Row.{Row}
 use Rattle.dm_tree.specs.Rows.{blank, row_at, IsShaped}
-use Rattle.dm_tree.specs.Index.{ChildList, no_children, is_before, is_behind, AreRows, IsInOrder, IsChildList, IsIndex}
-use Rattle.dm_tree.specs.Index.{IsPlace, IsPlacePast}
+use Rattle.dm_tree.specs.Index.{ChildList, no_children, is_named_before, is_named_behind, AreRows, IsInOrder}
+use Rattle.dm_tree.specs.Index.{IsChildList, IsIndex, IsPlace, IsPlacePast}
 use Rattle.dm_tree.specs.Walks.{is_child, child_of, comes_after, is_later_child, least_child}
 use Rattle.dm_tree.proofs.Paths.{below_or_not, same_or_not}
 use Rattle.dm_tree.proofs.RowPaths.{Child, attached_row, same_number}
@@ -49,7 +49,7 @@ pub past_child : (rows : List Row) (ids : List ℕ) → IsInOrder rows ids → (
 past_child rows ids order place l = record {
   within = omega (arith, l);
   before = λ i m. elim (same_or_not i place) [
-    | inl h ↦ ap (λ k. is_behind rows (row_at rows (get_or ids place 0)).name (get_or ids k 0)) h
+    | inl h ↦ ap (λ k. is_named_behind rows (row_at rows (get_or ids place 0)).name (get_or ids k 0)) h
         ∙ itself_not_less (row_at rows (get_or ids place 0)).name
     | inr d ↦ not_less_back (row_at rows (get_or ids i 0)).name (row_at rows (get_or ids place 0)).name
         (order i place (omega (arith, m, d)) l)
@@ -67,11 +67,11 @@ module _ (rows : List Row) (ids : List ℕ) (name : List ℕ) (inside : AreRows 
   stands i l = lt_yes _ _ (inside i l)
 
   abbrev pub before : ℕ → Bool
-  before id = nat_lt id (length rows) && is_before rows name id
+  before id = nat_lt id (length rows) && is_named_before rows name id
 
   before_at : (i : ℕ) → i < length ids → (b : Bool) → before (get_or ids i 0) ≡ b
-      → is_before rows name (get_or ids i 0) ≡ b
-  before_at i l b e = ap (λ t. t && is_before rows name (get_or ids i 0)) (sym (stands i l)) ∙ e
+      → is_named_before rows name (get_or ids i 0) ≡ b
+  before_at i l b e = ap (λ t. t && is_named_before rows name (get_or ids i 0)) (sym (stands i l)) ∙ e
 
   before_first : (i j : ℕ) → i ≤ j → j < length ids → before (get_or ids j 0) ≡ true → before (get_or ids i 0) ≡ true
   before_first i j le l h =
@@ -79,7 +79,7 @@ module _ (rows : List Row) (ids : List ℕ) (name : List ℕ) (inside : AreRows 
         | inl same ↦ ap (λ k. before (get_or ids k 0)) same ∙ h
         | inr other ↦
             let late = before_at j l true h in
-            and_from (nat_lt (get_or ids i 0) (length rows)) (is_before rows name (get_or ids i 0))
+            and_from (nat_lt (get_or ids i 0) (length rows)) (is_named_before rows name (get_or ids i 0))
             (stands i (omega arith))
             (less_less (row_at rows (get_or ids i 0)).name (row_at rows (get_or ids j 0)).name name
             (order i j (omega arith) l) late)
@@ -97,33 +97,34 @@ module _ (rows : List Row) (ids : List ℕ) (name : List ℕ) (inside : AreRows 
   }
 
   -- two names confirm a place
-  pub confirmed : (place : ℕ) → place ≤ length ids → (0 < place → is_before rows name (get_or ids (place - 1) 0) ≡ true)
-      → (place < length ids → is_before rows name (get_or ids place 0) ≡ false)
+  pub confirmed : (place : ℕ) → place ≤ length ids
+      → (0 < place → is_named_before rows name (get_or ids (place - 1) 0) ≡ true)
+      → (place < length ids → is_named_before rows name (get_or ids place 0) ≡ false)
       → IsPlace rows ids name place
   confirmed place within first second = record { within = within; before = before_it; behind = behind_it }
     where
-      before_it : (i : ℕ) → i < place → is_before rows name (get_or ids i 0) ≡ true
+      before_it : (i : ℕ) → i < place → is_named_before rows name (get_or ids i 0) ≡ true
       before_it i l =
-          let last_one : is_before rows name (get_or ids (place - 1) 0) ≡ true = first (omega (arith, l)) in
+          let last_one : is_named_before rows name (get_or ids (place - 1) 0) ≡ true = first (omega (arith, l)) in
           elim (same_or_not i (place - 1)) [
-            | inl e ↦ ap (λ k. is_before rows name (get_or ids k 0)) e ∙ last_one
+            | inl e ↦ ap (λ k. is_named_before rows name (get_or ids k 0)) e ∙ last_one
             | inr d ↦ less_less (row_at rows (get_or ids i 0)).name (row_at rows (get_or ids (place - 1) 0)).name name
                 (order i (place - 1) (omega (arith, l, d)) (omega (arith, l, within))) last_one
           ]
 
-      behind_it : (i : ℕ) → place ≤ i → i < length ids → is_before rows name (get_or ids i 0) ≡ false
+      behind_it : (i : ℕ) → place ≤ i → i < length ids → is_named_before rows name (get_or ids i 0) ≡ false
       behind_it i g l =
-          let here : is_before rows name (get_or ids place 0) ≡ false = second (omega (arith, g, l)) in
+          let here : is_named_before rows name (get_or ids place 0) ≡ false = second (omega (arith, g, l)) in
           elim (same_or_not i place) [
-            | inl e ↦ ap (λ k. is_before rows name (get_or ids k 0)) e ∙ here
-            | inr d ↦ to_false (is_before rows name (get_or ids i 0)) (λ yes.
+            | inl e ↦ ap (λ k. is_named_before rows name (get_or ids k 0)) e ∙ here
+            | inr d ↦ to_false (is_named_before rows name (get_or ids i 0)) (λ yes.
                 let no =
                 less_less (row_at rows (get_or ids place 0)).name (row_at rows (get_or ids i 0)).name name
                 (order place i (omega (arith, g, d)) l) yes in absurd (cc))
           ]
 
   earlier : (place : ℕ) → IsPlace rows ids name place → (i : ℕ) → i < place
-      → is_behind rows name (get_or ids i 0) ≡ false
+      → is_named_behind rows name (get_or ids i 0) ≡ false
   earlier place at i l = not_less_back (row_at rows (get_or ids i 0)).name name (at.before i l)
 
   -- behind the child that bears the name
@@ -148,10 +149,10 @@ module _ (rows : List Row) (ids : List ℕ) (name : List ℕ) (inside : AreRows 
       differs i g l e = elim (same_or_not i place) [
         | inl h ↦ other (omega (arith, g, l)) (ap (λ k. (row_at rows (get_or ids k 0)).name) (sym h) ∙ e)
         | inr d ↦
-            let no : is_before rows name (get_or ids place 0) ≡ false =
+            let no : is_named_before rows name (get_or ids place 0) ≡ false =
             at.behind place (omega arith) (omega (arith, g, l)) in
-            let yes : is_before rows name (get_or ids place 0) ≡ true =
-            ap (λ n. is_before rows n (get_or ids place 0)) (sym e) ∙ order place i (omega (arith, g, d)) l in
+            let yes : is_named_before rows name (get_or ids place 0) ≡ true =
+            ap (λ n. is_named_before rows n (get_or ids place 0)) (sym e) ∙ order place i (omega (arith, g, d)) l in
             cc
       ]
 
@@ -220,8 +221,8 @@ module _ (rows : List Row) (shape : IsShaped rows) (id : ℕ) (children : ChildL
               | inr past ↦
                   let inside : place < length children.ids = omega (arith, late, l) in
                   let no_more = is.behind place (omega arith) inside in
-                  let first : is_before rows name (get_or children.ids place 0) ≡ true =
-                  ap (λ n. is_before rows n (get_or children.ids place 0)) (sym same)
+                  let first : is_named_before rows name (get_or children.ids place 0) ≡ true =
+                  ap (λ n. is_named_before rows n (get_or children.ids place 0)) (sym same)
                   ∙ list.order place i (omega arith) l in
                   absurd (cc)
             ]

@@ -23,12 +23,12 @@ abbrev pub children_at : List ChildList → ℕ → ChildList
 children_at index k = get_or index k no_children
 
 -- the name of the row j stands before this name
-abbrev pub is_before : List Row → List ℕ → ℕ → Bool
-is_before rows name j = is_lt (slice_cmp nat_cmp (row_at rows j).name name)
+abbrev pub is_named_before : List Row → List ℕ → ℕ → Bool
+is_named_before rows name j = is_lt (slice_cmp nat_cmp (row_at rows j).name name)
 
 -- this name stands before that of the row j
-abbrev pub is_behind : List Row → List ℕ → ℕ → Bool
-is_behind rows name j = is_lt (slice_cmp nat_cmp name (row_at rows j).name)
+abbrev pub is_named_behind : List Row → List ℕ → ℕ → Bool
+is_named_behind rows name j = is_lt (slice_cmp nat_cmp name (row_at rows j).name)
 
 -- each of these numbers is that of a row
 abbrev pub AreRows : List Row → List ℕ → Type 0
@@ -37,7 +37,8 @@ AreRows rows ids = (i : ℕ) → i < length ids → get_or ids i 0 < length rows
 -- each of these rows stands before those that come after it
 abbrev pub IsInOrder : List Row → List ℕ → Type 0
 IsInOrder rows ids =
-    (i j : ℕ) → i < j → j < length ids → is_before rows (row_at rows (get_or ids j 0)).name (get_or ids i 0) ≡ true
+    (i j : ℕ) → i < j → j < length ids
+    → is_named_before rows (row_at rows (get_or ids j 0)).name (get_or ids i 0) ≡ true
 
 -- the row j was taken out from below the row k, and may be put in again; the root is below none
 abbrev pub is_parked_below : List Row → ℕ → ℕ → Bool
@@ -83,14 +84,14 @@ pub record IsTaken (rows : List Row) (id : ℕ) : Type 0 where
 -- where a name stands among these rows, or would stand: those before the place stand before it, the others don't
 pub record IsPlace (rows : List Row) (ids : List ℕ) (name : List ℕ) (place : ℕ) : Type 0 where
   pub within : place ≤ length ids
-  pub before : (i : ℕ) → i < place → is_before rows name (get_or ids i 0) ≡ true
-  pub behind : (i : ℕ) → place ≤ i → i < length ids → is_before rows name (get_or ids i 0) ≡ false
+  pub before : (i : ℕ) → i < place → is_named_before rows name (get_or ids i 0) ≡ true
+  pub behind : (i : ℕ) → place ≤ i → i < length ids → is_named_before rows name (get_or ids i 0) ≡ false
 
 -- the first place whose row stands behind a name
 pub record IsPlacePast (rows : List Row) (ids : List ℕ) (name : List ℕ) (place : ℕ) : Type 0 where
   pub within : place ≤ length ids
-  pub before : (i : ℕ) → i < place → is_behind rows name (get_or ids i 0) ≡ false
-  pub behind : (i : ℕ) → place ≤ i → i < length ids → is_behind rows name (get_or ids i 0) ≡ true
+  pub before : (i : ℕ) → i < place → is_named_behind rows name (get_or ids i 0) ≡ false
+  pub behind : (i : ℕ) → place ≤ i → i < length ids → is_named_behind rows name (get_or ids i 0) ≡ true
 
 -- ---- the sizes
 

@@ -5,7 +5,7 @@ ghost use Rattle.std.specs.List.{insert, remove};
 ghost use Rattle.dm_tree.specs.Rows.{row_at, node_of, IsShaped, IsTree, IsParkedTop};
 ghost use Rattle.dm_tree.specs.Edits.{attached_as, with_name, without_content};
 ghost use Rattle.dm_tree.specs.Reuse.{IsFreeRow};
-ghost use Rattle.dm_tree.specs.Index.{no_children, is_before as is_named_before, AreRows, IsInOrder, IsIndex, IsPut};
+ghost use Rattle.dm_tree.specs.Index.{no_children, is_named_before, AreRows, IsInOrder, IsIndex, IsPut};
 ghost use Rattle.dm_tree.specs.Index.{IsTaken, IsPlace, IsPlacePast};
 
 use crate::rows::Row;
