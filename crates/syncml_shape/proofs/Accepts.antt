@@ -9,7 +9,7 @@ use Rattle.wbxml_tokens.specs.declared.token.Token.TheVariants.{Tag, End, Text, 
 use Rattle.syncml_shape.specs.Forest.{Forest, nothing, text, opaque, bare, full, spelling}
 use Rattle.syncml_shape.specs.Rows.{Content, start, next, is_complete, takes_text}
 use Rattle.syncml_shape.specs.Shape.{fits}
-use Rattle.syncml_shape.specs.Steps.{Open, with_child, then_steps, steps, spellings, AllFit, Closes}
+use Rattle.syncml_shape.specs.Steps.{Open, content_child, then_steps, steps, spellings, AllFit, Closes}
 
 pub and_true : (a b : Bool) → IsTrue (a && b) → IsTrue a × IsTrue b
 and_true true b h = (refl, h)
@@ -36,7 +36,7 @@ steps-spelling (opaque b f) c s l h =
 steps-spelling (bare e f) c s l h =
     (elim (next c e)
     as (λ o. IsTrue (elim o as (λ _. Bool) [ None ↦ false | Some x ↦ is_complete (start x.0) && fits x.1 f ])
-    → then_steps (with_child s false o) (λ s'. steps s' (spelling f ++ End ∷ l)) ≡ steps s l) [
+    → then_steps (content_child s false o) (λ s'. steps s' (spelling f ++ End ∷ l)) ≡ steps s l) [
       | None ↦ λ h'. cc
       | Some x ↦ λ h'. let both = and_true (is_complete (start x.0)) (fits x.1 f) h' in
           taken (is_complete (start x.0)) (x.1 ∷ s) (λ s'. steps s' (spelling f ++ End ∷ l)) both.0
@@ -45,7 +45,7 @@ steps-spelling (bare e f) c s l h =
 steps-spelling (full e i f) c s l h =
     (elim (next c e)
     as (λ o. IsTrue (elim o as (λ _. Bool) [ None ↦ false | Some x ↦ fits (start x.0) i && fits x.1 f ])
-    → then_steps (with_child s true o) (λ s'. steps s' ((spelling i ++ End ∷ spelling f) ++ End ∷ l)) ≡ steps s l) [
+    → then_steps (content_child s true o) (λ s'. steps s' ((spelling i ++ End ∷ spelling f) ++ End ∷ l)) ≡ steps s l) [
       | None ↦ λ h'. cc
       | Some x ↦ λ h'. let both = and_true (fits (start x.0) i) (fits x.1 f) h' in
           ap (steps (start x.0 ∷ x.1 ∷ s)) (regroup (spelling i) (spelling f) End End l)
@@ -111,14 +111,14 @@ closes (Opaque b ∷ l) (c ∷ s) h =
     with_piece c s l (Opaque b) (opaque b) (λ f. refl) (λ f. refl) was.0 (closes l (c ∷ s) was.1)
 closes (Tag e true ∷ l) (c ∷ s) h =
     (elim (next c e)
-    as (λ o. next c e ≡ o → then_steps (with_child s true o) (λ s'. steps s' l) ≡ Some []
+    as (λ o. next c e ≡ o → then_steps (content_child s true o) (λ s'. steps s' l) ≡ Some []
     → Closes (c ∷ s) (Tag e true ∷ l)) [
       | None ↦ λ n h'. cc
       | Some x ↦ λ n h'. with_full c s e x l n (closes l (start x.0 ∷ x.1 ∷ s) h')
     ]) refl h
 closes (Tag e false ∷ l) (c ∷ s) h =
     (elim (next c e)
-    as (λ o. next c e ≡ o → then_steps (with_child s false o) (λ s'. steps s' l) ≡ Some []
+    as (λ o. next c e ≡ o → then_steps (content_child s false o) (λ s'. steps s' l) ≡ Some []
     → Closes (c ∷ s) (Tag e false ∷ l)) [
       | None ↦ λ n h'. cc
       | Some x ↦ λ n h'. let was = was_taken (is_complete (start x.0)) (x.1 ∷ s) (λ s'. steps s' l) [] h' in

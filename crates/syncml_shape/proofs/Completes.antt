@@ -19,7 +19,7 @@ use Rattle.syncml_shape.specs.Forest.{Forest, nothing, text, opaque, bare, full,
 use Rattle.syncml_shape.specs.Rows.{Content, document, in_order, in_any_order, pieces, start, next, in_row, next_row}
 use Rattle.syncml_shape.specs.Rows.{after_row, after_meta, meta_place, kind_in, is_complete, takes_text, same}
 use Rattle.syncml_shape.specs.Shape.{fits, IsViable}
-use Rattle.syncml_shape.specs.Steps.{Open, with_child, step, then_steps, steps, spellings, AllFit, Closes}
+use Rattle.syncml_shape.specs.Steps.{Open, content_child, content_step, then_steps, steps, spellings, AllFit, Closes}
 use Rattle.syncml_shape.proofs.Contents.{steps-append}
 use Rattle.syncml_shape.proofs.Accepts.{and_true, steps-spelling, closes}
 
@@ -237,7 +237,7 @@ AllGood [] = Unit {0}
 AllGood (c ∷ s) = IsGood c × AllGood s
 
 with_child_good : (s : Open) (b : Bool) (o : Option (Kind × Content)) (s' : Open) → AllGood s
-    → ((x : Kind × Content) → o ≡ Some x → IsGood x.1) → with_child s b o ≡ Some s' → AllGood s'
+    → ((x : Kind × Content) → o ≡ Some x → IsGood x.1) → content_child s b o ≡ Some s' → AllGood s'
 with_child_good s b None s' g n h = cc
 with_child_good s true (Some x) s' g n h = let e : start x.0 ∷ x.1 ∷ s ≡ s' = cc in
     subst AllGood e (start_good x.0, (n x refl, g))
@@ -251,7 +251,7 @@ if_good : (t : Bool) (s s' : Open) → AllGood s → (if t then Some s else None
 if_good true s s' g h = let e : s ≡ s' = cc in subst AllGood e g
 if_good false s s' g h = cc
 
-step_good : (t : Token) (s s' : Open) → AllGood s → step s t ≡ Some s' → AllGood s'
+step_good : (t : Token) (s s' : Open) → AllGood s → content_step s t ≡ Some s' → AllGood s'
 step_good t [] s' g h = cc
 step_good End (c ∷ s) s' g h = if_good (is_complete c) s s' g.1 h
 step_good (Text b) (c ∷ s) s' g h = if_good (takes_text c) (c ∷ s) s' g h
@@ -261,7 +261,7 @@ step_good (Tag e b) (c ∷ s) s' g h = with_child_good s b (next c e) s' g.1 (λ
 steps_good : (l : List Token) (s s' : Open) → AllGood s → steps s l ≡ Some s' → AllGood s'
 steps_good [] s s' g h = let e : s ≡ s' = cc in subst AllGood e g
 steps_good (t ∷ l) s s' g h =
-    (elim (step s t) as (λ o. step s t ≡ o → then_steps o (λ m. steps m l) ≡ Some s' → AllGood s') [
+    (elim (content_step s t) as (λ o. content_step s t ≡ o → then_steps o (λ m. steps m l) ≡ Some s' → AllGood s') [
       | None ↦ λ w h'. cc
       | Some m ↦ λ w h'. steps_good l m s' (step_good t s m g w) h'
     ]) refl h

@@ -12,7 +12,7 @@ use Rattle.syncml_shape.specs.Rows.{Content, start, next, is_complete, takes_tex
 use Rattle.syncml_shape.specs.Faults.{tag_fault, innermost, open_after, reason_in, or_misplaced}
 use Rattle.syncml_shape.specs.Machine.{Frame, began, with_child, with_tag, with_end, with_text, step}
 use Rattle.syncml_shape.specs.Steps.{Open}
-use Rattle.syncml_shape.specs.Steps.{with_child as content_child, step as content_step}
+use Rattle.syncml_shape.specs.Steps.{content_child, content_step}
 use Rattle.syncml_shape.proofs.Names.{IsNamed, next_named}
 
 abbrev pub contents_of : List Frame → List Content

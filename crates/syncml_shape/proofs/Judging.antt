@@ -19,7 +19,7 @@ use Rattle.syncml_shape.specs.Laws.{JudgedIsComputed}
 use Rattle.syncml_shape.specs.Outline.{then_outline, outline_from, HasTaken, Judges, whole_or_not, verdict_then}
 use Rattle.syncml_shape.specs.Outline.{verdict_from, verdict_of}
 use Rattle.syncml_shape.specs.Steps.{Open, then_steps, steps}
-use Rattle.syncml_shape.specs.Steps.{step as content_step}
+use Rattle.syncml_shape.specs.Steps.{content_step}
 use Rattle.syncml_shape.proofs.Contents.{steps-append}
 use Rattle.syncml_shape.proofs.Accepts.{steps-spelling, closes}
 use Rattle.syncml_shape.proofs.Completes.{opened, one_tree, viable-if, viable-only}

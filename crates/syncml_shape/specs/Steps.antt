@@ -11,18 +11,18 @@ use Rattle.syncml_shape.specs.Shape.{fits}
 abbrev pub Open : Type 0
 Open = List Content
 
-abbrev pub with_child : Open → Bool → Option (Kind × Content) → Option Open
-with_child s content None = None
-with_child s true (Some x) = Some (start x.0 ∷ x.1 ∷ s)
-with_child s false (Some x) = if is_complete (start x.0) then Some (x.1 ∷ s) else None
+abbrev pub content_child : Open → Bool → Option (Kind × Content) → Option Open
+content_child s content None = None
+content_child s true (Some x) = Some (start x.0 ∷ x.1 ∷ s)
+content_child s false (Some x) = if is_complete (start x.0) then Some (x.1 ∷ s) else None
 
 -- what is open behind one more token; None where it may not come. END may also end the document itself, once.
-abbrev pub step : Open → Token → Option Open
-step [] token = None
-step (c ∷ s) End = if is_complete c then Some s else None
-step (c ∷ s) (Text bytes) = if takes_text c then Some (c ∷ s) else None
-step (c ∷ s) (Opaque bytes) = if takes_text c then Some (c ∷ s) else None
-step (c ∷ s) (Tag e content) = with_child s content (next c e)
+abbrev pub content_step : Open → Token → Option Open
+content_step [] token = None
+content_step (c ∷ s) End = if is_complete c then Some s else None
+content_step (c ∷ s) (Text bytes) = if takes_text c then Some (c ∷ s) else None
+content_step (c ∷ s) (Opaque bytes) = if takes_text c then Some (c ∷ s) else None
+content_step (c ∷ s) (Tag e content) = content_child s content (next c e)
 
 abbrev pub then_steps : Option Open → (Open → Option Open) → Option Open
 then_steps None f = None
@@ -30,7 +30,7 @@ then_steps (Some s) f = f s
 
 abbrev pub steps : Open → List Token → Option Open
 steps s [] = Some s
-steps s (token ∷ tokens) = then_steps (step s token) (λ after. steps after tokens)
+steps s (token ∷ tokens) = then_steps (content_step s token) (λ after. steps after tokens)
 
 -- one tree for each open element, each ended by END
 abbrev pub spellings : List Forest → List Token
