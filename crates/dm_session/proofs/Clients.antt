@@ -14,6 +14,7 @@ use Rattle.dm_atomic.specs.Engine.{state_of, IsSoundEngine}
 use Rattle.dm_atomic.specs.Marks.{whole_of, past_of, no_past}
 use Rattle.dm_atomic.specs.Marks as engine
 use Rattle.dm_atomic.specs.Updates.{clock_of, max_obj_of, TellsStarted}
+use Rattle.dm_ends.specs.declared.farewells.LastMessage.{LastMessage}
 use Rattle.dm_machine.specs.declared.kinds.End.{End}
 use Rattle.dm_machine.specs.declared.kinds.Kind.{Kind}
 use Rattle.dm_machine.specs.Machine.{Machine, Session}
@@ -36,7 +37,6 @@ use Rattle.dm_session.specs.declared.drafts.Next.{Next}
 use Rattle.dm_session.specs.declared.drafts.Next.TheVariants as drafts
 use Rattle.dm_session.specs.declared.rest.Rest.{Rest}
 use Rattle.dm_session.specs.declared.rest.Session.{Session as Held}
-use Rattle.dm_session.specs.declared.rest.Sent.{Sent}
 use Rattle.dm_session.specs.Inside as inside
 use Rattle.dm_session.specs.Inside.{CanGoOn, IsSpelled, session_in}
 use Rattle.dm_session.specs.View.{Whole, Tells}
@@ -135,7 +135,7 @@ pub sent_spelled : (r : Rest) (accounts : _) (uri : _) (n : Next) → IsNextSpel
 sent_spelled r accounts uri (drafts.GoesOn s) is kept = is
 sent_spelled r accounts uri (drafts.Ends end farewell) is kept = tt
 
-or_spelled : (a b : Option Sent) → IfSome a IsSpelled → IfSome b IsSpelled → IfSome (option_or a b) IsSpelled
+or_spelled : (a b : Option LastMessage) → IfSome a IsSpelled → IfSome b IsSpelled → IfSome (option_or a b) IsSpelled
 or_spelled None b x y = y
 or_spelled (Some s) b x y = x
 

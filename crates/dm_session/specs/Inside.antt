@@ -7,9 +7,9 @@ use Rattle.dm_atomic.specs.declared.engine.Engine.{Engine}
 use Rattle.dm_atomic.specs.Engine.{state_of, IsSoundEngine}
 use Rattle.dm_atomic.specs.Marks.{whole_of, past_of, no_past}
 use Rattle.dm_atomic.specs.Updates.{clock_of, max_obj_of, TellsStarted}
+use Rattle.dm_ends.specs.declared.farewells.LastMessage.{LastMessage}
 use Rattle.dm_machine.specs.Machine.{Machine, Session}
 use Rattle.dm_machine.specs.Ready.{IsReadyMachine}
-use Rattle.dm_session.specs.declared.rest.Sent.{Sent}
 use Rattle.dm_session.specs.declared.rest.Session.{Session as Held}
 use Rattle.dm_session.specs.declared.rest.Rest.{Rest}
 use Rattle.dm_session.specs.declared.client.Client.TheInside.{Inside}
@@ -18,7 +18,7 @@ use Rattle.dm_session.specs.View.{Whole}
 abbrev pub session_in : Held → Session
 session_in s = record { progress = s.progress; sent = s.sent.message }
 
-abbrev pub message_in : Sent → Parts
+abbrev pub message_in : LastMessage → Parts
 message_in s = s.message
 
 -- the machine of an engine, a queue and the rest
@@ -44,7 +44,7 @@ whole_client c = record {
 }
 
 -- the bytes that are kept beside a message spell it
-abbrev pub IsSpelled : Sent → Type 0
+abbrev pub IsSpelled : LastMessage → Type 0
 IsSpelled s = s.bytes ≡ canonical s.message
 
 -- what holds of a machine whose engine can go on

@@ -8,6 +8,7 @@ use Rattle.syncml_types.specs.declared.command.Command.{Command}
 use Rattle.dm_atomic.specs.Made.{told as told_of}
 use Rattle.dm_atomic.specs.Run.{State}
 use Rattle.dm_atomic.specs.Run as Running
+use Rattle.dm_ends.specs.declared.farewells.LastMessage.{LastMessage}
 use Rattle.dm_machine.specs.declared.kinds.End.{End}
 use Rattle.dm_machine.specs.declared.kinds.End.TheVariants.{Finished, Aborted, Denied}
 use Rattle.dm_machine.specs.declared.progress.UpdateResult.{UpdateResult}
@@ -15,7 +16,6 @@ use Rattle.dm_machine.specs.Machine.{Machine}
 use Rattle.dm_machine.specs.Messages.{Outcome, goes_on, ends}
 use Rattle.dm_session.specs.declared.answers.Answer.{Answer}
 use Rattle.dm_session.specs.declared.answers.Answer.TheVariants as answers
-use Rattle.dm_session.specs.declared.rest.Sent.{Sent}
 use Rattle.dm_session.specs.declared.rest.Rest.{Rest}
 use Rattle.dm_session.specs.declared.rest.Session.{Session}
 use Rattle.dm_session.specs.declared.drafts.Next.{Next}
@@ -33,7 +33,7 @@ results_behind Finished results = []
 results_behind Aborted results = results
 results_behind Denied results = results
 
-abbrev pub ended_rest : Rest → End → Option Sent → Rest
+abbrev pub ended_rest : Rest → End → Option LastMessage → Rest
 ended_rest r end farewell = record r {
   session = None;
   results = results_behind end r.results;

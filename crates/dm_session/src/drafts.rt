@@ -4,16 +4,17 @@ ghost use Rattle.dm_session.specs.Working.{rest_behind, drafted};
 ghost use Rattle.dm_session.specs.Working as Spec;
 
 use crate::answers::Answer;
-use crate::rest::{Rest, Sent, Session};
+use crate::rest::{Rest, Session};
 use dm_auth::Account;
 use dm_base::{Bytes, List};
+use dm_ends::LastMessage;
 use dm_machine::{End, UpdateResult};
 
 /// Whether the session goes on, or has ended. A farewell is sent where it was denied.
 #[derive(Drop)]
 pub(crate) enum Next {
     GoesOn(Session),
-    Ends(End, Option<Sent>),
+    Ends(End, Option<LastMessage>),
 }
 
 /// What a message makes of a client. The RespURI and the account are told where they are new.
@@ -57,7 +58,7 @@ impl Rest {
     }
 
     // The session is over.
-    fn end(&mut self, end: End, farewell: Option<Sent>)
+    fn end(&mut self, end: End, farewell: Option<LastMessage>)
         ensures { self.new ≡ Spec.ended_rest self.old end farewell }
     {
         self.session = None;

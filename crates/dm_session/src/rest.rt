@@ -2,22 +2,15 @@
 use crate::device::IdPlace;
 use dm_auth::Account;
 use dm_base::{Bytes, Limits, List};
+use dm_ends::LastMessage;
 use dm_machine::{Progress, UpdateResult};
 use std::alloc::Global;
-use syncml_types::Message;
-
-/// A message that was sent, with its bytes.
-#[derive(Drop)]
-pub(crate) struct Sent {
-    pub message: Message,
-    pub bytes: Bytes,
-}
 
 /// An open session, and the message that was sent last in it.
 #[derive(Drop)]
 pub(crate) struct Session {
     pub progress: Progress,
-    pub sent: Sent,
+    pub sent: LastMessage,
 }
 
 /// All of a client but its engine and its queue.
@@ -35,5 +28,5 @@ pub(crate) struct Rest {
     /// The RespURI told last in the session begun last.
     pub resp_uri: Option<Bytes>,
     /// The message with which the session begun last was denied.
-    pub farewell: Option<Sent>,
+    pub farewell: Option<LastMessage>,
 }

@@ -8,8 +8,9 @@ ghost use Rattle.dm_pack.specs.Entries.{fresh, IsReady, Entry as AnEntry};
 ghost use Rattle.dm_pack.specs.Filling.{fill as fill_of, IsReadyHeader, Filling};
 ghost use Rattle.dm_machine.specs.Sending.{moved_on as moved};
 
-use crate::rest::{Sent, Session};
+use crate::rest::Session;
 use dm_base::{Boxed, List, Memory};
+use dm_ends::LastMessage;
 use dm_machine::Progress;
 use dm_pack::{Filled, Queue, Tail, fill, fill_at_once};
 use syncml_types::{Command, Header};
@@ -141,6 +142,6 @@ pub(crate) fn session_after(progress: &Progress, filled: Filled) -> Session
     let Filled { message, bytes, .. } = filled;
     Session {
         progress,
-        sent: Sent { message, bytes },
+        sent: LastMessage { message, bytes },
     }
 }

@@ -20,7 +20,7 @@ use crate::answering::answered;
 use crate::drafts::{Draft, Next};
 use crate::ending::close;
 use crate::headers::header_from;
-use crate::rest::{Rest, Sent};
+use crate::rest::Rest;
 use dm_atomic::Engine;
 use dm_auth::Account;
 use dm_base::{Memory, Nonce};
@@ -40,7 +40,7 @@ fn denial(
     message: &Message,
     nonce: &Nonce,
     code: u32,
-) -> Result<Sent, Memory>
+) -> Result<LastMessage, Memory>
     requires limits { IsReadyLimits rest.now.limits }
     requires device { IsDevice (state_of engine.now).tree }
     requires account { IsReadyAccount account.now }
@@ -60,8 +60,8 @@ fn denial(
         progress,
         account,
     )?;
-    let LastMessage { message, bytes } = farewell(rest.alloc, header, message, code, nonce)?;
-    Ok(Sent { message, bytes })
+    let last = farewell(rest.alloc, header, message, code, nonce)?;
+    Ok(last)
 }
 
 // A message whose header was heard.
