@@ -14,7 +14,8 @@ use Rattle.dm_job.specs.Sound.{IsSound as IsSoundJob}
 use Rattle.dm_report.specs.Known.{Known}
 use Rattle.dm_service.specs.declared.progress.Progress.{Progress}
 use Rattle.dm_service.specs.Events as events
-use Rattle.dm_service.specs.Events.{Arrival, number_of, last_of, takes, takes_in, takes_number, after, acts_in, acts_as}
+use Rattle.dm_service.specs.Events.{Arrival, number_of, last_of, takes, takes_in, takes_number, after, after_in_session}
+use Rattle.dm_service.specs.Events.{after_number}
 use Rattle.dm_service.specs.Events.{opens, old_message, old_in, number_refusal, refusal, reply_of, is_answered}
 use Rattle.dm_service.specs.Events.{kept_or_ended, taken_answer, sent_or_ended}
 use Rattle.dm_service.specs.History.{answer_now, next, state_from}
@@ -56,13 +57,13 @@ pub first_comes : (v : Service) (m : Parts) (nonce : List ℕ) (n : ℕ) → num
 unfolding takes after
 first_comes v m nonce n e none = (
   ap (λ o. takes_number v.session o m) e ∙ ap (λ s. takes_in s n m) none,
-  ap (λ o. acts_as v o m nonce) e ∙ ap (λ s. acts_in v s n m nonce) none,
+  ap (λ o. after_number v o m nonce) e ∙ ap (λ s. after_in_session v s n m nonce) none,
 )
 
 -- in a machine that has a session
 record ComesTo (v : Service) (s : Session) (m : Parts) (nonce : List ℕ) (n : ℕ) : Type 0 where
   takes_is : takes v (arrival m nonce) ≡ takes_in (Some s) n m
-  after_is : after v (arrival m nonce) ≡ acts_in v (Some s) n m nonce
+  after_is : after v (arrival m nonce) ≡ after_in_session v (Some s) n m nonce
   refusal_is : refusal v (arrival m nonce) (reply_of v) ≡ old_message s n m (reply_of v)
 
 comes-to : (v : Service) (s : Session) (m : Parts) (nonce : List ℕ) (n : ℕ) → number_of m ≡ Some n
@@ -70,7 +71,7 @@ comes-to : (v : Service) (s : Session) (m : Parts) (nonce : List ℕ) (n : ℕ) 
 unfolding takes after refusal
 comes-to v s m nonce n e is = record {
   takes_is = ap (λ o. takes_number v.session o m) e ∙ ap (λ t. takes_in t n m) is;
-  after_is = ap (λ o. acts_as v o m nonce) e ∙ ap (λ t. acts_in v t n m nonce) is;
+  after_is = ap (λ o. after_number v o m nonce) e ∙ ap (λ t. after_in_session v t n m nonce) is;
   refusal_is = ap (λ o. number_refusal v o m (reply_of v)) e ∙ ap (λ t. old_in t n m (reply_of v)) is;
 }
 

@@ -16,7 +16,7 @@ use Rattle.dm_service.specs.Packages.{gives_up}
 use Rattle.dm_service.specs.Sending.{target_of, header_for, sends}
 use Rattle.dm_service.specs.Messages.{begins, first_session, ended, denies, after_status, in_session}
 use Rattle.dm_service.specs.Messages.{answers_message, by_header, accepts}
-use Rattle.dm_service.specs.Events.{number_of, takes, opens, acts_in, acts_as, acts, after}
+use Rattle.dm_service.specs.Events.{number_of, takes, opens, after_in_session, after_number, after_read, after}
 use Rattle.dm_service.specs.History.{next}
 use Rattle.dm_service.specs.Laws.{IsFaultless, SendsNoFault}
 use Rattle.dm_service.proofs.Steps.{either}
@@ -72,21 +72,23 @@ accepts-none v s m nonce is =
     header-none w (in_session w t) m h nonce (status-none heard t s.progress.standing.we_failed h.status is)
 
 acts-none : (v : Service) (o : Option Session) (n : ℕ) (m : Parts) (nonce : List ℕ) → IsFaultless v
-    → IsFaultless (acts_in v o n m nonce)
+    → IsFaultless (after_in_session v o n m nonce)
 acts-none v None n m nonce is = accepts-none (begins v n) (first_session v.job.account n) m nonce is
 acts-none v (Some s) n m nonce is =
     either IsFaultless (s.progress.number == n) (accepts v s m nonce) (opens v n m nonce) (accepts-none v s m nonce is)
     (accepts-none (begins v n) (first_session v.job.account n) m nonce is)
 
-as-none : (v : Service) (o : Option ℕ) (m : Parts) (nonce : List ℕ) → IsFaultless v → IsFaultless (acts_as v o m nonce)
+as-none : (v : Service) (o : Option ℕ) (m : Parts) (nonce : List ℕ) → IsFaultless v
+    → IsFaultless (after_number v o m nonce)
 as-none v None m nonce is = is
 as-none v (Some n) m nonce is = acts-none v v.session n m nonce is
 
 read-none : (v : Service) (read : Result Parts Refusal) (nonce : List ℕ) → IsFaultless v
-    → IsFaultless (acts v read nonce)
+    → IsFaultless (after_read v read nonce)
 read-none v (Ok m) nonce is = as-none v (number_of m) m nonce is
 read-none v (Err place) nonce is = is
 
 pub sends_no_fault : SendsNoFault
 unfolding next after
-sends_no_fault v e is = either IsFaultless (takes v e) (acts v e.read e.nonce) v (read-none v e.read e.nonce is) is
+sends_no_fault v e is =
+    either IsFaultless (takes v e) (after_read v e.read e.nonce) v (read-none v e.read e.nonce is) is

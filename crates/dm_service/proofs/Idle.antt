@@ -25,7 +25,7 @@ use Rattle.dm_service.specs.Answers.{answers}
 use Rattle.dm_service.specs.Sending.{header_for, rest_holds, goes_out, carried_on, runs_in_after, sends}
 use Rattle.dm_service.specs.Messages.{first_service, first_session, begins, ended, denies, answer_waiting, after_status}
 use Rattle.dm_service.specs.Messages.{tells, queues_answers, in_session, answers_message, by_header, accepts}
-use Rattle.dm_service.specs.Events.{Arrival, number_of, takes, opens, acts_in, acts_as, acts, after}
+use Rattle.dm_service.specs.Events.{Arrival, number_of, takes, opens, after_in_session, after_number, after_read, after}
 use Rattle.dm_service.specs.History.{next, state_from}
 use Rattle.dm_service.specs.Laws.{StaysInSession, JobKeepsItsSession, number_in}
 use Rattle.dm_service.proofs.Steps.{either}
@@ -399,7 +399,7 @@ opens-goes v n m nonce = record {
 }
 
 acts-goes : (v : Service) (o : Option Session) (n : ℕ) (m : Parts) (nonce : List ℕ) → Idles v o
-    → Taken v.runs_in (acts_in v o n m nonce)
+    → Taken v.runs_in (after_in_session v o n m nonce)
 acts-goes v None n m nonce h = opens-goes v n m nonce
 acts-goes v (Some s) n m nonce h =
     either (Taken v.runs_in) (s.progress.number == n) (accepts v s m nonce) (opens v n m nonce)
@@ -429,18 +429,21 @@ taken-steps v w t =
       stays = λ k e. moved v.runs_in t.number k w g.session g.is_it g.number e g.moves;
     }
 
-as-steps : (v : Service) (o : Option ℕ) (m : Parts) (nonce : List ℕ) → Idles v v.session → Steps v (acts_as v o m nonce)
+as-steps : (v : Service) (o : Option ℕ) (m : Parts) (nonce : List ℕ) → Idles v v.session
+    → Steps v (after_number v o m nonce)
 as-steps v None m nonce h = unmoved v h
-as-steps v (Some n) m nonce h = taken-steps v (acts_in v v.session n m nonce) (acts-goes v v.session n m nonce h)
+as-steps v (Some n) m nonce h =
+    taken-steps v (after_in_session v v.session n m nonce) (acts-goes v v.session n m nonce h)
 
 read-steps : (v : Service) (read : Result Parts Refusal) (nonce : List ℕ) → Idles v v.session
-    → Steps v (acts v read nonce)
+    → Steps v (after_read v read nonce)
 read-steps v (Ok m) nonce h = as-steps v (number_of m) m nonce h
 read-steps v (Err place) nonce h = unmoved v h
 
 next-steps : (v : Service) (e : Arrival) → Idles v v.session → Steps v (next v e)
 unfolding next after
-next-steps v e h = either (Steps v) (takes v e) (acts v e.read e.nonce) v (read-steps v e.read e.nonce h) (unmoved v h)
+next-steps v e h =
+    either (Steps v) (takes v e) (after_read v e.read e.nonce) v (read-steps v e.read e.nonce h) (unmoved v h)
 
 comes-idle : (v : Service) (es : List Arrival) → Idles v v.session → Idles (state_from v es) (state_from v es).session
 comes-idle v [] h = h

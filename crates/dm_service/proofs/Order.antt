@@ -34,7 +34,7 @@ use Rattle.dm_service.specs.Sending.{part_holds}
 use Rattle.dm_service.specs.Sending.{goes_out, carried_on, sends}
 use Rattle.dm_service.specs.Messages.{first_service, first_session, begins, ended, denies, answer_waiting, after_status}
 use Rattle.dm_service.specs.Messages.{tells, queues_answers, in_session, answers_message, by_header, accepts}
-use Rattle.dm_service.specs.Events.{Arrival, number_of, takes, opens, acts_in, acts_as, acts, after}
+use Rattle.dm_service.specs.Events.{Arrival, number_of, takes, opens, after_in_session, after_number, after_read, after}
 use Rattle.dm_service.specs.History.{next, state_from}
 use Rattle.dm_service.specs.Laws.{IsSentBefore, AreInOrder, sent_in, SentInOrder}
 use Rattle.dm_service.proofs.Steps.{either}
@@ -499,26 +499,27 @@ opens-ordered v n m nonce =
     accepts-ordered (begins v n) (first_session v.job.account n) m nonce (record { order = tt; own = tt; wide = tt })
 
 acts-ordered : (v : Service) (o : Option Session) (n : ℕ) (m : Parts) (nonce : List ℕ) → Comes v o
-    → Holds (acts_in v o n m nonce)
+    → Holds (after_in_session v o n m nonce)
 acts-ordered v None n m nonce h = opens-ordered v n m nonce
 acts-ordered v (Some s) n m nonce h =
     either Holds (s.progress.number == n) (accepts v s m nonce) (opens v n m nonce) (accepts-ordered v s m nonce h)
     (opens-ordered v n m nonce)
 
 as-ordered : (v : Service) (o : Option ℕ) (m : Parts) (nonce : List ℕ) → Comes v v.session
-    → Comes (acts_as v o m nonce) (acts_as v o m nonce).session
+    → Comes (after_number v o m nonce) (after_number v o m nonce).session
 as-ordered v None m nonce h = h
-as-ordered v (Some n) m nonce h = holds-comes (acts_in v v.session n m nonce) (acts-ordered v v.session n m nonce h)
+as-ordered v (Some n) m nonce h =
+    holds-comes (after_in_session v v.session n m nonce) (acts-ordered v v.session n m nonce h)
 
 read-ordered : (v : Service) (read : Result Parts Refusal) (nonce : List ℕ) → Comes v v.session
-    → Comes (acts v read nonce) (acts v read nonce).session
+    → Comes (after_read v read nonce) (after_read v read nonce).session
 read-ordered v (Ok m) nonce h = as-ordered v (number_of m) m nonce h
 read-ordered v (Err place) nonce h = h
 
 pub next_ordered : (v : Service) (e : Arrival) → Comes v v.session → Comes (next v e) (next v e).session
 unfolding next after
 next_ordered v e h =
-    either (λ w. Comes w w.session) (takes v e) (acts v e.read e.nonce) v (read-ordered v e.read e.nonce h) h
+    either (λ w. Comes w w.session) (takes v e) (after_read v e.read e.nonce) v (read-ordered v e.read e.nonce h) h
 
 comes : (v : Service) (es : List Arrival) → Comes v v.session → Comes (state_from v es) (state_from v es).session
 comes v [] h = h

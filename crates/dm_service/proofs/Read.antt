@@ -32,7 +32,7 @@ use Rattle.dm_service.specs.Packages.{commands_in}
 use Rattle.dm_service.specs.Sending.{sends}
 use Rattle.dm_service.specs.Messages.{first_service, first_session, begins, ended, denies, after_status, matched_in}
 use Rattle.dm_service.specs.Messages.{with_matched, in_session, answers_message, by_header, accepts}
-use Rattle.dm_service.specs.Events.{Arrival, number_of, takes, opens, acts_in, acts_as, acts, after}
+use Rattle.dm_service.specs.Events.{Arrival, number_of, takes, opens, after_in_session, after_number, after_read, after}
 use Rattle.dm_service.specs.History.{next, state_from}
 use Rattle.dm_service.specs.Pieces.{still_sent, is_read, pieces_for, pieces_of, pieces_in, pieces_read, pieces_first}
 use Rattle.dm_service.specs.Pieces.{pieces_with, pieces_as, pieces_told, pieces_behind}
@@ -148,7 +148,7 @@ later-gathers max v s ps m nonce limit h =
 
 acts-gathers : (max : ℕ) (v : Service) (o : Option Session) (ps : List Piece) (n : ℕ) (m : Parts) (nonce : List ℕ)
     → v.job.limits.max_obj ≡ max → Gathers max ps o
-    → Gathers max (pieces_with v o ps n m nonce) (acts_in v o n m nonce).session
+    → Gathers max (pieces_with v o ps n m nonce) (after_in_session v o n m nonce).session
 acts-gathers max v None ps n m nonce limit h = first-gathers max v n m nonce limit
 acts-gathers max v (Some s) ps n m nonce limit h = by (s.progress.number == n)
   where
@@ -165,14 +165,14 @@ record Sound (max : ℕ) (ps : List Piece) (v : Service) : Type 0 where
   gathers : Gathers max ps v.session
 
 acts-limits : (v : Service) (o : Option Session) (n : ℕ) (m : Parts) (nonce : List ℕ)
-    → SameLimits v (acts_in v o n m nonce)
+    → SameLimits v (after_in_session v o n m nonce)
 acts-limits v None n m nonce = limit-stays (begins v n) (first_session v.job.account n) m nonce
 acts-limits v (Some s) n m nonce =
     either (SameLimits v) (s.progress.number == n) (accepts v s m nonce) (opens v n m nonce) (limit-stays v s m nonce)
     (limit-stays (begins v n) (first_session v.job.account n) m nonce)
 
 as-sound : (max : ℕ) (v : Service) (ps : List Piece) (o : Option ℕ) (m : Parts) (nonce : List ℕ) → Sound max ps v
-    → Sound max (pieces_as v ps o m nonce) (acts_as v o m nonce)
+    → Sound max (pieces_as v ps o m nonce) (after_number v o m nonce)
 as-sound max v ps None m nonce h = h
 as-sound max v ps (Some n) m nonce h = record {
   limit = ap (λ l. l.max_obj) (acts-limits v v.session n m nonce) ∙ h.limit;
@@ -180,7 +180,7 @@ as-sound max v ps (Some n) m nonce h = record {
 }
 
 read-sound : (max : ℕ) (v : Service) (ps : List Piece) (read : Result Parts Refusal) (nonce : List ℕ) → Sound max ps v
-    → Sound max (pieces_told v ps read nonce) (acts v read nonce)
+    → Sound max (pieces_told v ps read nonce) (after_read v read nonce)
 read-sound max v ps (Ok m) nonce h = as-sound max v ps (number_of m) m nonce h
 read-sound max v ps (Err place) nonce h = h
 
@@ -189,7 +189,7 @@ next-sound : (max : ℕ) (v : Service) (ps : List Piece) (e : Arrival) → Sound
 unfolding next after
 next-sound max v ps e h = by (takes v e)
   where
-    by : (b : Bool) → Sound max (cond b (pieces_told v ps e.read e.nonce) ps) (cond b (acts v e.read e.nonce) v)
+    by : (b : Bool) → Sound max (cond b (pieces_told v ps e.read e.nonce) ps) (cond b (after_read v e.read e.nonce) v)
     by true = read-sound max v ps e.read e.nonce h
     by false = h
 
@@ -303,7 +303,8 @@ opens-reads v o n m nonce place value h =
 
 acts-reads : (max : ℕ) (v : Service) (o : Option Session) (n : ℕ) (m : Parts) (nonce : List ℕ) (ps : List Piece)
     (place : ℕ) (value : Step)
-    → v.job.limits.max_obj ≡ max → Gathers max ps o → Contains (found_at (acts_in v o n m nonce).told place) value
+    → v.job.limits.max_obj ≡ max → Gathers max ps o
+    → Contains (found_at (after_in_session v o n m nonce).told place) value
     → Comes v o (pieces_with v o ps n m nonce) m place value
 acts-reads max v None n m nonce ps place value limit g h = opens-reads v None n m nonce place value h
 acts-reads max v (Some s) n m nonce ps place value limit g h = by (s.progress.number == n) h
@@ -324,7 +325,7 @@ Tells v ps read nonce place value =
 
 as-reads : (max : ℕ) (v : Service) (o : Option ℕ) (m : Parts) (nonce : List ℕ) (ps : List Piece) (place : ℕ)
     (value : Step)
-    → Sound max ps v → Contains (found_at (acts_as v o m nonce).told place) value
+    → Sound max ps v → Contains (found_at (after_number v o m nonce).told place) value
     → Comes v v.session (pieces_as v ps o m nonce) m place value
 as-reads max v None m nonce ps place value s h = inl h
 as-reads max v (Some n) m nonce ps place value s h =
@@ -332,7 +333,8 @@ as-reads max v (Some n) m nonce ps place value s h =
 
 read-reads : (max : ℕ) (v : Service) (read : Result Parts Refusal) (nonce : List ℕ) (ps : List Piece) (place : ℕ)
     (value : Step)
-    → Sound max ps v → Contains (found_at (acts v read nonce).told place) value → Tells v ps read nonce place value
+    → Sound max ps v → Contains (found_at (after_read v read nonce).told place) value
+    → Tells v ps read nonce place value
 read-reads max v (Err refusal) nonce ps place value s h = inl h
 read-reads max v (Ok m) nonce ps place value s h = by (as-reads max v (number_of m) m nonce ps place value s h)
   where
@@ -376,7 +378,7 @@ next-reads : (max : ℕ) (v : Service) (ps : List Piece) (e : Arrival) (es : Lis
 unfolding next after
 next-reads max v ps e es place value s h = by (takes v e) refl h
   where
-    by : (b : Bool) → takes v e ≡ b → Contains (found_at (cond b (acts v e.read e.nonce) v).told place) value
+    by : (b : Bool) → takes v e ≡ b → Contains (found_at (cond b (after_read v e.read e.nonce) v).told place) value
         → Contains (found_at v.told place) value ⊎ IsRead max v ps (e ∷ es) place value
     by true t h = is-read max v ps e es place value s.limit t (read-reads max v e.read e.nonce ps place value s h)
     by false t h = inl h

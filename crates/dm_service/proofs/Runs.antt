@@ -10,7 +10,7 @@ use Rattle.dm_job.specs.declared.job.JobEntry.{JobEntry}
 use Rattle.dm_job.specs.Sound.{all_entries, AreNumbered}
 use Rattle.dm_service.specs.Service.{Session, Service}
 use Rattle.dm_service.specs.Messages.{first_service, first_session, begins, accepts}
-use Rattle.dm_service.specs.Events.{Arrival, number_of, takes, opens, acts_in, acts_as, acts, after}
+use Rattle.dm_service.specs.Events.{Arrival, number_of, takes, opens, after_in_session, after_number, after_read, after}
 use Rattle.dm_service.specs.History.{next, state_from}
 use Rattle.dm_service.specs.Laws.{times_sent, sent_in, SendsOnce, IsOfRun, RunsInOneSession}
 use Rattle.dm_service.proofs.Steps.{either}
@@ -44,7 +44,7 @@ sound-in n v s e (inl h) = let f = sym e ∙ h.0 in absurd (cc)
 sound-in n v s e (inr h) = subst (λ x. Once n v x) (same-session s h.session v.session e h.is_it) h.once
 
 acts-once : (n : ℕ) (v : Service) (o : Option Session) (number : ℕ) (m : Parts) (nonce : List ℕ) → v.session ≡ o
-    → Comes n v → Holds n (acts_in v o number m nonce)
+    → Comes n v → Holds n (after_in_session v o number m nonce)
 acts-once n v None number m nonce e h =
     accepts_once n (begins v number) (first_session v.job.account number) m nonce
     (begins-once n v number (job-of n v h))
@@ -54,18 +54,19 @@ acts-once n v (Some s) number m nonce e h =
     (accepts_once n (begins v number) (first_session v.job.account number) m nonce
     (begins-once n v number (job-of n v h)))
 
-as-once : (n : ℕ) (v : Service) (o : Option ℕ) (m : Parts) (nonce : List ℕ) → Comes n v → Comes n (acts_as v o m nonce)
+as-once : (n : ℕ) (v : Service) (o : Option ℕ) (m : Parts) (nonce : List ℕ) → Comes n v
+    → Comes n (after_number v o m nonce)
 as-once n v None m nonce h = h
 as-once n v (Some number) m nonce h = inr (acts-once n v v.session number m nonce refl h)
 
 read-once : (n : ℕ) (v : Service) (read : Result Parts Refusal) (nonce : List ℕ) → Comes n v
-    → Comes n (acts v read nonce)
+    → Comes n (after_read v read nonce)
 read-once n v (Ok m) nonce h = as-once n v (number_of m) m nonce h
 read-once n v (Err place) nonce h = h
 
 next-once : (n : ℕ) (v : Service) (e : Arrival) → Comes n v → Comes n (next v e)
 unfolding next after
-next-once n v e h = either (Comes n) (takes v e) (acts v e.read e.nonce) v (read-once n v e.read e.nonce h) h
+next-once n v e h = either (Comes n) (takes v e) (after_read v e.read e.nonce) v (read-once n v e.read e.nonce h) h
 
 comes : (n : ℕ) (v : Service) (es : List Arrival) → Comes n v → Comes n (state_from v es)
 comes n v [] h = h

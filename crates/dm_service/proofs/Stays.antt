@@ -36,7 +36,7 @@ use Rattle.dm_service.specs.Sending.{header_for, carried_on, sends}
 use Rattle.dm_service.specs.Messages.{first_session, begins, ended, denies, answer_waiting, after_status, tells}
 use Rattle.dm_service.specs.Messages.{queues_answers, in_session, answers_message, by_header, accepts}
 use Rattle.dm_service.specs.Events.{Arrival, number_of, in_range, takes_in, takes_number, takes_read, takes, opens}
-use Rattle.dm_service.specs.Events.{acts_in, acts_as, acts, after, last_of}
+use Rattle.dm_service.specs.Events.{after_in_session, after_number, after_read, after, last_of}
 use Rattle.dm_service.specs.History.{next}
 use Rattle.dm_service.specs.Ready.{IsReadyEntry, AreReadyPackages, AreReadyWaiting, IsReadyProgress, IsReadyService}
 use Rattle.dm_service.specs.Ready.{IsReadyArrival}
@@ -411,7 +411,7 @@ taken-msg s n m e h = grind (arith, e, h)
 
 acts-done : (v : Service) (o : Option Session) (n : ℕ) (m : Parts) (nonce : List ℕ) → v.session ≡ o → n < 2 ^ 32
     → takes_in o n m ≡ true → IsReadyMessage m nonce → IsReadyService v
-    → IfSome o (λ (s : Session). IsReadyProgress s.progress) → Done (acts_in v o n m nonce)
+    → IfSome o (λ (s : Session). IsReadyProgress s.progress) → Done (after_in_session v o n m nonce)
 acts-done v None n m nonce e low h is ready k = opens-done v n m nonce low is ready
 acts-done v (Some s) n m nonce e low h is ready k =
     same-or-new (s.progress.number == n) refl
@@ -435,13 +435,13 @@ acts-done v (Some s) n m nonce e low h is ready k =
 
 as-done : (v : Service) (o : Option ℕ) (m : Parts) (nonce : List ℕ) → number_of m ≡ o
     → takes_number v.session o m ≡ true
-    → IsReadyMessage m nonce → IsReadyService v → Done (acts_as v o m nonce)
+    → IsReadyMessage m nonce → IsReadyService v → Done (after_number v o m nonce)
 as-done v None m nonce e h is ready = absurd (cc)
 as-done v (Some n) m nonce e h is ready =
     acts-done v v.session n m nonce refl (low-number (session_of m) n e) h is ready ready.session
 
 read-done : (v : Service) (read : Result Parts Refusal) (nonce : List ℕ) → takes_read v read ≡ true
-    → IsReadyArrival (record { read = read; nonce = nonce }) → IsReadyService v → Done (acts v read nonce)
+    → IsReadyArrival (record { read = read; nonce = nonce }) → IsReadyService v → Done (after_read v read nonce)
 read-done v (Ok m) nonce h is ready = as-done v (number_of m) m nonce refl h is ready
 read-done v (Err place) nonce h is ready = absurd (cc)
 

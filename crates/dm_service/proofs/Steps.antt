@@ -18,7 +18,7 @@ use Rattle.dm_service.specs.Messages.{first_session, begins, ended, denies, afte
 use Rattle.dm_service.specs.Messages.{in_session, session_or, answers_message, by_header, accepts}
 use Rattle.dm_service.specs.Events.{Arrival, in_range, number_of, last_of, takes_in, takes_number, takes_read, takes}
 use Rattle.dm_service.specs.Events.{opens}
-use Rattle.dm_service.specs.Events.{acts_in, acts_as, acts, after}
+use Rattle.dm_service.specs.Events.{after_in_session, after_number, after_read, after}
 
 -- ---- the session of a machine
 
@@ -154,7 +154,7 @@ takes-above (Some s) n m h =
     by false false c d e f g h = absurd (cc)
 
 acts-at : (v : Service) (o : Option Session) (n : ℕ) (m : Parts) (nonce : List ℕ)
-    → IsAt n m.header.msg (acts_in v o n m nonce).session
+    → IsAt n m.header.msg (after_in_session v o n m nonce).session
 acts-at v None n m nonce = accepts_at (begins v n) (first_session v.job.account n) m nonce
 acts-at v (Some s) n m nonce = by (s.progress.number == n) refl
   where
@@ -169,7 +169,7 @@ unfolding takes after
 step v e h = by e.read h
   where
     of_number : (m : Parts) (k : Option ℕ) → number_of m ≡ k → takes_number v.session k m ≡ true
-        → Step v.session (Ok m) (acts_as v k m e.nonce).session
+        → Step v.session (Ok m) (after_number v k m e.nonce).session
     of_number m None f h = absurd (cc)
     of_number m (Some n) f h =
         record {
@@ -182,6 +182,7 @@ step v e h = by e.read h
           at = acts-at v v.session n m e.nonce;
         }
 
-    by : (read : Result Parts Refusal) → takes_read v read ≡ true → Step v.session read (acts v read e.nonce).session
+    by : (read : Result Parts Refusal) → takes_read v read ≡ true
+        → Step v.session read (after_read v read e.nonce).session
     by (Ok m) h = of_number m (number_of m) refl h
     by (Err place) h = absurd (cc)

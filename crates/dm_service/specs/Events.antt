@@ -59,20 +59,20 @@ takes v e = takes_read v e.read
 abbrev pub opens : Service → ℕ → Parts → List ℕ → Service
 opens v n m nonce = accepts (begins v n) (first_session v.job.account n) m nonce
 
-abbrev pub acts_in : Service → Option Session → ℕ → Parts → List ℕ → Service
-acts_in v None n m nonce = opens v n m nonce
-acts_in v (Some s) n m nonce = if s.progress.number == n then accepts v s m nonce else opens v n m nonce
+abbrev pub after_in_session : Service → Option Session → ℕ → Parts → List ℕ → Service
+after_in_session v None n m nonce = opens v n m nonce
+after_in_session v (Some s) n m nonce = if s.progress.number == n then accepts v s m nonce else opens v n m nonce
 
-abbrev pub acts_as : Service → Option ℕ → Parts → List ℕ → Service
-acts_as v None m nonce = v
-acts_as v (Some n) m nonce = acts_in v v.session n m nonce
+abbrev pub after_number : Service → Option ℕ → Parts → List ℕ → Service
+after_number v None m nonce = v
+after_number v (Some n) m nonce = after_in_session v v.session n m nonce
 
-abbrev pub acts : Service → Result Parts Refusal → List ℕ → Service
-acts v (Ok m) nonce = acts_as v (number_of m) m nonce
-acts v (Err place) nonce = v
+abbrev pub after_read : Service → Result Parts Refusal → List ℕ → Service
+after_read v (Ok m) nonce = after_number v (number_of m) m nonce
+after_read v (Err place) nonce = v
 
 unfoldable pub after : Service → Arrival → Service
-after v e = acts v e.read e.nonce
+after v e = after_read v e.read e.nonce
 
 -- ---- what it is answered
 

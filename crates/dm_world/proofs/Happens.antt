@@ -239,7 +239,7 @@ session-turn : (v : Service) (y : Serving) (n : ℕ) (u : Parts) (nonce : List �
     → (y.progress.is_over ≡ false → y.progress.standing.own ≡ y.progress.standing.last) → 0 < u.header.msg
     → Order n y.progress.number
     → server.takes_in (Some y) n u ≡ true
-    → TakenUp v (Some y) n u nonce (server.acts_in v (Some y) n u nonce)
+    → TakenUp v (Some y) n u nonce (server.after_in_session v (Some y) n u nonce)
 session-turn v y n u nonce s even l (inl h) t = absurd (none t)
   where
     none : server.takes_in (Some y) n u ≡ true → ⊥
@@ -255,7 +255,7 @@ session-turn v y n u nonce s even l (inr (inr h)) t =
 pub taken-turn : (b : ℕ) (v : Service) (o : Option Serving) (n : ℕ) (u : Parts) (nonce : List ℕ) → v.session ≡ o
     → ServerOk b o → 0 < u.header.msg
     → server.takes_in o n u ≡ true
-    → TakenUp v o n u nonce (server.acts_in v o n u nonce)
+    → TakenUp v o n u nonce (server.after_in_session v o n u nonce)
 taken-turn b v None n u nonce s ok l t = opens-turn v None n u nonce refl l
 taken-turn b v (Some y) n u nonce s ok l t = session-turn v y n u nonce s ok.even l (order n y.progress.number) t
 
@@ -363,15 +363,16 @@ serve-then b o v downs ups u nonce h w =
     let read : server.number_of u ≡ Some n = f.read.counted in
     subst
     (λ i. Answered b o downs ups u
-    (cond (server.takes_number v.session i u) (server.acts_as v i u nonce) v)
+    (cond (server.takes_number v.session i u) (server.after_number v i u nonce) v)
     (cond (server.takes_number v.session i u)
-    (server.sent_or_ended (server.reply_of (server.acts_as v i u nonce)))
+    (server.sent_or_ended (server.reply_of (server.after_number v i u nonce)))
     (server.refusal v (arrival u nonce) (server.reply_of v))))
     (sym read)
-    (both-ways (Answered b o downs ups u) (server.takes_in v.session n u) (server.acts_in v v.session n u nonce) v
-    (server.sent_or_ended (server.reply_of (server.acts_in v v.session n u nonce)))
+    (both-ways (Answered b o downs ups u) (server.takes_in v.session n u)
+    (server.after_in_session v v.session n u nonce) v
+    (server.sent_or_ended (server.reply_of (server.after_in_session v v.session n u nonce)))
     (server.refusal v (arrival u nonce) (server.reply_of v))
-    (λ t. served-by b o v downs ups u nonce (server.acts_in v v.session n u nonce) h f w
+    (λ t. served-by b o v downs ups u nonce (server.after_in_session v v.session n u nonce) h f w
     (taken-turn b v v.session n u nonce refl h.server_ok f.first t))
     (λ t. left-as b o v downs ups u nonce h))
   where

@@ -133,13 +133,13 @@ opens-leaves : (v : Service) (n : ℕ) (m : Parts) (nonce : List ℕ) → Leaves
 opens-leaves v n m nonce = accepts-leaves (server_begins v n) (first_session v.job.account n) m nonce
 
 in-leaves : (v : Service) (o : Option Serving) (n : ℕ) (m : Parts) (nonce : List ℕ)
-    → Leaves v (server.acts_in v o n m nonce)
+    → Leaves v (server.after_in_session v o n m nonce)
 in-leaves v None n m nonce = opens-leaves v n m nonce
 in-leaves v (Some s) n m nonce =
     either (Leaves v) (s.progress.number == n) {x = server_accepts v s m nonce} {y = server.opens v n m nonce}
     (accepts-leaves v s m nonce) (opens-leaves v n m nonce)
 
-as-leaves : (v : Service) (o : Option ℕ) (m : Parts) (nonce : List ℕ) → Leaves v (server.acts_as v o m nonce)
+as-leaves : (v : Service) (o : Option ℕ) (m : Parts) (nonce : List ℕ) → Leaves v (server.after_number v o m nonce)
 as-leaves v None m nonce = λ f. refl
 as-leaves v (Some n) m nonce = in-leaves v v.session n m nonce
 
@@ -164,7 +164,7 @@ serve-first : (v : Service) (downs : List Reply) (u : Parts) (nonce : List ℕ) 
     (with_new downs (replied (server_runs.answer_now v (arrival u nonce)) u))
 unfolding server_runs.next server_runs.answer_now server.takes server.after server.taken_answer
 serve-first v downs u nonce h =
-    let x = server.acts_as v (server.number_of u) u nonce in
+    let x = server.after_number v (server.number_of u) u nonce in
     both-ways (λ (z : Service) a. DownFirst z.sent (with_new downs (replied a u))) (server.takes_message v u) x v
     (server.sent_or_ended (server.reply_of x)) (server.refusal v (arrival u nonce) (server.reply_of v))
     (λ t. reply-first (server.is_answered x.session) x.sent v.sent downs u (as-leaves v (server.number_of u) u nonce) h)

@@ -453,8 +453,8 @@ in-stands : (packages : List (List JobEntry)) (downs : List Reply) (v : Service)
     (u : Parts) (nonce : List ℕ) → JobIs packages → 0 < n → n < 2 ^ 32
     → Notes packages v
     → IfSome o (AllNoted packages downs)
-    → Stands packages downs (server.acts_in v o n u nonce)
-    (server.sent_or_ended (server.reply_of (server.acts_in v o n u nonce))) u
+    → Stands packages downs (server.after_in_session v o n u nonce)
+    (server.sent_or_ended (server.reply_of (server.after_in_session v o n u nonce))) u
 in-stands packages downs v None n u nonce is low high h k =
     noted-stands packages downs (server.opens v n u nonce) u n [] low high (λ y i. absurd (no-element i))
     (opens-noted packages v n u nonce is h)
@@ -509,13 +509,13 @@ by-number : (packages : List (List JobEntry)) (downs : List Reply) (v : Service)
     → server.number_of u ≡ o
     → Notes packages v
     → IfSome v.session (AllNoted packages downs)
-    → Stands packages downs (cond (server.takes_number v.session o u) (server.acts_as v o u nonce) v)
-    (cond (server.takes_number v.session o u) (server.sent_or_ended (server.reply_of (server.acts_as v o u nonce)))
+    → Stands packages downs (cond (server.takes_number v.session o u) (server.after_number v o u nonce) v)
+    (cond (server.takes_number v.session o u) (server.sent_or_ended (server.reply_of (server.after_number v o u nonce)))
     (server.refusal v (arrival u nonce) (server.reply_of v)))
     u
 by-number packages downs v None u nonce is e h k = unmoved packages downs v u nonce h k
 by-number packages downs v (Some n) u nonce is e h k =
-    let x = server.acts_in v v.session n u nonce in
+    let x = server.after_in_session v v.session n u nonce in
     let range = number-range (session_of u) n e in
     both-ways (λ v a. Stands packages downs v a u) (server.takes_in v.session n u) x v
     (server.sent_or_ended (server.reply_of x)) (server.refusal v (arrival u nonce) (server.reply_of v))

@@ -365,7 +365,7 @@ taken-msg s n m e h = grind (arith, e, h)
 in-goes : (v : Service) (o : Option Session) (n : ℕ) (m : Parts) (nonce : List ℕ) → v.session ≡ o → n < 2 ^ 32
     → server.takes_in o n m ≡ true → IsReadyMessage m nonce → Stock v
     → IfSome o (λ (s : Session). IsReadyProgress s.progress)
-    → Goes (server.acts_in v o n m nonce)
+    → Goes (server.after_in_session v o n m nonce)
 in-goes v None n m nonce e low h is stock k = opens-goes v n m nonce low is stock
 in-goes v (Some s) n m nonce e low h is stock k = same-or-new (s.progress.number == n) refl
   where
@@ -395,13 +395,13 @@ unmoved v m nonce stock = (
 
 by-number : (v : Service) (o : Option ℕ) (m : Parts) (nonce : List ℕ) → server.number_of m ≡ o → IsReadyMessage m nonce
     → IsReadyService v → Stock v
-    → Moves (cond (server.takes_number v.session o m) (server.acts_as v o m nonce) v)
-    (cond (server.takes_number v.session o m) (server.sent_or_ended (server.reply_of (server.acts_as v o m nonce)))
+    → Moves (cond (server.takes_number v.session o m) (server.after_number v o m nonce) v)
+    (cond (server.takes_number v.session o m) (server.sent_or_ended (server.reply_of (server.after_number v o m nonce)))
     (server.refusal v (arrival m nonce) (server.reply_of v)))
     m
 by-number v None m nonce e is ready stock = unmoved v m nonce stock
 by-number v (Some n) m nonce e is ready stock =
-    let x = server.acts_in v v.session n m nonce in
+    let x = server.after_in_session v v.session n m nonce in
     both-ways (λ v a. Moves v a m) (server.takes_in v.session n m) x v
     (server.sent_or_ended (server.reply_of x)) (server.refusal v (arrival m nonce) (server.reply_of v))
     (λ t. moved x (in-goes v v.session n m nonce refl (low-number (session_of m) n e) t is stock ready.session))

@@ -28,7 +28,7 @@ use Rattle.dm_service.specs.Answers.{answers, answers_all, code_for, origin_of}
 use Rattle.dm_service.specs.Sending.{header_for, sends}
 use Rattle.dm_service.specs.Messages.{first_service, begins, first_session, denies, after_status, answer_waiting}
 use Rattle.dm_service.specs.Messages.{tells, queues_answers, in_session, answers_message, by_header, accepts}
-use Rattle.dm_service.specs.Events.{Arrival, number_of, takes, opens, acts_in, acts_as, acts as served, after}
+use Rattle.dm_service.specs.Events.{Arrival, number_of, takes, opens, after_in_session, after_number, after_read, after}
 use Rattle.dm_service.specs.History.{next, state_from}
 use Rattle.dm_world.specs.Acts.{entries_acts, job_acts, join}
 use Rattle.dm_world.specs.Packing.{acts_to_send, IsCarried, IsOfJobOrReport}
@@ -164,16 +164,17 @@ accepts-ok v s m nonce k =
 opens-ok : (v : Service) (n : ℕ) (m : Parts) (nonce : List ℕ) → IsOk (opens v n m nonce)
 opens-ok v n m nonce = accepts-ok (begins v n) (first_session v.job.account n) m nonce tt
 
-in-ok : (v : Service) (o : Option Session) (n : ℕ) (m : Parts) (nonce : List ℕ) → IsOk v → IsOk (acts_in v o n m nonce)
+in-ok : (v : Service) (o : Option Session) (n : ℕ) (m : Parts) (nonce : List ℕ) → IsOk v
+    → IsOk (after_in_session v o n m nonce)
 in-ok v None n m nonce h = opens-ok v n m nonce
 in-ok v (Some s) n m nonce h =
     either IsOk (s.progress.number == n) (accepts-ok v s m nonce h) (opens-ok v n m nonce)
 
-as-ok : (v : Service) (o : Option ℕ) (m : Parts) (nonce : List ℕ) → IsOk v → IsOk (acts_as v o m nonce)
+as-ok : (v : Service) (o : Option ℕ) (m : Parts) (nonce : List ℕ) → IsOk v → IsOk (after_number v o m nonce)
 as-ok v None m nonce h = h
 as-ok v (Some n) m nonce h = in-ok v v.session n m nonce h
 
-read-ok : (v : Service) (read : Result Parts Refusal) (nonce : List ℕ) → IsOk v → IsOk (served v read nonce)
+read-ok : (v : Service) (read : Result Parts Refusal) (nonce : List ℕ) → IsOk v → IsOk (after_read v read nonce)
 read-ok v (Ok m) nonce h = as-ok v (number_of m) m nonce h
 read-ok v (Err place) nonce h = h
 

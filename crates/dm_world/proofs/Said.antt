@@ -79,14 +79,14 @@ begins-tells v n m nonce =
     record { codes = x.codes; values = x.values; limit = x.limit }
 
 in-tells : (v : Service) (o : Option Session) (n : ℕ) (m : Parts) (nonce : List ℕ)
-    → Tells v.job.limits.max_obj v (server.acts_in v o n m nonce) m
+    → Tells v.job.limits.max_obj v (server.after_in_session v o n m nonce) m
 in-tells v None n m nonce = begins-tells v n m nonce
 in-tells v (Some s) n m nonce =
     either (λ (x : Service). Tells v.job.limits.max_obj v x m) (s.progress.number == n) (accepts-tells v s m nonce)
     (begins-tells v n m nonce)
 
 as-tells : (v : Service) (o : Option ℕ) (m : Parts) (nonce : List ℕ)
-    → Tells v.job.limits.max_obj v (server.acts_as v o m nonce) m
+    → Tells v.job.limits.max_obj v (server.after_number v o m nonce) m
 as-tells v None m nonce = itself v.job.limits.max_obj v m
 as-tells v (Some n) m nonce = in-tells v v.session n m nonce
 

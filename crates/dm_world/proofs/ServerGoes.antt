@@ -483,18 +483,18 @@ serve-on job done b o v downs ups u nonce queue h w p q s known aware =
     let read : server.number_of u ≡ Some n = f.read.counted in
     subst
     (λ i. ServedWorld job done o downs ups u
-    (cond (server.takes_number v.session i u) (server.acts_as v i u nonce) v)
+    (cond (server.takes_number v.session i u) (server.after_number v i u nonce) v)
     (cond (server.takes_number v.session i u)
-    (server.sent_or_ended (server.reply_of (server.acts_as v i u nonce)))
+    (server.sent_or_ended (server.reply_of (server.after_number v i u nonce)))
     (server.refusal v (arrival u nonce) (server.reply_of v))))
     (sym read)
     (both-ways (ServedWorld job done o downs ups u) (server.takes_in v.session n u)
-    (server.acts_in v v.session n u nonce) v
-    (server.sent_or_ended (server.reply_of (server.acts_in v v.session n u nonce)))
+    (server.after_in_session v v.session n u nonce) v
+    (server.sent_or_ended (server.reply_of (server.after_in_session v v.session n u nonce)))
     (server.refusal v (arrival u nonce) (server.reply_of v))
     (λ t.
     (let k = taken-turn b v v.session n u nonce refl h.server_ok f.first t in
-    took-on job done b o v (server.acts_in v v.session n u nonce) downs ups u nonce p f k
+    took-on job done b o v (server.after_in_session v v.session n u nonce) downs ups u nonce p f k
     (record {
       holds = h;
       within = w;
@@ -504,7 +504,7 @@ serve-on job done b o v downs ups u nonce queue h w p q s known aware =
       aware = aware;
       rose = λ z e r. rose-of o q z e r;
     })
-    (served-by b o v downs ups u nonce (server.acts_in v v.session n u nonce) h f w k)))
+    (served-by b o v downs ups u nonce (server.after_in_session v v.session n u nonce) h f w k)))
     (λ t. record {
       placed =
           subst (λ r. Placed job done o v (with_new downs r) ups)

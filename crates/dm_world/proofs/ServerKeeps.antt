@@ -423,12 +423,13 @@ serve-keeps job done c v downs ups made u nonce b =
     let f = each-within (UpOk c.begun v.session) ups u b.holds.ups_ok b.within in
     let n = session_number u in
     let read : server.number_of u ≡ Some n = f.read.counted in
-    subst (λ i. KeepsOn c v (cond (server.takes_number v.session i u) (server.acts_as v i u nonce) v) ups made done)
-    (sym read)
+    subst (λ i. KeepsOn c v (cond (server.takes_number v.session i u) (server.after_number v i u nonce) v)
+    ups made done) (sym read)
     (either_is (λ x. KeepsOn c v x ups made done) (server.takes_in v.session n u)
-    {x = server.acts_in v v.session n u nonce} {y = v}
+    {x = server.after_in_session v v.session n u nonce} {y = v}
     (λ t.
     (let k = taken-turn c.begun v v.session n u nonce refl b.holds.server_ok f.first t in
-    taken-on job done c v (server.acts_in v v.session n u nonce) downs _ ups made u nonce b k
-    (served-by c.begun c.session v downs ups u nonce (server.acts_in v v.session n u nonce) b.holds f b.within k)))
+    taken-on job done c v (server.after_in_session v v.session n u nonce) downs _ ups made u nonce b k
+    (served-by c.begun c.session v downs ups u nonce (server.after_in_session v v.session n u nonce) b.holds f
+    b.within k)))
     (λ t. same-on c v ups made done b.keeps))

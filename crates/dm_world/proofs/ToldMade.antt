@@ -165,20 +165,21 @@ opens-ids : (v : Service) (n : ℕ) (m : Parts) (nonce : List ℕ) → HaveIds (
 opens-ids v n m nonce = accepts-ids (begins v n) (first_session v.job.account n) m nonce tt
 
 in-ids : (v : Service) (o : Option Session) (n : ℕ) (m : Parts) (nonce : List ℕ) → IfSome o HasIds
-    → HaveIds (server.acts_in v o n m nonce)
+    → HaveIds (server.after_in_session v o n m nonce)
 in-ids v None n m nonce h = opens-ids v n m nonce
 in-ids v (Some s) n m nonce h =
     either HaveIds (s.progress.number == n) {x = accepts v s m nonce} {y = server.opens v n m nonce}
     (accepts-ids v s m nonce h) (opens-ids v n m nonce)
 
-as-ids : (v : Service) (o : Option ℕ) (m : Parts) (nonce : List ℕ) → HaveIds v → HaveIds (server.acts_as v o m nonce)
+as-ids : (v : Service) (o : Option ℕ) (m : Parts) (nonce : List ℕ) → HaveIds v
+    → HaveIds (server.after_number v o m nonce)
 as-ids v None m nonce h = h
 as-ids v (Some n) m nonce h = in-ids v v.session n m nonce h
 
 next-ids : (v : Service) (m : Parts) (nonce : List ℕ) → HaveIds v → HaveIds (server_runs.next v (arrival m nonce))
 unfolding server_runs.next server.takes server.after
 next-ids v m nonce h =
-    either HaveIds (server.takes_message v m) {x = server.acts_as v (server.number_of m) m nonce} {y = v}
+    either HaveIds (server.takes_message v m) {x = server.after_number v (server.number_of m) m nonce} {y = v}
     (as-ids v (server.number_of m) m nonce h) h
 
 up-ids : (w : World) (o : Option Parts) (nonce : List ℕ) → HaveIds w.server → HaveIds (up_delivered w o nonce).server
@@ -253,7 +254,7 @@ opens-code v n m nonce place code h =
 
 in-code : (v : Service) (o : Option Session) (n : ℕ) (m : Parts) (nonce : List ℕ) (place code : ℕ) → v.session ≡ o
     → server.number_of m ≡ Some n
-    → Comes v (server.acts_in v o n m nonce) m place code
+    → Comes v (server.after_in_session v o n m nonce) m place code
 in-code v None n m nonce place code e f h = opens-code v n m nonce place code h
 in-code v (Some s) n m nonce place code e f h = by (s.progress.number == n) refl h
   where
@@ -263,7 +264,7 @@ in-code v (Some s) n m nonce place code e f h = by (s.progress.number == n) refl
     by false g k = opens-code v n m nonce place code k
 
 as-code : (v : Service) (o : Option ℕ) (m : Parts) (nonce : List ℕ) (place code : ℕ) → server.number_of m ≡ o
-    → Comes v (server.acts_as v o m nonce) m place code
+    → Comes v (server.after_number v o m nonce) m place code
 as-code v None m nonce place code e h = inl h
 as-code v (Some n) m nonce place code e h = in-code v v.session n m nonce place code refl e h
 
@@ -272,7 +273,7 @@ next-code : (v : Service) (m : Parts) (nonce : List ℕ) (place code : ℕ)
 unfolding server_runs.next server.takes server.after
 next-code v m nonce place code h = by (server.takes_message v m) h
   where
-    by : (b : Bool) → Comes v (cond b (server.acts_as v (server.number_of m) m nonce) v) m place code
+    by : (b : Bool) → Comes v (cond b (server.after_number v (server.number_of m) m nonce) v) m place code
     by true k = as-code v (server.number_of m) m nonce place code refl k
     by false k = inl k
 

@@ -163,7 +163,7 @@ server-takes w h i u n p e t =
     let f = each-within (UpOk b v.session) w.ups u h.ups_ok (picked w.ups i u p) in
     let taken : server.takes_in v.session n u ≡ true =
     ap (λ (x : Option ℕ). server.takes_number v.session x u) (sym e) ∙ t in
-    served-newest b v w.client.session w.downs w.ups i u n (server.acts_in v v.session n u []) p h e
+    served-newest b v w.client.session w.downs w.ups i u n (server.after_in_session v v.session n u []) p h e
     (taken-turn b v v.session n u [] refl h.server_ok f.first taken)
 
 -- ---- what no machine takes
