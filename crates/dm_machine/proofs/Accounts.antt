@@ -14,7 +14,7 @@ use Rattle.dm_machine.specs.declared.kinds.End.TheVariants.{Aborted}
 use Rattle.dm_machine.specs.declared.progress.Progress.{Progress}
 use Rattle.dm_machine.specs.Machine.{Machine, Session}
 use Rattle.dm_machine.specs.Messages.{Outcome, ends, Waits, account_at, closed, is_abort, is_over, denied, answered}
-use Rattle.dm_machine.specs.Messages.{by_header, is_last_own, run_of, waits_after, accepts, acts, begins}
+use Rattle.dm_machine.specs.Messages.{by_header, is_last_own, run_of, waits_after, accepts, ends_update, begins}
 use Rattle.dm_machine.specs.Sending.{sends}
 use Rattle.dm_machine.specs.Events.{Event, clock, opened, message, loss, act, takes, after, machine_of, message_outcome}
 use Rattle.dm_machine.specs.History.{next}
@@ -66,8 +66,8 @@ message_count : (c : Machine) (o : Option Session) (m : Parts) (nonce : List ℕ
 message_count c None m nonce = refl
 message_count c (Some s) m nonce = (accepts_has c s.progress m nonce).is
 
-acts_count : (c : Machine) (ok : Bool) → count (acts c ok) ≡ count c
-unfolding acts
+acts_count : (c : Machine) (ok : Bool) → count (ends_update c ok) ≡ count c
+unfolding ends_update
 acts_count c ok = refl
 
 after_count : (c : Machine) (e : Event) → count (after c e) ≡ count c

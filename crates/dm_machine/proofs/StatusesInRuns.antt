@@ -14,7 +14,8 @@ use Rattle.dm_machine.specs.declared.kinds.End.{End}
 use Rattle.dm_machine.specs.declared.progress.Progress.{Progress}
 use Rattle.dm_machine.specs.Machine.{Machine, Session}
 use Rattle.dm_machine.specs.Sending.{sends}
-use Rattle.dm_machine.specs.Messages.{Outcome, goes_on, ends, account_at, origin_of, execute, begins, acts, accepts}
+use Rattle.dm_machine.specs.Messages.{Outcome, goes_on, ends, account_at, origin_of, execute, begins, ends_update}
+use Rattle.dm_machine.specs.Messages.{accepts}
 use Rattle.dm_machine.specs.Events.{Event, opened, message, loss, act, clock, after, machine_of}
 use Rattle.dm_machine.specs.Events.{message_outcome}
 use Rattle.dm_machine.specs.History.{fresh, reached}
@@ -86,7 +87,7 @@ by_session weight c (Some s) m nonce = message_balances weight c s.progress m no
 
 event_balances : (weight : Post → ℕ) (c : Machine) (e : Event)
     → Balances weight c.engine (counted c e) (after c e).engine
-unfolding after begins acts sends abandoned
+unfolding after begins ends_update sends abandoned
 event_balances weight c (clock stamp) = omega arith
 event_balances weight c (opened account kind number) = omega arith
 event_balances weight c (message (Ok m) nonce) = by_session weight c c.session m nonce

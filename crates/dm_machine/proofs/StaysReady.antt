@@ -19,7 +19,7 @@ use Rattle.dm_machine.specs.declared.progress.Progress.{Progress}
 use Rattle.dm_machine.specs.declared.progress.UpdateResult.{UpdateResult}
 use Rattle.dm_machine.specs.Machine.{Session, Machine}
 use Rattle.dm_machine.specs.Messages.{Outcome, ends, Waits, waits_after, account_at, closed, finished, denied, is_over}
-use Rattle.dm_machine.specs.Messages.{is_abort, answered, run_of, by_header, is_last_own, accepts, acts, begins}
+use Rattle.dm_machine.specs.Messages.{is_abort, answered, run_of, by_header, is_last_own, accepts, ends_update, begins}
 use Rattle.dm_machine.specs.Messages.{first_progress, correlator_of}
 use Rattle.dm_machine.specs.Opening.{first_package}
 use Rattle.dm_machine.specs.Sending.{header_from, sends}
@@ -233,8 +233,8 @@ session_same : (c d : Machine) (o : Option Session) → d.accounts ≡ c.account
 session_same c d None accounts queue is = tt
 session_same c d (Some s) accounts queue is = progress_same c d s.progress accounts queue is
 
-acts_ready : (c : Machine) (ok : Bool) → IsReadyMachine c → IsReadyMachine (acts c ok)
-unfolding acts
+acts_ready : (c : Machine) (ok : Bool) → IsReadyMachine c → IsReadyMachine (ends_update c ok)
+unfolding ends_update
 acts_ready c ok ready = record {
   limits = ready.limits;
   clock = ready.clock;
@@ -244,7 +244,7 @@ acts_ready c ok ready = record {
   results = all_append (λ (u : UpdateResult). IfSome u.correlator IsCorrelator) c.results
       (record { correlator = correlator_of c.engine.started; ok = ok } ∷ []) ready.results
       (started_correlator_ready c.limits.max_obj c.engine ready.engine, tt);
-  session = session_same c (acts c ok) c.session refl refl ready.session;
+  session = session_same c (ends_update c ok) c.session refl refl ready.session;
 }
 
 -- ---- the law
@@ -348,7 +348,7 @@ message_short c (Some s) m nonce ready short session is =
     last_or_header_short (is_last_own s.progress) c s.progress m nonce refl (apart c ready) session is short.farewell
 
 after_short : (c : Machine) (e : Event) → IsReadyMachine c → IsReadyEvent c e → IsShort c → IsShort (after c e)
-unfolding after begins acts
+unfolding after begins ends_update
 after_short c (clock stamp) ready is short = record { sent = short.sent; farewell = short.farewell }
 after_short c (opened account kind number) ready is short =
     sends_short (beginning c kind number) (first_progress account kind number (first_package (closed c) kind))

@@ -24,7 +24,7 @@ use Rattle.dm_machine.specs.declared.progress.Progress.{Progress}
 use Rattle.dm_machine.specs.Machine.{Machine, Session}
 use Rattle.dm_machine.specs.Messages.{Outcome, goes_on, ends, Waits, account_at, closed, finished, is_abort, is_over}
 use Rattle.dm_machine.specs.Messages.{denied, answered, by_header, is_last_own, is_quiet, origin_of, running_for}
-use Rattle.dm_machine.specs.Messages.{execute, run_of, waits_after, accepts, acts, begins}
+use Rattle.dm_machine.specs.Messages.{execute, run_of, waits_after, accepts, ends_update, begins}
 use Rattle.dm_machine.specs.Sending.{sends}
 use Rattle.dm_machine.specs.Events.{Event, clock, opened, message, loss, act, takes, after, machine_of, message_outcome}
 use Rattle.dm_machine.specs.History.{next}
@@ -134,8 +134,8 @@ no-session None false h = absurd (cc)
 no-session (Some s) b h = absurd (cc)
 
 acts-steady : (c : Machine) (ok : Bool) → not (is_some c.session) && is_updating c.engine.tree ≡ true → IsSteady c
-    → IsSteady (acts c ok)
-unfolding acts
+    → IsSteady (ends_update c ok)
+unfolding ends_update
 acts-steady c ok t steady =
     let is = no-session c.session (is_updating c.engine.tree) t in
     let closed = steady.closed is.0 in

@@ -19,7 +19,7 @@ use Rattle.dm_machine.specs.Machine.{Session, Machine}
 use Rattle.dm_machine.specs.Sending.{sends}
 use Rattle.dm_machine.specs.Messages.{Outcome, goes_on, ends, begins, Waits, queued_again, waits_after, is_over}
 use Rattle.dm_machine.specs.Messages.{is_abort, account_at, closed, denied, run_of, answered, by_header, is_last_own}
-use Rattle.dm_machine.specs.Messages.{accepts, acts}
+use Rattle.dm_machine.specs.Messages.{accepts, ends_update}
 use Rattle.dm_machine.specs.Events.{Event, clock, opened, message, loss, act, stale, stranger, session_of, is_number}
 use Rattle.dm_machine.specs.Events.{is_of, last_of, takes, takes_message, message_outcome, outcome_answer, machine_of}
 use Rattle.dm_machine.specs.Events.{after, taken_answer, sent_in, repeat_answer, message_refusal, refusal}
@@ -156,7 +156,7 @@ message-moves c (Some y) m nonce h =
 -- at its MsgID with what it was answered with, or ends it; the clock and the end of an update leave both
 pub steps : (c : Machine) (e : Event) → takes c e ≡ true
     → Steps c.begun c.session e (message_sent (taken_answer c e)) (after c e).begun (after c e).session
-unfolding takes after taken_answer begins sends acts
+unfolding takes after taken_answer begins sends ends_update
 steps c (clock stamp) h = (refl, refl)
 steps c (opened account kind number) h = (lt_of c.begun number h, (refl, (refl, refl)))
 steps c (message (Ok m) nonce) h = message-moves c c.session m nonce h

@@ -9,7 +9,7 @@ pub use Rattle.dm_ends.specs.Commands.{session_of, is_number}
 use Rattle.dm_machine.specs.declared.kinds.Kind.{Kind}
 use Rattle.dm_machine.specs.declared.kinds.End.{End}
 use Rattle.dm_machine.specs.Machine.{Session, Machine}
-use Rattle.dm_machine.specs.Messages.{Outcome, goes_on, ends, begins, accepts, acts}
+use Rattle.dm_machine.specs.Messages.{Outcome, goes_on, ends, begins, accepts, ends_update}
 
 -- the clock is set; a session of an account, a kind and a number is opened; bytes come, which a message or its first
 -- refusal stands for, with the nonce of a challenge; no reply came; an update ended
@@ -78,7 +78,7 @@ after c (clock stamp) = record c { clock = stamp }
 after c (opened account kind number) = begins c account kind number
 after c (message read nonce) = machine_of (outcome_of c read nonce)
 after c loss = c
-after c (act ok) = acts c ok
+after c (act ok) = ends_update c ok
 
 -- ---- what it is answered
 

@@ -204,8 +204,8 @@ accepts c p m nonce =
 abbrev pub correlator_of : Option Started → Option (List ℕ)
 correlator_of started = option_and_then (λ (u : Started). u.correlator) started
 
-unfoldable pub acts : Machine → Bool → Machine
-acts c ok = record c {
+unfoldable pub ends_update : Machine → Bool → Machine
+ends_update c ok = record c {
   engine = finished_update c.clock c.engine ok;
   results = c.results ++ record { correlator = correlator_of c.engine.started; ok = ok } ∷ [];
 }

@@ -12,7 +12,7 @@ use Rattle.dm_atomic.specs.Marks.{Whole, whole_of, past_of, no_past}
 use Rattle.dm_atomic.specs.Updates.{clock_of, max_obj_of, finished, TellsStarted}
 use Rattle.dm_machine.specs.declared.progress.UpdateResult.{UpdateResult}
 use Rattle.dm_machine.specs.Machine.{Machine}
-use Rattle.dm_machine.specs.Messages.{acts, correlator_of}
+use Rattle.dm_machine.specs.Messages.{ends_update, correlator_of}
 use Rattle.dm_machine.specs.Events.{act, takes, after}
 use Rattle.dm_machine.specs.History.{next}
 use Rattle.dm_machine.specs.Ready.{IsReadyMachine}
@@ -84,7 +84,7 @@ module _ (e f : Engine) (q : List Entry) (r : Rest) (results : List UpdateResult
     (is : correlator ≡ correlator_of (state_of e).started)
     (more : results ≡ r.results ++ record { correlator = correlator; ok = ok } ∷ []) where
   acts_so : machine_of f q (with_results r results) ≡ after (machine_of e q r) (act ok)
-  unfolding after acts
+  unfolding after ends_update
   acts_so =
       ap (λ s. moved (machine_of e q r) s (clock_of f) results) state
       ∙ ap (λ x. moved (machine_of e q r) (finished (clock_of e) (state_of e) ok) x results) k

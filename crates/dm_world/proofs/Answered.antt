@@ -27,7 +27,7 @@ use Rattle.dm_machine.specs.declared.kinds.Kind.{Kind}
 use Rattle.dm_machine.specs.declared.progress.Progress.{Progress}
 use Rattle.dm_machine.specs.Machine.{Session, Machine}
 use Rattle.dm_machine.specs.Sending.{sends}
-use Rattle.dm_machine.specs.Messages.{Outcome, goes_on, ends, begins, accepts, origin_of, acts as machine_acts}
+use Rattle.dm_machine.specs.Messages.{Outcome, goes_on, ends, begins, accepts, origin_of, ends_update}
 use Rattle.dm_machine.specs.Statuses.{is_executed, executed, message_counted, session_counted, counted}
 use Rattle.dm_machine.specs.Statuses.{asked_by as all_asked_by, made_by as all_made_by, given_up_by as all_given_by}
 use Rattle.dm_machine.specs.Events as client
@@ -323,9 +323,9 @@ opened-stays n weight made done c account kind k h =
 act-stays : (n : ℕ) (weight : Post → ℕ) (made : List (InSession Made)) (done : List (InSession Deed)) (c : Machine)
     (ok : Bool) → Stays n weight made done c
     → Stays n weight made done (client_runs.next c (client.act ok))
-unfolding client_runs.next client.after machine_acts
+unfolding client_runs.next client.after ends_update
 act-stays n weight made done c ok h =
-    either (Stays n weight made done) (client.takes c (client.act ok)) {x = machine_acts c ok} {y = c} h h
+    either (Stays n weight made done) (client.takes c (client.act ok)) {x = ends_update c ok} {y = c} h h
 
 clock-stays : (n : ℕ) (weight : Post → ℕ) (made : List (InSession Made)) (done : List (InSession Deed)) (c : Machine)
     (stamp : Stamp) → Stays n weight made done c

@@ -11,7 +11,7 @@ use Rattle.dm_pack.specs.Entries.{Entry}
 use Rattle.dm_machine.specs.declared.kinds.Kind.{Kind}
 use Rattle.dm_machine.specs.Machine.{Machine, Session as Opened}
 use Rattle.dm_machine.specs.Messages.{Outcome, goes_on, ends, begins, origin_of, accepts}
-use Rattle.dm_machine.specs.Messages.{acts as machine_acts}
+use Rattle.dm_machine.specs.Messages.{ends_update}
 use Rattle.dm_machine.specs.Statuses.{is_executed}
 use Rattle.dm_machine.specs.Events as client
 use Rattle.dm_machine.specs.History as client_runs
@@ -475,9 +475,9 @@ pub act-goes : (job done : List Act) (c : Machine) (v : Service) (downs : List R
     → Known v.session ups
     → Aware c.session v.session ups
     → GoesOn job done v downs ups (client_runs.next c (client.act ok)) (client_runs.answer_now c (client.act ok))
-unfolding client_runs.next client_runs.answer_now client.after client.taken_answer client.refusal machine_acts
+unfolding client_runs.next client_runs.answer_now client.after client.taken_answer client.refusal ends_update
 act-goes job done c v downs ups ok h q f w a =
-    both-ways (GoesOn job done v downs ups) (client.takes c (client.act ok)) (machine_acts c ok) c client.acted
+    both-ways (GoesOn job done v downs ups) (client.takes c (client.act ok)) (ends_update c ok) c client.acted
     client.not_now
     (λ t. record { placed = h; quiet = acts-quiet c ok q; says_fine = f; known = w; aware = a })
     (λ t. record { placed = h; quiet = q; says_fine = f; known = w; aware = a })

@@ -15,7 +15,7 @@ use Rattle.dm_atomic.specs.Updates.{is_updating}
 use Rattle.dm_pack.specs.Filling.{commands_of}
 use Rattle.dm_machine.specs.declared.kinds.Kind.{Kind}
 use Rattle.dm_machine.specs.Machine.{Machine, Session as Opened}
-use Rattle.dm_machine.specs.Messages.{Outcome, goes_on, ends, begins, accepts, acts as machine_acts}
+use Rattle.dm_machine.specs.Messages.{Outcome, goes_on, ends, begins, accepts, ends_update}
 use Rattle.dm_machine.specs.Statuses.{is_executed, executed}
 use Rattle.dm_machine.specs.Events as client
 use Rattle.dm_machine.specs.History as client_runs
@@ -242,13 +242,13 @@ pub act-keeps : (c : Machine) (v : Service) (ups : List Parts) (made : List (InS
     → Keeps c v ups made done
     → Then v ups made done (client_runs.next c (client.act ok)) (client_runs.answer_now c (client.act ok))
 unfolding client_runs.next client_runs.answer_now client.takes client.after client.taken_answer client.refusal
-    machine_acts
+    ends_update
 act-keeps c v ups made done ok h =
-    both-ways (Then v ups made done) (not (is_some c.session) && is_updating c.engine.tree) (machine_acts c ok) c
+    both-ways (Then v ups made done) (not (is_some c.session) && is_updating c.engine.tree) (ends_update c ok) c
     client.acted client.not_now
     (λ t.
     (let e = busy c.session (is_updating c.engine.tree) t in
-    keeps-closed c (machine_acts c ok) v ups made done e e h))
+    keeps-closed c (ends_update c ok) v ups made done e e h))
     (λ t. h)
 
 pub clock-keeps : (c : Machine) (v : Service) (ups : List Parts) (made : List (InSession Made)) (done : List Act)

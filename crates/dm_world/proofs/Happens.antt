@@ -8,7 +8,7 @@ use Rattle.dm_ends.specs.Commands.{session_of, is_number}
 use Rattle.dm_job.specs.declared.job.Job.{Job}
 use Rattle.dm_machine.specs.declared.kinds.Kind.{Kind}
 use Rattle.dm_machine.specs.Machine.{Machine, Session as Opened}
-use Rattle.dm_machine.specs.Messages.{Outcome, goes_on, ends, begins, accepts, acts as machine_acts}
+use Rattle.dm_machine.specs.Messages.{Outcome, goes_on, ends, begins, accepts, ends_update}
 use Rattle.dm_machine.specs.Sending.{sends}
 use Rattle.dm_machine.specs.Events as client
 use Rattle.dm_machine.specs.History as client_runs
@@ -157,10 +157,10 @@ message-then c v downs ups d nonce h w =
 act-then : (c : Machine) (v : Option Serving) (downs : List Reply) (ups : List Parts) (ok : Bool)
     → Holds c.begun c.session v downs ups
     → Then v downs ups (client_runs.next c (client.act ok)) (client_runs.answer_now c (client.act ok))
-unfolding client_runs.next client_runs.answer_now client.after client.taken_answer client.refusal machine_acts
+unfolding client_runs.next client_runs.answer_now client.after client.taken_answer client.refusal ends_update
 act-then c v downs ups ok h =
     let e = client.act ok in
-    both-ways (Then v downs ups) (client.takes c e) (machine_acts c ok) c client.acted client.not_now (λ t. h) (λ t. h)
+    both-ways (Then v downs ups) (client.takes c e) (ends_update c ok) c client.acted client.not_now (λ t. h) (λ t. h)
 
 clock-then : (c : Machine) (v : Option Serving) (downs : List Reply) (ups : List Parts) (stamp : Stamp)
     → Holds c.begun c.session v downs ups

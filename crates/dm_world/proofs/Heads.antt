@@ -12,7 +12,7 @@ use Rattle.dm_ends.specs.Commands.{is_abort}
 use Rattle.dm_job.specs.declared.job.Job.{Job}
 use Rattle.dm_machine.specs.declared.kinds.Kind.{Kind}
 use Rattle.dm_machine.specs.Machine.{Machine, Session as Opened}
-use Rattle.dm_machine.specs.Messages.{Outcome, goes_on, ends, begins, accepts, acts as machine_acts}
+use Rattle.dm_machine.specs.Messages.{Outcome, goes_on, ends, begins, accepts, ends_update}
 use Rattle.dm_machine.specs.Events as client
 use Rattle.dm_machine.specs.History as client_runs
 use Rattle.dm_service.specs.Service.{Service, Session as Serving}
@@ -67,9 +67,9 @@ opened-first ups c account kind n h =
 
 act-first : (ups : List Parts) (c : Machine) (ok : Bool) → UpFirst c.session ups
     → Says ups (client_runs.next c (client.act ok)) (client_runs.answer_now c (client.act ok))
-unfolding client_runs.next client_runs.answer_now client.after client.taken_answer client.refusal machine_acts
+unfolding client_runs.next client_runs.answer_now client.after client.taken_answer client.refusal ends_update
 act-first ups c ok h =
-    both-ways (Says ups) (client.takes c (client.act ok)) (machine_acts c ok) c client.acted client.not_now (λ t. h)
+    both-ways (Says ups) (client.takes c (client.act ok)) (ends_update c ok) c client.acted client.not_now (λ t. h)
     (λ t. h)
 
 clock-first : (ups : List Parts) (c : Machine) (stamp : Stamp) → UpFirst c.session ups

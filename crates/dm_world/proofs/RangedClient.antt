@@ -33,7 +33,7 @@ use Rattle.dm_machine.specs.Opening.{opening}
 use Rattle.dm_machine.specs.Sending.{header_from, sends}
 use Rattle.dm_machine.specs.Messages.{Outcome, goes_on, ends, Waits, waits_after, queued_again, account_at, closed}
 use Rattle.dm_machine.specs.Messages.{finished, denied, is_over, is_abort, answered, run_of, execute, by_header}
-use Rattle.dm_machine.specs.Messages.{is_last_own, accepts, acts, begins, first_progress}
+use Rattle.dm_machine.specs.Messages.{is_last_own, accepts, ends_update, begins, first_progress}
 use Rattle.dm_machine.specs.Events as client
 use Rattle.dm_machine.specs.History as client_runs
 use Rattle.dm_machine.specs.Ready.{IsReadyAccount, IsReadyProgress, IsReadyMachine, IsReadyMessage}
@@ -320,9 +320,9 @@ opened-moves c account kind n ready low small ranged =
     (λ t. (ranged, tt))
 
 pub act-moves : (c : Machine) (ok : Bool) → Ranged c → Moves c (client.act ok)
-unfolding client_runs.next client_runs.answer_now client.after client.taken_answer client.refusal acts
+unfolding client_runs.next client_runs.answer_now client.after client.taken_answer client.refusal ends_update
 act-moves c ok ranged =
-    both-ways Goes (client.takes c (client.act ok)) (acts c ok) c client.acted client.not_now
+    both-ways Goes (client.takes c (client.act ok)) (ends_update c ok) c client.acted client.not_now
     (λ t. (record { queue = ranged.queue; engine = ranged.engine }, tt)) (λ t. (ranged, tt))
 
 pub clock-moves : (c : Machine) (stamp : Stamp) → Ranged c → Moves c (client.clock stamp)

@@ -44,7 +44,7 @@ use Rattle.dm_machine.specs.Opening.{result_alert, update_uri, device_told, open
 use Rattle.dm_machine.specs.Sending.{header_from, sends}
 use Rattle.dm_machine.specs.Messages.{Outcome, goes_on, ends, begins, Waits, waits_after, is_over}
 use Rattle.dm_machine.specs.Messages.{account_at, closed, finished, first_progress, denied, run_of, answered, by_header}
-use Rattle.dm_machine.specs.Messages.{origin_of, execute, is_last_own, accepts, acts}
+use Rattle.dm_machine.specs.Messages.{origin_of, execute, is_last_own, accepts, ends_update}
 use Rattle.dm_machine.specs.Statuses.{is_executed}
 use Rattle.dm_machine.specs.Events as client
 use Rattle.dm_machine.specs.Ready.{IsReadyMachine, IsReadyProgress, IsReadyMessage}
@@ -680,6 +680,6 @@ message-fine c s m nonce e quiet f ready progress message fault body next =
     own-next : (p : Progress) → is_last_own p ≡ false → p.standing.own < 2 ^ 32 → p.standing.own + 1 < 2 ^ 32
     own-next p is low = let other = eqb-false p.standing.own 4294967295 is in omega (arith, other, low)
 
-pub acts-quiet : (c : Machine) (ok : Bool) → Quiet c → Quiet (acts c ok)
-unfolding acts
+pub acts-quiet : (c : Machine) (ok : Bool) → Quiet c → Quiet (ends_update c ok)
+unfolding ends_update
 acts-quiet c ok h = record { queue = h.queue; waits = h.waits; session = h.session }

@@ -41,7 +41,7 @@ use Rattle.dm_machine.specs.Opening.{result_alert, update_uri, device_told, open
 use Rattle.dm_machine.specs.Sending.{header_from, sends}
 use Rattle.dm_machine.specs.Messages.{Outcome, goes_on, ends, begins, Waits, waits_after, queued_again, is_over}
 use Rattle.dm_machine.specs.Messages.{account_at, closed, finished, first_progress, denied, run_of, answered, by_header}
-use Rattle.dm_machine.specs.Messages.{execute, is_last_own, is_abort, accepts, acts as machine_acts}
+use Rattle.dm_machine.specs.Messages.{execute, is_last_own, is_abort, accepts, ends_update}
 use Rattle.dm_machine.specs.Statuses.{executed}
 use Rattle.dm_machine.specs.Events as client
 use Rattle.dm_machine.specs.History as client_runs
@@ -534,9 +534,9 @@ opened-utters made c account kind n high h =
 
 act-utters : (made : List (InSession Made)) (c : Machine) (ok : Bool) → OpenTell made c.queue c.session
     → After made c (client.act ok)
-unfolding client_runs.next client_runs.answer_now client.after client.taken_answer client.refusal machine_acts
+unfolding client_runs.next client_runs.answer_now client.after client.taken_answer client.refusal ends_update
 act-utters made c ok h =
-    both-ways (Utters made) (client.takes c (client.act ok)) (machine_acts c ok) c client.acted client.not_now
+    both-ways (Utters made) (client.takes c (client.act ok)) (ends_update c ok) c client.acted client.not_now
     (λ t. record { queue = h; message = tt }) (λ t. record { queue = h; message = tt })
 
 clock-utters : (made : List (InSession Made)) (c : Machine) (stamp : Stamp) → OpenTell made c.queue c.session
