@@ -20,8 +20,8 @@ use Rattle.dm_machine.specs.History as client_runs
 use Rattle.dm_service.specs.Service.{Service}
 use Rattle.dm_service.specs.Events as server
 use Rattle.dm_service.specs.History as server_runs
-use Rattle.dm_world.specs.World.{Reply, World, Happening, opens, up_comes, down_comes, acts, is_lost, with_new, said}
-use Rattle.dm_world.specs.World.{replied, arrival, client_has, down_delivered, up_delivered, happens, run}
+use Rattle.dm_world.specs.World.{Reply, World, Happening, opens, up_comes, down_comes, update_ends, is_lost, with_new}
+use Rattle.dm_world.specs.World.{said, replied, arrival, client_has, down_delivered, up_delivered, happens, run}
 use Rattle.dm_world.specs.Start.{at_start, IsWorldStart, IsNonce, IsInRange}
 use Rattle.dm_world.proofs.Ranges.{all-append}
 use Rattle.dm_world.proofs.ReadAgain.{reads_the_sent}
@@ -291,7 +291,7 @@ step-on c job p event.Loss start h n o =
     one-more c job p (to_client p client.loss) o is_lost tt
     (client-world p (run (at_start c job) o.schedule) client.loss o.is_world)
 step-on c job p (event.Act ok) start h n o =
-    one-more c job p (to_client p (client.act ok)) o (acts ok) tt
+    one-more c job p (to_client p (client.act ok)) o (update_ends ok) tt
     (client-world p (run (at_start c job) o.schedule) (client.act ok) o.is_world)
 step-on c job p (event.Run count) start h n o = rounds-on c job count p start o
 step-on c job p event.End start h n o = o

@@ -35,7 +35,8 @@ use Rattle.dm_machine.specs.History as client_runs
 use Rattle.dm_machine.proofs.StatusesInRuns.{one_status_in_runs}
 use Rattle.dm_world.specs.Deeds.{Deed, step_deeds, member_deeds, members_deeds, command_deeds}
 use Rattle.dm_world.specs.Deeds.{all_deeds}
-use Rattle.dm_world.specs.World.{InSession, World, Reply, Happening, opens, up_comes, down_comes, acts, clock_moves}
+use Rattle.dm_world.specs.World.{InSession, World, Reply, Happening, opens, up_comes, down_comes, update_ends}
+use Rattle.dm_world.specs.World.{clock_moves}
 use Rattle.dm_world.specs.World.{is_lost, finds_no_memory, with_new, replied, in_session, heard_by, deeds_in, made_in}
 use Rattle.dm_world.specs.World.{deeds_by, made_by, arrival, down_delivered, up_delivered, happens, run}
 use Rattle.dm_world.specs.Start.{at_start, IsWorldStart}
@@ -367,7 +368,7 @@ unfolding happens
 happens-balanced n weight w (opens account kind k) h = opened-stays n weight w.made w.executed w.client account kind k h
 happens-balanced n weight w (up_comes k nonce) h = up-balanced n weight w (slice_get w.ups k) nonce h
 happens-balanced n weight w (down_comes k nonce) h = down-balanced n weight w (slice_get w.downs k) nonce h
-happens-balanced n weight w (acts ok) h = act-stays n weight w.made w.executed w.client ok h
+happens-balanced n weight w (update_ends ok) h = act-stays n weight w.made w.executed w.client ok h
 happens-balanced n weight w (clock_moves stamp) h = clock-stays n weight w.made w.executed w.client stamp h
 happens-balanced n weight w is_lost h = loss-stays n weight w.made w.executed w.client h
 happens-balanced n weight w finds_no_memory h = h
@@ -533,7 +534,7 @@ unfolding happens
 happens-stands w (opens account kind n) h = h
 happens-stands w (up_comes k nonce) h = up-stands w (slice_get w.ups k) nonce h
 happens-stands w (down_comes k nonce) h = down-stands w k (slice_get w.downs k) nonce refl h
-happens-stands w (acts ok) h = h
+happens-stands w (update_ends ok) h = h
 happens-stands w (clock_moves stamp) h = h
 happens-stands w is_lost h = h
 happens-stands w finds_no_memory h = h

@@ -16,8 +16,8 @@ use Rattle.dm_service.specs.Service.{Service, Session as Serving}
 use Rattle.dm_service.specs.Messages as serving
 use Rattle.dm_service.specs.Events as server
 use Rattle.dm_service.specs.History as server_runs
-use Rattle.dm_world.specs.World.{World, Reply, Happening, opens, up_comes, down_comes, acts, clock_moves, is_lost}
-use Rattle.dm_world.specs.World.{finds_no_memory, with_new, said, replied, arrival, down_delivered}
+use Rattle.dm_world.specs.World.{World, Reply, Happening, opens, up_comes, down_comes, update_ends, clock_moves}
+use Rattle.dm_world.specs.World.{is_lost, finds_no_memory, with_new, said, replied, arrival, down_delivered}
 use Rattle.dm_world.specs.World.{up_delivered, happens, run}
 use Rattle.dm_world.specs.Start.{at_start, IsWorldStart, IsInRange, IsSchedule}
 use Rattle.dm_world.proofs.Lists.{either, both-ways, and-left, and-right, Each, each-within, StandsIn, picked}
@@ -410,7 +410,7 @@ happens-sound w (opens account kind n) r h =
     begins-then w.client w.server.session w.downs w.ups account kind n r h
 happens-sound w (up_comes k nonce) r h = up-sound w (slice_get w.ups k) k nonce refl h
 happens-sound w (down_comes k nonce) r h = down-sound w (slice_get w.downs k) k nonce refl h
-happens-sound w (acts ok) r h = act-then w.client w.server.session w.downs w.ups ok h
+happens-sound w (update_ends ok) r h = act-then w.client w.server.session w.downs w.ups ok h
 happens-sound w (clock_moves stamp) r h = clock-then w.client w.server.session w.downs w.ups stamp h
 happens-sound w is_lost r h = loss-then w.client w.server.session w.downs w.ups h
 happens-sound w finds_no_memory r h = h
@@ -439,7 +439,7 @@ in-range : (c : Machine) (e : Happening) → IsInRange c e → InRange e
 in-range c (opens account kind n) h = h.1
 in-range c (up_comes k nonce) h = tt
 in-range c (down_comes k nonce) h = tt
-in-range c (acts ok) h = tt
+in-range c (update_ends ok) h = tt
 in-range c (clock_moves stamp) h = tt
 in-range c is_lost h = tt
 in-range c finds_no_memory h = tt

@@ -23,7 +23,8 @@ use Rattle.dm_service.specs.Messages.{in_session, answers_message, by_header, be
 use Rattle.dm_service.specs.Messages.{accepts as server_accepts}
 use Rattle.dm_service.specs.Events as server
 use Rattle.dm_service.specs.History as server_runs
-use Rattle.dm_world.specs.World.{World, Reply, Happening, opens, up_comes, down_comes, acts, clock_moves, is_lost}
+use Rattle.dm_world.specs.World.{World, Reply, Happening, opens, up_comes, down_comes, update_ends, clock_moves}
+use Rattle.dm_world.specs.World.{is_lost}
 use Rattle.dm_world.specs.World.{finds_no_memory, with_new, said, replied, arrival, down_delivered, up_delivered}
 use Rattle.dm_world.specs.World.{happens, run}
 use Rattle.dm_world.specs.Start.{at_start, IsWorldStart}
@@ -190,7 +191,7 @@ happens-heads w (opens account kind n) h =
     record { up = opened-first w.ups w.client account kind n h.up; down = h.down }
 happens-heads w (up_comes k nonce) h = up-heads w (slice_get w.ups k) nonce h
 happens-heads w (down_comes k nonce) h = down-heads w (slice_get w.downs k) nonce h
-happens-heads w (acts ok) h = record { up = act-first w.ups w.client ok h.up; down = h.down }
+happens-heads w (update_ends ok) h = record { up = act-first w.ups w.client ok h.up; down = h.down }
 happens-heads w (clock_moves stamp) h = record { up = clock-first w.ups w.client stamp h.up; down = h.down }
 happens-heads w is_lost h = record { up = loss-first w.ups w.client h.up; down = h.down }
 happens-heads w finds_no_memory h = h

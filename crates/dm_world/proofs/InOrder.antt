@@ -23,7 +23,7 @@ use Rattle.dm_machine.specs.History as client_runs
 use Rattle.dm_machine.specs.Ready.{IsReadyMachine, IsReadyMessage}
 use Rattle.dm_machine.proofs.StaysReady.{stays_ready}
 use Rattle.dm_machine.proofs.Accounts.{accounts_stay}
-use Rattle.dm_world.specs.World.{InSession, World, Reply, Happening, opens, up_comes, down_comes, acts}
+use Rattle.dm_world.specs.World.{InSession, World, Reply, Happening, opens, up_comes, down_comes, update_ends}
 use Rattle.dm_world.specs.World.{clock_moves, is_lost, finds_no_memory, client_has}
 use Rattle.dm_world.specs.World.{down_delivered, up_delivered, happens, run}
 use Rattle.dm_world.specs.Start.{at_start, IsWorldStart, IsNonce, IsInRange, IsSchedule}
@@ -133,7 +133,7 @@ abbrev InRangeOf : ℕ → Happening → Type 0
 InRangeOf many (opens account kind number) = (account < many) × (number < 2 ^ 32)
 InRangeOf many (up_comes k nonce) = Unit {0}
 InRangeOf many (down_comes k nonce) = IsNonce nonce
-InRangeOf many (acts ok) = Unit {0}
+InRangeOf many (update_ends ok) = Unit {0}
 InRangeOf many (clock_moves stamp) = IsStamp stamp
 InRangeOf many is_lost = Unit {0}
 InRangeOf many finds_no_memory = Unit {0}
@@ -153,7 +153,7 @@ fair-then job many w (opens account kind n) r held s h =
 fair-then job many w (up_comes k nonce) r held s h = up-fair job many w (slice_get w.ups k) k nonce refl s h
 fair-then job many w (down_comes k nonce) r held s h =
     down-fair job many w (slice_get w.downs k) k nonce refl r held s h
-fair-then job many w (acts ok) r held s h =
+fair-then job many w (update_ends ok) r held s h =
     has-fair job many w (client.act ok) s (stays_ready w.client (client.act ok) h.ready tt) h.accounts
     (act-goes job (deeds_acts w.executed) w.client w.server w.downs w.ups ok h.placed h.quiet h.says_fine h.known
     h.aware)
@@ -315,7 +315,7 @@ range-of : (c : Machine) (e : Happening) → IsInRange c e → InRangeOf (length
 range-of c (opens account kind n) h = h
 range-of c (up_comes k nonce) h = tt
 range-of c (down_comes k nonce) h = h
-range-of c (acts ok) h = tt
+range-of c (update_ends ok) h = tt
 range-of c (clock_moves stamp) h = h
 range-of c is_lost h = tt
 range-of c finds_no_memory h = tt

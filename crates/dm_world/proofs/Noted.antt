@@ -38,7 +38,8 @@ use Rattle.dm_service.specs.Events as server
 use Rattle.dm_service.specs.History as server_runs
 use Rattle.dm_service.proofs.Codes.{first_in, later_in, filter_in}
 use Rattle.dm_world.specs.Deeds.{all_deeds}
-use Rattle.dm_world.specs.World.{World, Reply, Happening, opens, up_comes, down_comes, acts, clock_moves, is_lost}
+use Rattle.dm_world.specs.World.{World, Reply, Happening, opens, up_comes, down_comes, update_ends, clock_moves}
+use Rattle.dm_world.specs.World.{is_lost}
 use Rattle.dm_world.specs.World.{finds_no_memory, with_new, replied, arrival, down_delivered, up_delivered, happens}
 use Rattle.dm_world.specs.World.{run}
 use Rattle.dm_world.specs.Start.{at_start, IsWorldStart}
@@ -555,7 +556,7 @@ unfolding happens
 happens-notes packages w (opens account kind n) is h = record { notes = h.notes; noted = h.noted; rising = h.rising }
 happens-notes packages w (up_comes k nonce) is h = up-notes packages w (slice_get w.ups k) nonce is h
 happens-notes packages w (down_comes k nonce) is h = down-notes packages w (slice_get w.downs k) nonce h
-happens-notes packages w (acts ok) is h = record { notes = h.notes; noted = h.noted; rising = h.rising }
+happens-notes packages w (update_ends ok) is h = record { notes = h.notes; noted = h.noted; rising = h.rising }
 happens-notes packages w (clock_moves stamp) is h = record { notes = h.notes; noted = h.noted; rising = h.rising }
 happens-notes packages w is_lost is h = record { notes = h.notes; noted = h.noted; rising = h.rising }
 happens-notes packages w finds_no_memory is h = h

@@ -40,7 +40,8 @@ use Rattle.dm_machine.specs.Statuses.{is_executed, executed}
 use Rattle.dm_service.proofs.Codes.{first_in, later_in}
 use Rattle.dm_job.specs.declared.job.Job.{Job}
 use Rattle.dm_machine.specs.Events as client
-use Rattle.dm_world.specs.World.{InSession, World, Reply, Happening, opens, up_comes, down_comes, acts, clock_moves}
+use Rattle.dm_world.specs.World.{InSession, World, Reply, Happening, opens, up_comes, down_comes, update_ends}
+use Rattle.dm_world.specs.World.{clock_moves}
 use Rattle.dm_world.specs.World.{is_lost, finds_no_memory, in_session, heard_by, made_in, made_by, down_delivered}
 use Rattle.dm_world.specs.World.{up_delivered, happens, run}
 use Rattle.dm_world.specs.Start.{at_start}
@@ -311,7 +312,7 @@ unfolding happens
 happens-pairs w (opens account kind n) h = h
 happens-pairs w (up_comes k nonce) h = up-pairs w (slice_get w.ups k) nonce h
 happens-pairs w (down_comes k nonce) h = down-pairs w (slice_get w.downs k) nonce h
-happens-pairs w (acts ok) h = h
+happens-pairs w (update_ends ok) h = h
 happens-pairs w (clock_moves stamp) h = h
 happens-pairs w is_lost h = h
 happens-pairs w finds_no_memory h = h

@@ -22,8 +22,8 @@ use Rattle.dm_machine.proofs.Accounts.{accounts_stay}
 use Rattle.dm_service.specs.Ready.{IsReadyService}
 use Rattle.dm_service.proofs.First.{first_is_ready}
 use Rattle.dm_service.proofs.Stays.{stays_ready as server_stays}
-use Rattle.dm_world.specs.World.{World, Reply, Happening, opens, up_comes, down_comes, acts, clock_moves, is_lost}
-use Rattle.dm_world.specs.World.{finds_no_memory, said, client_has, arrival, down_delivered, up_delivered}
+use Rattle.dm_world.specs.World.{World, Reply, Happening, opens, up_comes, down_comes, update_ends, clock_moves}
+use Rattle.dm_world.specs.World.{is_lost, finds_no_memory, said, client_has, arrival, down_delivered, up_delivered}
 use Rattle.dm_world.specs.World.{happens, run}
 use Rattle.dm_world.specs.Start.{at_start, IsWorldStart, IsNonce, IsInRange, IsSchedule}
 use Rattle.dm_world.specs.Held.{IsReadAgain, ReadsTheSent}
@@ -109,7 +109,7 @@ happens-reads c w (opens account kind n) r h =
     (opened-moves w.client account kind n h.client low r.1 h.ranged)
 happens-reads c w (up_comes k nonce) r h = up-reads (length c.accounts) w (slice_get w.ups k) k nonce refl r h
 happens-reads c w (down_comes k nonce) r h = down-reads (length c.accounts) w (slice_get w.downs k) k nonce refl r h
-happens-reads c w (acts ok) r h =
+happens-reads c w (update_ends ok) r h =
     client-reads (length c.accounts) w (client.act ok) h tt (act-moves w.client ok h.ranged)
 happens-reads c w (clock_moves stamp) r h =
     client-reads (length c.accounts) w (client.clock stamp) h r (clock-moves w.client stamp h.ranged)

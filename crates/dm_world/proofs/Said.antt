@@ -25,7 +25,8 @@ use Rattle.dm_service.specs.Laws.{code_at, found_at}
 use Rattle.dm_service.proofs.Codes.{codes_are_told}
 use Rattle.dm_service.proofs.Limits.{limit-stays}
 use Rattle.dm_service.proofs.Values.{values_are_found, stands-in}
-use Rattle.dm_world.specs.World.{World, Reply, Happening, opens, up_comes, down_comes, acts, clock_moves, is_lost}
+use Rattle.dm_world.specs.World.{World, Reply, Happening, opens, up_comes, down_comes, update_ends, clock_moves}
+use Rattle.dm_world.specs.World.{is_lost}
 use Rattle.dm_world.specs.World.{finds_no_memory, with_new, said, client_has, arrival, down_delivered, up_delivered}
 use Rattle.dm_world.specs.World.{happens, run}
 use Rattle.dm_world.specs.Start.{at_start}
@@ -158,7 +159,7 @@ unfolding happens
 happens-holds max w (opens account kind n) h = client-holds max w (client.opened account kind n) h
 happens-holds max w (up_comes k nonce) h = up-holds max w k (slice_get w.ups k) nonce refl h
 happens-holds max w (down_comes k nonce) h = down-holds max w (slice_get w.downs k) nonce h
-happens-holds max w (acts ok) h = client-holds max w (client.act ok) h
+happens-holds max w (update_ends ok) h = client-holds max w (client.act ok) h
 happens-holds max w (clock_moves stamp) h = client-holds max w (client.clock stamp) h
 happens-holds max w is_lost h = client-holds max w client.loss h
 happens-holds max w finds_no_memory h = h

@@ -48,8 +48,8 @@ use Rattle.dm_machine.specs.History as client_runs
 use Rattle.dm_machine.proofs.StaysReady.{heard_by as machine_heard}
 use Rattle.dm_machine.proofs.StaysWaiting.{answering, behind_answer, beginning}
 use Rattle.dm_service.proofs.Codes.{first_in, later_in}
-use Rattle.dm_world.specs.World.{InSession, World, Reply, Happening, opens, up_comes, down_comes, acts, clock_moves}
-use Rattle.dm_world.specs.World.{is_lost, finds_no_memory, said, in_session, heard_by, made_in, made_by}
+use Rattle.dm_world.specs.World.{InSession, World, Reply, Happening, opens, up_comes, down_comes, update_ends}
+use Rattle.dm_world.specs.World.{clock_moves, is_lost, finds_no_memory, said, in_session, heard_by, made_in, made_by}
 use Rattle.dm_world.specs.World.{client_has, down_delivered, up_delivered, happens, run}
 use Rattle.dm_world.specs.Start.{at_start, IsWorldStart, IsSchedule}
 use Rattle.dm_world.specs.Commands.{WasMade, IsPartOf, WasFound, SaysTheMade, SaysTheFound}
@@ -612,8 +612,9 @@ happens-honest w (up_comes k nonce) r h =
     up-honest w (slice_get w.ups k) nonce (happens-sound w (up_comes k nonce) r h.sound) h
 happens-honest w (down_comes k nonce) r h =
     down-honest w (slice_get w.downs k) nonce (happens-sound w (down_comes k nonce) r h.sound) h
-happens-honest w (acts ok) r h =
-    client-honest w (client.act ok) (happens-sound w (acts ok) r h.sound) h (act-utters w.made w.client ok h.queue)
+happens-honest w (update_ends ok) r h =
+    client-honest w (client.act ok) (happens-sound w (update_ends ok) r h.sound) h
+    (act-utters w.made w.client ok h.queue)
 happens-honest w (clock_moves stamp) r h =
     client-honest w (client.clock stamp) (happens-sound w (clock_moves stamp) r h.sound) h
     (clock-utters w.made w.client stamp h.queue)

@@ -32,7 +32,8 @@ use Rattle.dm_service.specs.History as server_runs
 use Rattle.dm_service.specs.Pieces.{still_sent, is_read}
 use Rattle.dm_service.specs.Laws.{code_at, IsTold}
 use Rattle.dm_service.proofs.Codes.{codes_are_told, still_within, told_still}
-use Rattle.dm_world.specs.World.{InSession, World, Happening, opens, up_comes, down_comes, acts, clock_moves, is_lost}
+use Rattle.dm_world.specs.World.{InSession, World, Happening, opens, up_comes, down_comes, update_ends, clock_moves}
+use Rattle.dm_world.specs.World.{is_lost}
 use Rattle.dm_world.specs.World.{with_new, replied, finds_no_memory, arrival, made_by, up_delivered, down_delivered}
 use Rattle.dm_world.specs.World.{happens, run, Reply}
 use Rattle.dm_world.specs.Start.{at_start, IsWorldStart, IsInRange, IsSchedule}
@@ -196,7 +197,7 @@ unfolding happens
 happens-ids w (opens account kind n) h = h
 happens-ids w (up_comes k nonce) h = up-ids w (slice_get w.ups k) nonce h
 happens-ids w (down_comes k nonce) h = down-ids w (slice_get w.downs k) nonce h
-happens-ids w (acts ok) h = h
+happens-ids w (update_ends ok) h = h
 happens-ids w (clock_moves stamp) h = h
 happens-ids w is_lost h = h
 happens-ids w finds_no_memory h = h
@@ -373,7 +374,7 @@ happens-code packages w (up_comes k nonce) place code says notes ids h =
     up-code packages w k (slice_get w.ups k) nonce place code refl says notes ids h
 happens-code packages w (down_comes k nonce) place code says notes ids h =
     inl (down-code w (slice_get w.downs k) nonce place code h)
-happens-code packages w (acts ok) place code says notes ids h = inl h
+happens-code packages w (update_ends ok) place code says notes ids h = inl h
 happens-code packages w (clock_moves stamp) place code says notes ids h = inl h
 happens-code packages w is_lost place code says notes ids h = inl h
 happens-code packages w finds_no_memory place code says notes ids h = inl h
@@ -396,7 +397,7 @@ unfolding happens
 happens-longer w (opens account kind n) = (None, refl)
 happens-longer w (up_comes k nonce) = up-longer w (slice_get w.ups k) nonce
 happens-longer w (down_comes k nonce) = down-longer w (slice_get w.downs k) nonce
-happens-longer w (acts ok) = (None, refl)
+happens-longer w (update_ends ok) = (None, refl)
 happens-longer w (clock_moves stamp) = (None, refl)
 happens-longer w is_lost = (None, refl)
 happens-longer w finds_no_memory = (None, refl)
@@ -428,7 +429,7 @@ unfolding happens
 happens-more w (opens account kind n) = same-made w.made
 happens-more w (up_comes k nonce) = up-more w (slice_get w.ups k) nonce
 happens-more w (down_comes k nonce) = down-more w (slice_get w.downs k) nonce
-happens-more w (acts ok) = same-made w.made
+happens-more w (update_ends ok) = same-made w.made
 happens-more w (clock_moves stamp) = same-made w.made
 happens-more w is_lost = same-made w.made
 happens-more w finds_no_memory = same-made w.made

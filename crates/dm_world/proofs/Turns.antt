@@ -18,7 +18,7 @@ use Rattle.dm_service.specs.Service.{Service, Session as Serving}
 use Rattle.dm_service.specs.Events as server
 use Rattle.dm_service.specs.History as server_runs
 use Rattle.dm_world.specs.Deeds.{Deed}
-use Rattle.dm_world.specs.World.{World, Reply, InSession, opens, up_comes, down_comes, acts, clock_moves}
+use Rattle.dm_world.specs.World.{World, Reply, InSession, opens, up_comes, down_comes, update_ends, clock_moves}
 use Rattle.dm_world.specs.World.{is_lost, finds_no_memory, with_new, said, replied, client_has, arrival, deeds_by}
 use Rattle.dm_world.specs.World.{made_by, down_delivered, up_delivered, happens, run}
 use Rattle.dm_world.specs.Start.{at_start}
@@ -258,7 +258,7 @@ unfolding happens client.refusal
 untaken w (opens account kind n) t = untaken-client w (client.opened account kind n) t refl
 untaken w (up_comes k nonce) t = untaken-up w (slice_get w.ups k) nonce t
 untaken w (down_comes k nonce) t = untaken-down w (slice_get w.downs k) nonce t
-untaken w (acts ok) t = untaken-client w (client.act ok) t refl
+untaken w (update_ends ok) t = untaken-client w (client.act ok) t refl
 untaken w (clock_moves stamp) t = cc
 untaken w is_lost t = untaken-client w client.loss (loss-untaken w.client) (said-of-loss w.client)
 untaken w finds_no_memory t = refl

@@ -23,8 +23,8 @@ use Rattle.dm_service.specs.Packages.{commands_in}
 use Rattle.dm_service.specs.Laws.{found_at}
 use Rattle.dm_service.proofs.Codes.{first_in, later_in}
 use Rattle.dm_world.specs.Deeds.{Deed, all_deeds}
-use Rattle.dm_world.specs.World.{InSession, World, Reply, Happening, opens, up_comes, down_comes, acts, clock_moves}
-use Rattle.dm_world.specs.World.{is_lost, finds_no_memory, down_delivered, up_delivered, happens, run}
+use Rattle.dm_world.specs.World.{InSession, World, Reply, Happening, opens, up_comes, down_comes, update_ends}
+use Rattle.dm_world.specs.World.{clock_moves, is_lost, finds_no_memory, down_delivered, up_delivered, happens, run}
 use Rattle.dm_world.specs.Start.{at_start, IsWorldStart, IsInRange, IsSchedule}
 use Rattle.dm_world.specs.Acts.{deeds_acts, job_acts}
 use Rattle.dm_world.specs.Commands.{SaysWhatItFound}
@@ -198,7 +198,7 @@ happens-keeps c job hs (down_comes k nonce) start range r h =
       keeps = down-keeps c job hs k (slice_get w.downs k) nonce start range refl h;
       values = down-values w (slice_get w.downs k) nonce;
     }
-happens-keeps c job hs (acts ok) start range r h =
+happens-keeps c job hs (update_ends ok) start range r h =
     let w = run (at_start c job) hs in
     record {
       keeps = act-keeps w.client w.server w.ups w.made (deeds_acts w.executed) ok h;

@@ -8,8 +8,8 @@ use Rattle.dm_machine.specs.Machine.{Machine}
 use Rattle.dm_machine.specs.Events as client
 use Rattle.dm_service.specs.Events as server
 use Rattle.dm_job.specs.declared.job.Job.{Job}
-use Rattle.dm_world.specs.World.{World, Reply, Happening, opens, up_comes, down_comes, acts, clock_moves, is_lost}
-use Rattle.dm_world.specs.World.{finds_no_memory, happens, run}
+use Rattle.dm_world.specs.World.{World, Reply, Happening, opens, up_comes, down_comes, update_ends, clock_moves}
+use Rattle.dm_world.specs.World.{is_lost, finds_no_memory, happens, run}
 use Rattle.dm_world.specs.Start.{at_start, IsWorldStart, IsSchedule}
 
 -- ---- taking turns
@@ -48,7 +48,7 @@ abbrev pub is_taken : World → Happening → Bool
 is_taken w (opens account kind number) = client.takes w.client (client.opened account kind number)
 is_taken w (up_comes k nonce) = is_up_taken w (slice_get w.ups k)
 is_taken w (down_comes k nonce) = is_down_taken w (slice_get w.downs k)
-is_taken w (acts ok) = client.takes w.client (client.act ok)
+is_taken w (update_ends ok) = client.takes w.client (client.act ok)
 is_taken w (clock_moves stamp) = true
 is_taken w is_lost = false
 is_taken w finds_no_memory = false

@@ -11,7 +11,7 @@ use Rattle.dm_machine.specs.Machine.{Machine}
 use Rattle.dm_machine.specs.Laws.{IsUnused}
 use Rattle.dm_machine.specs.Ready.{IsReadyMachine}
 use Rattle.dm_service.specs.Messages.{first_service}
-use Rattle.dm_world.specs.World.{World, Happening, opens, up_comes, down_comes, acts, clock_moves, is_lost}
+use Rattle.dm_world.specs.World.{World, Happening, opens, up_comes, down_comes, update_ends, clock_moves, is_lost}
 use Rattle.dm_world.specs.World.{finds_no_memory}
 
 -- this client, and a server with this job that no message came to
@@ -46,7 +46,7 @@ abbrev pub IsInRange : Machine → Happening → Type 0
 IsInRange c (opens account kind number) = (account < length c.accounts) × (number < 2 ^ 32)
 IsInRange c (up_comes k nonce) = IsNonce nonce
 IsInRange c (down_comes k nonce) = IsNonce nonce
-IsInRange c (acts ok) = ⊤
+IsInRange c (update_ends ok) = ⊤
 IsInRange c (clock_moves stamp) = IsStamp stamp
 IsInRange c is_lost = ⊤
 IsInRange c finds_no_memory = ⊤

@@ -45,7 +45,7 @@ pub data Happening : Type 0 where
   opens : ℕ → Kind → ℕ → Happening
   up_comes : ℕ → List ℕ → Happening
   down_comes : ℕ → List ℕ → Happening
-  acts : Bool → Happening
+  update_ends : Bool → Happening
   clock_moves : Stamp → Happening
   is_lost : Happening
   finds_no_memory : Happening
@@ -117,7 +117,7 @@ unfoldable pub happens : World → Happening → World
 happens w (opens account kind number) = client_has w (client.opened account kind number)
 happens w (up_comes k nonce) = up_delivered w (slice_get w.ups k) nonce
 happens w (down_comes k nonce) = down_delivered w (slice_get w.downs k) nonce
-happens w (acts ok) = client_has w (client.act ok)
+happens w (update_ends ok) = client_has w (client.act ok)
 happens w (clock_moves stamp) = client_has w (client.clock stamp)
 happens w is_lost = client_has w client.loss
 happens w finds_no_memory = w
