@@ -21,7 +21,7 @@ use Rattle.dm_machine.specs.Events.{message_outcome}
 use Rattle.dm_machine.specs.History.{fresh, reached}
 use Rattle.dm_machine.specs.Statuses.{Counted, counted, waiting_at, executed, message_counted}
 use Rattle.dm_machine.specs.Statuses.{session_counted}
-use Rattle.dm_machine.specs.Statuses.{asked_by, made_by, given_up_by}
+use Rattle.dm_machine.specs.Statuses.{asked_in_run, made_in_run, given_up_in_run}
 use Rattle.dm_machine.proofs.Statuses.{one_status_each}
 
 -- what an event asks was made, was given up, or waits
@@ -96,8 +96,8 @@ event_balances weight c loss = omega arith
 event_balances weight c (act ok) = omega arith
 
 runs_balance : (weight : Post → ℕ) (c : Machine) (es : List Event)
-    → sum_by weight (waiting_posts c.engine.group) + sum_by weight (asked_by c es)
-    ≡ sum_by weight (made_by c es) + (sum_by weight (given_up_by c es)
+    → sum_by weight (waiting_posts c.engine.group) + sum_by weight (asked_in_run c es)
+    ≡ sum_by weight (made_in_run c es) + (sum_by weight (given_up_in_run c es)
     + sum_by weight (waiting_posts (reached c es).engine.group))
 runs_balance weight c [] = omega arith
 runs_balance weight c (e ∷ es) =
@@ -105,13 +105,13 @@ runs_balance weight c (e ∷ es) =
     let d = after c e in
     let here = event_balances weight c e in
     let behind = runs_balance weight d es in
-    let asked = sum_by-append weight n.asked (asked_by d es) in
-    let made = sum_by-append weight n.made (made_by d es) in
-    let given_up = sum_by-append weight n.given_up (given_up_by d es) in
+    let asked = sum_by-append weight n.asked (asked_in_run d es) in
+    let made = sum_by-append weight n.made (made_in_run d es) in
+    let given_up = sum_by-append weight n.given_up (given_up_in_run d es) in
     omega (arith, here, behind, asked, made, given_up)
 
 pub one_status_in_runs : (c : Machine) (es : List Event) (weight : Post → ℕ)
-    → sum_by weight (waiting_posts c.engine.group) + sum_by weight (asked_by c (fresh c es))
-    ≡ sum_by weight (made_by c (fresh c es)) + (sum_by weight (given_up_by c (fresh c es))
+    → sum_by weight (waiting_posts c.engine.group) + sum_by weight (asked_in_run c (fresh c es))
+    ≡ sum_by weight (made_in_run c (fresh c es)) + (sum_by weight (given_up_in_run c (fresh c es))
     + sum_by weight (waiting_posts (reached c (fresh c es)).engine.group))
 one_status_in_runs c es weight = runs_balance weight c (fresh c es)

@@ -62,22 +62,22 @@ counted c (opened account kind number) = record nothing_counted { given_up = wai
 counted c (message read nonce) = read_counted c read nonce
 counted c other = nothing_counted
 
-abbrev pub asked_by : Machine → List Event → List Post
-asked_by c [] = []
-asked_by c (e ∷ es) = (counted c e).asked ++ asked_by (after c e) es
+abbrev pub asked_in_run : Machine → List Event → List Post
+asked_in_run c [] = []
+asked_in_run c (e ∷ es) = (counted c e).asked ++ asked_in_run (after c e) es
 
-abbrev pub made_by : Machine → List Event → List Post
-made_by c [] = []
-made_by c (e ∷ es) = (counted c e).made ++ made_by (after c e) es
+abbrev pub made_in_run : Machine → List Event → List Post
+made_in_run c [] = []
+made_in_run c (e ∷ es) = (counted c e).made ++ made_in_run (after c e) es
 
-abbrev pub given_up_by : Machine → List Event → List Post
-given_up_by c [] = []
-given_up_by c (e ∷ es) = (counted c e).given_up ++ given_up_by (after c e) es
+abbrev pub given_up_in_run : Machine → List Event → List Post
+given_up_in_run c [] = []
+given_up_in_run c (e ∷ es) = (counted c e).given_up ++ given_up_in_run (after c e) es
 
 -- over all events that act, each step and each container that is executed has one Status made, in its message or later,
 -- unless it still waits for its group's close, or its session ended while it waited: however one counts
 abbrev pub OneStatusEachInRuns : Type 0
 OneStatusEachInRuns = (c : Machine) (es : List Event) (weight : Post → ℕ)
-    → sum_by weight (waiting_posts c.engine.group) + sum_by weight (asked_by c (fresh c es))
-    ≡ sum_by weight (made_by c (fresh c es)) + (sum_by weight (given_up_by c (fresh c es))
+    → sum_by weight (waiting_posts c.engine.group) + sum_by weight (asked_in_run c (fresh c es))
+    ≡ sum_by weight (made_in_run c (fresh c es)) + (sum_by weight (given_up_in_run c (fresh c es))
     + sum_by weight (waiting_posts (reached c (fresh c es)).engine.group))

@@ -29,7 +29,7 @@ use Rattle.dm_machine.specs.Machine.{Session, Machine}
 use Rattle.dm_machine.specs.Sending.{sends}
 use Rattle.dm_machine.specs.Messages.{Outcome, goes_on, ends, begins, accepts, origin_of, ends_update}
 use Rattle.dm_machine.specs.Statuses.{is_executed, executed, message_counted, session_counted, counted}
-use Rattle.dm_machine.specs.Statuses.{asked_by as all_asked_by, made_by as all_made_by, given_up_by as all_given_by}
+use Rattle.dm_machine.specs.Statuses.{asked_in_run, made_in_run, given_up_in_run}
 use Rattle.dm_machine.specs.Events as client
 use Rattle.dm_machine.specs.History as client_runs
 use Rattle.dm_machine.proofs.StatusesInRuns.{one_status_in_runs}
@@ -163,8 +163,8 @@ taken-balances : (c : Machine) (e : client.Event) (weight : Post → ℕ) → cl
 taken-balances c e weight t =
     subst
     (λ b. many weight (waiting_posts c.engine.group)
-    + many weight (all_asked_by c (cond b (e ∷ []) []))
-    ≡ many weight (all_made_by c (cond b (e ∷ []) [])) + (many weight (all_given_by c (cond b (e ∷ []) []))
+    + many weight (asked_in_run c (cond b (e ∷ []) []))
+    ≡ many weight (made_in_run c (cond b (e ∷ []) [])) + (many weight (given_up_in_run c (cond b (e ∷ []) []))
     + many weight (waiting_posts (client_runs.reached c (cond b (e ∷ []) [])).engine.group)))
     t (one_status_in_runs c (e ∷ []) weight)
 
