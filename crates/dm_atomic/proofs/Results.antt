@@ -20,7 +20,7 @@ use Rattle.dm_atomic.specs.declared.engine.Engine.{Engine}
 use Rattle.dm_atomic.specs.Run.{State, Group}
 use Rattle.dm_atomic.specs.Engine.{group_of, state_of, FitsObject, IsSoundEngine}
 use Rattle.dm_atomic.specs.Marks.{no_past, Holds}
-use Rattle.dm_atomic.specs.Updates.{clock_of, is_updating, update_of, begun, finished}
+use Rattle.dm_atomic.specs.Updates.{clock_of, is_updating, update_of, begun, update_finished}
 use Rattle.dm_atomic.proofs.Engines.{group-stays, only-acted, sound-after, sound-as-before, notes-as-before}
 use Rattle.dm_atomic.proofs.Engines.{started_sound, room_sound}
 use Rattle.dm_atomic.proofs.Held.{past, same-past, holds_then, holds_room, holds_noted, holds_started}
@@ -66,7 +66,7 @@ module _ (e : Engine) (tree : Tree) (journal : Journal) (ok : Bool) (s : IsSound
   over t g = record { tree = t; object = present e.inbox.objects; group = g; started = None }
 
   pub finished_state : (f : Engine) → f ≡ record e { tree = tree; journal = journal; started = None; starts = f.starts }
-      → state_of f ≡ finished (clock_of e) (state_of e) ok
+      → state_of f ≡ update_finished (clock_of e) (state_of e) ok
   finished_state f same =
       ap state_of same
       ∙ ap (λ t. over t (group_of tree.rows journal.entries e.is_open e.mark e.parts)) is

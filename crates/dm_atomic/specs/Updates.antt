@@ -40,8 +40,8 @@ unfoldable pub begun : Nodes → State
 begun m = record { tree = m; object = Nothing; group = None; started = update_of m }
 
 -- the update that was started has its result
-abbrev pub finished : Stamp → State → Bool → State
-finished clock s ok = record s { tree = update_ended clock s.tree ok; started = None }
+abbrev pub update_finished : Stamp → State → Bool → State
+update_finished clock s ok = record s { tree = update_ended clock s.tree ok; started = None }
 
 -- where an engine begins, an update was started exactly where one runs
 abbrev pub BegunWithItsUpdate : Type 0
@@ -85,4 +85,4 @@ QuietKeepsTelling = (s : State) → TellsStarted s → TellsStarted (still s).st
 abbrev pub ResultKeepsTelling : Type 0
 ResultKeepsTelling =
     (clock : Stamp) (s : State) (ok : Bool) → TellsStarted s → is_updating s.tree ≡ true → s.group ≡ None
-    → TellsStarted (finished clock s ok)
+    → TellsStarted (update_finished clock s ok)

@@ -6,7 +6,8 @@ ghost use Rattle.dm_tree.specs.Rows.{nodes, ids, path_of, IsLive};
 ghost use Rattle.dm_tree.specs.Devices.{update_node, IsUpdateInOrder};
 ghost use Rattle.dm_commands.specs.Outcomes.{asked_by};
 ghost use Rattle.dm_atomic.specs.Engine.{state_of, running, IsSoundEngine};
-ghost use Rattle.dm_atomic.specs.Updates.{clock_of, max_obj_of, is_updating, update_of as update_in, begun, finished};
+ghost use Rattle.dm_atomic.specs.Updates.{clock_of, max_obj_of, is_updating, update_of as update_in, begun};
+ghost use Rattle.dm_atomic.specs.Updates.{update_finished};
 ghost use Rattle.dm_atomic.specs.Marks.{whole_of, Holds, past_of, no_past};
 
 use crate::engine::Engine;
@@ -111,7 +112,7 @@ impl Engine {
         requires sound { IsSoundEngine self.old }
         requires running { is_updating (state_of self.old).tree ≡ true }
         requires closed { (state_of self.old).group ≡ None }
-        ensures ok { OnOk result (state_of self.new ≡ finished (clock_of self.old) (state_of self.old) ok) }
+        ensures ok { OnOk result (state_of self.new ≡ update_finished (clock_of self.old) (state_of self.old) ok) }
         ensures err { OnErr result (state_of self.new ≡ state_of self.old) }
         ensures clock { clock_of self.new ≡ clock_of self.old }
         ensures max_obj { max_obj_of self.new ≡ max_obj_of self.old }

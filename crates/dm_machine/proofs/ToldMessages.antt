@@ -36,7 +36,7 @@ use Rattle.dm_atomic.specs.Tasks.{item_task, item_tasks, plain_tasks, alert_task
 use Rattle.dm_atomic.specs.Tasks.{container_post}
 use Rattle.dm_atomic.specs.Made.{Made, told, is_withheld, entry_of}
 use Rattle.dm_atomic.specs.Made as made
-use Rattle.dm_atomic.specs.Updates.{finished as finished_update}
+use Rattle.dm_atomic.specs.Updates.{update_finished}
 use Rattle.dm_atomic.specs.Run.{State, Running, Next, quietly, run_atomic, run_member, run_members, run_sequence}
 use Rattle.dm_atomic.specs.Run.{run_command, run_all, still}
 use Rattle.dm_pack.specs.Entries.{IsReady, fresh}
@@ -245,7 +245,7 @@ execute_ready c a m clock most fit numbers state =
 -- ---- the end of an update
 
 pub finished_update_ready : (clock : Stamp) (max : ℕ) (s : State) (ok : Bool) → IsStamp clock → IsReadyState max s
-    → IsReadyState max (finished_update clock s ok)
+    → IsReadyState max (update_finished clock s ok)
 finished_update_ready clock max s ok stamp state = record {
   tree = update_device clock s.tree ok stamp state.tree;
   fits = state.fits;

@@ -21,7 +21,7 @@ use Rattle.dm_commands.specs.Outcomes.{asked_by}
 use Rattle.dm_atomic.specs.declared.tasks.Origin.{Origin}
 use Rattle.dm_atomic.specs.declared.reports.Started.{Started}
 use Rattle.dm_atomic.specs.Made.{told}
-use Rattle.dm_atomic.specs.Updates.{finished as finished_update}
+use Rattle.dm_atomic.specs.Updates.{update_finished}
 use Rattle.dm_atomic.specs.Run.{Running, Next, quietly, run_all, still, abandoned}
 use Rattle.dm_pack.specs.Entries.{Entry, fresh}
 pub use Rattle.dm_ends.specs.Commands.{is_abort, is_report}
@@ -206,6 +206,6 @@ correlator_of started = option_and_then (λ (u : Started). u.correlator) started
 
 unfoldable pub ends_update : Machine → Bool → Machine
 ends_update c ok = record c {
-  engine = finished_update c.clock c.engine ok;
+  engine = update_finished c.clock c.engine ok;
   results = c.results ++ record { correlator = correlator_of c.engine.started; ok = ok } ∷ [];
 }

@@ -9,7 +9,7 @@ use Rattle.dm_atomic.specs.declared.engine.Engine.{Engine}
 use Rattle.dm_atomic.specs.Run.{State}
 use Rattle.dm_atomic.specs.Engine.{state_of, IsSoundEngine}
 use Rattle.dm_atomic.specs.Marks.{Whole, whole_of, past_of, no_past}
-use Rattle.dm_atomic.specs.Updates.{clock_of, max_obj_of, finished, TellsStarted}
+use Rattle.dm_atomic.specs.Updates.{clock_of, max_obj_of, update_finished, TellsStarted}
 use Rattle.dm_machine.specs.declared.progress.UpdateResult.{UpdateResult}
 use Rattle.dm_machine.specs.Machine.{Machine}
 use Rattle.dm_machine.specs.Messages.{ends_update, correlator_of}
@@ -80,15 +80,15 @@ next_if false c d h = absurd (cc)
 
 module _ (e f : Engine) (q : List Entry) (r : Rest) (results : List UpdateResult) (ok : Bool)
     (correlator : Option (List ℕ)) (takes_it : takes (machine_of e q r) (act ok) ≡ true)
-    (state : state_of f ≡ finished (clock_of e) (state_of e) ok) (k : clock_of f ≡ clock_of e)
+    (state : state_of f ≡ update_finished (clock_of e) (state_of e) ok) (k : clock_of f ≡ clock_of e)
     (is : correlator ≡ correlator_of (state_of e).started)
     (more : results ≡ r.results ++ record { correlator = correlator; ok = ok } ∷ []) where
   acts_so : machine_of f q (with_results r results) ≡ after (machine_of e q r) (act ok)
   unfolding after ends_update
   acts_so =
       ap (λ s. moved (machine_of e q r) s (clock_of f) results) state
-      ∙ ap (λ x. moved (machine_of e q r) (finished (clock_of e) (state_of e) ok) x results) k
-      ∙ ap (λ x. moved (machine_of e q r) (finished (clock_of e) (state_of e) ok) (clock_of e) x)
+      ∙ ap (λ x. moved (machine_of e q r) (update_finished (clock_of e) (state_of e) ok) x results) k
+      ∙ ap (λ x. moved (machine_of e q r) (update_finished (clock_of e) (state_of e) ok) (clock_of e) x)
       (more ∙ ap (λ x. r.results ++ record { correlator = x; ok = ok } ∷ []) is)
 
   pub ended_next : machine_of f q (with_results r results) ≡ next (machine_of e q r) (act ok)
