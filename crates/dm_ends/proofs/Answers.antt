@@ -12,7 +12,7 @@ use Rattle.syncml_parts.specs.Numbering.{with_numbers}
 use Rattle.dm_auth.specs.Digests.{base64_of, challenge}
 use Rattle.dm_headers.specs.Checks.{is_challenged}
 use Rattle.dm_headers.specs.Headers.{is_withheld, status_of, header_answer}
-use Rattle.dm_pack.specs.Entries.{IsReady, fresh}
+use Rattle.dm_pack.specs.Entries.{IsReady, whole_entry}
 use Rattle.dm_pack.specs.Laws.{IsShort}
 use Rattle.dm_pack.proofs.Most.{Most, none, most_append, most_parent, most_element, most_text, most_number}
 use Rattle.dm_pack.proofs.Ready.{IsChal, status_ready}
@@ -81,29 +81,29 @@ status_most h code nonce msg low is =
     record { at = λ p. let most = (most_parent EStatus inside).at p in omega (arith, most) }
 
 header_status_ready : (h : Header) (code : ℕ) (nonce : List ℕ) → 0 < h.msg → h.msg < 2 ^ 32 → code < 2 ^ 32
-    → IsNonce nonce → IsReady (fresh (status_of h code nonce))
+    → IsNonce nonce → IsReady (whole_entry (status_of h code nonce))
 header_status_ready h code nonce some msg low is =
     status_ready h.msg 0 (codes "SyncHdr") [] (asked code nonce) code some msg (omega arith)
     (literal 20 (codes "SyncHdr") refl (omega arith)) tt
     (challenge_is (is_challenged code) nonce is) low
 
 ready_unless : (withheld : Bool) (h : Header) (code : ℕ) (nonce : List ℕ) → 0 < h.msg → h.msg < 2 ^ 32 → code < 2 ^ 32
-    → IsNonce nonce → AllByRecursion IsReady (map fresh (if withheld then [] else status_of h code nonce ∷ []))
+    → IsNonce nonce → AllByRecursion IsReady (map whole_entry (if withheld then [] else status_of h code nonce ∷ []))
 ready_unless true h code nonce some msg low is = tt
 ready_unless false h code nonce some msg low is = (header_status_ready h code nonce some msg low is, tt)
 
 pub answer_ready : (h : Header) (code : ℕ) (nonce : List ℕ) → 0 < h.msg → h.msg < 2 ^ 32 → code < 2 ^ 32 → IsNonce nonce
-    → AllByRecursion IsReady (map fresh (header_answer h code nonce))
+    → AllByRecursion IsReady (map whole_entry (header_answer h code nonce))
 unfolding header_answer
 answer_ready h code nonce some msg low is = ready_unless (is_withheld h code) h code nonce some msg low is
 
 short_unless : (withheld : Bool) (h : Header) (code : ℕ) (nonce : List ℕ) → h.msg < 2 ^ 32 → code < 2 ^ 32
-    → IsNonce nonce → AllByRecursion IsShort (map fresh (if withheld then [] else status_of h code nonce ∷ []))
+    → IsNonce nonce → AllByRecursion IsShort (map whole_entry (if withheld then [] else status_of h code nonce ∷ []))
 short_unless true h code nonce msg low is = tt
 short_unless false h code nonce msg low is = ((status_most h code nonce msg low is).at 0, tt)
 
 -- at most 250 bytes
 pub answer_short : (h : Header) (code : ℕ) (nonce : List ℕ) → h.msg < 2 ^ 32 → code < 2 ^ 32 → IsNonce nonce
-    → AllByRecursion IsShort (map fresh (header_answer h code nonce))
+    → AllByRecursion IsShort (map whole_entry (header_answer h code nonce))
 unfolding header_answer
 answer_short h code nonce msg low is = short_unless (is_withheld h code) h code nonce msg low is

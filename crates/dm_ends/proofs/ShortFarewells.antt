@@ -14,7 +14,7 @@ use Rattle.syncml_types.specs.Fitness.{IsFit}
 use Rattle.syncml_parts.specs.Numbering.{ids_in, with_numbers}
 use Rattle.syncml_parts.specs.Packing.{tail_tokens}
 use Rattle.dm_headers.specs.Headers.{is_withheld, status_of, header_answer}
-use Rattle.dm_pack.specs.Entries.{IsFitCommand, IsReady, fresh}
+use Rattle.dm_pack.specs.Entries.{IsFitCommand, IsReady, whole_entry}
 use Rattle.dm_pack.specs.Filling.{numbered, IsReadyHeader}
 use Rattle.dm_pack.specs.Measures.{front_length}
 use Rattle.dm_pack.proofs.Fit.{numbered_fit}
@@ -32,7 +32,7 @@ last_words h code nonce = header_answer h code nonce ++ alert 1223 None [] ∷ [
 
 -- ---- it is fit
 
-fit_commands : (cs : List Command) → AllByRecursion IsReady (map fresh cs) → AllByRecursion IsFitCommand cs
+fit_commands : (cs : List Command) → AllByRecursion IsReady (map whole_entry cs) → AllByRecursion IsFitCommand cs
 fit_commands [] all = tt
 fit_commands (c ∷ cs) all = (all.0.fit, fit_commands cs all.1)
 
@@ -41,7 +41,7 @@ all_last : (cs : List Command) (c : Command) → AllByRecursion IsFitCommand cs 
 all_last [] c all fit = (fit, tt)
 all_last (d ∷ ds) c all fit = (all.0, all_last ds c all.1 fit)
 
-abort_ready : IsReady (fresh (alert 1223 None []))
+abort_ready : IsReady (whole_entry (alert 1223 None []))
 abort_ready = alert_ready 1223 [] (omega arith) tt
 
 pub last_words_fit : (own h : Header) (code : ℕ) (nonce : List ℕ) → IsReadyHeader own → 0 < h.msg → h.msg < 2 ^ 32

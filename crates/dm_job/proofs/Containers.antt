@@ -16,7 +16,7 @@ use Rattle.syncml_types.specs.Fitness.{member_data, seq_member_data, command_dat
 use Rattle.syncml_types.specs.Fitness.{member_filled, seq_member_filled, atomic_filled, command_filled}
 use Rattle.syncml_types.specs.Fitness.{member_correlates, seq_member_correlates, command_correlates}
 use Rattle.syncml_parts.specs.Numbering.{ids_in, with_numbers}
-use Rattle.dm_pack.specs.Entries.{IsReady, IsFitCommand, fresh, bare_length}
+use Rattle.dm_pack.specs.Entries.{IsReady, IsFitCommand, whole_entry, bare_length}
 use Rattle.dm_pack.proofs.Fit.{are_numbered, are_seq_numbered}
 use Rattle.dm_job.specs.Commands.{with_member, member_count, may_close}
 use Rattle.dm_job.specs.Grammar.{Kind, atomic, sequence, single, container}
@@ -84,12 +84,12 @@ container_fit sequence ps h some =
     }
 
 pub container_ready : (k : Kind) (ps : List Plain) → AllByRecursion IsGood ps → may_close (container k ps) ≡ true
-    → IsReady (fresh (container k ps))
+    → IsReady (whole_entry (container k ps))
 container_ready k ps h may = by_kind k (and_parts (nat_lt 0 (member_count (container k ps))) _ may)
   where
     by_kind : (k : Kind) → (nat_lt 0 (member_count (container k ps)) ≡ true)
         × (nat_le (bare_length (container k ps)) 1000 ≡ true)
-        → IsReady (fresh (container k ps))
+        → IsReady (whole_entry (container k ps))
     by_kind atomic both = record { fit = container_fit atomic ps h both.0; short = leb-true _ 1000 both.1 }
     by_kind sequence both = record { fit = container_fit sequence ps h both.0; short = leb-true _ 1000 both.1 }
 

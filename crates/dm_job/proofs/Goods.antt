@@ -27,7 +27,7 @@ use Rattle.syncml_types.specs.Fitness.{command_correlates}
 use Rattle.syncml_parts.specs.Numbering.{with_numbers}
 use Rattle.syncml_parts.specs.Packing.{cut_changed}
 use Rattle.syncml_types.specs.Message.{no_meta}
-use Rattle.dm_pack.specs.Entries.{IsReady, fresh, bare_length, without_value}
+use Rattle.dm_pack.specs.Entries.{IsReady, whole_entry, bare_length, without_value}
 use Rattle.dm_pack.proofs.Most.{Most, none, most_append, most_parent, most_element, most_text, most_number}
 use Rattle.dm_pack.proofs.Ready.{IsText, IsOptional, Passes, texts_pass, short_passes}
 use Rattle.dm_start.specs.Fields.{opt_of}
@@ -314,7 +314,7 @@ plain_good verb.Replace fields p e = write_good verb.Replace fields p (λ value.
 plain_good verb.Exec fields p e = exec_good fields p e
 plain_good verb.Copy fields p e = absurd (cc)
 
-pub plain_ready : (p : Plain) → IsGood p → IsReady (fresh (command.Plain p))
+pub plain_ready : (p : Plain) → IsGood p → IsReady (whole_entry (command.Plain p))
 unfolding command_texts command_data command_numbers command_filled command_correlates with_numbers
 plain_ready p good =
     record {

@@ -34,7 +34,7 @@ use Rattle.dm_job.specs.Reading.{after_line, behind_line}
 use Rattle.dm_job.specs.Reading.{last_may_close, close_line, lines_after}
 use Rattle.dm_job.specs.Texts.{job_in, ended_at}
 use Rattle.dm_job.specs.Sound.{all_entries, IsEntry, IsJobCommand, IsSound}
-use Rattle.dm_pack.specs.Entries.{IsReady, fresh}
+use Rattle.dm_pack.specs.Entries.{IsReady, whole_entry}
 use Rattle.dm_job.specs.Laws.{JobsAreSound}
 use Rattle.dm_job.proofs.Ends.{last_added}
 use Rattle.dm_job.proofs.Moves.{Move, opens_atomic, opens_sequence, parts_, ends, when_is, moves}
@@ -197,7 +197,7 @@ may_end job n h e =
 grown_entry : (e : JobEntry) → IsGrown e.command → may_close e.command ≡ true → IsEntry e
 grown_entry e g may = record {
   steps = subst IsJobCommand (sym g.is) (container_steps g.kind g.plains g.good);
-  ready = subst (λ c. IsReady (fresh c)) (sym g.is)
+  ready = subst (λ c. IsReady (whole_entry c)) (sym g.is)
       (container_ready g.kind g.plains g.good (subst (λ c. may_close c ≡ true) g.is may));
 }
 

@@ -10,7 +10,7 @@ use Rattle.syncml_types.specs.declared.command.SeqMember.TheVariants as seq_memb
 use Rattle.syncml_types.specs.declared.command.Command.{Command}
 use Rattle.syncml_types.specs.declared.command.Command.TheVariants as command
 use Rattle.syncml_parts.specs.Numbering.{ids_in}
-use Rattle.dm_pack.specs.Entries.{IsReady, fresh}
+use Rattle.dm_pack.specs.Entries.{IsReady, whole_entry}
 use Rattle.dm_start.specs.Fields.{are_limits}
 use Rattle.dm_start.specs.Laws.{IsAccount}
 use Rattle.dm_job.specs.declared.job.Job.{Job}
@@ -41,7 +41,7 @@ IsJobCommand other = ⊥
 -- it can be sent
 pub record IsEntry (e : JobEntry) : Type 0 where
   pub steps : IsJobCommand e.command
-  pub ready : IsReady (fresh e.command)
+  pub ready : IsReady (whole_entry e.command)
 
 abbrev pub same : {A : Type 0} → A → A
 same x = x

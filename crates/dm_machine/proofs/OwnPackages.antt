@@ -24,7 +24,7 @@ use Rattle.dm_tree.specs.Nodes.{Path, Nodes, IsWellFormed}
 use Rattle.dm_tree.specs.Devices.{device_path, value_at, is_update_node, IsDeviceLeaf}
 use Rattle.dm_tree.proofs.FirstKeys.{entry_there}
 use Rattle.dm_atomic.specs.Made.{source_item}
-use Rattle.dm_pack.specs.Entries.{IsReady, fresh, bare_length}
+use Rattle.dm_pack.specs.Entries.{IsReady, whole_entry, bare_length}
 use Rattle.dm_pack.proofs.Most.{Most, none, most_append, most_parent, most_element, most_text, most_number}
 use Rattle.dm_pack.proofs.Ready.{IsText, IsOptional, Passes, texts_pass, short_passes, alert_ready}
 use Rattle.dm_machine.specs.declared.kinds.Kind.{Kind}
@@ -132,7 +132,8 @@ told_pass test code correlator i passes is item =
 
 told_ready : (code : ℕ) (correlator : Option (List ℕ)) (n k d : ℕ) (uri media value : List ℕ) → code < 2 ^ 32
     → IsOptional 255 correlator → n + k + d ≤ 318 → IsText n uri → IsText k media → IsText d value
-    → IsReady (fresh (alert code correlator (source_item uri (Some (meta_of (codes "chr") media)) (Some value) ∷ [])))
+    → IsReady (whole_entry (alert code correlator
+    (source_item uri (Some (meta_of (codes "chr") media)) (Some value) ∷ [])))
 unfolding command_data command_numbers command_filled command_correlates with_numbers item_data
 told_ready code correlator n k d uri media value low is few u m v =
     let item = item_most n k d uri media value u m v in
@@ -155,19 +156,19 @@ told_ready code correlator n k d uri media value low is few u m v =
     }
 
 result_ready : (node : List ℕ) (r : UpdateResult) → IsText 255 node → IfSome r.correlator IsCorrelator
-    → IsReady (fresh (result_alert node r))
+    → IsReady (whole_entry (result_alert node r))
 result_ready node r n h =
     told_ready 1226 r.correlator 255 60 3 node _ _ (omega arith) (correlator_is r.correlator h)
     (omega arith) n media_text (code_text r.ok)
 
 results_ready : (node : List ℕ) (rs : List UpdateResult) → IsText 255 node → AreReadyResults rs
-    → AllByRecursion IsReady (map fresh (map (result_alert node) rs))
+    → AllByRecursion IsReady (map whole_entry (map (result_alert node) rs))
 results_ready node [] n h = tt
 results_ready node (r ∷ rs) n h = (result_ready node r n h.0, results_ready node rs n h.1)
 
 -- ---- the Alert of the session
 
-opening_ready : (kind : Kind) → IsReady (fresh (alert (kind_code kind) None []))
+opening_ready : (kind : Kind) → IsReady (whole_entry (alert (kind_code kind) None []))
 opening_ready ByServer = alert_ready 1200 [] (omega arith) tt
 opening_ready ByClient = alert_ready 1201 [] (omega arith) tt
 
@@ -246,7 +247,7 @@ unfolding command_data replace_of
 five_data a b c d e v w x y z = all_five (item_data is_in_limit) a b c d e v w x y z
 
 five_ready : (a b c d e : Item) → IsLeaf a → IsLeaf b → IsLeaf c → IsLeaf d → IsLeaf e
-    → IsReady (fresh (replace_of (a ∷ b ∷ c ∷ d ∷ e ∷ [])))
+    → IsReady (whole_entry (replace_of (a ∷ b ∷ c ∷ d ∷ e ∷ [])))
 unfolding command_numbers command_filled plain_filled command_correlates plain_correlates with_numbers replace_of
 five_ready a b c d e v w x y z =
     record {
@@ -262,7 +263,7 @@ five_ready a b c d e v w x y z =
       short = five_most a b c d e v.most w.most x.most y.most z.most;
     }
 
-device_ready : (m : Nodes) → IsDevice m → IsReady (fresh (device_told m))
+device_ready : (m : Nodes) → IsDevice m → IsReady (whole_entry (device_told m))
 unfolding replace_of
 device_ready m device =
     five_ready _ _ _ _ _
@@ -275,8 +276,8 @@ device_ready m device =
 -- ---- the package
 
 last_ready : (rs : List UpdateResult) (node : List ℕ) (c : Command)
-    → AllByRecursion IsReady (map fresh (map (result_alert node) rs)) → IsReady (fresh c)
-    → AllByRecursion IsReady (map fresh (map (result_alert node) rs ++ c ∷ []))
+    → AllByRecursion IsReady (map whole_entry (map (result_alert node) rs)) → IsReady (whole_entry c)
+    → AllByRecursion IsReady (map whole_entry (map (result_alert node) rs ++ c ∷ []))
 last_ready [] node c all ready = (ready, tt)
 last_ready (r ∷ rs) node c all ready = (all.0, last_ready rs node c all.1 ready)
 

@@ -10,7 +10,7 @@ use Rattle.dm_headers.specs.Standings.{Heard}
 use Rattle.dm_headers.specs.Headers.{header_answer}
 use Rattle.dm_atomic.specs.Made.{Made, told}
 use Rattle.dm_atomic.specs.Run.{Next, quietly}
-use Rattle.dm_pack.specs.Entries.{Entry, IsReady, fresh}
+use Rattle.dm_pack.specs.Entries.{Entry, IsReady, whole_entry}
 use Rattle.dm_pack.specs.Filling.{IsReadyHeader}
 use Rattle.dm_pack.proofs.Taking.{all_behind}
 use Rattle.dm_machine.specs.declared.kinds.Kind.{Kind}
@@ -149,30 +149,31 @@ run_ready c a m nonce code ready message = run_if (passes code) c a m nonce read
 -- the header's Status, what waits, and what was made
 pub queue_ready : (h : Header) (code : ℕ) (nonce : List ℕ) (queue : List Entry) (made : List Made) → 0 < h.msg
     → h.msg < 2 ^ 32 → code < 2 ^ 32 → IsNonce nonce → AllByRecursion IsReady queue → AreReadyMade made
-    → AllByRecursion IsReady (map fresh (header_answer h code nonce) ++ (queue ++ map fresh (told made)))
+    → AllByRecursion IsReady (map whole_entry (header_answer h code nonce) ++ (queue ++ map whole_entry (told made)))
 queue_ready h code nonce queue made some msg low is waits ready =
-    all_append IsReady (map fresh (header_answer h code nonce)) (queue ++ map fresh (told made))
+    all_append IsReady (map whole_entry (header_answer h code nonce)) (queue ++ map whole_entry (told made))
     (answer_ready h code nonce some msg low is)
-    (all_append IsReady queue (map fresh (told made)) waits (told_ready made ready))
+    (all_append IsReady queue (map whole_entry (told made)) waits (told_ready made ready))
 
 -- the queue and the progress with which the message goes out that answers
 abbrev pub answering : Machine → Waits → Parts → Heard → List ℕ → Next → Machine
 answering c w m h nonce run = record c {
   engine = run.state;
-  queue = map fresh (header_answer m.header h.code nonce) ++ (w.queue ++ map fresh (told run.made));
+  queue = map whole_entry (header_answer m.header h.code nonce) ++ (w.queue ++ map whole_entry (told run.made));
 }
 
 abbrev pub behind_answer : Waits → Parts → Heard → List ℕ → Progress
-behind_answer w m h nonce =
-    record w.progress { opening_at = w.progress.opening_at + length (map fresh (header_answer m.header h.code nonce)) }
+behind_answer w m h nonce = record w.progress {
+  opening_at = w.progress.opening_at + length (map whole_entry (header_answer m.header h.code nonce));
+}
 
 pub answer_to_send : (c : Machine) (s : Progress) (w : Waits) (m : Parts) (h : Heard) (nonce : List ℕ) (run : Next)
     → IsReadyApart c → IsReadyWaits c s.standing.own w → IsReadyHeard s.standing m h → IsReadyMessage m nonce
     → IsReadyNext c.limits.max_obj run → s.standing.own + 1 < 2 ^ 32
     → IsToSend (answering c w m h nonce run) (behind_answer w m h nonce) h.account
 answer_to_send c s w m h nonce run ready waits heard message ran own =
-    let answer = map fresh (header_answer m.header h.code nonce) in
-    let made = map fresh (told run.made) in
+    let answer = map whole_entry (header_answer m.header h.code nonce) in
+    let made = map whole_entry (told run.made) in
     record {
       apart = record {
         limits = ready.limits;

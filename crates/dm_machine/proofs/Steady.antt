@@ -12,7 +12,7 @@ use Rattle.dm_headers.specs.declared.checks.Side.TheVariants.{Server}
 use Rattle.dm_headers.specs.Checks.{passes}
 use Rattle.dm_headers.specs.Headers.{header_answer}
 use Rattle.dm_headers.specs.Standings.{Heard, hears}
-use Rattle.dm_pack.specs.Entries.{fresh}
+use Rattle.dm_pack.specs.Entries.{whole_entry}
 use Rattle.dm_atomic.specs.declared.tasks.Origin.{Origin}
 use Rattle.dm_atomic.specs.Made.{told}
 use Rattle.dm_atomic.specs.Run.{State, Running, Next, run_command, run_all, quietly, still, abandoned}
@@ -84,8 +84,8 @@ answered-steady : (c : Machine) (w : Waits) (m : Parts) (h : Heard) (nonce : Lis
     → TellsStarted run.state → Steady (answered c w m h nonce run)
 answered-steady c w m h nonce run tells =
     let d : Machine = record c { engine = run.state } in
-    let waiting = w.queue ++ map fresh (told run.made) in
-    let answer = map fresh (header_answer m.header h.code nonce) in
+    let waiting = w.queue ++ map whole_entry (told run.made) in
+    let answer = map whole_entry (header_answer m.header h.code nonce) in
     either (is_over m h.code waiting) (ends (finished d) Finished)
     (goes_on (sends (record d { queue = answer ++ waiting })
     (record w.progress { opening_at = w.progress.opening_at + length answer }) h.account))

@@ -50,7 +50,7 @@ use Rattle.dm_atomic.specs.declared.tasks.Post.{Post}
 use Rattle.dm_atomic.specs.Tasks.{named_text}
 use Rattle.dm_atomic.specs.Made.{entry_of, uri_in, source_item}
 use Rattle.dm_atomic.specs.Made as made
-use Rattle.dm_pack.specs.Entries.{IsReady, fresh}
+use Rattle.dm_pack.specs.Entries.{IsReady, whole_entry}
 use Rattle.dm_pack.proofs.Fit.{both}
 use Rattle.dm_pack.proofs.Most.{Most, none, most_append, most_parent, most_element, most_text, most_number}
 use Rattle.dm_pack.proofs.Ready.{IsText, IsOptional, Passes, texts_pass, short_passes, found_item, results, named_items}
@@ -118,7 +118,7 @@ some_number n some = ap not (ne_eqb n 0 (λ e. omega (arith, e, some)))
 
 result_ready : (msg ref : ℕ) (uri format : List ℕ) (media value : Option (List ℕ)) → 0 < msg → msg < 2 ^ 32
     → ref < 2 ^ 32 → IsText 271 uri → IsText 20 format → IsOptional 255 media → all_of is_in_limit value ≡ true
-    → IsReady (fresh (results msg ref (found_item uri format media value)))
+    → IsReady (whole_entry (results msg ref (found_item uri format media value)))
 unfolding command_data command_numbers command_filled command_correlates with_numbers item_data
 result_ready msg ref uri format media value some m r u f t few =
     record {
@@ -159,7 +159,7 @@ broken_of items = command.Alert (record { id = 0; no_resp = false; code = 1225; 
 
 pub broken_is_ready : (target : List ℕ) → IsReadyMade (made.Broken target)
 broken_is_ready target =
-    subst (λ items. IsReady (fresh (broken_of items))) (named_uris (uri_in (Some target)))
+    subst (λ items. IsReady (whole_entry (broken_of items))) (named_uris (uri_in (Some target)))
     (alert_ready 1225 (uri_in (Some target)) (omega arith) (uri_in_text (Some target)))
 
 -- ---- a node

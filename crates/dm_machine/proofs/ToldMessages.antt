@@ -39,7 +39,7 @@ use Rattle.dm_atomic.specs.Made as made
 use Rattle.dm_atomic.specs.Updates.{update_finished}
 use Rattle.dm_atomic.specs.Run.{State, Running, Next, quietly, run_atomic, run_member, run_members, run_sequence}
 use Rattle.dm_atomic.specs.Run.{run_command, run_all, still}
-use Rattle.dm_pack.specs.Entries.{IsReady, fresh}
+use Rattle.dm_pack.specs.Entries.{IsReady, whole_entry}
 use Rattle.dm_machine.specs.Machine.{Machine}
 use Rattle.dm_machine.specs.Messages.{is_quiet, origin_of, running_for, quiet_after, execute, correlator_of}
 use Rattle.dm_machine.specs.Ready.{IsReadyMade, IsCorrelator, IsReadyState}
@@ -256,10 +256,10 @@ finished_update_ready clock max s ok stamp state = record {
 
 -- ---- what is told
 
-pub told_ready : (ms : List Made) → AreReadyMade ms → AllByRecursion IsReady (map fresh (told ms))
+pub told_ready : (ms : List Made) → AreReadyMade ms → AllByRecursion IsReady (map whole_entry (told ms))
 told_ready [] all = tt
 told_ready (m ∷ ms) all =
-    elim (is_withheld m) as (λ b. AllByRecursion IsReady (map fresh (cond b (told ms) (entry_of m ∷ told ms)))) [
+    elim (is_withheld m) as (λ b. AllByRecursion IsReady (map whole_entry (cond b (told ms) (entry_of m ∷ told ms)))) [
       | true ↦ told_ready ms all.1
       | false ↦ (all.0, told_ready ms all.1)
     ]

@@ -23,7 +23,7 @@ use Rattle.dm_atomic.specs.declared.reports.Started.{Started}
 use Rattle.dm_atomic.specs.Made.{told}
 use Rattle.dm_atomic.specs.Updates.{update_finished}
 use Rattle.dm_atomic.specs.Run.{Running, Next, quietly, run_all, still, abandoned}
-use Rattle.dm_pack.specs.Entries.{Entry, fresh}
+use Rattle.dm_pack.specs.Entries.{Entry, whole_entry}
 pub use Rattle.dm_ends.specs.Commands.{is_abort, is_report}
 use Rattle.dm_ends.specs.Beginning.{first_standing as begun_standing}
 use Rattle.dm_ends.specs.Farewells.{farewell}
@@ -171,8 +171,8 @@ is_over m code waiting = passes code && m.last && list_all is_report m.body && l
 abbrev pub answered : Machine → Waits → Parts → Heard → List ℕ → Next → Outcome
 answered c w m h nonce run =
     let d = record c { engine = run.state } in
-    let waiting = w.queue ++ map fresh (told run.made) in
-    let answer = map fresh (header_answer m.header h.code nonce) in
+    let waiting = w.queue ++ map whole_entry (told run.made) in
+    let answer = map whole_entry (header_answer m.header h.code nonce) in
     if is_over m h.code waiting then ends (finished d) Finished
     else goes_on (sends (record d { queue = answer ++ waiting })
     (record w.progress { opening_at = w.progress.opening_at + length answer }) h.account)

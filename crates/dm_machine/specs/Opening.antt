@@ -11,7 +11,7 @@ use Rattle.dm_uri.specs.Names.{printed_path}
 use Rattle.dm_tree.specs.Nodes.{Nodes}
 use Rattle.dm_tree.specs.Devices.{device_leaves, device_path, value_at, update_node}
 use Rattle.dm_atomic.specs.Made.{source_item}
-use Rattle.dm_pack.specs.Entries.{Entry, fresh}
+use Rattle.dm_pack.specs.Entries.{Entry, whole_entry}
 pub use Rattle.dm_ends.specs.Commands.{alert}
 use Rattle.dm_machine.specs.declared.kinds.Kind.{Kind}
 use Rattle.dm_machine.specs.declared.kinds.Kind.TheVariants.{ByServer, ByClient}
@@ -63,4 +63,4 @@ opening kind results tree =
     alert (kind_code kind) None [] ∷ map (result_alert (update_uri tree)) results ++ device_told tree ∷ []
 
 abbrev pub first_package : Machine → Kind → List Entry
-first_package c kind = map fresh (opening kind c.results c.engine.tree)
+first_package c kind = map whole_entry (opening kind c.results c.engine.tree)

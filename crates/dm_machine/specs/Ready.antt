@@ -22,7 +22,7 @@ use Rattle.dm_atomic.specs.Engine.{FitsObject}
 use Rattle.dm_atomic.specs.Made.{Made, entry_of}
 use Rattle.dm_atomic.specs.Made as made
 use Rattle.dm_atomic.specs.Run.{Group, State}
-use Rattle.dm_pack.specs.Entries.{IsReady, fresh}
+use Rattle.dm_pack.specs.Entries.{IsReady, whole_entry}
 pub use Rattle.dm_ends.specs.Ready.{IsReadyAccount, IsReadyLimits, IsReadyMessage, IsReadyRead}
 use Rattle.dm_machine.specs.declared.progress.Progress.{Progress}
 use Rattle.dm_machine.specs.declared.progress.UpdateResult.{UpdateResult}
@@ -32,7 +32,7 @@ use Rattle.dm_machine.specs.Events.{Event, clock, opened, message, loss, act}
 -- ---- what is made
 
 abbrev pub IsReadyMade : Made → Type 0
-IsReadyMade m = IsReady (fresh (entry_of m))
+IsReadyMade m = IsReady (whole_entry (entry_of m))
 
 -- what waits in a group: a Status with any code, and what was found
 pub record IsReadyReport (r : Report) : Type 0 where

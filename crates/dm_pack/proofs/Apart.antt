@@ -6,7 +6,7 @@ use Rattle.syncml_types.specs.declared.values.Item.{Item}
 use Rattle.syncml_types.specs.declared.command.Command.{Command}
 use Rattle.syncml_parts.specs.Packing.{cut_item, cut_changed, cut_data, bytes_in, data_in}
 use Rattle.syncml_parts.specs.Pages.{with_value}
-use Rattle.dm_pack.specs.Entries.{fresh}
+use Rattle.dm_pack.specs.Entries.{whole_entry}
 use Rattle.dm_pack.specs.Measures.{hollow_item, put_back, entry_of, HasEmptyData, IsApart}
 use Rattle.dm_pack.proofs.Changing.{agree_at, unchanged, no_item, twice, item_changed}
 
@@ -94,7 +94,7 @@ back_by c (b ∷ bs) same = back_at b bs c (has_data c (let long = ap length sam
 pub put_back_again : (c : Command) → put_back (cut_data c) (cut_changed hollow_item c) ≡ c
 put_back_again c = back_by c (cut_data c) refl
 
-pub fresh_apart : (c : Command) → entry_of (cut_changed hollow_item c) (cut_data c) 0 ≡ fresh c
+pub fresh_apart : (c : Command) → entry_of (cut_changed hollow_item c) (cut_data c) 0 ≡ whole_entry c
 fresh_apart c = ap (λ d. record { command = d; begun = false }) (put_back_again c)
 
 data_put : (b : ℕ) (bs : List ℕ) (c : Command) (e : HasEmptyData c)

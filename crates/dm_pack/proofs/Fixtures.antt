@@ -30,7 +30,7 @@ use Rattle.syncml_types.specs.Fitness.{member_filled, atomic_filled, command_fil
 use Rattle.syncml_types.specs.Fitness.{member_correlates, command_correlates}
 use Rattle.syncml_parts.specs.Numbering.{numbered_members, with_numbers}
 use Rattle.syncml_types.specs.Message.{no_meta}
-use Rattle.dm_pack.specs.Entries.{Entry, IsReady, fresh}
+use Rattle.dm_pack.specs.Entries.{Entry, IsReady, whole_entry}
 use Rattle.dm_pack.specs.Filling.{IsReadyHeader}
 use Rattle.dm_pack.proofs.Fit.{both}
 use Rattle.dm_pack.proofs.Ready.{IsText}
@@ -160,7 +160,7 @@ four test gone uri format media value g u w x = rw (g, u, w, x) refl
 pub atomic_ready : (gone uri format media value : List ℕ) → IsText 20 gone → IsText 20 uri → IsText 20 format
     → IsText 20 media → length value ≤ 10000
     → IsReady
-    (fresh (atomic (target_item gone None None) (target_item uri (Some (media_meta format media)) (Some value))))
+    (whole_entry (atomic (target_item gone None None) (target_item uri (Some (media_meta format media)) (Some value))))
 unfolding command_data member_data item_data command_numbers atomic_numbers member_numbers numbered_members
     command_filled atomic_filled member_filled plain_filled command_correlates member_correlates plain_correlates
     with_numbers

@@ -16,7 +16,7 @@ use Rattle.syncml_types.specs.Lengths.{up_to_most, spelled_length}
 use Rattle.syncml_parts.specs.Numbering.{with_numbers, ids_in}
 use Rattle.dm_pack.specs.declared.place.Place.{Place}
 use Rattle.dm_pack.specs.declared.filled.Tail.{Tail}
-use Rattle.dm_pack.specs.Entries.{Entry, IsReady, fresh}
+use Rattle.dm_pack.specs.Entries.{Entry, IsReady, whole_entry}
 use Rattle.dm_pack.specs.Filling.{Filling, numbered, commands_of, taken, tail_of, tail_commands, fill}
 use Rattle.dm_pack.specs.Measures.{ids_of, behind, fits_at, within, place_of, end_length, cut_at}
 use Rattle.dm_pack.proofs.Measuring.{place_at, same_place}
@@ -41,57 +41,58 @@ one_behind p c bytes page next used end least room b g n u e l most low =
     let fits = le-leb (used + end_length page next) room (omega (arith, e, l, most, low)) in
     sym (is_within room (place_at used page next) fits) ∙ ap (within room) same
 
-pub fresh_commands : (cs : List Command) → commands_of (map fresh cs) ≡ cs
+pub fresh_commands : (cs : List Command) → commands_of (map whole_entry cs) ≡ cs
 fresh_commands [] = refl
 fresh_commands (c ∷ cs) = ap (λ l. c ∷ l) (fresh_commands cs)
 
 pub fresh_at : (cs : List Command) (at : ℕ) (c : Command) → drop at cs ≡ c ∷ drop (at + 1) cs
-    → drop at (map fresh cs) ≡ fresh c ∷ drop (at + 1) (map fresh cs)
+    → drop at (map whole_entry cs) ≡ whole_entry c ∷ drop (at + 1) (map whole_entry cs)
 fresh_at cs at c is =
-    drop-map fresh at cs ∙ ap (map fresh) is ∙ ap (λ l. fresh c ∷ l) (sym (drop-map fresh (at + 1) cs))
+    drop-map whole_entry at cs ∙ ap (map whole_entry) is
+    ∙ ap (λ l. whole_entry c ∷ l) (sym (drop-map whole_entry (at + 1) cs))
 
 -- so many commands of a list fit
 abbrev pub HasListed : Header → ℕ → List Command → ℕ → Place → Type 0
 HasListed h room cs at place =
-    HasTaken h room (map fresh cs) at place (numbered 1 (commands_of (take at (map fresh cs))))
+    HasTaken h room (map whole_entry cs) at place (numbered 1 (commands_of (take at (map whole_entry cs))))
 
 none_before : (es : List Entry) → numbered 1 (commands_of (take 0 es)) ≡ []
 none_before [] = refl
 none_before (e ∷ es) = refl
 
 pub none_listed : (h : Header) (room : ℕ) (cs : List Command) (place : Place) → place ≡ place_of h []
-    → place.used ≤ 612 → place.next ≤ 1 + place.used → AllByRecursion IsReady (map fresh cs)
+    → place.used ≤ 612 → place.next ≤ 1 + place.used → AllByRecursion IsReady (map whole_entry cs)
     → HasListed h room cs 0 place
 none_listed h room cs place is low next ready =
-    none_yet h room (map fresh cs) place _ is (none_before (map fresh cs)) (omega (arith, low)) next ready
+    none_yet h room (map whole_entry cs) place _ is (none_before (map whole_entry cs)) (omega (arith, low)) next ready
 
 pub one_listed : (h : Header) (room at : ℕ) (cs : List Command) (c : Command) (place next : Place)
     → HasListed h room cs at place → room ≤ 65536 → drop at cs ≡ c ∷ drop (at + 1) cs
     → Some next ≡ within room (behind place c) → HasListed h room cs (at + 1) next
 one_listed h room at cs c place next t most is some =
-    let es = map fresh cs in
+    let es = map whole_entry cs in
     let first = fresh_at cs at c is in
     let before = commands_of (take at es) in
-    one_more h room at es (fresh c) place next _ _ t most first some
-    (ap (numbered 1) (commands_next es at (fresh c) (drop (at + 1) es) first)
+    one_more h room at es (whole_entry c) place next _ _ t most first some
+    (ap (numbered 1) (commands_next es at (whole_entry c) (drop (at + 1) es) first)
     ∙ numbered_append 1 before (c ∷ [])
     ∙ ap (λ (p : Place). numbered 1 before ++ with_numbers p.next c ∷ []) (sym t.place_is))
 
-long_fresh : (cs : List Command) → length (map fresh cs) ≡ length cs
-long_fresh cs = length-map cs fresh
+long_fresh : (cs : List Command) → length (map whole_entry cs) ≡ length cs
+long_fresh cs = length-map cs whole_entry
 
 pub all_listed : (h : Header) (room at : ℕ) (cs : List Command) (place : Place) → HasListed h room cs at place
-    → length cs ≤ at → at ≡ taken h room [] (map fresh cs)
+    → length cs ≤ at → at ≡ taken h room [] (map whole_entry cs)
 all_listed h room at cs place t whole =
     let long = long_fresh cs in
-    all_taken h room at (map fresh cs) place _ t (omega (arith, whole, long))
+    all_taken h room at (map whole_entry cs) place _ t (omega (arith, whole, long))
 
 pub listed_place : (h : Header) (room at : ℕ) (cs : List Command) (place : Place) → HasListed h room cs at place
     → length cs ≤ at → place ≡ place_of h cs
 listed_place h room at cs place t whole =
     let long = long_fresh cs in
     t.place_is
-    ∙ ap (λ l. place_of h (commands_of l)) (take_all at (map fresh cs) (omega (arith, whole, long)))
+    ∙ ap (λ l. place_of h (commands_of l)) (take_all at (map whole_entry cs) (omega (arith, whole, long)))
     ∙ ap (place_of h) (fresh_commands cs)
 
 -- ---- numbered in place
@@ -162,13 +163,13 @@ all_numbered n at xs want h e =
 
 pub packs_listed : (h : Header) (cs : List Command) (room : ℕ) (heard : Bool) (place : Place) (t : Tail)
     (q : List Entry) (first body : List Command)
-    → taken h room [] (map fresh cs) ≡ length cs → place ≡ place_of h cs → first ≡ numbered 1 cs → q ≡ []
+    → taken h room [] (map whole_entry cs) ≡ length cs → place ≡ place_of h cs → first ≡ numbered 1 cs → q ≡ []
     → t ≡ tail_of q heard → body ≡ first ++ numbered place.next (tail_commands t)
-    → Packs h (map fresh cs) room heard (length cs) 0 place place t first first body
+    → Packs h (map whole_entry cs) room heard (length cs) 0 place place t first first body
 packs_listed h cs room heard place t q first body whole at f alone l b =
     let long = long_fresh cs in
-    let all = ap commands_of (take_all (length cs) (map fresh cs) (omega (arith, long))) ∙ fresh_commands cs in
-    let none = drop_all (length cs) (map fresh cs) (omega (arith, long)) in
+    let all = ap commands_of (take_all (length cs) (map whole_entry cs) (omega (arith, long))) ∙ fresh_commands cs in
+    let none = drop_all (length cs) (map whole_entry cs) (omega (arith, long)) in
     record {
       whole_is = sym whole;
       place_is = at ∙ ap (place_of h) (sym all);
@@ -182,12 +183,13 @@ packs_listed h cs room heard place t q first body whole at f alone l b =
 
 pub left_listed : (h : Header) (cs : List Command) (room : ℕ) (heard : Bool) (place : Place) (t : Tail)
     (q : List Entry) (first body : List Command)
-    → Packs h (map fresh cs) room heard (length cs) 0 place place t first first body → q ≡ []
-    → q ≡ (fill (map fresh cs) h room heard).left
+    → Packs h (map whole_entry cs) room heard (length cs) 0 place place t first first body → q ≡ []
+    → q ≡ (fill (map whole_entry cs) h room heard).left
 left_listed h cs room heard place t q first body p alone =
     let long = long_fresh cs in
-    alone ∙ sym (drop_all (length cs) (map fresh cs) (omega (arith, long)))
-    ∙ ap (λ (f : Filling). f.left) (packed h (map fresh cs) room heard (length cs) 0 place place t first first body p)
+    alone ∙ sym (drop_all (length cs) (map whole_entry cs) (omega (arith, long)))
+    ∙ ap (λ (f : Filling). f.left)
+    (packed h (map whole_entry cs) room heard (length cs) 0 place place t first first body p)
 
 -- ---- put into a queue
 
@@ -195,7 +197,7 @@ pub put_alone : (old new behind : List Entry) → old ≡ [] → new ≡ old ++ 
 put_alone old new behind none is = is ∙ ap (λ l. l ++ behind) none
 
 pub put_around : (front entries all : List Command) (old : List Entry) → old ≡ [] → all ≡ front ++ entries
-    → map fresh all ≡ map fresh front ++ (old ++ map fresh entries)
+    → map whole_entry all ≡ map whole_entry front ++ (old ++ map whole_entry entries)
 put_around front entries all old none is =
-    ap (map fresh) is ∙ map-append fresh front entries
-    ∙ ap (λ l. map fresh front ++ (l ++ map fresh entries)) (sym none)
+    ap (map whole_entry) is ∙ map-append whole_entry front entries
+    ∙ ap (λ l. map whole_entry front ++ (l ++ map whole_entry entries)) (sym none)

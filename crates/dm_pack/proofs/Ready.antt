@@ -20,7 +20,7 @@ use Rattle.syncml_types.specs.Fitness.{alert_texts, status_texts, results_texts,
 use Rattle.syncml_types.specs.Fitness.{command_numbers, command_filled, command_correlates}
 use Rattle.syncml_parts.specs.Numbering.{with_numbers}
 use Rattle.syncml_types.specs.Message.{no_meta}
-use Rattle.dm_pack.specs.Entries.{IsReady, fresh}
+use Rattle.dm_pack.specs.Entries.{IsReady, whole_entry}
 use Rattle.dm_pack.proofs.Fit.{both}
 use Rattle.dm_pack.proofs.Most.{Most, none, most_append, most_parent, most_element, most_text, most_number}
 
@@ -183,7 +183,7 @@ some_number n some = ap not (ne_eqb n 0 (λ e. omega (arith, e, some)))
 pub status_ready : (msg ref : ℕ) (cmd : List ℕ) (targets : List (List ℕ)) (challenge : Option Meta) (code : ℕ) → 0 < msg
     → msg < 2 ^ 32 → ref < 2 ^ 32
     → IsText 20 cmd → IsOneAtMost 255 targets → IsChal challenge → code < 2 ^ 32
-    → IsReady (fresh (status msg ref cmd targets challenge code))
+    → IsReady (whole_entry (status msg ref cmd targets challenge code))
 unfolding command_data command_numbers command_filled command_correlates with_numbers
 status_ready msg ref cmd targets challenge code some m r c t h k =
     record {
@@ -266,7 +266,7 @@ results_pass test msg ref uri format media value passes u f t =
 pub results_ready : (msg ref : ℕ) (uri format : List ℕ) (media value : Option (List ℕ)) → 0 < msg → msg < 2 ^ 32
     → ref < 2 ^ 32 → IsText 255 uri
     → IsText 20 format → IsOptional 255 media → all_of is_in_limit value ≡ true
-    → IsReady (fresh (results msg ref (found_item uri format media value)))
+    → IsReady (whole_entry (results msg ref (found_item uri format media value)))
 unfolding command_data command_numbers command_filled command_correlates with_numbers item_data
 results_ready msg ref uri format media value some m r u f t few =
     record {
@@ -327,7 +327,7 @@ named_data [] = refl
 named_data (uri ∷ uris) = named_data uris
 
 pub alert_ready : (code : ℕ) (uris : List (List ℕ)) → code < 2 ^ 32 → IsOneAtMost 255 uris
-    → IsReady (fresh (alert code uris))
+    → IsReady (whole_entry (alert code uris))
 unfolding command_texts alert_texts command_data command_numbers command_filled command_correlates with_numbers
 alert_ready code uris k is =
     record {

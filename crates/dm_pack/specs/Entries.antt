@@ -18,8 +18,8 @@ pub record Entry : Type 0 where
   pub command : Command
   pub begun : Bool
 
-abbrev pub fresh : Command → Entry
-fresh c = record { command = c; begun = false }
+abbrev pub whole_entry : Command → Entry
+whole_entry c = record { command = c; begun = false }
 
 -- how many bytes it has of the Data that may be cut
 abbrev pub data_left : Entry → ℕ

@@ -7,7 +7,7 @@ ghost use Rattle.std.specs.Option.{option_to_list};
 ghost use Rattle.dm_base.specs.Limits.{least_room, message_limit};
 ghost use Rattle.syncml_types.specs.Canonical.{canonical};
 ghost use Rattle.syncml_parts.specs.Packing.{cut_data, bytes_in};
-ghost use Rattle.dm_pack.specs.Entries.{IsReady, fresh};
+ghost use Rattle.dm_pack.specs.Entries.{IsReady, whole_entry};
 ghost use Rattle.dm_pack.specs.Filling.{numbered, taken, IsReadyHeader, fill as fill_of};
 ghost use Rattle.dm_pack.specs.Measures.{ids_of, place_of};
 
@@ -48,10 +48,11 @@ fn command_at(commands: &List<Command>, at: usize) -> &Command
 // How far a message comes with all of these commands, where it fits with each of them. Data that is as long as the room
 // isn't looked at.
 fn all_that_fit(commands: &List<Command>, header: &Boxed<Header>, room: u64) -> Option<Place>
-    requires ready { AllByRecursion IsReady (map fresh commands.now) }
+    requires ready { AllByRecursion IsReady (map whole_entry commands.now) }
     requires header { IsReadyHeader header.now }
     requires room { room ≤ message_limit }
-    ensures whole { IfSome result (λ place. taken header.now room [] (map fresh commands.now) ≡ length commands.now) }
+    ensures whole { IfSome result (λ place. taken header.now room [] (map whole_entry commands.now)
+        ≡ length commands.now) }
     ensures place { IfSome result (λ place. place ≡ place_of header.now commands.now) }
     ensures low { IfSome result (λ place. (place.used ≤ message_limit) × (place.next ≤ 1 + place.used)) }
 {
@@ -104,16 +105,17 @@ fn fill_put(
     heard: bool,
 ) -> Result<Filled, Memory>
     requires none { queue.old ≡ [] }
-    requires ready { AllByRecursion IsReady (map fresh commands) }
+    requires ready { AllByRecursion IsReady (map whole_entry commands) }
     requires header { IsReadyHeader header }
     requires room { (least_room ≤ room) × (room ≤ message_limit) }
-    ensures message { IfOk result (λ f. f.message ≡ (fill_of (map fresh commands) header room heard).message) }
-    ensures bytes { IfOk result (λ f. f.bytes ≡ canonical (fill_of (map fresh commands) header room heard).message) }
-    ensures whole { IfOk result (λ f. f.whole ≡ (fill_of (map fresh commands) header room heard).whole) }
-    ensures cut { IfOk result (λ f. f.cut ≡ (fill_of (map fresh commands) header room heard).cut) }
-    ensures tail { IfOk result (λ f. f.tail ≡ (fill_of (map fresh commands) header room heard).tail) }
+    ensures message { IfOk result (λ f. f.message ≡ (fill_of (map whole_entry commands) header room heard).message) }
+    ensures bytes { IfOk result (λ f. f.bytes
+        ≡ canonical (fill_of (map whole_entry commands) header room heard).message) }
+    ensures whole { IfOk result (λ f. f.whole ≡ (fill_of (map whole_entry commands) header room heard).whole) }
+    ensures cut { IfOk result (λ f. f.cut ≡ (fill_of (map whole_entry commands) header room heard).cut) }
+    ensures tail { IfOk result (λ f. f.tail ≡ (fill_of (map whole_entry commands) header room heard).tail) }
     ensures within { IfOk result (λ f. length f.bytes ≤ room) }
-    ensures left { OnOk result (queue.new ≡ (fill_of (map fresh commands) header room heard).left) }
+    ensures left { OnOk result (queue.new ≡ (fill_of (map whole_entry commands) header room heard).left) }
 {
     queue.push_all(commands)?;
     fill_out(queue, header, room, heard)
@@ -128,16 +130,17 @@ fn fill_listed(
     heard: bool,
 ) -> Result<Filled, Memory>
     requires none { queue.old ≡ [] }
-    requires ready { AllByRecursion IsReady (map fresh commands) }
+    requires ready { AllByRecursion IsReady (map whole_entry commands) }
     requires header { IsReadyHeader header }
     requires room { (least_room ≤ room) × (room ≤ message_limit) }
-    ensures message { IfOk result (λ f. f.message ≡ (fill_of (map fresh commands) header room heard).message) }
-    ensures bytes { IfOk result (λ f. f.bytes ≡ canonical (fill_of (map fresh commands) header room heard).message) }
-    ensures whole { IfOk result (λ f. f.whole ≡ (fill_of (map fresh commands) header room heard).whole) }
-    ensures cut { IfOk result (λ f. f.cut ≡ (fill_of (map fresh commands) header room heard).cut) }
-    ensures tail { IfOk result (λ f. f.tail ≡ (fill_of (map fresh commands) header room heard).tail) }
+    ensures message { IfOk result (λ f. f.message ≡ (fill_of (map whole_entry commands) header room heard).message) }
+    ensures bytes { IfOk result (λ f. f.bytes
+        ≡ canonical (fill_of (map whole_entry commands) header room heard).message) }
+    ensures whole { IfOk result (λ f. f.whole ≡ (fill_of (map whole_entry commands) header room heard).whole) }
+    ensures cut { IfOk result (λ f. f.cut ≡ (fill_of (map whole_entry commands) header room heard).cut) }
+    ensures tail { IfOk result (λ f. f.tail ≡ (fill_of (map whole_entry commands) header room heard).tail) }
     ensures within { IfOk result (λ f. length f.bytes ≤ room) }
-    ensures left { OnOk result (queue.new ≡ (fill_of (map fresh commands) header room heard).left) }
+    ensures left { OnOk result (queue.new ≡ (fill_of (map whole_entry commands) header room heard).left) }
 {
     let Some(place) = all_that_fit(&commands, &header, room) else {
         return fill_put(queue, commands, header, room, heard);
@@ -179,21 +182,27 @@ pub fn fill_at_once(
     heard: bool,
 ) -> Result<Filled, Memory>
     requires none { queue.old ≡ [] }
-    requires ready { AllByRecursion IsReady (map fresh (option_to_list front) ++ (queue.old ++ map fresh entries)) }
+    requires ready { AllByRecursion IsReady (map whole_entry (option_to_list front)
+        ++ (queue.old ++ map whole_entry entries)) }
     requires header { IsReadyHeader header }
     requires room { (least_room ≤ room) × (room ≤ message_limit) }
     ensures message { IfOk result (λ f. f.message
-        ≡ (fill_of (map fresh (option_to_list front) ++ (queue.old ++ map fresh entries)) header room heard).message) }
+        ≡ (fill_of (map whole_entry (option_to_list front) ++ (queue.old ++ map whole_entry entries))
+        header room heard).message) }
     ensures bytes { IfOk result (λ f. f.bytes ≡ canonical f.message) }
     ensures whole { IfOk result (λ f. f.whole
-        ≡ (fill_of (map fresh (option_to_list front) ++ (queue.old ++ map fresh entries)) header room heard).whole) }
+        ≡ (fill_of (map whole_entry (option_to_list front) ++ (queue.old ++ map whole_entry entries))
+        header room heard).whole) }
     ensures cut { IfOk result (λ f. f.cut
-        ≡ (fill_of (map fresh (option_to_list front) ++ (queue.old ++ map fresh entries)) header room heard).cut) }
+        ≡ (fill_of (map whole_entry (option_to_list front) ++ (queue.old ++ map whole_entry entries))
+        header room heard).cut) }
     ensures tail { IfOk result (λ f. f.tail
-        ≡ (fill_of (map fresh (option_to_list front) ++ (queue.old ++ map fresh entries)) header room heard).tail) }
+        ≡ (fill_of (map whole_entry (option_to_list front) ++ (queue.old ++ map whole_entry entries))
+        header room heard).tail) }
     ensures within { IfOk result (λ f. length f.bytes ≤ room) }
     ensures ok { OnOk result (queue.new
-        ≡ (fill_of (map fresh (option_to_list front) ++ (queue.old ++ map fresh entries)) header room heard).left) }
+        ≡ (fill_of (map whole_entry (option_to_list front) ++ (queue.old ++ map whole_entry entries))
+        header room heard).left) }
     ensures err { OnErr result (queue.new ≡ queue.old) }
 {
     let commands = with_front(front, entries)?;

@@ -7,7 +7,7 @@ ghost use Rattle.syncml_types.specs.Canonical.{command_tokens};
 ghost use Rattle.syncml_types.specs.Lengths.{up_to_most, spelled_length};
 ghost use Rattle.syncml_parts.specs.Numbering.{with_numbers};
 ghost use Rattle.syncml_parts.specs.Packing.{body_tag, tail_tokens};
-ghost use Rattle.dm_pack.specs.Entries.{IsReady, data_left, fresh, part_of};
+ghost use Rattle.dm_pack.specs.Entries.{IsReady, data_left, whole_entry, part_of};
 ghost use Rattle.dm_pack.specs.Filling as Filling;
 ghost use Rattle.dm_pack.specs.Filling.{IsReadyHeader};
 ghost use Rattle.dm_pack.specs.Measures as Spec;
@@ -170,7 +170,7 @@ impl Place {
 
     // With one more command, where the message fits then.
     pub(crate) fn with_command(self, command: &Command, room: u64) -> Option<Place>
-        requires ready { IsReady (fresh command.now) }
+        requires ready { IsReady (whole_entry command.now) }
         requires room { room ≤ message_limit }
         requires low { (self.used ≤ message_limit) × (self.next ≤ 1 + self.used) }
         ensures { IfSome result (λ next. Some next ≡ within room (behind self command.now)) }

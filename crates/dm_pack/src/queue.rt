@@ -1,7 +1,7 @@
 // The entries that wait.
 ghost use Rattle.std.specs.Prelude.{◌≡◌, ◌<◌, ◌≤◌, ◌+◌, ◌∷◌, ◌++◌, [], length, map, take, drop, OnOk, OnErr, IfOk};
 ghost use Rattle.std.specs.Prelude.{MatchOption};
-ghost use Rattle.dm_pack.specs.Entries.{fresh};
+ghost use Rattle.dm_pack.specs.Entries.{whole_entry};
 ghost use Rattle.dm_pack.specs.Filling.{next_rest, left_after, HasMore, CanBeTaken};
 
 use crate::filled::Filled;
@@ -53,7 +53,7 @@ impl Queue {
 
     /// Adds an entry behind all others; its CmdIDs are set when it is sent. After `Memory` the entry is given up.
     pub fn push_back(&mut self, entry: Command) -> Result<(), Memory>
-        ensures ok { OnOk result (self.new ≡ self.old ++ fresh entry ∷ []) }
+        ensures ok { OnOk result (self.new ≡ self.old ++ whole_entry entry ∷ []) }
         ensures err { OnErr result (self.new ≡ self.old) }
     {
         self.entries.push_back(Waiting::new(self.alloc, entry))?;
@@ -62,7 +62,7 @@ impl Queue {
 
     // Adds entries behind all others. After `Memory` some of them may stand there.
     pub(crate) fn push_all(&mut self, entries: List<Command>) -> Result<(), Memory>
-        ensures { OnOk result (self.new ≡ self.old ++ map fresh entries) }
+        ensures { OnOk result (self.new ≡ self.old ++ map whole_entry entries) }
     {
         for entry in entries.into_vec() {
             self.push_back(entry)?;
@@ -72,7 +72,7 @@ impl Queue {
 
     /// Adds an entry in front of all others. After `Memory` the entry is given up.
     pub fn push_front(&mut self, entry: Command) -> Result<(), Memory>
-        ensures ok { OnOk result (self.new ≡ fresh entry ∷ self.old) }
+        ensures ok { OnOk result (self.new ≡ whole_entry entry ∷ self.old) }
         ensures err { OnErr result (self.new ≡ self.old) }
     {
         self.entries.push_front(Waiting::new(self.alloc, entry))?;

@@ -8,7 +8,7 @@ ghost use Rattle.syncml_types.specs.Canonical.{command_tokens};
 ghost use Rattle.syncml_types.specs.Lengths.{spelled_length};
 ghost use Rattle.syncml_parts.specs.Numbering.{ids_in as ids_of_command, with_numbers};
 ghost use Rattle.syncml_parts.specs.Packing.{cut_changed, cut_data, bytes_in};
-ghost use Rattle.dm_pack.specs.Entries.{fresh, data_left, part_of, rest_of, with_size, last_only, last_alone};
+ghost use Rattle.dm_pack.specs.Entries.{whole_entry, data_left, part_of, rest_of, with_size, last_only, last_alone};
 ghost use Rattle.dm_pack.specs.Measures.{hollow_item, marked, marks_of, put_back, size_told};
 
 use crate::marks::{marked_cost, marks_cost};
@@ -177,7 +177,7 @@ fn keep_last(command: &mut Command)
 
 impl Waiting {
     pub(crate) fn new(alloc: Global, command: Command) -> Waiting
-        ensures { result ≡ fresh command }
+        ensures { result ≡ whole_entry command }
     {
         let mut command = command;
         let value = take_data(alloc, &mut command);

@@ -12,7 +12,7 @@ use Rattle.syncml_codec.specs.Ranges.{CommandRange, AreNumbers}
 use Rattle.dm_atomic.specs.declared.tasks.Post.{Post}
 use Rattle.dm_atomic.specs.Made.{Status}
 use Rattle.dm_headers.specs.Headers.{header_answer}
-use Rattle.dm_pack.specs.Entries.{IsReady, fresh}
+use Rattle.dm_pack.specs.Entries.{IsReady, whole_entry}
 use Rattle.dm_ends.specs.Ready.{IsReadyMessage}
 use Rattle.dm_ends.proofs.Answers.{nonce_is, answer_ready}
 use Rattle.dm_ends.proofs.Statuses.{AreReadyPosts, AreReadyMade, origin_ready, posts_ready, status_is_ready, told_ready}
@@ -32,7 +32,8 @@ both P (x ∷ xs) ys h k = (h.0, both P xs ys h.1 k)
 
 -- ---- answers
 
-answers-ready : (cs : List Command) → AllByRecursion IsReady (map fresh cs) → AreReadyWaiting (map answer_waiting cs)
+answers-ready : (cs : List Command) → AllByRecursion IsReady (map whole_entry cs)
+    → AreReadyWaiting (map answer_waiting cs)
 answers-ready [] h = tt
 answers-ready (c ∷ cs) h = (h.0, answers-ready cs h.1)
 
@@ -44,7 +45,7 @@ pub status_waits : (status : Option Command) (m : Parts) (header : Header) (code
 status_waits status m header code nonce queue same is low ready waits =
     both _ (map answer_waiting (option_to_list status)) queue
     (answers-ready (option_to_list status)
-    (subst (λ cs. AllByRecursion IsReady (map fresh cs)) (sym (is ∙ ap (λ h. header_answer h code nonce) same))
+    (subst (λ cs. AllByRecursion IsReady (map whole_entry cs)) (sym (is ∙ ap (λ h. header_answer h code nonce) same))
     (answer_ready m.header code nonce (known_number m ready.fit) ready.numbers.header.msg low
     (nonce_is nonce ready.nonce_long ready.nonce_bytes)))) waits
 
@@ -64,12 +65,12 @@ all-ready m (c ∷ cs) fit numbers h =
     (made-ready (code_for c) _ (code-low c) (posts_ready (origin_of m) c (origin_ready m fit numbers) h.0))
     (all-ready m cs fit numbers h.1)
 
-body-answers : (m : Parts) → IsReadyBody m → AllByRecursion IsReady (map fresh (answers m))
+body-answers : (m : Parts) → IsReadyBody m → AllByRecursion IsReady (map whole_entry (answers m))
 unfolding answers
 body-answers m is =
     told_ready (answers_all (origin_of m) m.body) (all-ready m m.body is.fit is.numbers is.numbers.body)
 
-if-answers : (b : Bool) (m : Parts) → IsReadyBody m → AllByRecursion IsReady (map fresh (cond b (answers m) []))
+if-answers : (b : Bool) (m : Parts) → IsReadyBody m → AllByRecursion IsReady (map whole_entry (cond b (answers m) []))
 if-answers true m is = body-answers m is
 if-answers false m is = tt
 
@@ -78,7 +79,7 @@ pub answers_wait : (m : Parts) (b : Bool) (made : List Command) (queue : List Wa
     → made ≡ cond b (answers m) [] → AreReadyWaiting queue → AreReadyWaiting (queue ++ map answer_waiting made)
 answers_wait m b made queue is e waits =
     both _ queue (map answer_waiting made) waits
-    (answers-ready made (subst (λ cs. AllByRecursion IsReady (map fresh cs)) (sym e) (if-answers b m is)))
+    (answers-ready made (subst (λ cs. AllByRecursion IsReady (map whole_entry cs)) (sym e) (if-answers b m is)))
 
 -- ---- the job
 

@@ -16,7 +16,7 @@ use Rattle.dm_headers.specs.Standings.{Heard, hears}
 use Rattle.dm_atomic.specs.declared.tasks.Post.{Post}
 use Rattle.dm_atomic.specs.Made.{Status}
 use Rattle.dm_atomic.specs.Posts.{asked_posts}
-use Rattle.dm_pack.specs.Entries.{Entry, IsReady, fresh}
+use Rattle.dm_pack.specs.Entries.{Entry, IsReady, whole_entry}
 use Rattle.dm_pack.specs.Filling.{next_rest, left_after, fill, taken, cut, commands_of, IsReadyHeader}
 use Rattle.dm_pack.proofs.Left.{what_is_left_is_ready}
 use Rattle.dm_pack.proofs.Within.{fill_within}
@@ -64,7 +64,8 @@ job-ready : (es : List JobEntry) → AllByRecursion IsReadyEntry es → AreReady
 job-ready [] h = tt
 job-ready (e ∷ es) h = (h.0, job-ready es h.1)
 
-answers-ready : (cs : List Command) → AllByRecursion IsReady (map fresh cs) → AreReadyWaiting (map answer_waiting cs)
+answers-ready : (cs : List Command) → AllByRecursion IsReady (map whole_entry cs)
+    → AreReadyWaiting (map answer_waiting cs)
 answers-ready [] h = tt
 answers-ready (c ∷ cs) h = (h.0, answers-ready cs h.1)
 
@@ -115,12 +116,12 @@ all-ready m (c ∷ cs) fit numbers h =
     (posts_ready (origin_of m) c (origin_ready m fit numbers) h.0))
     (all-ready m cs fit numbers h.1)
 
-made-answers : (m : Parts) → IsFit m.header m.body → AreNumbers m → AllByRecursion IsReady (map fresh (answers m))
+made-answers : (m : Parts) → IsFit m.header m.body → AreNumbers m → AllByRecursion IsReady (map whole_entry (answers m))
 unfolding answers
 made-answers m fit numbers = told_ready (answers_all (origin_of m) m.body) (all-ready m m.body fit numbers numbers.body)
 
-if-answers : (b : Bool) (cs : List Command) → AllByRecursion IsReady (map fresh cs)
-    → AllByRecursion IsReady (map fresh (cond b cs []))
+if-answers : (b : Bool) (cs : List Command) → AllByRecursion IsReady (map whole_entry cs)
+    → AllByRecursion IsReady (map whole_entry (cond b cs []))
 if-answers true cs h = h
 if-answers false cs h = tt
 

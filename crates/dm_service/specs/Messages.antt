@@ -10,7 +10,7 @@ use Rattle.dm_headers.specs.Checks.{fault_of, is_denied, passes}
 use Rattle.dm_headers.specs.Standings.{Heard, hears}
 use Rattle.dm_headers.specs.Headers.{header_answer}
 use Rattle.dm_objects.specs.declared.object.Object.TheVariants.{Nothing}
-use Rattle.dm_pack.specs.Entries.{fresh}
+use Rattle.dm_pack.specs.Entries.{whole_entry}
 use Rattle.dm_ends.specs.Beginning.{first_standing}
 use Rattle.dm_ends.specs.Commands.{is_abort}
 use Rattle.dm_ends.specs.Farewells.{farewell}
@@ -89,7 +89,7 @@ denies v s m code nonce =
 -- ---- a message
 
 abbrev pub answer_waiting : Command → Waiting
-answer_waiting c = record { entry = fresh c; carries = None }
+answer_waiting c = record { entry = whole_entry c; carries = None }
 
 -- the first 401 or 407 of a session that the client tells of the server gives up the package that was queued last
 abbrev pub after_status : Service → Session → Bool → ℕ → Service

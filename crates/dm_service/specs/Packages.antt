@@ -4,7 +4,7 @@ use Rattle.std.specs.Prelude.{map, Option, None, Some, is_some}
 use Rattle.std.specs.List.{list_any, filter}
 use Rattle.syncml_parts.specs.Numbering.{ids_in}
 use Rattle.dm_headers.specs.declared.standings.Standing.{Standing}
-use Rattle.dm_pack.specs.Entries.{fresh}
+use Rattle.dm_pack.specs.Entries.{whole_entry}
 use Rattle.dm_job.specs.declared.job.JobEntry.{JobEntry}
 use Rattle.dm_service.specs.declared.sent.Sent.{Sent}
 use Rattle.dm_service.specs.Service.{Waiting, Told, Session, Service}
@@ -22,7 +22,7 @@ is_of_job w = is_some w.carries
 
 abbrev pub job_waiting : JobEntry → Waiting
 job_waiting e = record {
-  entry = fresh e.command;
+  entry = whole_entry e.command;
   carries = Some (record { first = e.number; count = ids_in e.command });
 }
 

@@ -2,7 +2,7 @@
 use Rattle.std.specs.Prelude.{◌<◌, ◌≤◌, ◌^◌, List, IfSome}
 use Rattle.std.specs.List.{AllByRecursion}
 use Rattle.dm_base.specs.Limits.{least_room, message_limit}
-use Rattle.dm_pack.specs.Entries.{IsReady, fresh}
+use Rattle.dm_pack.specs.Entries.{IsReady, whole_entry}
 use Rattle.dm_ends.specs.Ready.{IsReadyAccount, IsReadyLimits, IsReadyRead}
 use Rattle.dm_job.specs.declared.job.JobEntry.{JobEntry}
 use Rattle.dm_job.specs.Sound.{all_entries}
@@ -11,7 +11,7 @@ use Rattle.dm_service.specs.Service.{Waiting, Session, Service}
 use Rattle.dm_service.specs.Events.{Arrival}
 
 abbrev pub IsReadyEntry : JobEntry → Type 0
-IsReadyEntry e = IsReady (fresh e.command)
+IsReadyEntry e = IsReady (whole_entry e.command)
 
 abbrev pub AreReadyPackages : List (List JobEntry) → Type 0
 AreReadyPackages packages = AllByRecursion IsReadyEntry (all_entries packages)

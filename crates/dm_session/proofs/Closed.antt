@@ -9,7 +9,7 @@ use Rattle.dm_headers.specs.declared.checks.Side.TheVariants.{Server}
 use Rattle.dm_headers.specs.Checks.{passes}
 use Rattle.dm_headers.specs.Standings.{Heard, hears}
 use Rattle.dm_headers.specs.Headers.{header_answer}
-use Rattle.dm_pack.specs.Entries.{Entry, fresh}
+use Rattle.dm_pack.specs.Entries.{Entry, whole_entry}
 use Rattle.dm_atomic.specs.declared.engine.Engine.{Engine}
 use Rattle.dm_atomic.specs.Engine.{state_of}
 use Rattle.dm_atomic.specs.Run.{State, Next as Ran, abandoned}
@@ -41,8 +41,8 @@ no_group s = refl
 answered_closed : (c : Machine) (w : Waits) (m : Parts) (h : Heard) (nonce : List ℕ) (run : Ran)
     → ClosedAtEnd (answered c w m h nonce run)
 answered_closed c w m h nonce run =
-    let waiting = w.queue ++ map fresh (told run.made) in
-    let answer = map fresh (header_answer m.header h.code nonce) in
+    let waiting = w.queue ++ map whole_entry (told run.made) in
+    let answer = map whole_entry (header_answer m.header h.code nonce) in
     let d : Machine = record c { engine = run.state } in
     either (is_over m h.code waiting) (ends (finished d) Finished)
     (goes_on (sends (record d { queue = answer ++ waiting })

@@ -10,7 +10,7 @@ use Rattle.dm_auth.specs.declared.accounts.Account.{Account}
 use Rattle.dm_headers.specs.Checks.{passes, is_denied}
 use Rattle.dm_headers.specs.Headers.{header_answer}
 use Rattle.dm_headers.specs.Standings.{Heard}
-use Rattle.dm_pack.specs.Entries.{Entry, fresh}
+use Rattle.dm_pack.specs.Entries.{Entry, whole_entry}
 use Rattle.dm_pack.specs.Filling.{fill}
 use Rattle.dm_tree.specs.declared.nodes.Stamp.{Stamp}
 use Rattle.dm_atomic.specs.declared.engine.Engine.{Engine}
@@ -41,7 +41,7 @@ engine_moved e f q r x s h k =
 
 -- ---- an answer
 
-pub length_fresh : (cs : List Command) → length (map fresh cs) ≡ length cs
+pub length_fresh : (cs : List Command) → length (map whole_entry cs) ≡ length cs
 length_fresh [] = refl
 length_fresh (c ∷ cs) = ap suc (length_fresh cs)
 
@@ -50,45 +50,45 @@ moved_by p n = record p { opening_at = p.opening_at + n }
 
 abbrev sent_by : Machine → Waits → Account → State → List Command → List Command → ℕ → Outcome
 sent_by c w a s front made n =
-    goes_on (sends (record c { engine = s; queue = map fresh front ++ (w.queue ++ map fresh made) })
+    goes_on (sends (record c { engine = s; queue = map whole_entry front ++ (w.queue ++ map whole_entry made) })
     (moved_by w.progress n) a)
 
 pub answered_goes_on : (c : Machine) (w : Waits) (m : Parts) (h : Heard) (nonce : List ℕ) (run : Next)
     (front made : List Command)
     → front ≡ header_answer m.header h.code nonce → made ≡ told run.made
-    → is_over m h.code (w.queue ++ map fresh made) ≡ false
+    → is_over m h.code (w.queue ++ map whole_entry made) ≡ false
     → sent_by c w h.account run.state front made (length front) ≡ answered c w m h nonce run
 answered_goes_on c w m h nonce run front made f t o =
     ap (sent_by c w h.account run.state front made) (sym (length_fresh front))
-    ∙ ap (λ x. sent_by c w h.account run.state x made (length (map fresh x))) f
-    ∙ ap (λ x. sent_by c w h.account run.state answer x (length (map fresh answer))) t
-    ∙ sym (not_over (is_over m h.code (w.queue ++ map fresh (told run.made)))
-    (sym (ap (λ x. is_over m h.code (w.queue ++ map fresh x)) t) ∙ o))
+    ∙ ap (λ x. sent_by c w h.account run.state x made (length (map whole_entry x))) f
+    ∙ ap (λ x. sent_by c w h.account run.state answer x (length (map whole_entry answer))) t
+    ∙ sym (not_over (is_over m h.code (w.queue ++ map whole_entry (told run.made)))
+    (sym (ap (λ x. is_over m h.code (w.queue ++ map whole_entry x)) t) ∙ o))
   where
     answer : List Command
     answer = header_answer m.header h.code nonce
 
     not_over : (b : Bool) → b ≡ false
         → cond b (ends (finished (record c { engine = run.state })) Finished)
-        (sent_by c w h.account run.state answer (told run.made) (length (map fresh answer)))
-        ≡ sent_by c w h.account run.state answer (told run.made) (length (map fresh answer))
+        (sent_by c w h.account run.state answer (told run.made) (length (map whole_entry answer)))
+        ≡ sent_by c w h.account run.state answer (told run.made) (length (map whole_entry answer))
     not_over true e = absurd (cc)
     not_over false e = refl
 
 pub answered_ends : (c : Machine) (w : Waits) (m : Parts) (h : Heard) (nonce : List ℕ) (run : Next)
     (made : List Command)
-    → made ≡ told run.made → is_over m h.code (w.queue ++ map fresh made) ≡ true
+    → made ≡ told run.made → is_over m h.code (w.queue ++ map whole_entry made) ≡ true
     → ends (finished (record c { engine = run.state })) Finished ≡ answered c w m h nonce run
 answered_ends c w m h nonce run made t o =
-    sym (over (is_over m h.code (w.queue ++ map fresh (told run.made)))
-    (sym (ap (λ x. is_over m h.code (w.queue ++ map fresh x)) t) ∙ o))
+    sym (over (is_over m h.code (w.queue ++ map whole_entry (told run.made)))
+    (sym (ap (λ x. is_over m h.code (w.queue ++ map whole_entry x)) t) ∙ o))
   where
     answer : List Command
     answer = header_answer m.header h.code nonce
 
     over : (b : Bool) → b ≡ true
         → cond b (ends (finished (record c { engine = run.state })) Finished)
-        (sent_by c w h.account run.state answer (told run.made) (length (map fresh answer)))
+        (sent_by c w h.account run.state answer (told run.made) (length (map whole_entry answer)))
         ≡ ends (finished (record c { engine = run.state })) Finished
     over true e = refl
     over false e = absurd (cc)

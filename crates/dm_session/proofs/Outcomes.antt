@@ -17,7 +17,7 @@ use Rattle.dm_headers.specs.declared.checks.Side.TheVariants.{Server}
 use Rattle.dm_headers.specs.declared.hearing.Heard as hearing
 use Rattle.dm_headers.specs.declared.standings.Standing.{Standing}
 use Rattle.dm_headers.specs.Standings.{Heard, hears}
-use Rattle.dm_pack.specs.Entries.{Entry, fresh}
+use Rattle.dm_pack.specs.Entries.{Entry, whole_entry}
 use Rattle.dm_commands.specs.Outcomes.{asked_by}
 use Rattle.dm_atomic.specs.declared.engine.Engine.{Engine}
 use Rattle.dm_atomic.specs.Made.{told}
@@ -107,7 +107,8 @@ again_not_over c w m code zs =
 
 abbrev sent_out : Machine → List Command → List Command → Progress → List Entry → Account → Outcome
 sent_out c front made p q a =
-    goes_on (sends (record c { queue = map fresh front ++ (q ++ map fresh made) }) (moved_by p (length front)) a)
+    goes_on (sends (record c { queue = map whole_entry front ++ (q ++ map whole_entry made) })
+    (moved_by p (length front)) a)
 
 waits_if : (c : Machine) (w : Waits) (b : Bool) → b ≡ true → cond b (queued_again c w) w ≡ queued_again c w
 waits_if c w true e = refl
@@ -123,25 +124,26 @@ pub again_answered : (e f : Engine) (q : List Entry) (r : Rest) (p : Progress) (
     → w ≡ queued_again (machine_of e q r) (record { progress = record p { standing = h.standing }; queue = q })
     → state_of f ≡ run.state → clock_of f ≡ clock_of e → a ≡ h.account → front ≡ header_answer m.header h.code nonce
     → made ≡ told run.made
-    → goes_on (sends (machine_of f (map fresh front ++ (w.queue ++ map fresh made)) r)
+    → goes_on (sends (machine_of f (map whole_entry front ++ (w.queue ++ map whole_entry made)) r)
     (moved_by w.progress (length front)) a)
     ≡ answered (machine_of e q r) (waits_after (machine_of e q r) p h) m h nonce run
 again_answered e f q r p w m h nonce a run front made d i s k same is t =
     let c = machine_of e q r in
     let before : Waits = record { progress = record p { standing = h.standing }; queue = q } in
     ap (λ (x : Waits).
-    goes_on (sends (machine_of f (map fresh front ++ (x.queue ++ map fresh made)) r)
+    goes_on (sends (machine_of f (map whole_entry front ++ (x.queue ++ map whole_entry made)) r)
     (moved_by x.progress (length front)) a)) i
     ∙ ap (λ x. goes_on (sends x (moved_by (queued_again c before).progress (length front)) a))
-    (engine_moved e f q (map fresh front ++ ((queued_again c before).queue ++ map fresh made)) r run.state s k)
+    (engine_moved e f q (map whole_entry front ++ ((queued_again c before).queue ++ map whole_entry made)) r
+    run.state s k)
     ∙ ap (λ x.
     goes_on
     (sends (record c {
       engine = run.state;
-      queue = map fresh front ++ ((queued_again c before).queue ++ map fresh made);
+      queue = map whole_entry front ++ ((queued_again c before).queue ++ map whole_entry made);
     }) (moved_by (queued_again c before).progress (length front)) x)) same
     ∙ answered_goes_on c (queued_again c before) m h nonce run front made is t
-    (again_not_over c before m h.code (map fresh made))
+    (again_not_over c before m h.code (map whole_entry made))
     ∙ ap (λ x. answered c x m h nonce run) (sym (waits_if c before (is_denied h.status) d))
 
 pub answered_or_ended : (e f : Engine) (q : List Entry) (r : Rest) (p : Progress) (m : Parts) (h : Heard)
@@ -149,12 +151,12 @@ pub answered_or_ended : (e f : Engine) (q : List Entry) (r : Rest) (p : Progress
     (a : Account) (run : Next) (front made : List Command) → is_denied h.status ≡ false
     → state_of f ≡ run.state → clock_of f ≡ clock_of e → a ≡ h.account → front ≡ header_answer m.header h.code nonce
     → made ≡ told run.made
-    → cond (is_over m h.code (q ++ map fresh made)) (ends (finished (machine_of f q r)) Finished)
-    (goes_on (sends (machine_of f (map fresh front ++ (q ++ map fresh made)) r)
+    → cond (is_over m h.code (q ++ map whole_entry made)) (ends (finished (machine_of f q r)) Finished)
+    (goes_on (sends (machine_of f (map whole_entry front ++ (q ++ map whole_entry made)) r)
     (moved_by (record p { standing = h.standing }) (length front)) a))
     ≡ answered (machine_of e q r) (waits_after (machine_of e q r) p h) m h nonce run
 answered_or_ended e f q r p m h nonce a run front made d s k same is t =
-    over (is_over m h.code (q ++ map fresh made)) refl
+    over (is_over m h.code (q ++ map whole_entry made)) refl
     ∙ ap (λ x. answered c x m h nonce run) (sym (waits_not c before (is_denied h.status) d))
   where
     c : Machine
@@ -163,18 +165,18 @@ answered_or_ended e f q r p m h nonce a run front made d s k same is t =
     before : Waits
     before = record { progress = record p { standing = h.standing }; queue = q }
 
-    over : (b : Bool) → is_over m h.code (q ++ map fresh made) ≡ b
+    over : (b : Bool) → is_over m h.code (q ++ map whole_entry made) ≡ b
         → cond b (ends (finished (machine_of f q r)) Finished)
-        (goes_on (sends (machine_of f (map fresh front ++ (q ++ map fresh made)) r)
+        (goes_on (sends (machine_of f (map whole_entry front ++ (q ++ map whole_entry made)) r)
         (moved_by (record p { standing = h.standing }) (length front)) a)) ≡ answered c before m h nonce run
     over true o =
         ap (λ x. ends (finished x) Finished) (engine_moved e f q q r run.state s k)
         ∙ answered_ends c before m h nonce run made t o
     over false o =
         ap (λ x. goes_on (sends x (moved_by (record p { standing = h.standing }) (length front)) a))
-        (engine_moved e f q (map fresh front ++ (q ++ map fresh made)) r run.state s k)
+        (engine_moved e f q (map whole_entry front ++ (q ++ map whole_entry made)) r run.state s k)
         ∙ ap (λ x.
-        goes_on (sends (record c { engine = run.state; queue = map fresh front ++ (q ++ map fresh made) })
+        goes_on (sends (record c { engine = run.state; queue = map whole_entry front ++ (q ++ map whole_entry made) })
         (moved_by (record p { standing = h.standing }) (length front)) x)) same
         ∙ answered_goes_on c before m h nonce run front made is t o
 
@@ -296,8 +298,9 @@ heard_front front header heard a h m nonce is e same =
 
 abbrev or_ends : Engine → List Entry → Rest → Parts → ℕ → Progress → Account → List Command → List Command → Outcome
 or_ends f q r m code p a front made =
-    cond (is_over m code (q ++ map fresh made)) (ends (finished (machine_of f q r)) Finished)
-    (goes_on (sends (machine_of f (map fresh front ++ (q ++ map fresh made)) r) (moved_by p (length front)) a))
+    cond (is_over m code (q ++ map whole_entry made)) (ends (finished (machine_of f q r)) Finished)
+    (goes_on (sends (machine_of f (map whole_entry front ++ (q ++ map whole_entry made)) r)
+    (moved_by p (length front)) a))
 
 pub or_ends_heard : (f : Engine) (q : List Entry) (r : Rest) (m : Parts) (heard : hearing.Heard) (a : Account)
     (h : Heard)

@@ -5,7 +5,7 @@ use Rattle.std.specs.Option.{option_to_list}
 use Rattle.std.proofs.Math.Seq.{take-append_seam}
 use Rattle.syncml_types.specs.declared.command.Command.{Command}
 use Rattle.syncml_types.specs.declared.values.Header.{Header}
-use Rattle.dm_pack.specs.Entries.{Entry, fresh}
+use Rattle.dm_pack.specs.Entries.{Entry, whole_entry}
 use Rattle.dm_pack.specs.Filling.{fill, left_after}
 
 -- what stood in front is still there
@@ -17,7 +17,7 @@ front_still old now more new was is = front_stays old more new (is ∙ was)
 
 -- the entries that were put in front are taken out
 pub front_gone : (entry : Option Command) (old now : List Entry) (count : ℕ) → count ≡ length (option_to_list entry)
-    → now ≡ map fresh (option_to_list entry) ++ old → drop count now ≡ old
+    → now ≡ map whole_entry (option_to_list entry) ++ old → drop count now ≡ old
 front_gone None old now count few is = ap (λ n. drop n now) few ∙ whole now ∙ is
   where
     whole : (l : List Entry) → drop 0 l ≡ l
@@ -25,12 +25,12 @@ front_gone None old now count few is = ap (λ n. drop n now) few ∙ whole now �
     whole (x ∷ l) = refl
 front_gone (Some e) old now count few is = ap (λ n. drop n now) few ∙ ap (drop 1) is ∙ whole old
   where
-    whole : (l : List Entry) → drop 1 (fresh e ∷ l) ≡ l
+    whole : (l : List Entry) → drop 1 (whole_entry e ∷ l) ≡ l
     whole [] = refl
     whole (x ∷ l) = refl
 
 pub front_long : (entry : Option Command) (old now : List Entry) (count : ℕ) → count ≡ length (option_to_list entry)
-    → now ≡ map fresh (option_to_list entry) ++ old → count ≤ length now
+    → now ≡ map whole_entry (option_to_list entry) ++ old → count ≤ length now
 front_long None old now count few is = omega (arith, few)
 front_long (Some e) old now count few is = omega (arith, few, ap length is)
 

@@ -15,7 +15,7 @@ use Rattle.dm_auth.specs.declared.accounts.Account.{Account}
 use Rattle.dm_headers.specs.declared.checks.Side.TheVariants.{User}
 use Rattle.dm_headers.specs.Checks.{login_of}
 use Rattle.dm_headers.specs.Headers.{header_answer, is_withheld, status_of, next_header}
-use Rattle.dm_pack.specs.Entries.{Entry, IsReady, fresh}
+use Rattle.dm_pack.specs.Entries.{Entry, IsReady, whole_entry}
 use Rattle.dm_pack.specs.Filling.{numbered, IsReadyHeader}
 use Rattle.dm_atomic.specs.declared.engine.Engine.{Engine}
 use Rattle.dm_atomic.specs.Engine.{state_of}
@@ -45,15 +45,15 @@ pub answer_waits : (c : Machine) (a : Account) (m : Parts) (nonce : List ℕ) (c
     (front made : List Command)
     → IsReadyMachine c → IsReadyMessage m nonce → code < 2 ^ 32 → AllByRecursion IsReady q
     → front ≡ header_answer m.header code nonce → made ≡ told (run_of c a m code).made
-    → AllByRecursion IsReady (map fresh front ++ (q ++ map fresh made))
+    → AllByRecursion IsReady (map whole_entry front ++ (q ++ map whole_entry made))
 answer_waits c a m nonce code q front made ready message low waits f t =
     let ran = run_ready c a m nonce code (apart c ready) message in
     let answer = answer_ready m.header code nonce (known_number m message.fit) message.numbers.header.msg low
     (nonce_is nonce message.nonce_long message.nonce_bytes) in
-    all_append IsReady (map fresh front) (q ++ map fresh made)
-    (subst (λ cs. AllByRecursion IsReady (map fresh cs)) (sym f) answer)
-    (all_append IsReady q (map fresh made) waits
-    (subst (λ cs. AllByRecursion IsReady (map fresh cs)) (sym t) (told_ready (run_of c a m code).made ran.made)))
+    all_append IsReady (map whole_entry front) (q ++ map whole_entry made)
+    (subst (λ cs. AllByRecursion IsReady (map whole_entry cs)) (sym f) answer)
+    (all_append IsReady q (map whole_entry made) waits
+    (subst (λ cs. AllByRecursion IsReady (map whole_entry cs)) (sym t) (told_ready (run_of c a m code).made ran.made)))
 
 -- what waits with the first package again
 pub again_waits : (c : Machine) (p : Progress) (w : Waits) → IsReadyMachine c → IsReadyProgress c p
@@ -86,9 +86,9 @@ own_header_ready e r m p a h t is limits device account number own =
 
 pub opening_waits : (e : Engine) (r : Rest) (kind : Kind) (first : List Command) (m : Nodes) (q : List Entry) → q ≡ []
     → m ≡ (state_of e).tree → first ≡ opening kind r.results m
-    → q ++ map fresh first ≡ first_package (machine_of e [] r) kind
+    → q ++ map whole_entry first ≡ first_package (machine_of e [] r) kind
 opening_waits e r kind first m q none t is =
-    ap (λ x. x ++ map fresh first) none ∙ ap (map fresh) (is ∙ ap (opening kind r.results) t)
+    ap (λ x. x ++ map whole_entry first) none ∙ ap (map whole_entry) (is ∙ ap (opening kind r.results) t)
 
 pub opening_ready : (e : Engine) (r : Rest) (kind : Kind) (waiting : List Entry)
     → waiting ≡ first_package (machine_of e [] r) kind → IsDevice (state_of e).tree → AreReadyResults r.results

@@ -7,7 +7,7 @@ ghost use Rattle.dm_base.specs.Limits.{least_room, message_limit};
 ghost use Rattle.dm_auth.specs.declared.accounts.Account.{Account as AnAccount};
 ghost use Rattle.dm_headers.specs.Standings as Standings;
 ghost use Rattle.dm_tree.specs.Devices.{IsUpdateInOrder};
-ghost use Rattle.dm_pack.specs.Entries.{fresh, IsReady};
+ghost use Rattle.dm_pack.specs.Entries.{whole_entry, IsReady};
 ghost use Rattle.dm_atomic.specs.Engine.{state_of, IsSoundEngine};
 ghost use Rattle.dm_commands.specs.Promises.{none_moved};
 ghost use Rattle.dm_atomic.specs.Marks.{whole_of, Holds};
@@ -77,13 +77,14 @@ fn answer(
     requires limits { IsReadyLimits rest.now.limits }
     requires device { IsDevice (state_of engine.now).tree }
     requires account { IsReadyAccount account.now }
-    requires ready { AllByRecursion IsReady (map fresh (option_to_list status) ++ (queue.old ++ map fresh made)) }
+    requires ready { AllByRecursion IsReady (map whole_entry (option_to_list status)
+        ++ (queue.old ++ map whole_entry made)) }
     requires number { progress.now.number < 2 ^ 32 }
     requires own { progress.now.standing.own + 1 < 2 ^ 32 }
     requires room { (least_room ≤ progress.now.standing.room) × (progress.now.standing.room ≤ message_limit) }
     ensures state { IfOk result (λ session. (accounts : ListOf AnAccount) (uri : OptionOf (ListOf ℕ))
         → machine_of engine.now queue.new (record (told rest.now accounts uri) { session = Some session })
-        ≡ sends (machine_of engine.now (map fresh (option_to_list status) ++ (queue.old ++ map fresh made))
+        ≡ sends (machine_of engine.now (map whole_entry (option_to_list status) ++ (queue.old ++ map whole_entry made))
         (told rest.now accounts uri))
         (record progress.now { opening_at = progress.now.opening_at + length (option_to_list status) }) account.now) }
     ensures spelled { IfOk result (λ session. IsSpelled session.sent) }
@@ -132,7 +133,7 @@ fn queued_again(
 
 // A message with Final that holds nothing to execute, where no entry waits.
 fn is_over(message: &Message, code: u32, queue: &Queue, made: &List<Command>) -> bool
-    ensures { result ≡ Spec.is_over message.now code (queue.now ++ map fresh made.now) }
+    ensures { result ≡ Spec.is_over message.now code (queue.now ++ map whole_entry made.now) }
 {
     passes(code)
         && message.last()
@@ -182,13 +183,15 @@ fn answer_again(
     requires limits { IsReadyLimits rest.now.limits }
     requires device { IsDevice (state_of engine.now).tree }
     requires account { IsReadyAccount account.now }
-    requires ready { AllByRecursion IsReady (map fresh (option_to_list status) ++ (again.0 ++ map fresh made)) }
+    requires ready { AllByRecursion IsReady (map whole_entry (option_to_list status)
+        ++ (again.0 ++ map whole_entry made)) }
     requires number { again.1.number < 2 ^ 32 }
     requires own { again.1.standing.own + 1 < 2 ^ 32 }
     requires room { (least_room ≤ again.1.standing.room) × (again.1.standing.room ≤ message_limit) }
     ensures state { IfOk result (λ next. (accounts : ListOf AnAccount) (uri : OptionOf (ListOf ℕ))
         → outcome (machine_of engine.now queue.new (rest_behind (told rest.now accounts uri) next)) next
-        ≡ goes_on (sends (machine_of engine.now (map fresh (option_to_list status) ++ (again.0 ++ map fresh made))
+        ≡ goes_on (sends (machine_of engine.now
+        (map whole_entry (option_to_list status) ++ (again.0 ++ map whole_entry made))
         (told rest.now accounts uri))
         (record again.1 { opening_at = again.1.opening_at + length (option_to_list status) }) account.now)) }
     ensures spelled { IfOk result IsNextSpelled }
@@ -217,15 +220,17 @@ fn answer_or_end(
     requires limits { IsReadyLimits rest.now.limits }
     requires device { IsDevice (state_of engine.old).tree }
     requires account { IsReadyAccount account.now }
-    requires ready { AllByRecursion IsReady (map fresh (option_to_list status) ++ (queue.old ++ map fresh made)) }
+    requires ready { AllByRecursion IsReady (map whole_entry (option_to_list status)
+        ++ (queue.old ++ map whole_entry made)) }
     requires number { progress.now.number < 2 ^ 32 }
     requires own { progress.now.standing.own + 1 < 2 ^ 32 }
     requires room { (least_room ≤ progress.now.standing.room) × (progress.now.standing.room ≤ message_limit) }
     ensures state { IfOk result (λ next. (accounts : ListOf AnAccount) (uri : OptionOf (ListOf ℕ))
         → outcome (machine_of engine.new queue.new (rest_behind (told rest.now accounts uri) next)) next
-        ≡ (if Spec.is_over message.now code (queue.old ++ map fresh made)
+        ≡ (if Spec.is_over message.now code (queue.old ++ map whole_entry made)
         then ends (Spec.finished (machine_of engine.old queue.old (told rest.now accounts uri))) Finished
-        else goes_on (sends (machine_of engine.old (map fresh (option_to_list status) ++ (queue.old ++ map fresh made))
+        else goes_on (sends (machine_of engine.old
+        (map whole_entry (option_to_list status) ++ (queue.old ++ map whole_entry made))
         (told rest.now accounts uri))
         (record progress.now { opening_at = progress.now.opening_at + length (option_to_list status) }) account.now))) }
     ensures spelled { IfOk result IsNextSpelled }

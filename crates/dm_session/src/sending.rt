@@ -4,7 +4,7 @@ ghost use Rattle.std.specs.List.{AllByRecursion};
 ghost use Rattle.std.specs.Option.{option_to_list};
 ghost use Rattle.dm_base.specs.Limits.{least_room, message_limit};
 ghost use Rattle.syncml_types.specs.Canonical.{canonical};
-ghost use Rattle.dm_pack.specs.Entries.{fresh, IsReady, Entry as AnEntry};
+ghost use Rattle.dm_pack.specs.Entries.{whole_entry, IsReady, Entry as AnEntry};
 ghost use Rattle.dm_pack.specs.Filling.{fill as fill_of, IsReadyHeader, Filling};
 ghost use Rattle.dm_machine.specs.Sending.{moved_on as moved};
 
@@ -17,7 +17,7 @@ use syncml_types::{Command, Header};
 
 // How many entries it is.
 fn push_front(queue: &mut Queue, entry: Option<Command>) -> Result<usize, Memory>
-    ensures ok { OnOk result (queue.new ≡ map fresh (option_to_list entry) ++ queue.old) }
+    ensures ok { OnOk result (queue.new ≡ map whole_entry (option_to_list entry) ++ queue.old) }
     ensures count { IfOk result (λ count. count ≡ length (option_to_list entry)) }
     ensures err { OnErr result (queue.new ≡ queue.old) }
 {
@@ -33,7 +33,7 @@ fn push_front(queue: &mut Queue, entry: Option<Command>) -> Result<usize, Memory
 /// Puts entries behind the queue. After `Memory` some of them may stand there.
 #[tactic(auto, using(crate::proofs::Queues::front_still))]
 pub(crate) fn push_all(queue: &mut Queue, entries: List<Command>) -> Result<(), Memory>
-    ensures ok { OnOk result (queue.new ≡ queue.old ++ map fresh entries) }
+    ensures ok { OnOk result (queue.new ≡ queue.old ++ map whole_entry entries) }
     ensures err { OnErr result (take (length queue.old) queue.new ≡ queue.old) }
 {
     for entry in entries.into_vec() {
@@ -51,17 +51,17 @@ fn send_behind(
     room: u64,
     heard: bool,
 ) -> Result<Filled, Memory>
-    requires ready { AllByRecursion IsReady (queue.old ++ map fresh entries) }
+    requires ready { AllByRecursion IsReady (queue.old ++ map whole_entry entries) }
     requires header { IsReadyHeader header }
     requires room { (least_room ≤ room) × (room ≤ message_limit) }
     ensures message { IfOk result
-        (λ f. f.message ≡ (fill_of (queue.old ++ map fresh entries) header room heard).message) }
+        (λ f. f.message ≡ (fill_of (queue.old ++ map whole_entry entries) header room heard).message) }
     ensures bytes { IfOk result (λ f. f.bytes ≡ canonical f.message) }
     ensures whole { IfOk result
-        (λ f. f.whole ≡ (fill_of (queue.old ++ map fresh entries) header room heard).whole) }
-    ensures tail { IfOk result (λ f. f.tail ≡ (fill_of (queue.old ++ map fresh entries) header room heard).tail) }
+        (λ f. f.whole ≡ (fill_of (queue.old ++ map whole_entry entries) header room heard).whole) }
+    ensures tail { IfOk result (λ f. f.tail ≡ (fill_of (queue.old ++ map whole_entry entries) header room heard).tail) }
     ensures within { IfOk result (λ f. length f.bytes ≤ room) }
-    ensures ok { OnOk result (queue.new ≡ (fill_of (queue.old ++ map fresh entries) header room heard).left) }
+    ensures ok { OnOk result (queue.new ≡ (fill_of (queue.old ++ map whole_entry entries) header room heard).left) }
     ensures err { OnErr result (take (length queue.old) queue.new ≡ queue.old) }
 {
     push_all(queue, entries)?;
@@ -81,21 +81,24 @@ pub(crate) fn send(
     room: u64,
     heard: bool,
 ) -> Result<Filled, Memory>
-    requires ready { AllByRecursion IsReady (map fresh (option_to_list front) ++ (queue.old ++ map fresh entries)) }
+    requires ready { AllByRecursion IsReady (map whole_entry (option_to_list front)
+        ++ (queue.old ++ map whole_entry entries)) }
     requires header { IsReadyHeader header }
     requires room { (least_room ≤ room) × (room ≤ message_limit) }
     ensures message { IfOk result (λ f. f.message
-        ≡ (fill_of (map fresh (option_to_list front) ++ (queue.old ++ map fresh entries)) header room
-        heard).message) }
+        ≡ (fill_of (map whole_entry (option_to_list front) ++ (queue.old ++ map whole_entry entries))
+        header room heard).message) }
     ensures bytes { IfOk result (λ f. f.bytes ≡ canonical f.message) }
     ensures whole { IfOk result (λ f. f.whole
-        ≡ (fill_of (map fresh (option_to_list front) ++ (queue.old ++ map fresh entries)) header room
-        heard).whole) }
+        ≡ (fill_of (map whole_entry (option_to_list front) ++ (queue.old ++ map whole_entry entries))
+        header room heard).whole) }
     ensures tail { IfOk result (λ f. f.tail
-        ≡ (fill_of (map fresh (option_to_list front) ++ (queue.old ++ map fresh entries)) header room heard).tail) }
+        ≡ (fill_of (map whole_entry (option_to_list front) ++ (queue.old ++ map whole_entry entries))
+        header room heard).tail) }
     ensures within { IfOk result (λ f. length f.bytes ≤ room) }
     ensures ok { OnOk result (queue.new
-        ≡ (fill_of (map fresh (option_to_list front) ++ (queue.old ++ map fresh entries)) header room heard).left) }
+        ≡ (fill_of (map whole_entry (option_to_list front) ++ (queue.old ++ map whole_entry entries))
+        header room heard).left) }
     ensures err { OnErr result (queue.new ≡ queue.old) }
 {
     if queue.len() == 0 {

@@ -4,7 +4,7 @@ use Rattle.std.proofs.Common.{take, drop, IfSome, refl, sym, ap, subst, ◌∙�
 use Rattle.std.specs.Prelude.{is_some}
 use Rattle.std.specs.List.{list_any}
 use Rattle.syncml_types.specs.declared.command.Command.{Command}
-use Rattle.dm_pack.specs.Entries.{Entry, fresh, rest_of}
+use Rattle.dm_pack.specs.Entries.{Entry, whole_entry, rest_of}
 use Rattle.dm_pack.specs.Filling.{next_rest, left_after}
 use Rattle.dm_service.specs.Service.{Waiting}
 use Rattle.dm_service.specs.Packages.{is_of_job}
@@ -140,31 +140,31 @@ pub list_same : (es fs : List Entry) (ls ms : List Load) (ws : List Waiting) →
     → list_of fs ms ≡ ws
 list_same es fs ls ms ws e f is = ap (list_of fs) f ∙ ap (λ x. list_of x ls) e ∙ is
 
-pub beside_pushed : (es fs : List Entry) (ls ms : List Load) (c : Command) (l : Load) → fs ≡ es ++ fresh c ∷ []
+pub beside_pushed : (es fs : List Entry) (ls ms : List Load) (c : Command) (l : Load) → fs ≡ es ++ whole_entry c ∷ []
     → ms ≡ ls ++ l ∷ [] → l.begun ≡ false → IfSome l.carries IsSmall → AreBeside es ls → AreBeside fs ms
 beside_pushed es fs ls ms c l e f begun small h =
-    beside_same (es ++ fresh c ∷ []) fs (ls ++ l ∷ []) ms e f
-    (beside_both es (fresh c ∷ []) ls (l ∷ []) h (begun, small, tt))
+    beside_same (es ++ whole_entry c ∷ []) fs (ls ++ l ∷ []) ms e f
+    (beside_both es (whole_entry c ∷ []) ls (l ∷ []) h (begun, small, tt))
 
 pub list_pushed : (es fs : List Entry) (ls ms : List Load) (ws : List Waiting) (c : Command) (l : Load)
-    → fs ≡ es ++ fresh c ∷ [] → ms ≡ ls ++ l ∷ [] → AreBeside es ls → list_of es ls ≡ ws
-    → list_of fs ms ≡ ws ++ record { entry = fresh c; carries = l.carries } ∷ []
+    → fs ≡ es ++ whole_entry c ∷ [] → ms ≡ ls ++ l ∷ [] → AreBeside es ls → list_of es ls ≡ ws
+    → list_of fs ms ≡ ws ++ record { entry = whole_entry c; carries = l.carries } ∷ []
 list_pushed es fs ls ms ws c l e f h is =
-    list_same (es ++ fresh c ∷ []) fs (ls ++ l ∷ []) ms _ e f
-    (list_both es (fresh c ∷ []) ls (l ∷ []) h
-    ∙ ap (λ (x : List Waiting). x ++ record { entry = fresh c; carries = l.carries } ∷ []) is)
+    list_same (es ++ whole_entry c ∷ []) fs (ls ++ l ∷ []) ms _ e f
+    (list_both es (whole_entry c ∷ []) ls (l ∷ []) h
+    ∙ ap (λ (x : List Waiting). x ++ record { entry = whole_entry c; carries = l.carries } ∷ []) is)
 
-pub beside_front : (es fs : List Entry) (ls ms : List Load) (c : Command) (l : Load) → fs ≡ fresh c ∷ es
+pub beside_front : (es fs : List Entry) (ls ms : List Load) (c : Command) (l : Load) → fs ≡ whole_entry c ∷ es
     → ms ≡ l ∷ ls → l.begun ≡ false → IfSome l.carries IsSmall → AreBeside es ls → AreBeside fs ms
 beside_front es fs ls ms c l e f begun small h =
-    beside_same (fresh c ∷ es) fs (l ∷ ls) ms e f (begun, small, h)
+    beside_same (whole_entry c ∷ es) fs (l ∷ ls) ms e f (begun, small, h)
 
 pub list_front : (es fs : List Entry) (ls ms : List Load) (ws : List Waiting) (c : Command) (l : Load)
-    → fs ≡ fresh c ∷ es → ms ≡ l ∷ ls → list_of es ls ≡ ws
-    → list_of fs ms ≡ record { entry = fresh c; carries = l.carries } ∷ ws
+    → fs ≡ whole_entry c ∷ es → ms ≡ l ∷ ls → list_of es ls ≡ ws
+    → list_of fs ms ≡ record { entry = whole_entry c; carries = l.carries } ∷ ws
 list_front es fs ls ms ws c l e f is =
-    list_same (fresh c ∷ es) fs (l ∷ ls) ms _ e f
-    (ap (λ (x : List Waiting). record { entry = fresh c; carries = l.carries } ∷ x) is)
+    list_same (whole_entry c ∷ es) fs (l ∷ ls) ms _ e f
+    (ap (λ (x : List Waiting). record { entry = whole_entry c; carries = l.carries } ∷ x) is)
 
 pub jobs_any : (es : List Entry) (ls : List Load) (ws : List Waiting) → AreBeside es ls → list_of es ls ≡ ws
     → list_any (λ (l : Load). is_some l.carries) ls ≡ list_any is_of_job ws

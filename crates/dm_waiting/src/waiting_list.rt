@@ -10,7 +10,7 @@ ghost use Rattle.dm_service.specs.Messages.{answer_waiting};
 ghost use Rattle.dm_service.specs.Packages.{is_of_job, job_waiting};
 ghost use Rattle.dm_service.specs.Ready.{IsReadyEntry, AreReadyWaiting};
 ghost use Rattle.dm_service.specs.Sending.{goes_out, carried_on};
-ghost use Rattle.dm_pack.specs.Entries.{fresh};
+ghost use Rattle.dm_pack.specs.Entries.{whole_entry};
 ghost use Rattle.dm_waiting.specs.Held.{IsSmall, IsNumbered};
 ghost use Rattle.dm_waiting.specs.Inside.{IsOf, TellsAt};
 ghost use Rattle.dm_waiting.specs.View.{IsNumberedEntry, entries_of};
@@ -76,7 +76,7 @@ impl WaitingList {
     // Adds an entry with what it carries.
     fn push(&mut self, entry: Command, carries: Option<Carried>) -> Result<(), Memory>
         requires small { IfSome carries IsSmall }
-        ensures ok { OnOk result (self.new ≡ self.old ++ record { entry = fresh entry; carries = carries } ∷ []) }
+        ensures ok { OnOk result (self.new ≡ self.old ++ record { entry = whole_entry entry; carries = carries } ∷ []) }
         ensures err { OnErr result (self.new ≡ self.old) }
     {
         // Room first, so that nothing is to be taken back.

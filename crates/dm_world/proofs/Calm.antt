@@ -31,7 +31,7 @@ use Rattle.dm_atomic.specs.Made.{Made, Status, Result, Broken, told}
 use Rattle.dm_atomic.specs.Run.{Group}
 use Rattle.dm_pack.specs.declared.filled.Tail.{Tail}
 use Rattle.dm_pack.specs.declared.filled.Tail.TheVariants.{Final, NextMessage, Nothing}
-use Rattle.dm_pack.specs.Entries.{Entry, fresh, part_of, rest_of}
+use Rattle.dm_pack.specs.Entries.{Entry, whole_entry, part_of, rest_of}
 use Rattle.dm_pack.specs.Filling.{numbered, asks_next, commands_of, taken, cut, next_part, next_rest, tail_of}
 use Rattle.dm_pack.specs.Filling.{tail_commands, fill}
 use Rattle.dm_world.proofs.Lists.{either, Each, each-append, each-drop}
@@ -179,11 +179,11 @@ pub entries-mild : (es : List Entry) → Each CalmEntry es → Each MildEntry es
 entries-mild [] h = tt
 entries-mild (e ∷ es) h = (calm-mild e.command h.0, entries-mild es h.1)
 
-pub fresh-calm : (cs : List Command) → Each Calm cs → Each CalmEntry (map fresh cs)
+pub fresh-calm : (cs : List Command) → Each Calm cs → Each CalmEntry (map whole_entry cs)
 fresh-calm [] h = tt
 fresh-calm (c ∷ cs) h = (h.0, fresh-calm cs h.1)
 
-pub fresh-mild : (cs : List Command) → Each Mild cs → Each MildEntry (map fresh cs)
+pub fresh-mild : (cs : List Command) → Each Mild cs → Each MildEntry (map whole_entry cs)
 fresh-mild [] h = tt
 fresh-mild (c ∷ cs) h = (h.0, fresh-mild cs h.1)
 

@@ -16,7 +16,7 @@ use Rattle.dm_headers.specs.Headers.{next_header, header_answer}
 use Rattle.dm_headers.specs.Standings.{Heard, hears}
 use Rattle.dm_atomic.specs.Made.{told}
 use Rattle.dm_atomic.specs.Run.{Next}
-use Rattle.dm_pack.specs.Entries.{Entry, fresh}
+use Rattle.dm_pack.specs.Entries.{Entry, whole_entry}
 use Rattle.dm_pack.specs.Filling.{fill, taken, cut, commands_of, next_part, next_rest, tail_of, tail_commands, is_final}
 use Rattle.dm_ends.specs.Commands.{alert}
 use Rattle.dm_ends.proofs.Distinct.{makes_no_fault}
@@ -204,8 +204,8 @@ answered-turned : (c : Machine) (p : Progress) (w : Waits) (m : Parts) (h : Hear
     → Turned p m.header.msg c.begun (answered c w m h nonce n)
 answered-turned c p w m h nonce n x =
     let d : Machine = record c { engine = n.state } in
-    let answer = map fresh (header_answer m.header h.code nonce) in
-    let waiting = w.queue ++ map fresh (told n.made) in
+    let answer = map whole_entry (header_answer m.header h.code nonce) in
+    let waiting = w.queue ++ map whole_entry (told n.made) in
     let e : Machine = record d { queue = answer ++ waiting } in
     let q : Progress = record w.progress { opening_at = w.progress.opening_at + length answer } in
     either (Turned p m.header.msg c.begun) (is_over m h.code waiting) {x = ends (finished d) Finished}

@@ -16,7 +16,7 @@ use Rattle.dm_headers.specs.Headers.{is_withheld, header_answer}
 use Rattle.dm_headers.specs.Standings.{Heard}
 use Rattle.dm_atomic.specs.Made.{Made, told}
 use Rattle.dm_atomic.specs.Run.{Next, abandoned}
-use Rattle.dm_pack.specs.Entries.{Entry, fresh, rest_of}
+use Rattle.dm_pack.specs.Entries.{Entry, whole_entry, rest_of}
 use Rattle.dm_pack.specs.Filling.{numbered, commands_of, taken, cut, next_rest, fill}
 use Rattle.dm_ends.specs.Commands.{alert}
 use Rattle.dm_machine.specs.declared.kinds.Kind.{Kind}
@@ -162,7 +162,7 @@ alerts-silent uri (r ∷ rs) more h = (tt, alerts-silent uri rs more h)
 opening-silent : (kind : Kind) (results : List UpdateResult) (tree : Nodes) → Each IsSilent (opening kind results tree)
 opening-silent kind results tree = (tt, alerts-silent (update_uri tree) results (device_told tree ∷ []) (tt, tt))
 
-fresh-silent : (cs : List Command) → Each IsSilent cs → Each IsSilentEntry (map fresh cs)
+fresh-silent : (cs : List Command) → Each IsSilent cs → Each IsSilentEntry (map whole_entry cs)
 fresh-silent [] h = tt
 fresh-silent (c ∷ cs) h = (h.0, fresh-silent cs h.1)
 
@@ -274,8 +274,8 @@ answering-turns : (all : List (InSession Made)) (n : ℕ) (o : Option Going) (c 
     (sends (answering c w m h nonce run) (behind_answer w m h nonce) h.account).session
 answering-turns all n o c w m h nonce run other e f k =
     let own = header_answer m.header h.code nonce in
-    let answer = map fresh own in
-    let made = map fresh (told run.made) in
+    let answer = map whole_entry own in
+    let made = map whole_entry (told run.made) in
     let waits : commands_of (w.queue ++ made) ≡ commands_of w.queue ++ told run.made =
     commands-append w.queue made ∙ ap (λ l. commands_of w.queue ++ l) (fresh-commands (told run.made)) in
     let all_are : commands_of (answer ++ (w.queue ++ made)) ≡ own ++ (commands_of w.queue ++ told run.made) =
@@ -312,7 +312,7 @@ header-turns made o c p m nonce h last f g l =
     (λ t. denied-turns all n o other d w m h nonce)
     (λ first. either_is (OutcomeTurns all n o other) aborts {x = ends (closed d) Aborted}
     {y = answered d w m h nonce run} (λ t. tt)
-    (λ goes. either (OutcomeTurns all n o other) (is_over m h.code (w.queue ++ map fresh (told run.made)))
+    (λ goes. either (OutcomeTurns all n o other) (is_over m h.code (w.queue ++ map whole_entry (told run.made)))
     {x = ends (finished (record d { engine = run.state })) Finished}
     {y = goes_on (sends (answering d w m h nonce run) (behind_answer w m h nonce) h.account)} tt
     (let same = run-made c p m h last first goes in

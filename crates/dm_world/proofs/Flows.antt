@@ -18,7 +18,7 @@ use Rattle.dm_atomic.specs.declared.tasks.Post.{Post}
 use Rattle.dm_atomic.specs.Made.{Made, Status, Result, Broken, told, source_item, found_meta}
 use Rattle.dm_pack.specs.declared.filled.Tail.{Tail}
 use Rattle.dm_pack.specs.declared.filled.Tail.TheVariants as tail
-use Rattle.dm_pack.specs.Entries.{Entry, fresh, part_of, rest_of, part_item, rest_item}
+use Rattle.dm_pack.specs.Entries.{Entry, whole_entry, part_of, rest_of, part_item, rest_item}
 use Rattle.dm_pack.specs.Filling.{numbered, commands_of, taken, cut, next_part, next_rest, tail_of, tail_commands, fill}
 use Rattle.dm_service.proofs.Codes.{first_in, later_in}
 use Rattle.dm_world.specs.World.{InSession}
@@ -353,7 +353,7 @@ told-flow all n (Result post found ∷ ms) f = (
 )
 told-flow all n (Broken target ∷ ms) f = told-flow all n ms (λ x h. f x (later_in x (Broken target) ms h))
 
-pub fresh-commands : (cs : List Command) → commands_of (map fresh cs) ≡ cs
+pub fresh-commands : (cs : List Command) → commands_of (map whole_entry cs) ≡ cs
 fresh-commands [] = refl
 fresh-commands (c ∷ cs) = ap (λ l. c ∷ l) (fresh-commands cs)
 

@@ -18,7 +18,7 @@ use Rattle.dm_headers.specs.Standings.{Heard}
 use Rattle.dm_headers.specs.Headers.{header_answer}
 use Rattle.dm_atomic.specs.Made.{told}
 use Rattle.dm_atomic.specs.Run.{Next, quietly, abandoned}
-use Rattle.dm_pack.specs.Entries.{fresh}
+use Rattle.dm_pack.specs.Entries.{whole_entry}
 use Rattle.dm_pack.specs.Filling.{fill}
 use Rattle.dm_ends.proofs.Hearing.{IsReadyHeard, hears_ready}
 use Rattle.dm_machine.specs.declared.kinds.Kind.{Kind}
@@ -215,9 +215,9 @@ answering-ranged c w m h nonce run queue range msg code =
     let answer = header_answer m.header h.code nonce in
     record {
       queue =
-          all-append EntryRange (map fresh answer) (w.queue ++ map fresh (told run.made))
+          all-append EntryRange (map whole_entry answer) (w.queue ++ map whole_entry (told run.made))
           (fresh-range answer (answer-range m.header h.code nonce msg code))
-          (all-append EntryRange w.queue (map fresh (told run.made)) queue (told-range run.made range.made));
+          (all-append EntryRange w.queue (map whole_entry (told run.made)) queue (told-range run.made range.made));
       engine = range.state;
     }
 
@@ -238,7 +238,7 @@ header-goes c p m nonce h ready progress is heard own ranged =
     {y = cond aborts (ends (closed d) Aborted) (answered d w m h nonce run)}
     (denied-goes d p.standing.own w m h nonce still waits own heard.account heard.code is)
     (either OutcomeGoes aborts {x = ends (closed d) Aborted} {y = answered d w m h nonce run} (closed-ranged d, tt)
-    (either OutcomeGoes (is_over m h.code (w.queue ++ map fresh (told run.made)))
+    (either OutcomeGoes (is_over m h.code (w.queue ++ map whole_entry (told run.made)))
     {x = ends (finished (record d { engine = run.state })) Finished}
     {y = goes_on (sends (answering d w m h nonce run) (behind_answer w m h nonce) h.account)}
     (finished-ranged (record d { engine = run.state }), tt)

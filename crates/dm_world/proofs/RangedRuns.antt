@@ -50,7 +50,7 @@ use Rattle.dm_atomic.specs.Run.{closes, in_group, join_or_break, atomically, sti
 use Rattle.dm_atomic.specs.Run.{run_members, run_sequence, run_command, run_all}
 use Rattle.dm_objects.specs.Inside.{is_buffering_inside}
 use Rattle.dm_atomic.proofs.OneStatus.{one_step-steps}
-use Rattle.dm_pack.specs.Entries.{fresh}
+use Rattle.dm_pack.specs.Entries.{whole_entry}
 use Rattle.dm_ends.proofs.Statuses.{IsReadyPost}
 use Rattle.dm_ends.proofs.Texts.{known_number}
 use Rattle.dm_machine.specs.Machine.{Machine}
@@ -600,8 +600,8 @@ execute-range c a m clock most fit numbers ready state =
 
 -- ---- what is told
 
-pub told-range : (ms : List Made) → AllMadeRange ms → AllEntryRange (map fresh (told ms))
+pub told-range : (ms : List Made) → AllMadeRange ms → AllEntryRange (map whole_entry (told ms))
 told-range [] all = tt
 told-range (m ∷ ms) all =
-    either (λ cs. AllEntryRange (map fresh cs)) (is_withheld m) {x = told ms} {y = entry_of m ∷ told ms}
+    either (λ cs. AllEntryRange (map whole_entry cs)) (is_withheld m) {x = told ms} {y = entry_of m ∷ told ms}
     (told-range ms all.1) (all.0, told-range ms all.1)

@@ -15,7 +15,7 @@ use Rattle.dm_headers.specs.Headers.{header_answer}
 use Rattle.dm_atomic.specs.declared.tasks.Post.{Post}
 use Rattle.dm_atomic.specs.Made.{Status}
 use Rattle.dm_atomic.specs.Posts.{asked_posts}
-use Rattle.dm_pack.specs.Entries.{Entry, fresh}
+use Rattle.dm_pack.specs.Entries.{Entry, whole_entry}
 use Rattle.dm_pack.specs.Filling.{fill}
 use Rattle.dm_ends.specs.Commands.{is_abort, session_of}
 use Rattle.dm_ends.specs.Ready.{IsReadyAccount, IsReadyLimits, IsReadyMessage}
@@ -50,7 +50,7 @@ use Rattle.dm_world.proofs.RangedHeaders.{header-range, answer-range, farewell-h
 -- ---- what the server has to send
 
 abbrev pub JobGoes : JobEntry → Type 0
-JobGoes e = CanGo (fresh e.command)
+JobGoes e = CanGo (whole_entry e.command)
 
 abbrev pub JobsGo : List (List JobEntry) → Type 0
 JobsGo packages = AllByRecursion JobGoes (all_entries packages)
@@ -82,7 +82,7 @@ job-waits : (es : List JobEntry) → AllByRecursion JobGoes es → WaitingGoes (
 job-waits [] h = tt
 job-waits (e ∷ es) h = (h.0, job-waits es h.1)
 
-answers-wait : (cs : List Command) → CanAllGo (map fresh cs) → WaitingGoes (map answer_waiting cs)
+answers-wait : (cs : List Command) → CanAllGo (map whole_entry cs) → WaitingGoes (map answer_waiting cs)
 answers-wait [] h = tt
 answers-wait (c ∷ cs) h = (h.0, answers-wait cs h.1)
 
@@ -139,7 +139,7 @@ all-range m (c ∷ cs) fit numbers h =
     (posts_ready (origin_of m) c (origin_ready m fit numbers) h.0))
     (all-range m cs fit numbers h.1)
 
-answers-go : (m : Parts) → IsFit m.header m.body → AreNumbers m → CanAllGo (map fresh (answers m))
+answers-go : (m : Parts) → IsFit m.header m.body → AreNumbers m → CanAllGo (map whole_entry (answers m))
 unfolding answers
 answers-go m fit numbers =
     let all = answers_all (origin_of m) m.body in
@@ -194,12 +194,12 @@ answers-stock v m code nonce low is h =
           all-append (λ (w : Waiting). CanGo w.entry) (first ++ v.queue) made
           (all-append (λ (w : Waiting). CanGo w.entry) first v.queue
           (answers-wait answer
-          (both-go (map fresh answer)
+          (both-go (map whole_entry answer)
           (answer_ready m.header code nonce (known_number m is.fit) msg low
           (nonce_is nonce is.nonce_long is.nonce_bytes))
           (fresh-range answer (answer-range m.header code nonce msg low)))) h.queue)
           (answers-wait (cond (passes code) (answers m) [])
-          (either (λ cs. CanAllGo (map fresh cs)) (passes code) {x = answers m} {y = []}
+          (either (λ cs. CanAllGo (map whole_entry cs)) (passes code) {x = answers m} {y = []}
           (answers-go m is.fit is.numbers) tt));
     }
 

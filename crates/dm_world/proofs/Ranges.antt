@@ -27,7 +27,7 @@ use Rattle.syncml_parts.specs.Packing.{last_changed, cut_changed}
 use Rattle.syncml_codec.specs.Ranges.{MetaRange, ItemRange, HeaderRange, MemberRange, SeqMemberRange, CommandRange}
 use Rattle.dm_pack.specs.declared.filled.Tail.{Tail}
 use Rattle.dm_pack.specs.declared.filled.Tail.TheVariants.{Final, NextMessage, Nothing}
-use Rattle.dm_pack.specs.Entries.{Entry, IsFitCommand, IsReady, fresh, with_size, part_item, part_of, rest_item}
+use Rattle.dm_pack.specs.Entries.{Entry, IsFitCommand, IsReady, whole_entry, with_size, part_item, part_of, rest_item}
 use Rattle.dm_pack.specs.Entries.{last_alone, rest_of}
 use Rattle.dm_pack.specs.Filling.{numbered, commands_of, taken, cut, next_part, next_rest, tail_of}
 use Rattle.dm_pack.specs.Filling.{tail_commands, is_final, fill, left_after, IsReadyHeader}
@@ -313,7 +313,7 @@ pub both-go : (es : List Entry) → AllByRecursion IsReady es → AllEntryRange 
 both-go [] h k = tt
 both-go (e ∷ es) h k = ((h.0, k.0), both-go es h.1 k.1)
 
-pub fresh-range : (cs : List Command) → AllByRecursion CommandRange cs → AllEntryRange (map fresh cs)
+pub fresh-range : (cs : List Command) → AllByRecursion CommandRange cs → AllEntryRange (map whole_entry cs)
 fresh-range [] h = tt
 fresh-range (c ∷ cs) h = (h.0, fresh-range cs h.1)
 

@@ -29,7 +29,7 @@ use Rattle.dm_tree.specs.Nodes.{Nodes}
 use Rattle.dm_atomic.specs.Posts.{all_asked, made_posts, waiting_posts}
 use Rattle.dm_atomic.specs.Made.{told}
 use Rattle.dm_atomic.specs.Run.{Next, abandoned, quietly}
-use Rattle.dm_pack.specs.Entries.{Entry, IsReady, fresh}
+use Rattle.dm_pack.specs.Entries.{Entry, IsReady, whole_entry}
 use Rattle.dm_pack.specs.Filling.{fill, taken, cut, fits, commands_of, next_part, next_rest, tail_of, tail_commands}
 use Rattle.dm_pack.specs.Filling.{numbered, IsReadyHeader}
 use Rattle.dm_pack.proofs.Progress.{the_first_goes_out}
@@ -179,21 +179,21 @@ nat-zero : (n : ℕ) → n ≡ 0 → (0 < n) → ⊥
 nat-zero n e l = omega (arith, e, l)
 
 status-taken : (c : StatusCmd) (es : List Entry) (h : Header) (room : ℕ) (heard : Bool)
-    → IsReady (fresh (command.Status c))
+    → IsReady (whole_entry (command.Status c))
     → IsReadyHeader h
     → 2048 ≤ room
     → fits h room (command.Status c ∷ []) ≡ true
 unfolding fill
 status-taken c es h room heard ready header least =
     by (fits h room (command.Status c ∷ [])) refl
-    (the_first_goes_out (fresh (command.Status c)) es h room heard ready header least)
+    (the_first_goes_out (whole_entry (command.Status c)) es h room heard ready header least)
   where
     by : (b : Bool) → fits h room (command.Status c ∷ []) ≡ b
         → (0 < cond b (suc (taken h room (command.Status c ∷ []) es)) 0)
         ⊎ ((cond b (suc (taken h room (command.Status c ∷ []) es)) 0 ≡ 0)
         × (0 < cut h room (commands_of (take (cond b (suc (taken h room (command.Status c ∷ []) es)) 0)
-        (fresh (command.Status c) ∷ es)))
-        (drop (cond b (suc (taken h room (command.Status c ∷ []) es)) 0) (fresh (command.Status c) ∷ es))))
+        (whole_entry (command.Status c) ∷ es)))
+        (drop (cond b (suc (taken h room (command.Status c ∷ []) es)) 0) (whole_entry (command.Status c) ∷ es))))
         → b ≡ true
     by true e g = refl
     by false e (inl g) = absurd (omega (arith, g))
@@ -202,14 +202,14 @@ status-taken c es h room heard ready header least =
 status-first : (c : StatusCmd) (es : List Entry) (h : Header) (room : ℕ) (heard : Bool)
     → fits h room (command.Status c ∷ []) ≡ true
     → (more : List Command)
-    × ((fill (fresh (command.Status c) ∷ es) h room heard).message.body
+    × ((fill (whole_entry (command.Status c) ∷ es) h room heard).message.body
     ≡ with_numbers 1 (command.Status c) ∷ more)
 unfolding fill
 status-first c es h room heard e = by (fits h room (command.Status c ∷ [])) e
   where
     body_of : ℕ → List Command
     body_of whole =
-        let all = fresh (command.Status c) ∷ es in
+        let all = whole_entry (command.Status c) ∷ es in
         let before = commands_of (take whole all) in
         let n = cut h room before (drop whole all) in
         numbered 1 (before ++ next_part n (drop whole all) ++ tail_commands
@@ -254,13 +254,14 @@ says-refused : (m : Header) (code : ℕ) (nonce : List ℕ) (answer : List Comma
     → answer ≡ status_of m code nonce ∷ []
     → is_denied code ≡ true
     → m.msg ≡ 1
-    → AllByRecursion IsReady (map fresh answer ++ waiting)
+    → AllByRecursion IsReady (map whole_entry answer ++ waiting)
     → IsReadyHeader h
     → 2048 ≤ room
-    → is_denied (code_read (header_status 1 (fill (map fresh answer ++ waiting) h room heard).message.body)) ≡ true
+    → is_denied (code_read (header_status 1 (fill (map whole_entry answer ++ waiting) h room heard).message.body))
+    ≡ true
 says-refused m code nonce answer waiting h room heard e d one ready header least =
-    let q : (map fresh answer ++ waiting) ≡ fresh (status_of m code nonce) ∷ waiting =
-    ap (λ o. map fresh o ++ waiting) e in
+    let q : (map whole_entry answer ++ waiting) ≡ whole_entry (status_of m code nonce) ∷ waiting =
+    ap (λ o. map whole_entry o ++ waiting) e in
     let first = subst (AllByRecursion IsReady) q ready in
     let taken = status-taken _ waiting h room heard first.0 header least in
     let f = status-first _ waiting h room heard taken in
@@ -401,7 +402,7 @@ answered-queue : (c : Machine) (w : Waits) (m : Parts) (h : Heard) (nonce : List
     → (is_denied h.code ≡ true → m.header.msg ≡ 1)
     → Each MildEntry (answering c w m h nonce n).queue
 answered-queue c w m h nonce n mild made one =
-    each-append MildEntry (map fresh (header_answer m.header h.code nonce)) _
+    each-append MildEntry (map whole_entry (header_answer m.header h.code nonce)) _
     (fresh-mild (header_answer m.header h.code nonce) (own-mild m.header h.code nonce one))
     (each-append MildEntry w.queue _ mild
     (fresh-mild (told n.made) (commands-mild (told n.made) (told-calm n.made made))))
@@ -412,7 +413,7 @@ answered-calm : (c : Machine) (w : Waits) (m : Parts) (h : Heard) (nonce : List 
     → is_denied h.code ≡ false
     → Each CalmEntry (answering c w m h nonce n).queue
 answered-calm c w m h nonce n calm made fine =
-    each-append CalmEntry (map fresh (header_answer m.header h.code nonce)) _
+    each-append CalmEntry (map whole_entry (header_answer m.header h.code nonce)) _
     (fresh-calm (header_answer m.header h.code nonce) (own-calm m.header h.code nonce fine))
     (each-append CalmEntry w.queue _ calm (fresh-calm (told n.made) (told-calm n.made made)))
 
@@ -439,7 +440,7 @@ passing-fine c s w m h nonce n run trusts rose q x pass fine made waits next ran
     let accepted : p.standing.accepted ≡ true =
     ap (λ (z : Standing). z.accepted) q.standing ∙ x.accepted ∙ or-second s.accepted (passes h.code) pass in
     let last : p.standing.last ≡ m.header.msg = ap (λ (z : Standing). z.last) q.standing ∙ x.last in
-    either (FineTurn s m.header.msg run) (is_over m h.code (w.queue ++ map fresh (told n.made)))
+    either (FineTurn s m.header.msg run) (is_over m h.code (w.queue ++ map whole_entry (told n.made)))
     {x = ends (finished (record c { engine = n.state })) Finished} {y = goes_on (sends e p a)}
     (finished-quiet (record c { engine = n.state }), tt) (
       sends-quiet e p a mild waits
@@ -483,10 +484,10 @@ refusing-fine c s w m h nonce n run trusts q x pass deny none first made waits n
     ap (λ (z : Standing). z.accepted) q.standing ∙ x.accepted ∙ or-first s.accepted (passes h.code) pass ∙ none in
     let last : p.standing.last ≡ m.header.msg = ap (λ (z : Standing). z.last) q.standing ∙ x.last in
     let said_so =
-    says-refused m.header h.code nonce (header_answer m.header h.code nonce) (w.queue ++ map fresh (told n.made))
+    says-refused m.header h.code nonce (header_answer m.header h.code nonce) (w.queue ++ map whole_entry (told n.made))
     (header_from e p a) p.standing.room p.standing.heard (answer-is m.header h.code nonce deny) deny one
     to_send.apart.queue (header_to_send e p a to_send) to_send.progress.room.0 in
-    either (FineTurn s m.header.msg run) (is_over m h.code (w.queue ++ map fresh (told n.made)))
+    either (FineTurn s m.header.msg run) (is_over m h.code (w.queue ++ map whole_entry (told n.made)))
     {x = ends (finished (record c { engine = n.state })) Finished} {y = goes_on (sends e p a)}
     (finished-quiet (record c { engine = n.state }), tt) (
       sends-quiet e p a mild waits

@@ -28,7 +28,7 @@ use Rattle.dm_headers.specs.Headers.{is_withheld as header_withheld, header_answ
 use Rattle.dm_commands.specs.declared.outcome.Found.{Found}
 use Rattle.dm_atomic.specs.Made.{Made, Status, Result, Broken, told, source_item, found_meta}
 use Rattle.dm_atomic.specs.Run.{Next, quietly}
-use Rattle.dm_pack.specs.Entries.{Entry, fresh, part_of, rest_of, part_item, rest_item, with_size}
+use Rattle.dm_pack.specs.Entries.{Entry, whole_entry, part_of, rest_of, part_item, rest_item, with_size}
 use Rattle.dm_base.specs.Fields.{num_of}
 use Rattle.dm_ends.specs.Commands.{alert, session_of}
 use Rattle.dm_job.specs.declared.job.Job.{Job}
@@ -228,7 +228,8 @@ Tell made n = Each (OfEntry (Tells made n))
 abbrev TellAll : List (InSession Made) → ℕ → List Command → Type 0
 TellAll made n = Each (Tells made n)
 
-fresh-tell : (made : List (InSession Made)) (n : ℕ) (cs : List Command) → TellAll made n cs → Tell made n (map fresh cs)
+fresh-tell : (made : List (InSession Made)) (n : ℕ) (cs : List Command) → TellAll made n cs
+    → Tell made n (map whole_entry cs)
 fresh-tell made n [] h = tt
 fresh-tell made n (c ∷ cs) h = (h.0, fresh-tell made n cs h.1)
 
@@ -416,7 +417,7 @@ header-speaks made c p m nonce h last low own queue =
     (λ first. either_is (OutcomeSpeaks all p.number) aborts {x = ends (closed d) Aborted}
     {y = answered d w m h nonce run}
     (λ t. ended-speaks all p.number d)
-    (λ goes. either (OutcomeSpeaks all p.number) (is_over m h.code (w.queue ++ map fresh (told run.made)))
+    (λ goes. either (OutcomeSpeaks all p.number) (is_over m h.code (w.queue ++ map whole_entry (told run.made)))
     {x = ends (finished (record d { engine = run.state })) Finished}
     {y = goes_on (sends (answering d w m h nonce run) (behind_answer w m h nonce) h.account)}
     (record { queue = tt; message = tt })

@@ -3,7 +3,7 @@ ghost use Rattle.std.specs.Prelude.{◌≡◌, ◌≤◌, ◌∷◌, [], length,
 ghost use Rattle.std.specs.List.{AllByRecursion};
 ghost use Rattle.syncml_types.specs.declared.command.Member.TheVariants.{One};
 ghost use Rattle.syncml_types.specs.Message.{no_meta};
-ghost use Rattle.dm_pack.specs.Entries.{IsReady, fresh};
+ghost use Rattle.dm_pack.specs.Entries.{IsReady, whole_entry};
 ghost use Rattle.dm_pack.specs.Filling.{IsReadyHeader};
 
 use crate::queues::{add_first, add_statuses, header, queue_of, repeated, status, text};
@@ -168,7 +168,7 @@ fn block(alloc: Global, first: Member, last: Member) -> Result<Block<Member>, Me
 // An Atomic of a Delete and a Replace.
 fn atomic(alloc: Global, value: Bytes) -> Result<Command, Memory>
     requires { length value ≤ 10000 }
-    ensures { IfOk result (λ c. IsReady (fresh c)) }
+    ensures { IfOk result (λ c. IsReady (whole_entry c)) }
 {
     let gone = text(alloc, b"./B")?;
     let first = member(alloc, Verb::Delete, item_at(gone, None, None))?;

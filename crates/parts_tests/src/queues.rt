@@ -2,7 +2,7 @@
 ghost use Rattle.std.specs.Prelude.{◌≡◌, ◌≤◌, ◌<◌, ◌&&◌, length, IfOk, true, nat_le};
 ghost use Rattle.std.specs.List.{AllByRecursion, list_all};
 ghost use Rattle.syncml_types.specs.Canonical.{is_text};
-ghost use Rattle.dm_pack.specs.Entries.{IsReady, fresh};
+ghost use Rattle.dm_pack.specs.Entries.{IsReady, whole_entry};
 ghost use Rattle.dm_pack.specs.Filling.{IsReadyHeader};
 
 use dm_base::{Boxed, Bytes, List, Memory};
@@ -64,7 +64,7 @@ pub(crate) fn header(alloc: Global) -> Result<Boxed<Header>, Memory>
 fn status_of(alloc: Global, cmd: Bytes, cmd_ref: u32) -> Command
     requires text { is_text cmd ≡ true }
     requires few { length cmd ≤ 20 }
-    ensures { IsReady (fresh result) }
+    ensures { IsReady (whole_entry result) }
 {
     Command::Status(StatusCmd {
         id: 0,
@@ -89,7 +89,7 @@ fn results_of(
     requires texts { (is_text uri ≡ true) × ((is_text format ≡ true) × (is_text media ≡ true)) }
     requires few { (length uri ≤ 20) × ((length format ≤ 20) × (length media ≤ 20)) }
     requires value { length value ≤ 10000 }
-    ensures { IfOk result (λ c. IsReady (fresh c)) }
+    ensures { IfOk result (λ c. IsReady (whole_entry c)) }
 {
     let mut items = List::new(alloc);
     items.push(Item {
@@ -121,7 +121,7 @@ fn results_of(
 pub(crate) fn status(alloc: Global, cmd: &[u8], cmd_ref: u32) -> Result<Command, Memory>
     requires low { list_all (λ b. nat_le 1 b && nat_le b 127) cmd.now ≡ true }
     requires few { length cmd.now ≤ 20 }
-    ensures { IfOk result (λ c. IsReady (fresh c)) }
+    ensures { IfOk result (λ c. IsReady (whole_entry c)) }
 {
     let cmd = text(alloc, cmd)?;
     Ok(status_of(alloc, cmd, cmd_ref))
@@ -129,7 +129,7 @@ pub(crate) fn status(alloc: Global, cmd: &[u8], cmd_ref: u32) -> Result<Command,
 
 fn results(alloc: Global, value: Bytes) -> Result<Command, Memory>
     requires { length value ≤ 10000 }
-    ensures { IfOk result (λ c. IsReady (fresh c)) }
+    ensures { IfOk result (λ c. IsReady (whole_entry c)) }
 {
     let uri = text(alloc, b"./A")?;
     let format = text(alloc, b"chr")?;
@@ -140,7 +140,7 @@ fn results(alloc: Global, value: Bytes) -> Result<Command, Memory>
 /// Adds an entry in front, where memory suffices.
 #[tactic(auto, using(dm_pack::proofs::Fixtures::first_ready))]
 pub(crate) fn add_first(queue: &mut Queue, entry: Command) -> Result<(), Memory>
-    requires entry { IsReady (fresh entry) }
+    requires entry { IsReady (whole_entry entry) }
     requires others { AllByRecursion IsReady queue.old }
     ensures { AllByRecursion IsReady queue.new }
 {
@@ -149,7 +149,7 @@ pub(crate) fn add_first(queue: &mut Queue, entry: Command) -> Result<(), Memory>
 
 #[tactic(auto, using(dm_pack::proofs::Fixtures::last_ready))]
 fn add_last(queue: &mut Queue, entry: Command) -> Result<(), Memory>
-    requires entry { IsReady (fresh entry) }
+    requires entry { IsReady (whole_entry entry) }
     requires others { AllByRecursion IsReady queue.old }
     ensures { AllByRecursion IsReady queue.new }
 {

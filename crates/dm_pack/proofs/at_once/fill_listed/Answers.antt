@@ -1,7 +1,7 @@
 use Rattle.std.proofs.Common.{◌∙◌, refl, sym, ap, arith, length, map}
 use Rattle.syncml_types.specs.Canonical.{canonical}
 use Rattle.syncml_types.specs.Lengths.{up_to_most}
-use Rattle.dm_pack.specs.Entries.{fresh}
+use Rattle.dm_pack.specs.Entries.{whole_entry}
 use Rattle.dm_pack.specs.Filling.{Filling}
 use Rattle.dm_pack.specs.declared.place.Place.{Place}
 use Rattle.dm_pack.specs.declared.place.Place.{Place}
@@ -23,7 +23,7 @@ of_parts-message-requires c =
     packs_listed c.args.header c.args.commands c.args.room c.args.heard c.in-Some.place c.tail_behind-tail.result
     c.args.queue.now c.number_all.new.commands c.push_tail.new.body c.in-Some.ensures.whole c.in-Some.ensures.place
     c.number_all.ensures c.requires.none c.tail_behind-tail.ensures c.in_ok-push_tail.ensures in
-    packed_fit c.args.header c.args.header (map fresh c.args.commands) c.args.room c.args.heard
+    packed_fit c.args.header c.args.header (map whole_entry c.args.commands) c.args.room c.args.heard
     (length c.args.commands) 0 c.in-Some.place c.in-Some.place c.tail_behind-tail.result c.number_all.new.commands
     c.number_all.new.commands c.push_tail.new.body packs refl
     c.requires.header.fit c.requires.ready
@@ -34,7 +34,8 @@ spelled-requires c =
     packs_listed c.args.header c.args.commands c.args.room c.args.heard c.in-Some.place c.tail_behind-tail.result
     c.args.queue.now c.number_all.new.commands c.push_tail.new.body c.in-Some.ensures.whole c.in-Some.ensures.place
     c.number_all.ensures c.requires.none c.tail_behind-tail.ensures c.in_ok-push_tail.ensures in
-    packed_length c.args.header c.args.header (map fresh c.args.commands) c.args.room c.args.heard c.is_final.result
+    packed_length c.args.header c.args.header (map whole_entry c.args.commands) c.args.room c.args.heard
+    c.is_final.result
     (length c.args.commands) 0 c.in-Some.place c.in-Some.place c.tail_behind-tail.result c.number_all.new.commands
     c.number_all.new.commands c.push_tail.new.body
     c.tail_length.result c.saturating_add-message_length.result packs refl c.is_final.ensures c.requires.ready
@@ -49,7 +50,8 @@ returns-clause-message c =
     c.number_all.ensures c.requires.none c.tail_behind-tail.ensures c.in_ok-push_tail.ensures in
     let message =
     c.of_parts-message.ensures
-    ∙ packed_message c.args.header c.args.header (map fresh c.args.commands) c.args.room c.args.heard c.is_final.result
+    ∙ packed_message c.args.header c.args.header (map whole_entry c.args.commands) c.args.room c.args.heard
+    c.is_final.result
     (length c.args.commands) 0 c.in-Some.place c.in-Some.place c.tail_behind-tail.result c.number_all.new.commands
     c.number_all.new.commands c.push_tail.new.body packs refl
     c.is_final.ensures in
@@ -63,7 +65,8 @@ returns-clause-bytes c =
     c.number_all.ensures c.requires.none c.tail_behind-tail.ensures c.in_ok-push_tail.ensures in
     let message =
     c.of_parts-message.ensures
-    ∙ packed_message c.args.header c.args.header (map fresh c.args.commands) c.args.room c.args.heard c.is_final.result
+    ∙ packed_message c.args.header c.args.header (map whole_entry c.args.commands) c.args.room c.args.heard
+    c.is_final.result
     (length c.args.commands) 0 c.in-Some.place c.in-Some.place c.tail_behind-tail.result c.number_all.new.commands
     c.number_all.new.commands c.push_tail.new.body packs refl
     c.is_final.ensures in
@@ -77,12 +80,13 @@ returns-clause-within c =
     c.number_all.ensures c.requires.none c.tail_behind-tail.ensures c.in_ok-push_tail.ensures in
     let message =
     c.of_parts-message.ensures
-    ∙ packed_message c.args.header c.args.header (map fresh c.args.commands) c.args.room c.args.heard c.is_final.result
+    ∙ packed_message c.args.header c.args.header (map whole_entry c.args.commands) c.args.room c.args.heard
+    c.is_final.result
     (length c.args.commands) 0 c.in-Some.place c.in-Some.place c.tail_behind-tail.result c.number_all.new.commands
     c.number_all.new.commands c.push_tail.new.body packs refl
     c.is_final.ensures in
     let short =
-    fill_within c.args.header (map fresh c.args.commands) c.args.room c.args.heard c.requires.header
+    fill_within c.args.header (map whole_entry c.args.commands) c.args.room c.args.heard c.requires.header
     c.requires.room.0 in
     if_ok c.spelled.result _ _ (λ f h. let same = ap length (h ∙ ap canonical message) in omega (arith, same, short))
     c.spelled.ensures.bytes
@@ -94,7 +98,7 @@ returns-clause-whole c =
     c.args.queue.now c.number_all.new.commands c.push_tail.new.body c.in-Some.ensures.whole c.in-Some.ensures.place
     c.number_all.ensures c.requires.none c.tail_behind-tail.ensures c.in_ok-push_tail.ensures in
     let same =
-    packed c.args.header (map fresh c.args.commands) c.args.room c.args.heard
+    packed c.args.header (map whole_entry c.args.commands) c.args.room c.args.heard
     (length c.args.commands) 0 c.in-Some.place c.in-Some.place c.tail_behind-tail.result c.number_all.new.commands
     c.number_all.new.commands c.push_tail.new.body packs in
     if_ok c.spelled.result _ _
@@ -107,7 +111,7 @@ returns-clause-cut c =
     c.args.queue.now c.number_all.new.commands c.push_tail.new.body c.in-Some.ensures.whole c.in-Some.ensures.place
     c.number_all.ensures c.requires.none c.tail_behind-tail.ensures c.in_ok-push_tail.ensures in
     let same =
-    packed c.args.header (map fresh c.args.commands) c.args.room c.args.heard
+    packed c.args.header (map whole_entry c.args.commands) c.args.room c.args.heard
     (length c.args.commands) 0 c.in-Some.place c.in-Some.place c.tail_behind-tail.result c.number_all.new.commands
     c.number_all.new.commands c.push_tail.new.body packs in
     if_ok c.spelled.result _ _ (λ f h. h.1 ∙ ap (λ (d : Filling). d.cut) same) c.spelled.ensures.counts
@@ -119,7 +123,7 @@ returns-clause-tail c =
     c.args.queue.now c.number_all.new.commands c.push_tail.new.body c.in-Some.ensures.whole c.in-Some.ensures.place
     c.number_all.ensures c.requires.none c.tail_behind-tail.ensures c.in_ok-push_tail.ensures in
     let same =
-    packed c.args.header (map fresh c.args.commands) c.args.room c.args.heard
+    packed c.args.header (map whole_entry c.args.commands) c.args.room c.args.heard
     (length c.args.commands) 0 c.in-Some.place c.in-Some.place c.tail_behind-tail.result c.number_all.new.commands
     c.number_all.new.commands c.push_tail.new.body packs in
     if_ok c.spelled.result _ _ (λ f h. h ∙ ap (λ (d : Filling). d.tail) same) c.spelled.ensures.tail

@@ -1,6 +1,6 @@
 use Rattle.std.proofs.Common.{◌++◌, ◌+◌, ◌∙◌, ap, length, map}
 use Rattle.std.specs.Option.{option_to_list}
-use Rattle.dm_pack.specs.Entries.{fresh}
+use Rattle.dm_pack.specs.Entries.{whole_entry}
 use Rattle.dm_pack.specs.Filling.{fill}
 use Rattle.dm_machine.specs.declared.progress.Progress.{Progress}
 use Rattle.dm_machine.specs.Sending.{moved_on}
@@ -19,7 +19,7 @@ pub returns-clause-state : goal.returns-clause-state
 returns-clause-state c accounts uri =
     let e = c.args.engine.now in
     let r = told c.args.rest.now accounts uri in
-    let waiting = map fresh (option_to_list c.args.status) ++ (c.args.queue.now ++ map fresh c.args.made) in
+    let waiting = map whole_entry (option_to_list c.args.status) ++ (c.args.queue.now ++ map whole_entry c.args.made) in
     let p = moved_by c.args.progress.now (length (option_to_list c.args.status)) in
     let h = c.in_ok-header.header in
     let f = fill waiting h p.standing.room p.standing.heard in

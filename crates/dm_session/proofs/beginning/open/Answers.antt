@@ -1,6 +1,6 @@
 use Rattle.std.proofs.Common.{◌++◌, ◌∙◌, ap, map, length, sym, subst, arith, []}
 use Rattle.dm_tree.specs.Rows.{nodes}
-use Rattle.dm_pack.specs.Entries.{fresh}
+use Rattle.dm_pack.specs.Entries.{whole_entry}
 use Rattle.dm_pack.specs.Filling.{fill}
 use Rattle.dm_machine.specs.Opening.{first_package}
 use Rattle.dm_machine.specs.Messages.{no_account}
@@ -40,7 +40,7 @@ returns-clause-state c =
     let account = c.index-as_slice-account.result in
     let is =
     account_is r.accounts _ at account no_account c.as_slice.ensures c.index-as_slice-account.is c.requires.account in
-    let waiting = c.new-queue.result ++ map fresh c.in_ok-first.first in
+    let waiting = c.new-queue.result ++ map whole_entry c.in_ok-first.first in
     let p = started at c.args.kind c.args.number c.len.result in
     let h = c.in_ok-header.header in
     let f = fill waiting h p.standing.room p.standing.heard in
@@ -54,4 +54,4 @@ returns-clause-state c =
     ∙ begun_machine (machine_of e [] r) at c.args.kind c.args.number c.len.result account _ waiting
     (first_package (machine_of e [] r) c.args.kind) first
     (c.len.ensures ∙ sym (length_fresh c.in_ok-first.first)
-    ∙ ap (λ q. length (q ++ map fresh c.in_ok-first.first)) (sym c.new-queue.ensures)) is
+    ∙ ap (λ q. length (q ++ map whole_entry c.in_ok-first.first)) (sym c.new-queue.ensures)) is
