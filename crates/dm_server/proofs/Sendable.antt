@@ -18,7 +18,7 @@ use Rattle.dm_ends.proofs.Answers.{nonce_is, answer_ready}
 use Rattle.dm_ends.proofs.Statuses.{AreReadyPosts, AreReadyMade, origin_ready, posts_ready, status_is_ready, told_ready}
 use Rattle.dm_ends.proofs.Texts.{known_number}
 use Rattle.dm_job.specs.declared.job.JobEntry.{JobEntry}
-use Rattle.dm_service.specs.Answers.{code_for, answers_command, answers_all, origin_of, answers}
+use Rattle.dm_service.specs.Answers.{code_for, answers_command, answers_all, origin_of, command_answers}
 use Rattle.dm_service.specs.Messages.{answer_waiting}
 use Rattle.dm_service.specs.Packages.{is_of_job, job_waiting}
 use Rattle.dm_service.specs.Ready.{IsReadyEntry, AreReadyWaiting}
@@ -65,18 +65,19 @@ all-ready m (c ∷ cs) fit numbers h =
     (made-ready (code_for c) _ (code-low c) (posts_ready (origin_of m) c (origin_ready m fit numbers) h.0))
     (all-ready m cs fit numbers h.1)
 
-body-answers : (m : Parts) → IsReadyBody m → AllByRecursion IsReady (map whole_entry (answers m))
-unfolding answers
+body-answers : (m : Parts) → IsReadyBody m → AllByRecursion IsReady (map whole_entry (command_answers m))
+unfolding command_answers
 body-answers m is =
     told_ready (answers_all (origin_of m) m.body) (all-ready m m.body is.fit is.numbers is.numbers.body)
 
-if-answers : (b : Bool) (m : Parts) → IsReadyBody m → AllByRecursion IsReady (map whole_entry (cond b (answers m) []))
+if-answers : (b : Bool) (m : Parts) → IsReadyBody m
+    → AllByRecursion IsReady (map whole_entry (cond b (command_answers m) []))
 if-answers true m is = body-answers m is
 if-answers false m is = tt
 
 -- what the commands of a message are answered
 pub answers_wait : (m : Parts) (b : Bool) (made : List Command) (queue : List Waiting) → IsReadyBody m
-    → made ≡ cond b (answers m) [] → AreReadyWaiting queue → AreReadyWaiting (queue ++ map answer_waiting made)
+    → made ≡ cond b (command_answers m) [] → AreReadyWaiting queue → AreReadyWaiting (queue ++ map answer_waiting made)
 answers_wait m b made queue is e waits =
     both _ queue (map answer_waiting made) waits
     (answers-ready made (subst (λ cs. AllByRecursion IsReady (map whole_entry cs)) (sym e) (if-answers b m is)))

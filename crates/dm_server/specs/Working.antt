@@ -22,7 +22,7 @@ use Rattle.dm_service.specs.declared.progress.Progress.{Progress}
 use Rattle.dm_service.specs.declared.sent.Sent.{Sent}
 use Rattle.dm_service.specs.Laws.{AreInOrder}
 use Rattle.dm_service.specs.Packages.{holds_number, next_package}
-use Rattle.dm_service.specs.Answers.{answers}
+use Rattle.dm_service.specs.Answers.{command_answers}
 use Rattle.dm_service.specs.Sending.{sends}
 use Rattle.dm_service.specs.Ready.{AreReadyPackages, AreReadyWaiting}
 use Rattle.dm_service.specs.Service.{Session, Service}
@@ -104,7 +104,7 @@ abbrev pub answered_from : Service → Session → Parts → ℕ → Service
 answered_from v s m code =
     let told = tells v s m code in
     let t = in_session told s in
-    let queue = told.queue ++ map answer_waiting (if passes code then answers m else []) in
+    let queue = told.queue ++ map answer_waiting (if passes code then command_answers m else []) in
     sends (next_package (record told { queue = queue }) t.progress.standing) t m code
 
 -- the same, with the account where it is new

@@ -6,7 +6,7 @@ ghost use Rattle.dm_auth.specs.declared.accounts.Account.{Account as AnAccount};
 ghost use Rattle.dm_ends.specs.Ready.{IsReadyMessage};
 ghost use Rattle.dm_headers.specs.Checks.{passes as passing};
 ghost use Rattle.dm_report.specs.Known.{Known as AKnown};
-ghost use Rattle.dm_service.specs.Answers.{answers};
+ghost use Rattle.dm_service.specs.Answers.{command_answers};
 ghost use Rattle.dm_service.specs.Messages.{answer_waiting, answers_message};
 ghost use Rattle.dm_service.specs.Packages.{next_package};
 ghost use Rattle.dm_service.specs.Ready.{AreReadyPackages, AreReadyWaiting};
@@ -46,7 +46,7 @@ fn queue_behind(
     ensures ok { IfOk result (λ next. (account : AnAccount) (known : AKnown) (session : OptionOf ASession)
         (sent : OptionOf Parts) → service_of (with_account plan.now.job account) next queue.new known session sent
         ≡ next_package (service_of (with_account plan.now.job account) run
-        (queue.old ++ map answer_waiting (if passing code then answers message.now else [])) known session sent)
+        (queue.old ++ map answer_waiting (if passing code then command_answers message.now else [])) known session sent)
         standing.now) }
     ensures place { IfOk result (λ next. IsPlace plan.now.job next) }
     ensures queue { OnOk result (AreReadyWaiting queue.new) }

@@ -47,13 +47,13 @@ fn answer_all(
 }
 
 /// What the commands are answered of a message with this header code.
-#[tactic(auto, unfolding(dm_service::specs::Answers::answers))]
+#[tactic(auto, unfolding(dm_service::specs::Answers::command_answers))]
 pub(crate) fn answers_to(
     alloc: Global,
     message: &Message,
     code: u32,
 ) -> Result<List<Command>, Memory>
-    ensures { IfOk result (λ made. made ≡ (if passing code then Spec.answers message.now else [])) }
+    ensures { IfOk result (λ made. made ≡ (if passing code then Spec.command_answers message.now else [])) }
 {
     let mut made = List::new(alloc);
     if passes(code) {

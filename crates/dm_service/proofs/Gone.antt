@@ -23,7 +23,7 @@ use Rattle.dm_service.specs.declared.sent.Sent.{Sent}
 use Rattle.dm_service.specs.Service.{Waiting, Session, Service}
 use Rattle.dm_service.specs.Packages.{commands_in, is_of_job, job_waiting, queues_package, next_package, holds_number}
 use Rattle.dm_service.specs.Packages.{not_sent, put_back, runs_after, gives_up}
-use Rattle.dm_service.specs.Answers.{answers}
+use Rattle.dm_service.specs.Answers.{command_answers}
 use Rattle.dm_service.specs.Sending.{header_for, goes_out, carried_on, sends, runs_in_after}
 use Rattle.dm_service.specs.Messages.{ended, denies, answer_waiting, after_status, tells, queues_answers, session_or}
 use Rattle.dm_service.specs.Messages.{in_session, answers_message, by_header, accepts}
@@ -351,11 +351,11 @@ answers-once : (n : ℕ) (v : Service) (s : Session) (m : Parts) (code : ℕ) (n
     → Once n (queues_answers v m code nonce) s
 answers-once n v s m code nonce h =
     let first = map answer_waiting (header_answer m.header code nonce) in
-    let made = map answer_waiting (if passes code then answers m else []) in
+    let made = map answer_waiting (if passes code then command_answers m else []) in
     let whole = waiting_append (is n) (first ++ v.queue) made in
     let front = waiting_append (is n) first v.queue in
     let none = answers-weigh (is n) (header_answer m.header code nonce) in
-    let also = answers-weigh (is n) (if passes code then answers m else []) in
+    let also = answers-weigh (is n) (if passes code then command_answers m else []) in
     let most = h.total in
     record {
       job = h.job;
@@ -364,7 +364,7 @@ answers-once n v s m code nonce h =
       packages = h.packages;
       queue = have-both (first ++ v.queue) made
           (have-both first v.queue (answers-have (header_answer m.header code nonce)) h.queue)
-          (answers-have (if passes code then answers m else []));
+          (answers-have (if passes code then command_answers m else []));
     }
 
 queues-once : (n : ℕ) (v : Service) (s : Session) (ps : List (List JobEntry)) → v.packages ≡ ps → Once n v s

@@ -21,7 +21,7 @@ use Rattle.dm_service.specs.declared.sent.Carried.{Carried}
 use Rattle.dm_service.specs.declared.sent.Sent.{Sent}
 use Rattle.dm_service.specs.Service.{Waiting, Session, Service}
 use Rattle.dm_service.specs.Packages.{is_of_job, queues_package, next_package, not_sent, put_back, runs_after, gives_up}
-use Rattle.dm_service.specs.Answers.{answers}
+use Rattle.dm_service.specs.Answers.{command_answers}
 use Rattle.dm_service.specs.Sending.{header_for, rest_holds, goes_out, carried_on, runs_in_after, sends}
 use Rattle.dm_service.specs.Messages.{first_service, first_session, begins, ended, denies, answer_waiting, after_status}
 use Rattle.dm_service.specs.Messages.{tells, queues_answers, in_session, answers_message, by_header, accepts}
@@ -216,7 +216,7 @@ answers-idle : (v : Service) (s : Session) (m : Parts) (code : ℕ) (nonce : Lis
     → IdleBy v.runs_in (queues_answers v m code nonce) s
 answers-idle v s m code nonce h =
     let first = map answer_waiting (header_answer m.header code nonce) in
-    let made = map answer_waiting (if passes code then answers m else []) in
+    let made = map answer_waiting (if passes code then command_answers m else []) in
     rests-as v.runs_in v (queues_answers v m code nonce) s s refl
     (λ r. record {
       packages = r.packages;
@@ -224,7 +224,7 @@ answers-idle v s m code nonce h =
       sent = r.sent;
       queue = none-both (first ++ v.queue) made
           (none-both first v.queue (none-answers (header_answer m.header code nonce)) r.queue)
-          (none-answers (if passes code then answers m else []));
+          (none-answers (if passes code then command_answers m else []));
     }) h
 
 queues-runs : (v : Service) (ps : List (List JobEntry)) → (queues_package v ps).runs_in ≡ v.runs_in

@@ -28,7 +28,7 @@ use Rattle.dm_service.specs.declared.sent.Carried.{Carried}
 use Rattle.dm_service.specs.declared.sent.Sent.{Sent}
 use Rattle.dm_service.specs.Service.{Waiting, Session, Service}
 use Rattle.dm_service.specs.Packages.{is_of_job, job_waiting, queues_package, next_package, holds_number, gives_up}
-use Rattle.dm_service.specs.Answers.{answers}
+use Rattle.dm_service.specs.Answers.{command_answers}
 use Rattle.dm_service.specs.Sending.{header_for, in_a_row, last_alone, rest_holds, not_counting, but_the_last}
 use Rattle.dm_service.specs.Sending.{part_holds}
 use Rattle.dm_service.specs.Sending.{goes_out, carried_on, sends}
@@ -375,13 +375,13 @@ answers-ordered : (v : Service) (s : Session) (m : Parts) (code : ℕ) (nonce : 
     → Ordered (queues_answers v m code nonce) s
 answers-ordered v s m code nonce h =
     let first = map answer_waiting (header_answer m.header code nonce) in
-    let made = map answer_waiting (if passes code then answers m else []) in
+    let made = map answer_waiting (if passes code then command_answers m else []) in
     record {
       order = h.order;
       own = h.own;
       wide = both-wide (first ++ v.queue) made
           (both-wide first v.queue (answers-wide (header_answer m.header code nonce)) h.wide)
-          (answers-wide (if passes code then answers m else []));
+          (answers-wide (if passes code then command_answers m else []));
     }
 
 queues-ordered : (v : Service) (s : Session) (ps : List (List JobEntry)) → Ordered v s → Ordered (queues_package v ps) s

@@ -31,7 +31,7 @@ use Rattle.dm_job.specs.declared.job.JobEntry.{JobEntry}
 use Rattle.dm_job.specs.Sound.{all_entries}
 use Rattle.dm_service.specs.Service.{Waiting, Session, Service}
 use Rattle.dm_service.specs.Packages.{is_of_job, job_waiting, queues_package, next_package, put_back, gives_up}
-use Rattle.dm_service.specs.Answers.{code_for, answers_command, answers_all, origin_of, answers}
+use Rattle.dm_service.specs.Answers.{code_for, answers_command, answers_all, origin_of, command_answers}
 use Rattle.dm_service.specs.Sending.{header_for, carried_on, sends}
 use Rattle.dm_service.specs.Messages.{first_session, begins, ended, denies, answer_waiting, after_status, tells}
 use Rattle.dm_service.specs.Messages.{queues_answers, in_session, answers_message, by_header, accepts}
@@ -116,8 +116,9 @@ all-ready m (c ∷ cs) fit numbers h =
     (posts_ready (origin_of m) c (origin_ready m fit numbers) h.0))
     (all-ready m cs fit numbers h.1)
 
-made-answers : (m : Parts) → IsFit m.header m.body → AreNumbers m → AllByRecursion IsReady (map whole_entry (answers m))
-unfolding answers
+made-answers : (m : Parts) → IsFit m.header m.body → AreNumbers m
+    → AllByRecursion IsReady (map whole_entry (command_answers m))
+unfolding command_answers
 made-answers m fit numbers = told_ready (answers_all (origin_of m) m.body) (all-ready m m.body fit numbers numbers.body)
 
 if-answers : (b : Bool) (cs : List Command) → AllByRecursion IsReady (map whole_entry cs)
@@ -220,14 +221,14 @@ answers-fit : (v : Service) (s : Session) (m : Parts) (code : ℕ) (nonce : List
     → Fit v s → Fit (queues_answers v m code nonce) s
 answers-fit v s m code nonce low is h =
     let first = map answer_waiting (header_answer m.header code nonce) in
-    let made = map answer_waiting (if passes code then answers m else []) in
+    let made = map answer_waiting (if passes code then command_answers m else []) in
     with-queue v (queues_answers v m code nonce) s h refl h.packages h.newest
     (both _ (first ++ v.queue) made
     (both _ first v.queue
     (answers-ready (header_answer m.header code nonce)
     (answer_ready m.header code nonce (known_number m is.fit) is.numbers.header.msg low (nonce-of m nonce is))) h.queue)
-    (answers-ready (if passes code then answers m else [])
-    (if-answers (passes code) (answers m) (made-answers m is.fit is.numbers))))
+    (answers-ready (if passes code then command_answers m else [])
+    (if-answers (passes code) (command_answers m) (made-answers m is.fit is.numbers))))
 
 queues-fit : (v : Service) (s : Session) (ps : List (List JobEntry)) → v.packages ≡ ps → Fit v s
     → Fit (queues_package v ps) s

@@ -31,5 +31,5 @@ answers_all origin (c ∷ cs) = answers_command origin c ++ answers_all origin c
 abbrev pub origin_of : Parts → Origin
 origin_of m = record { msg = m.header.msg; quiet = m.header.no_resp }
 
-unfoldable pub answers : Parts → List Command
-answers m = told (answers_all (origin_of m) m.body)
+unfoldable pub command_answers : Parts → List Command
+command_answers m = told (answers_all (origin_of m) m.body)

@@ -19,7 +19,7 @@ use Rattle.dm_job.specs.Sound.{all_entries}
 use Rattle.dm_service.specs.Service.{Waiting, Session, Service}
 use Rattle.dm_service.specs.Matching.{Matched, matched, untold}
 use Rattle.dm_service.specs.Packages.{commands_in, gives_up, next_package}
-use Rattle.dm_service.specs.Answers.{answers}
+use Rattle.dm_service.specs.Answers.{command_answers}
 use Rattle.dm_service.specs.Sending.{header_for, sends}
 
 -- ---- beginning
@@ -115,7 +115,7 @@ tells v s m code = if passes code then with_matched v s (matched_in v s m) else 
 abbrev pub queues_answers : Service → Parts → ℕ → List ℕ → Service
 queues_answers v m code nonce = record v {
   queue = map answer_waiting (header_answer m.header code nonce) ++ v.queue
-      ++ map answer_waiting (if passes code then answers m else []);
+      ++ map answer_waiting (if passes code then command_answers m else []);
 }
 
 -- the present session of a machine that has one

@@ -13,7 +13,7 @@ use Rattle.dm_headers.specs.Standings.{Heard, hears}
 use Rattle.dm_ends.specs.Commands.{alert, is_abort}
 use Rattle.dm_service.specs.Service.{Session, Service}
 use Rattle.dm_service.specs.Packages.{gives_up, next_package}
-use Rattle.dm_service.specs.Answers.{answers, answers_all, origin_of}
+use Rattle.dm_service.specs.Answers.{command_answers, answers_all, origin_of}
 use Rattle.dm_service.specs.Sending.{sends}
 use Rattle.dm_service.specs.Messages.{ended, denies, after_status, answer_waiting, tells, queues_answers, in_session}
 use Rattle.dm_service.specs.Messages.{answers_message, by_header, accepts}
@@ -54,24 +54,24 @@ denies-keeps v s m code nonce part =
 pub tells-rest : (v : Service) (s : Session) (m : Parts) (code : ℕ) → acts_to_send (tells v s m code) ≡ acts_to_send v
 tells-rest v s m code = either (λ (x : Service). acts_to_send x ≡ acts_to_send v) (passes code) refl refl
 
-answers-none : (m : Parts) → acts (answers m) ≡ []
-unfolding answers
+answers-none : (m : Parts) → acts (command_answers m) ≡ []
+unfolding command_answers
 answers-none m = told-acts (answers_all (origin_of m) m.body)
 
-made-none : (m : Parts) (code : ℕ) → acts (cond (passes code) (answers m) []) ≡ []
+made-none : (m : Parts) (code : ℕ) → acts (cond (passes code) (command_answers m) []) ≡ []
 made-none m code = either (λ x. acts x ≡ []) (passes code) (answers-none m) refl
 
 pub queued-rest : (v : Service) (m : Parts) (code : ℕ) (nonce : List ℕ)
     → acts_to_send (queues_answers v m code nonce) ≡ acts_to_send v
 queued-rest v m code nonce =
     let own = map answer_waiting (header_answer m.header code nonce) in
-    let made = map answer_waiting (cond (passes code) (answers m) []) in
+    let made = map answer_waiting (cond (passes code) (command_answers m) []) in
     ap (λ x. x ++ job_acts v.packages)
     (waiting-append (own ++ v.queue) made
     ∙ ap (λ x. x ++ waiting_acts made) (waiting-append own v.queue
     ∙ ap (λ x. x ++ waiting_acts v.queue) (answers-acts (header_answer m.header code nonce)
     ∙ header-acts m.header code nonce))
-    ∙ ap (λ x. waiting_acts v.queue ++ x) (answers-acts (cond (passes code) (answers m) []) ∙ made-none m code)
+    ∙ ap (λ x. waiting_acts v.queue ++ x) (answers-acts (cond (passes code) (command_answers m) []) ∙ made-none m code)
     ∙ append-nil (waiting_acts v.queue))
 
 answers-keeps : (v : Service) (s : Session) (m : Parts) (code : ℕ) (nonce : List ℕ) (part : Option Step)

@@ -28,7 +28,7 @@ use Rattle.dm_service.specs.declared.sent.Sent.{Sent}
 use Rattle.dm_service.specs.Service.{Waiting, Session, Service}
 use Rattle.dm_service.specs.Packages.{is_of_job, job_waiting, queues_package, next_package, put_back, holds_number}
 use Rattle.dm_service.specs.Packages.{gives_up}
-use Rattle.dm_service.specs.Answers.{answers}
+use Rattle.dm_service.specs.Answers.{command_answers}
 use Rattle.dm_service.specs.Sending.{header_for}
 use Rattle.dm_service.specs.Sending.{goes_out, carried_on, sends}
 use Rattle.dm_service.specs.Messages.{first_session, begins, ended, denies, answer_waiting, after_status, matched_in}
@@ -110,7 +110,7 @@ answers-notes : (packages : List (List JobEntry)) (v : Service) (m : Parts) (cod
     → Notes packages (queues_answers v m code nonce)
 answers-notes packages v m code nonce h =
     let first = map answer_waiting (header_answer m.header code nonce) in
-    let made = map answer_waiting (cond (passes code) (answers m) []) in
+    let made = map answer_waiting (cond (passes code) (command_answers m) []) in
     record {
       job = h.job;
       packages_are = h.packages_are;
@@ -119,7 +119,7 @@ answers-notes packages v m code nonce h =
           all-append (WaitsOf packages) (first ++ v.queue) made
           (all-append (WaitsOf packages) first v.queue
           (answers-wait packages (header_answer m.header code nonce) (header-reports m.header code nonce)) h.queue)
-          (answers-wait packages (cond (passes code) (answers m) []) (made-reports m code));
+          (answers-wait packages (cond (passes code) (command_answers m) []) (made-reports m code));
     }
 
 queues-notes : (packages : List (List JobEntry)) (v : Service) (ps : List (List JobEntry)) → JobIs packages

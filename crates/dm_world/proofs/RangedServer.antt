@@ -28,7 +28,7 @@ use Rattle.dm_job.specs.Sound.{all_entries}
 use Rattle.dm_service.specs.declared.progress.Progress.{Progress}
 use Rattle.dm_service.specs.Service.{Waiting, Session, Service}
 use Rattle.dm_service.specs.Packages.{is_of_job, job_waiting, queues_package, next_package, put_back, gives_up}
-use Rattle.dm_service.specs.Answers.{code_for, answers_command, answers_all, origin_of, answers}
+use Rattle.dm_service.specs.Answers.{code_for, answers_command, answers_all, origin_of, command_answers}
 use Rattle.dm_service.specs.Sending.{target_of, header_for, carried_on, sends}
 use Rattle.dm_service.specs.Messages.{first_session, begins, ended, denies, answer_waiting, after_status, tells}
 use Rattle.dm_service.specs.Messages.{matched_in, with_matched, queues_answers, in_session, answers_message, by_header}
@@ -139,8 +139,8 @@ all-range m (c ∷ cs) fit numbers h =
     (posts_ready (origin_of m) c (origin_ready m fit numbers) h.0))
     (all-range m cs fit numbers h.1)
 
-answers-go : (m : Parts) → IsFit m.header m.body → AreNumbers m → CanAllGo (map whole_entry (answers m))
-unfolding answers
+answers-go : (m : Parts) → IsFit m.header m.body → AreNumbers m → CanAllGo (map whole_entry (command_answers m))
+unfolding command_answers
 answers-go m fit numbers =
     let all = answers_all (origin_of m) m.body in
     both-go _ (told_ready all (all-ready m m.body fit numbers numbers.body))
@@ -183,7 +183,7 @@ answers-stock v m code nonce low is h =
     let answer = header_answer m.header code nonce in
     let msg = is.numbers.header.msg in
     let first = map answer_waiting answer in
-    let made = map answer_waiting (cond (passes code) (answers m) []) in
+    let made = map answer_waiting (cond (passes code) (command_answers m) []) in
     record {
       limits = h.limits;
       account = h.account;
@@ -198,8 +198,8 @@ answers-stock v m code nonce low is h =
           (answer_ready m.header code nonce (known_number m is.fit) msg low
           (nonce_is nonce is.nonce_long is.nonce_bytes))
           (fresh-range answer (answer-range m.header code nonce msg low)))) h.queue)
-          (answers-wait (cond (passes code) (answers m) [])
-          (either (λ cs. CanAllGo (map whole_entry cs)) (passes code) {x = answers m} {y = []}
+          (answers-wait (cond (passes code) (command_answers m) [])
+          (either (λ cs. CanAllGo (map whole_entry cs)) (passes code) {x = command_answers m} {y = []}
           (answers-go m is.fit is.numbers) tt));
     }
 

@@ -24,7 +24,7 @@ use Rattle.dm_job.specs.declared.job.JobEntry.{JobEntry}
 use Rattle.dm_service.specs.declared.sent.Carried.{Carried}
 use Rattle.dm_service.specs.Service.{Waiting, Session, Service}
 use Rattle.dm_service.specs.Packages.{is_of_job, job_waiting, queues_package, next_package, put_back, gives_up}
-use Rattle.dm_service.specs.Answers.{answers, answers_all, code_for, origin_of}
+use Rattle.dm_service.specs.Answers.{command_answers, answers_all, code_for, origin_of}
 use Rattle.dm_service.specs.Sending.{header_for, sends}
 use Rattle.dm_service.specs.Messages.{first_service, begins, first_session, denies, after_status, answer_waiting}
 use Rattle.dm_service.specs.Messages.{tells, queues_answers, in_session, answers_message, by_header, accepts}
@@ -53,11 +53,11 @@ all-told : (o : Origin) (cs : List Command) → Each IsReport (made_told (answer
 all-told o [] = tt
 all-told o (c ∷ cs) = statuses-told (code_for c) (asked_posts o c) (answers_all o cs) (all-told o cs)
 
-answers-reports : (m : Parts) → Each IsReport (answers m)
-unfolding answers
+answers-reports : (m : Parts) → Each IsReport (command_answers m)
+unfolding command_answers
 answers-reports m = all-told (origin_of m) m.body
 
-pub made-reports : (m : Parts) (code : ℕ) → Each IsReport (cond (passes code) (answers m) [])
+pub made-reports : (m : Parts) (code : ℕ) → Each IsReport (cond (passes code) (command_answers m) [])
 made-reports m code = either (Each IsReport) (passes code) (answers-reports m) tt
 
 pub header-reports : (h : Header) (code : ℕ) (nonce : List ℕ) → Each IsReport (header_answer h code nonce)
