@@ -175,14 +175,14 @@ replace_value s m step uri = first_of (value_refusals s m step uri) m (changed_t
 abbrev pub acl_decider : Nodes → Path → Path
 acl_decider m p = if (node_at m p).interior then p else above p
 
-abbrev pub is_read : {T E : Type 0} → Result T E → Bool
-is_read (Ok value) = true
-is_read (Err e) = false
+abbrev pub is_ok : {T E : Type 0} → Result T E → Bool
+is_ok (Ok value) = true
+is_ok (Err e) = false
 
 -- a text that is no access list; and the empty one at the root, which keeps its list
 abbrev pub acl_text_refusals : List ℕ → Bool → List (Bool × ℕ)
 acl_text_refusals text at_root =
-    (not (length text == 0) && not (is_read (read_acl text)), 400)
+    (not (length text == 0) && not (is_ok (read_acl text)), 400)
     ∷ (length text == 0 && at_root, 405)
     ∷ []
 
