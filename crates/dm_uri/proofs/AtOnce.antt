@@ -12,7 +12,7 @@ use Rattle.std.proofs.lemmas.Grind.{common_steps}
 use Rattle.dm_uri.specs.declared.uri.Query.{Query}
 use Rattle.dm_uri.specs.Names.{is_name_byte, is_name, IsPath, joined}
 use Rattle.dm_uri.specs.Grammar.{query_text, IsUriText}
-use Rattle.dm_uri.specs.Reading.{is_slash, without_front, query_of, BeginsWithNames, ReadsAs}
+use Rattle.dm_uri.specs.Reading.{is_slash, without_front, query_of, BeginsWithNames, IsReadAsUri}
 use Rattle.dm_uri.proofs.Printing.{slashed, joined-slashed}
 use Rattle.dm_uri.proofs.Limits.{all_forms, limits_of_path}
 use Rattle.dm_uri.proofs.PathParts.{by_front, split-joined}
@@ -110,7 +110,7 @@ uri_text text rest n ns q is either =
 
 by_names : (text part n : List ℕ) (ns : List (List ℕ)) (q : Query) → IsOf (without_front text) (n ∷ ns) q
     → part ≡ joined (n ∷ ns)
-    → ReadsAs text part q
+    → IsReadAsUri text part q
 by_names text part n ns q is e =
     let same : slice_split is_slash part ≡ n ∷ ns =
     ap (slice_split is_slash) e ∙ split-joined n ns (all_forms (n ∷ ns) is.formed).0 in record {
@@ -124,7 +124,7 @@ by_whole : (text rest behind : List ℕ) (names : List (List ℕ)) (q : Query) �
     → 0x2F ∷ rest ≡ flat_map slashed names ++ behind
     → list_all is_name names ≡ true → 1 ≤ length names → length names ≤ 16 → length rest ≤ 253
     → behind ≡ query_text q
-    → ReadsAs text (take (length rest - length behind) rest) q
+    → IsReadAsUri text (take (length rest - length behind) rest) q
 by_whole text rest behind [] q is whole formed some few short e = absurd (omega (arith, some))
 by_whole text rest behind (n ∷ ns) q is whole formed some few short e =
     let all : 0x2F ∷ rest ≡ 0x2F ∷ joined (n ∷ ns) ++ behind =
@@ -142,7 +142,7 @@ by_whole text rest behind (n ∷ ns) q is whole formed some few short e =
 pub read_as : (text rest behind : List ℕ) (count : ℕ) (q : Query) → rest ≡ without_front text
     → BeginsWithNames rest count behind → 1 ≤ count → count ≤ 16 → length rest ≤ 253
     → query_of behind ≡ Some q
-    → ReadsAs text (take (length rest - length behind) rest) q
+    → IsReadAsUri text (take (length rest - length behind) rest) q
 read_as text rest behind count q is b some few short found =
     by_whole text rest behind b.names q is b.whole b.formed (omega (arith, b.many, some)) (omega (arith, b.many, few))
     short (query_found behind q found)

@@ -67,7 +67,7 @@ parse_of text =
     else with_query (read_path (names_in (path_part text))) (query_of (query_part text))
 
 -- a text is read as the path of the names between the slashes of a part, and a query
-pub record ReadsAs (text part : List ℕ) (query : Query) : Type 0 where
+pub record IsReadAsUri (text part : List ℕ) (query : Query) : Type 0 where
   pub path : IsPath (slice_split is_slash part)
   pub is : parse_of text ≡ Ok (record { path = slice_split is_slash part; query = query })
 

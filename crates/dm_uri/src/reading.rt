@@ -6,7 +6,7 @@ ghost use Rattle.dm_uri.specs.Names.{has_name_form, is_short_name, is_name, is_w
 ghost use Rattle.dm_uri.specs.Grammar.{IsUriText};
 ghost use Rattle.dm_uri.specs.Refusals.{is_question, IsRefused};
 ghost use Rattle.dm_uri.specs.Reading.{is_slash, is_root, without_front, names_in, query_of, read_path, parse_of};
-ghost use Rattle.dm_uri.specs.Reading.{Gives, FirstPart, BeginsWithNames, ReadsAs};
+ghost use Rattle.dm_uri.specs.Reading.{Gives, FirstPart, BeginsWithNames, IsReadAsUri};
 ghost use Rattle.dm_uri.specs.declared.uri.Uri.{Uri};
 ghost use Rattle.dm_uri.specs.declared.uri.UriError.TheVariants as error;
 
@@ -198,7 +198,7 @@ fn behind_names(text: &[u8]) -> Option<(usize, &[u8])>
 // The part of a text with the names, their number, and the query. None comes for each text that is refused, and for a
 // few others, as the root: those are left to the rules.
 fn parts_at_once(text: &[u8]) -> Option<(&[u8], usize, Query)>
-    ensures { IfSome result (λ parts. ReadsAs text.now parts.0.now parts.2) }
+    ensures { IfSome result (λ parts. IsReadAsUri text.now parts.0.now parts.2) }
 {
     let text = without_front(text);
     // With two bytes more, for a `./`, it is still short enough, and so is the written form of its path.
