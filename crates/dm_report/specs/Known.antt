@@ -27,7 +27,7 @@ matched_of known gathered = record {
 }
 
 -- a message with these commands tells what it matches
-pub record Tells (sent : List Sent) (body : List Command) (known next : Known) (before after : GatheredSoFar)
+pub record TellsOfJob (sent : List Sent) (body : List Command) (known next : Known) (before after : GatheredSoFar)
     : Type 0 where
   pub matched : matched_of next after ≡ matched before.max_obj sent (matched_of known before) body
   pub max_obj : after.max_obj ≡ before.max_obj

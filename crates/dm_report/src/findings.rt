@@ -3,7 +3,7 @@ ghost use Rattle.std.specs.Prelude.{◌≡◌, ◌+◌, ◌∷◌, [], replicate
 ghost use Rattle.dm_objects.specs.Seen.{present};
 ghost use Rattle.dm_service.specs.Laws.{AreInOrder};
 ghost use Rattle.dm_service.specs.Matching.{untold, matched};
-ghost use Rattle.dm_report.specs.Known.{Tells, matched_of, is_within, forgotten_within, IsReport};
+ghost use Rattle.dm_report.specs.Known.{TellsOfJob, matched_of, is_within, forgotten_within, IsReport};
 ghost use Rattle.dm_report.specs.Kept as Spec;
 ghost use Rattle.dm_report.specs.Kept.{known_of};
 ghost use Rattle.dm_report.specs.Receiving.{gathered_of, HoldsOn};
@@ -177,7 +177,7 @@ impl Findings {
     ) -> Result<(), Memory>
         requires in_order { AreInOrder sent.now }
         requires numbered { AreCommands sent.now }
-        ensures ok { OnOk result (Tells sent.now body.now self.old self.new gathering.old gathering.new) }
+        ensures ok { OnOk result (TellsOfJob sent.now body.now self.old self.new gathering.old gathering.new) }
         ensures err_findings { OnErr result (self.new ≡ self.old) }
         ensures err_gathering { OnErr result (gathering.new ≡ gathering.old) }
     {

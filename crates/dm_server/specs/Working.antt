@@ -16,7 +16,7 @@ use Rattle.dm_ends.specs.Ready.{IsReadyAccount, IsReadyLimits}
 use Rattle.dm_job.specs.declared.job.Job.{Job}
 use Rattle.dm_job.specs.declared.job.JobEntry.{JobEntry}
 use Rattle.dm_job.specs.Sound.{AreNumbered}
-use Rattle.dm_report.specs.Known.{Known, GatheredSoFar, Tells as TellsOfJob, is_within}
+use Rattle.dm_report.specs.Known.{Known, GatheredSoFar, TellsOfJob, is_within}
 use Rattle.dm_report.specs.Sending.{AreCommands}
 use Rattle.dm_service.specs.declared.progress.Progress.{Progress}
 use Rattle.dm_service.specs.declared.sent.Sent.{Sent}
