@@ -1,7 +1,7 @@
 -- Lines out of the bytes that are pending.
 use Rattle.std.proofs.Common.{None, Some, Ok, Err, Bool, true, false, inl, inr, ◌≡◌, ◌<◌, ◌≤◌, ◌+◌, ◌-◌, ℕ, List, []}
 use Rattle.std.proofs.Common.{◌∷◌, ◌++◌, refl, sym, ap, subst, ◌∙◌, take, drop, length, get_or, arith, length-append}
-use Rattle.std.proofs.Common.{take-append-drop, append_assoc, MatchOption, is_some}
+use Rattle.std.proofs.Common.{take-append-drop, append_assoc, append-nil, MatchOption, is_some}
 use Rattle.std.proofs.lemmas.List.{drop_more, get_or_append_left, get_or-drop, get_or-take, length-drop, length-take-le}
 use Rattle.std.proofs.lemmas.List.{take_all}
 use Rattle.std.proofs.Math.Seq.{take-append_seam}
@@ -269,6 +269,17 @@ asked_for_more first now n Read all clear unasked =
     λ k low feed. feed_missed first now n (k, low, feed) all clear unasked
 asked_for_more first now n TooLong all clear unasked = tt
 asked_for_more first now n Memory all clear unasked = tt
+
+-- and none is held back even then
+pub asked_last : (old new : LinesState) (left rest : Option (List ℕ)) (n : ℕ) (error : TakeError)
+    → FillsPending old new left rest (Err error) → n ≡ length old.pending → IsClear old.pending n
+    → AskedForMore (new.pending ++ new.past) (Err error)
+asked_last old new left rest n Read fill all clear =
+    subst (λ s. IsFeedless (s.pending ++ s.past)) (sym fill.0)
+    (subst (λ past. IsFeedless (old.pending ++ past)) (sym fill.2)
+    (subst IsFeedless (sym (append-nil old.pending)) (subst (λ m. IsClear old.pending m) all clear)))
+asked_last old new left rest n TooLong fill all clear = tt
+asked_last old new left rest n Memory fill all clear = tt
 
 -- what a search from the front says where it found a place
 pub line_there : (bytes looked : List ℕ) (r : Option ℕ) → looked ≡ bytes

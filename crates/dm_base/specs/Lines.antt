@@ -16,6 +16,14 @@ run_limit = 67108864
 abbrev pub line_limit : ℕ
 line_limit = 8400000
 
+-- bytes that were taken and not yet given, and how many that were given up still take room in front of them
+pub record PendingState : Type 0 where
+  pub bytes : List ℕ
+  pub given_up : ℕ
+
+abbrev pub no_pending : PendingState
+no_pending = record { bytes = []; given_up = 0 }
+
 -- the bytes that were taken and not yet given: those within the limit, and the one past it; and how many were taken
 pub record LinesState : Type 0 where
   pub pending : List ℕ
@@ -83,7 +91,7 @@ StaysUnlessLine old new before now (Ok (line_out.Line line)) = ⊤
 StaysUnlessLine old new before now (Err take_error.Memory) = ⊤
 StaysUnlessLine old new before now other = Keeps old new × (now ≡ before)
 
--- a source that failed was asked for more where no line feed is pending
+-- a source that failed was asked for more where no line feed is among these bytes
 abbrev pub AskedForMore : List ℕ → Result LineOut TakeError → Type 0
 AskedForMore pending (Err take_error.Read) = IsFeedless pending
 AskedForMore pending other = ⊤
@@ -108,5 +116,5 @@ FillsPending old new left rest (Err take_error.TooLong) =
     CountsTaken left rest old.taken new.taken × (run_limit ≤ old.taken)
     × OfKnown (behind old left) (λ bytes. 0 < length bytes)
     × (new.pending ≡ old.pending) × Keeps (behind old left) (behind new rest)
-FillsPending old new left rest (Err take_error.Read) = (new ≡ old) × Keeps left rest
+FillsPending old new left rest (Err take_error.Read) = (new ≡ old) × Keeps left rest × (old.past ≡ [])
 FillsPending old new left rest (Err take_error.Memory) = CountsTaken left rest old.taken new.taken

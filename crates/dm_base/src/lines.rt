@@ -66,7 +66,7 @@ impl Model for Lines {
     ghost Value = { LinesState };
 
     ghost view = { λ s. record {
-      pending = s.pending;
+      pending = s.pending.bytes;
       past = option_to_list s.past;
       taken = s.taken + length (option_to_list s.past);
     } };
@@ -158,14 +158,15 @@ impl Lines {
     }
 
     /// The next line. Where a line feed is pending the source isn't asked. A line that is whole within the first
-    /// 67,108,864 bytes is given before another byte is asked for; `TooLong` comes exactly where no whole line is left
-    /// in them and another byte comes. After an answer other than a line the same comes again; after `Read` nothing is
-    /// lost, and after `Memory` what was taken may be.
+    /// 67,108,864 bytes is given before another byte is asked for, also where the source fails; `TooLong` comes exactly
+    /// where no whole line is left in them and another byte comes. After `Bad`, `End` and `TooLong` the same comes again.
+    /// After `Read` nothing is lost, and the source is asked again; after `Memory` what was taken may be lost.
     pub fn next<S: Source>(&mut self, src: &mut S) -> Result<LineOut, TakeError>
         ensures line { ReadsLine (room self.old) (ahead self.old (S.left src.old))
             (ahead self.new (S.left src.new)) result }
         ensures pending { HasFeed self.old.pending → src.new ≡ src.old }
         ensures asked { AskedForMore self.old.pending result }
+        ensures no_line { AskedForMore (self.new.pending ++ self.new.past) result }
         ensures again { StaysUnlessLine (ahead self.old (S.left src.old)) (ahead self.new (S.left src.new))
             (room self.old) (room self.new) result }
         ensures taken { CountsTaken (S.left src.old) (S.left src.new) self.old.taken self.new.taken }

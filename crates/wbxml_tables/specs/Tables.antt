@@ -220,3 +220,8 @@ is_absent page code (r ∷ rows) = not (r.page == page && r.code == code) && is_
 abbrev pub are_distinct : List Row → Bool
 are_distinct [] = true
 are_distinct (r ∷ rows) = is_absent r.page r.code rows && are_distinct rows
+
+-- each row is of this page
+abbrev pub are_on_page : ℕ → List Row → Bool
+are_on_page page [] = true
+are_on_page page (r ∷ rows) = r.page == page && are_on_page page rows

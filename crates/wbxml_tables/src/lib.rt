@@ -5,7 +5,7 @@ ghost use Rattle.std.specs.Prelude.{◌≡◌, true, IfSome, IfNone};
 ghost use Rattle.wbxml_tables.specs.declared.Element.{Element};
 ghost use Rattle.wbxml_tables.specs.declared.TheConstants as table;
 ghost use Rattle.wbxml_tables.specs.Tables.{page_of, code_on_page, name_in_text, element_at, is_absent, are_distinct};
-ghost use Rattle.wbxml_tables.specs.Tables.{IsAt, CodesAreDistinct};
+ghost use Rattle.wbxml_tables.specs.Tables.{IsAt, CodesAreDistinct, are_on_page};
 
 /// An element of the representation protocol (page 0) or of the meta information (page 1), named with an E in front.
 /// Its number is 256 times its page, plus its code on that page.
@@ -308,6 +308,12 @@ pub fn name_of(element: Element) -> &'static str
 pub fn tables_are_distinct()
     ensures protocol { are_distinct table.PROTOCOL.rows ≡ true }
     ensures meta { are_distinct table.META.rows ≡ true }
+{}
+
+/// A law: each row of a table has the table's page.
+pub fn tables_have_their_pages()
+    ensures protocol { are_on_page 0 table.PROTOCOL.rows ≡ true }
+    ensures meta { are_on_page 1 table.META.rows ≡ true }
 {}
 
 /// A law: no two elements have the same code on the same page. So `element_of`, called with the codes that `code_of`

@@ -1,7 +1,7 @@
 use Rattle.std.proofs.Common.{arith, ap, ◌∙◌, length}
 use Rattle.dm_base.proofs.Pending.{filled_within, filled_clear, filled_ahead, filled_taken, filled_room, found_at}
 use Rattle.dm_base.proofs.Pending.{none_found, asked_for_more, feed_missed, line_given, long_line, line_stops}
-use Rattle.dm_base.proofs.Pending.{taken_at_error}
+use Rattle.dm_base.proofs.Pending.{taken_at_error, asked_last}
 use Rattle.dm_base.proofs.lines.Lines.next.Goals as goal
 
 pub pieces-preserved : goal.pieces-preserved
@@ -55,6 +55,14 @@ returns-in-Err-fill-clause-asked g c =
     let clear =
     none_found c.pieces.self.pending _ c.pieces.scanned _ looked all c.pieces.invariant.clear c.in-None.ensures in
     asked_for_more c.args.self.now c.pieces.self _ c.in-Err-fill.error all clear c.pieces.invariant.unasked
+
+pub returns-in-Err-fill-clause-no_line : goal.returns-in-Err-fill-clause-no_line
+returns-in-Err-fill-clause-no_line g c =
+    let looked = c.as_slice.ensures ∙ ap (λ s. s.pending) c.self.view_is in
+    let all = c.len-scanned.ensures ∙ ap (λ s. length s.pending) c.self.view_is in
+    let clear =
+    none_found c.pieces.self.pending _ c.pieces.scanned _ looked all c.pieces.invariant.clear c.in-None.ensures in
+    asked_last c.pieces.self _ _ _ _ c.in-Err-fill.error c.in-Err-fill.ensures.bytes all clear
 
 pub returns-in-Err-fill-clause-taken : goal.returns-in-Err-fill-clause-taken
 returns-in-Err-fill-clause-taken g c = taken_at_error _ _ _ _ _ _ _ c.in-Err-fill.ensures.bytes c.pieces.invariant.taken
