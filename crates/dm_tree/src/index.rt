@@ -29,12 +29,15 @@ pub struct Children {
 }
 
 impl Model for Children {
-    ghost use Rattle.std.specs.Prelude.{vec_capacity};
+    ghost use Rattle.std.specs.Prelude.{◌≤◌, vec_len, vec_capacity};
     ghost use Rattle.dm_tree.specs.Index.{ChildList};
 
     ghost Value = { ChildList };
 
     ghost view = { λ c. record { ids = c.ids.items; parked = c.parked; room = vec_capacity c.ids } };
+
+    // No more keys than rows, so that what no clause sees doesn't grow.
+    ghost invariant = { λ c. vec_len c.keys ≤ vec_len c.ids };
 }
 
 impl Children {
