@@ -1,6 +1,7 @@
 // A message's header, read whole.
-ghost use Rattle.std.specs.Prelude.{◌≡◌, None, IfOk, unwrap_or, option_map};
+ghost use Rattle.std.specs.Prelude.{◌≡◌, false, None, IfOk, unwrap_or, option_map};
 ghost use Rattle.dm_headers.specs.Checks.{with_nonce, with_both, other as other_side};
+ghost use Rattle.dm_headers.specs.Checks.{status_read, nonce_in as nonce_told_in, is_challenged as challenged};
 ghost use Rattle.dm_headers.specs.Standings.{hears};
 ghost use Rattle.dm_headers.specs.Views.{Tells};
 
@@ -83,8 +84,11 @@ pub fn hear(
     message: &Message,
     nonce: &Nonce,
 ) -> Result<Heard, Memory>
-    ensures { IfOk result (λ heard.
+    ensures tells { IfOk result (λ heard.
         Tells heard account.now (hears theirs account.now standing.now message.now nonce.now.bytes)) }
+    // Where no nonce is new, no account is told.
+    ensures kept { IfOk result (λ heard. nonce_told_in (status_read standing.now.own message.now) ≡ None
+        → challenged heard.code ≡ false → heard.account ≡ None) }
 {
     let fault = fault(alloc, message)?;
     let code = header_code(theirs, account, standing.accepted, message, fault);

@@ -10,12 +10,12 @@ pub by_status-requires-clause-can_work : goal.by_status-requires-clause-can_work
 by_status-requires-clause-can_work c =
     can_work c.args.plan.now.job c.args.run c.args.session.now c.args.message.now c.args.nonce.now.bytes
     c.renewed_by.result.now c.in_ok-heard.heard.standing c.requires.can_accept c.requires.message
-    (c.renewed_by.ensures ∙ c.in_ok-heard.ensures.account_is) c.in_ok-heard.ensures.standing
+    (c.renewed_by.ensures ∙ c.in_ok-heard.ensures.tells.account_is) c.in_ok-heard.ensures.tells.standing
 
 pub by_status-requires-clause-code : goal.by_status-requires-clause-code
 by_status-requires-clause-code c =
     fault_is_told c.args.plan.now.job c.args.session.now.progress c.args.message.now c.args.nonce.now.bytes
-    c.in_ok-heard.heard.code c.requires.can_accept.named c.requires.can_accept.room c.in_ok-heard.ensures.code
+    c.in_ok-heard.heard.code c.requires.can_accept.named c.requires.can_accept.room c.in_ok-heard.ensures.tells.code
 
 pub returns-clause-state : goal.returns-clause-state
 returns-clause-state c before =
@@ -24,7 +24,7 @@ returns-clause-state c before =
     let m = c.args.message.now in
     let nonce = c.args.nonce.now.bytes in
     let h = hears User job.account s.progress.standing m nonce in
-    let heard = c.in_ok-heard.ensures in
+    let heard = c.in_ok-heard.ensures.tells in
     let account = c.renewed_by.result.now in
     ap (λ (a : Account). behind job a c.in_ok-next.next c.by_status.new.outbox c.by_status.new.gathering
     c.by_status.new.findings before) (sym c.renewed_by.ensures)

@@ -34,7 +34,7 @@ by_header-requires-clause-progress c =
     (account_ready before p.account c.requires.goes_on.ready.accounts c.requires.progress.account) in
     let heard = hears_ready Server account p.standing m c.args.nonce.now.bytes ready c.requires.progress.room in
     heard_progress before p m (hears Server account p.standing m c.args.nonce.now.bytes) c.in_ok-heard.heard.standing
-    c.requires.progress heard c.requires.message.numbers.header.msg c.in_ok-heard.ensures.standing
+    c.requires.progress heard c.requires.message.numbers.header.msg c.in_ok-heard.ensures.tells.standing
 
 pub by_header-requires-clause-account : goal.by_header-requires-clause-account
 by_header-requires-clause-account c =
@@ -47,7 +47,7 @@ by_header-requires-clause-account c =
     (account_ready before p.account c.requires.goes_on.ready.accounts c.requires.progress.account) in
     let heard =
     hears_ready Server account p.standing c.args.message.now c.args.nonce.now.bytes ready c.requires.progress.room in
-    subst IsReadyAccount (sym (c.renewed_by-renewed.ensures ∙ c.in_ok-heard.ensures.account_is)) heard.account
+    subst IsReadyAccount (sym (c.renewed_by-renewed.ensures ∙ c.in_ok-heard.ensures.tells.account_is)) heard.account
 
 pub by_header-requires-clause-own : goal.by_header-requires-clause-own
 by_header-requires-clause-own c =
@@ -60,7 +60,7 @@ by_header-requires-clause-own c =
     (account_ready before p.account c.requires.goes_on.ready.accounts c.requires.progress.account) in
     let heard =
     hears_ready Server account p.standing c.args.message.now c.args.nonce.now.bytes ready c.requires.progress.room in
-    let stands = ap (λ (x : Standing). x.own) c.in_ok-heard.ensures.standing ∙ heard.own in
+    let stands = ap (λ (x : Standing). x.own) c.in_ok-heard.ensures.tells.standing ∙ heard.own in
     let low = c.requires.progress.own in
     let last = c.if-progress.false in
     own_next c.in_ok-heard.heard.standing.own p.standing.own stands low last
@@ -76,7 +76,7 @@ by_header-requires-clause-code c =
     (account_ready before p.account c.requires.goes_on.ready.accounts c.requires.progress.account) in
     let heard =
     hears_ready Server account p.standing c.args.message.now c.args.nonce.now.bytes ready c.requires.progress.room in
-    subst (λ n. n < 2 ^ 32) (sym c.in_ok-heard.ensures.code) heard.code
+    subst (λ n. n < 2 ^ 32) (sym c.in_ok-heard.ensures.tells.code) heard.code
 
 pub returns-clause-state : goal.returns-clause-state
 returns-clause-state c =
@@ -88,7 +88,7 @@ returns-clause-state c =
     let m = c.args.message.now in
     let nonce = c.args.nonce.now.bytes in
     let h = hears Server account p.standing m nonce in
-    let heard = c.in_ok-heard.ensures in
+    let heard = c.in_ok-heard.ensures.tells in
     let renewed = c.renewed_by-renewed.result.now in
     accepted_by_header c.args.engine.now c.by_header.new.engine c.args.queue.now c.by_header.new.queue c.args.rest.now p
     m nonce
