@@ -16,7 +16,6 @@ use dm_words::{Form, USAGE, read_form};
 use std::alloc::Global;
 use std::process::ExitCode;
 
-// Puts the usage line.
 #[tactic(auto, unfolding(crate::specs::Forms::Runs))]
 fn put_usage<K: Sink>(out: &mut K) -> Exit
     ensures output { (left : Option (List ℕ)) → Runs None left (K.got out.old) (K.got out.new) result }
@@ -30,7 +29,6 @@ fn put_usage<K: Sink>(out: &mut K) -> Exit
     }
 }
 
-// Answers a trace.
 #[tactic(auto, unfolding(crate::specs::Forms::Runs, crate::specs::Forms::TakesFor))]
 fn run_replay<S: Source, K: Sink>(alloc: Global, src: &mut S, out: &mut K) -> Exit
     ensures output { Runs (Some forms.Replay) (S.left src.old) (K.got out.old) (K.got out.new) result }
@@ -42,7 +40,6 @@ fn run_replay<S: Source, K: Sink>(alloc: Global, src: &mut S, out: &mut K) -> Ex
     replay(alloc, src, out)
 }
 
-// Runs both ends.
 #[tactic(auto, unfolding(crate::specs::Forms::Runs, crate::specs::Forms::TakesFor))]
 fn run_pair<S: Source, K: Sink>(alloc: Global, src: &mut S, out: &mut K) -> Exit
     ensures output { Runs (Some forms.Pair) (S.left src.old) (K.got out.old) (K.got out.new) result }
@@ -54,7 +51,6 @@ fn run_pair<S: Source, K: Sink>(alloc: Global, src: &mut S, out: &mut K) -> Exit
     pair(alloc, src, out)
 }
 
-// Lists a message.
 #[tactic(auto, unfolding(crate::specs::Forms::Runs, crate::specs::Forms::TakesFor))]
 fn run_show<S: Source, K: Sink>(alloc: Global, src: &mut S, out: &mut K) -> Exit
     ensures output { Runs (Some forms.Show) (S.left src.old) (K.got out.old) (K.got out.new) result }
@@ -78,7 +74,6 @@ fn run_check<S: Source, K: Sink>(alloc: Global, src: &mut S, out: &mut K) -> Exi
     check(alloc, src, out)
 }
 
-// Runs a workload.
 #[tactic(auto, unfolding(crate::specs::Forms::Runs))]
 fn run_bench<K: Sink>(alloc: Global, seed: u64, nodes: u32, messages: u32, out: &mut K) -> Exit
     requires { 0 < nodes }

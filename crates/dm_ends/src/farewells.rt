@@ -16,7 +16,7 @@ use syncml_codec::encode;
 use syncml_parts::set_ids;
 use syncml_types::{AlertCmd, Command, Header, Item, Message};
 
-/// A message with its bytes.
+/// The message that an end sent last, or its farewell, with its bytes.
 #[derive(Drop)]
 pub struct LastMessage {
     pub message: Message,

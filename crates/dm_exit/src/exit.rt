@@ -1,7 +1,7 @@
 // How a run ends.
 use std::fmt;
 
-/// The answer of a run, which is the status that the program ends with.
+/// How a run ended, which the program's status tells.
 #[derive(Clone, Copy, Debug, PartialEq, Eq)]
 pub enum Exit {
     /// The input was read to its end, and the whole text was written.

@@ -1,4 +1,4 @@
-// Laws that callers can rely on.
+// What holds of the checks of headers, over their definitions alone.
 ghost use Rattle.dm_headers.specs.Laws.{FaultReadsNothing, AcceptedForGood};
 
 /// A law: in a message with a fault neither the credential nor the Status is read. Nonces and acceptance stay, and no

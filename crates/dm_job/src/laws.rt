@@ -1,4 +1,4 @@
-// Laws over the definitions alone.
+// What holds of jobs, over the definitions alone.
 ghost use Rattle.dm_job.specs.Laws.{JobsAreRead, JobsAreSound, OnlyJobsAreRead, RefusalsAreFirst, RefusalsAreTold};
 
 /// Law: the text of a job is read as this job.

@@ -80,7 +80,7 @@ first_progress account kind number first = record {
   opening_left = length first;
 }
 
--- a session that is still open ends by Aborted first
+-- a session that is still open ends by Aborted first, which no answer tells
 unfoldable pub begins : Machine → ℕ → Kind → ℕ → Machine
 begins c account kind number =
     let d = closed c in

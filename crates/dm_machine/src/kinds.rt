@@ -12,7 +12,7 @@ pub enum Kind {
 pub enum End {
     /// The server had nothing left, and nothing waited.
     Finished,
-    /// The server ended it, another session began, or the client's MsgIDs were used up.
+    /// The server ended it, the client's MsgIDs were used up, or another session began, which no answer tells.
     Aborted,
     /// A credential of one side was missing or wrong for the second time.
     Denied,

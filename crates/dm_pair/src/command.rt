@@ -13,7 +13,6 @@ use dm_base::{RUN_LIMIT, Sink, Source, TakeError, take_all};
 use dm_exit::{Exit, put_text};
 use std::alloc::Global;
 
-// Puts one text behind another.
 fn put_both<K: Sink>(out: &mut K, first: &[u8], second: &[u8]) -> Result<(), Exit>
     ensures bytes { MatchResult result (λ _. Appends (K.got out.old) (K.got out.new) (first.now ++ second.now))
         (λ e. PutsPart (K.got out.old) (K.got out.new) (first.now ++ second.now) e) }
@@ -39,7 +38,6 @@ fn put_parts<K: Sink>(out: &mut K, written: &PairOut) -> Result<(), Exit>
     }
 }
 
-// Puts what is written.
 fn put_out<K: Sink>(out: &mut K, written: &PairOut) -> Exit
     ensures bytes { PutsEnd (text_of written.now) (exit_of written.now.bad) (K.got out.old) (K.got out.new) result }
     ensures count { SinkCause (K.faults out.old) (K.faults out.new) result }

@@ -82,7 +82,6 @@ fn ended_line(alloc: Global, end: End, client: &Client) -> Result<Bytes, Memory>
     }
 }
 
-// Begins a session.
 #[tactic(auto, unfolding(crate::specs::Output::answer_line))]
 fn open(
     alloc: Global,
@@ -102,7 +101,6 @@ fn open(
     }
 }
 
-// Delivers a message.
 #[tactic(auto, unfolding(crate::specs::Output::answer_line))]
 fn deliver(alloc: Global, client: &mut Client, bytes: &[u8], nonce: &Nonce) -> Result<Bytes, Memory>
     ensures line { IfOk result (λ t. t ≡ answer_line (answer_now client.old.machine
@@ -134,7 +132,6 @@ fn lose(alloc: Global, client: &Client) -> Result<Bytes, Memory>
     }
 }
 
-// The end of an update.
 #[tactic(auto, unfolding(crate::specs::Output::answer_line))]
 fn act(alloc: Global, client: &mut Client, ok: bool) -> Result<Bytes, Memory>
     ensures line { IfOk result (λ t. t ≡ answer_line (answer_now client.old.machine (acts ok))) }
@@ -157,7 +154,7 @@ fn set_clock(alloc: Global, client: &mut Client, now: Stamp) -> Result<Bytes, Me
 }
 
 /// Does what an event says, and gives the line that answers it, without its line feed. After `Memory` the client isn't
-/// to be used again.
+/// to be used again, since the event may have been taken and its answer lost.
 pub fn step(alloc: Global, client: &mut Client, event: &Event) -> Result<Bytes, Memory>
     requires { IsOf (length client.old.machine.accounts) event.now }
     ensures line { IfOk result (λ t. IfSome (happening_of event.now)

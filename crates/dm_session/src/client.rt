@@ -308,7 +308,7 @@ impl Client {
         self.engine.set_clock(now);
     }
 
-    /// The message sent last, in its bytes. None comes exactly where no session is open.
+    /// The message sent last in the open session, in its bytes. None comes exactly where no session is open.
     pub fn again(&self) -> Option<&[u8]>
         ensures { option_map (λ bytes. bytes.now) result ≡ sent_last self.now.machine }
     {
@@ -318,7 +318,7 @@ impl Client {
         }
     }
 
-    /// The message sent last. None comes exactly where no session is open.
+    /// The message sent last in the open session. None comes exactly where no session is open.
     pub fn sent(&self) -> Option<&Message>
         ensures { option_map (λ m. m.now) result ≡ option_map (λ (s : Session). s.sent) self.now.machine.session }
     {

@@ -1,4 +1,4 @@
-// Laws over the definitions alone.
+// What holds of trees, over the definitions alone.
 ghost use Rattle.dm_tree.specs.Laws.{SubtreeBegins, TopIsBelow, ChangedKeepsUpdate, AddedKeepsUpdate};
 ghost use Rattle.dm_tree.specs.Laws.{PrunedKeepsUpdate, RenamedKeepsUpdate, ChangedKeepsDevice, AddedKeepsDevice};
 ghost use Rattle.dm_tree.specs.Laws.{PrunedKeepsDevice, RenamedKeepsDevice, BareDeviceIsDevice, UpdateIsFound};

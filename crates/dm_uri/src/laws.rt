@@ -1,4 +1,4 @@
-// Laws over the definitions alone.
+// What holds of URIs, over the definitions alone.
 ghost use Rattle.dm_uri.specs.Laws.{ReadsGrammar, RefusesRest, ReadsWritten, OneWritten};
 
 /// A text is read as a value exactly where the grammar says that it is a text of this value.
