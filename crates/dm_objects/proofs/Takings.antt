@@ -17,7 +17,7 @@ use Rattle.dm_objects.specs.declared.rules.Verdict.{Verdict}
 use Rattle.dm_objects.specs.declared.rules.Verdict.TheVariants as verdicts
 use Rattle.dm_objects.specs.Changes.{IsCame, object_by, what_by}
 use Rattle.dm_objects.specs.InPlace.{what_of, taken_of, sort_of, step_by}
-use Rattle.dm_objects.specs.Seen.{Seen, present, is_unfinished, passes, holding, seen_of, Takes}
+use Rattle.dm_objects.specs.Seen.{Seen, present, is_unfinished, is_whole_step, holding, seen_of, Takes}
 use Rattle.dm_objects.proofs.SeenObjects.{present_seen, nothing_new}
 
 gathers : (max : ℕ) (object : Object) (piece : Piece) (b : Bool) → continues object piece ≡ b
@@ -172,7 +172,7 @@ passing-by max piece false e f = ap (λ m. came Nothing (if m then Refused 400 e
 abbrev as_it_is : Piece → Gathered
 as_it_is piece = record { object = Nothing; broken = None; what = Whole piece.step }
 
-passed : (max : ℕ) (o : Object) (piece : Piece) → passes max o piece ≡ true → gather max o piece ≡ as_it_is piece
+passed : (max : ℕ) (o : Object) (piece : Piece) → is_whole_step max o piece ≡ true → gather max o piece ≡ as_it_is piece
 unfolding gather
 passed max Nothing piece p =
     ap (λ (c : Came). record { object = c.object; broken = None; what = c.what })
@@ -181,7 +181,7 @@ passed max Nothing piece p =
 passed max (Buffering begun) piece p = absurd (cc)
 passed max (Skipping key code) piece p = absurd (cc)
 
-pub passing_takes : (seen : Seen) (piece : Piece) → passes seen.max_obj (present seen.objects) piece ≡ true
+pub passing_takes : (seen : Seen) (piece : Piece) → is_whole_step seen.max_obj (present seen.objects) piece ≡ true
     → Takes seen seen piece (record { broken = None; what = Whole piece.step })
 passing_takes seen piece p =
     let o = present seen.objects in

@@ -27,8 +27,8 @@ is_unfinished (Buffering begun) = true
 is_unfinished (Skipping key code) = true
 
 -- a piece that is a whole step, no larger than the greatest, where nothing is unfinished
-abbrev pub passes : ℕ → Object → Piece → Bool
-passes max object piece = not (is_unfinished object) && not piece.more && nat_le (length piece.step.value) max
+abbrev pub is_whole_step : ℕ → Object → Piece → Bool
+is_whole_step max object piece = not (is_unfinished object) && not piece.more && nat_le (length piece.step.value) max
 
 -- another object is the present one; where there was none and is none, nothing is new
 abbrev pub now_holding : List Object → Object → List Object

@@ -5,7 +5,7 @@ ghost use Rattle.dm_objects.specs.declared.object.Object.TheVariants.{Nothing, S
 ghost use Rattle.dm_objects.specs.declared.piece.What.TheVariants.{Whole};
 ghost use Rattle.dm_objects.specs.Gathering.{key_of, continues, buffered_target};
 ghost use Rattle.dm_objects.specs.Inside.{is_buffering_inside, stays, failed};
-ghost use Rattle.dm_objects.specs.Seen.{Seen, present, is_unfinished, passes, holding, extended, Takes};
+ghost use Rattle.dm_objects.specs.Seen.{Seen, present, is_unfinished, is_whole_step, holding, extended, Takes};
 
 use crate::actions::{buffered_target, given_up};
 use crate::copies::key_of;
@@ -110,7 +110,7 @@ impl Inbox {
     // Whether a piece meets nothing unfinished, is the only one, and is no larger than the greatest object.
     #[tactic(auto, using(crate::proofs::SeenObjects::present_seen))]
     fn is_alone(&self, piece: &Piece) -> bool
-        ensures { result ≡ passes self.now.max_obj (present self.now.objects) piece.now }
+        ensures { result ≡ is_whole_step self.now.max_obj (present self.now.objects) piece.now }
     {
         !is_unfinished(&self.object)
             && !piece.more
@@ -120,7 +120,7 @@ impl Inbox {
     /// Whether a piece is a whole step as it stands, so that taking it breaks nothing and changes nothing here: nothing
     /// is unfinished, no more follows, and its bytes don't pass `max_obj`. The step needn't be copied then.
     pub fn passes(&self, piece: &Piece) -> bool
-        ensures exact { result ≡ passes self.now.max_obj (present self.now.objects) piece.now }
+        ensures exact { result ≡ is_whole_step self.now.max_obj (present self.now.objects) piece.now }
         ensures takes { result ≡ true
             → Takes self.now self.now piece.now (record { broken = None; what = Whole piece.now.step }) }
     {
