@@ -1,6 +1,6 @@
 -- The step table: for each verb the refusals in order, each with its code, and the effect where none of them holds.
 use Rattle.std.specs.Prelude.{◌==◌, ◌&&◌, ◌||◌, ℕ, Bool, true, false, not, if◌then◌else◌, nat_lt, List, [], ◌∷◌, ◌++◌}
-use Rattle.std.specs.Prelude.{length, codes, bytes_eq, is_some, unwrap_or, Option, Some, None, Result, Ok, Err}
+use Rattle.std.specs.Prelude.{length, codes, bytes_eq, is_some, is_ok, unwrap_or, Option, Some, None, Result, Ok, Err}
 use Rattle.std.specs.Option.{option_map_or}
 use Rattle.std.specs.FinMap.{get, insert, len}
 use Rattle.dm_base.specs.Limits.{node_limit}
@@ -174,10 +174,6 @@ replace_value s m step uri = first_of (value_refusals s m step uri) m (changed_t
 -- the node whose Replace decides: the parent of a leaf, and an interior node itself
 abbrev pub acl_decider : Nodes → Path → Path
 acl_decider m p = if (node_at m p).interior then p else above p
-
-abbrev pub is_ok : {T E : Type 0} → Result T E → Bool
-is_ok (Ok value) = true
-is_ok (Err e) = false
 
 -- a text that is no access list; and the empty one at the root, which keeps its list
 abbrev pub acl_text_refusals : List ℕ → Bool → List (Bool × ℕ)

@@ -5,6 +5,11 @@ use Rattle.syncml_types.specs.declared.values.Item.{Item}
 use Rattle.syncml_types.specs.declared.command.Command.{Command}
 use Rattle.syncml_types.specs.declared.command.Command.TheVariants as command
 use Rattle.syncml_types.specs.Message.{Parts}
+use Rattle.dm_atomic.specs.declared.tasks.Origin.{Origin}
+
+-- what the Statuses for a message's commands tell of it
+abbrev pub origin_of : Parts → Origin
+origin_of m = record { msg = m.header.msg; quiet = m.header.no_resp }
 
 abbrev pub alert : ℕ → Option (List ℕ) → List Item → Command
 alert code correlator items =

@@ -18,9 +18,10 @@ use Rattle.dm_machine.specs.declared.kinds.End.TheVariants.{Aborted}
 use Rattle.dm_machine.specs.declared.progress.Progress.{Progress}
 use Rattle.dm_machine.specs.Machine.{Machine}
 use Rattle.dm_machine.specs.Messages.{Outcome, ends, Waits, waits_after, account_at, closed, denied, is_abort}
-use Rattle.dm_machine.specs.Messages.{is_report, origin_of, running_for, is_quiet, execute, run_of, is_over, answered}
+use Rattle.dm_machine.specs.Messages.{is_report, running_for, is_quiet, execute, run_of, is_over, answered}
 use Rattle.dm_machine.specs.Messages.{by_header, is_last_own, accepts}
 use Rattle.dm_machine.specs.Laws.{Leaves}
+use Rattle.dm_ends.specs.Commands.{origin_of}
 
 first : (b c : Bool) → (b && c) ≡ true → b ≡ true
 first true c h = refl

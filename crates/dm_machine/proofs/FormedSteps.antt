@@ -2,7 +2,7 @@
 use Rattle.std.proofs.Common.{◌≡◌, ◌≤◌, ◌<◌, ℕ, Bool, true, false, cond, List, [], ◌∷◌, ◌++◌, length, Option, None}
 use Rattle.std.proofs.Common.{Some, Ok, Err, refl, sym, ◌∙◌, ap, subst, arith, inl, inr}
 use Rattle.std.specs.Prelude.{◌&&◌, ◌||◌, ◌⊎◌, ◌==◌, Result, not, nat_lt, codes, is_some, bytes_eq, unwrap_or, IfSome}
-use Rattle.std.specs.Prelude.{IsSome, option_and_then}
+use Rattle.std.specs.Prelude.{IsSome, is_ok, option_and_then}
 use Rattle.std.specs.List.{find}
 use Rattle.std.specs.Option.{option_map_or}
 use Rattle.std.specs.Fmt.{decimal}
@@ -208,14 +208,14 @@ module _ (s : Setting) (stamp : IsStamp s.clock) (m : Nodes) (formed : IsWellFor
 
   -- a list that isn't taken away is given
   some_given : (text : List ℕ) → (length text == 0) ≡ false
-      → not (length text == 0) && not (table.is_ok (read_acl text)) ≡ false → IsSome (table.acl_given text)
+      → not (length text == 0) && not (is_ok (read_acl text)) ≡ false → IsSome (table.acl_given text)
   some_given text some good =
-      let read : table.is_ok (read_acl text) ≡ true =
-      negated (table.is_ok (read_acl text))
-      (sym (ap (λ b. not b && not (table.is_ok (read_acl text))) some) ∙ good) in
+      let read : is_ok (read_acl text) ≡ true =
+      negated (is_ok (read_acl text))
+      (sym (ap (λ b. not b && not (is_ok (read_acl text))) some) ∙ good) in
       subst (λ b. IsSome (cond b None (table.entries_read (read_acl text)))) (sym some) (by_read (read_acl text) read)
     where
-      by_read : (r : Result Entries AclError) → table.is_ok r ≡ true → IsSome (table.entries_read r)
+      by_read : (r : Result Entries AclError) → is_ok r ≡ true → IsSome (table.entries_read r)
       by_read (Ok acl) e = refl
       by_read (Err f) e = absurd (cc)
 

@@ -11,7 +11,8 @@ use Rattle.dm_atomic.specs.Run.{State, Next, quietly, run_all, still}
 use Rattle.dm_atomic.proofs.Counts.{made-append}
 use Rattle.dm_atomic.proofs.OneStatus.{none_lost, none_lost_in_quiet}
 use Rattle.dm_machine.specs.Machine.{Machine}
-use Rattle.dm_machine.specs.Messages.{origin_of, running_for, is_quiet, execute, run_of}
+use Rattle.dm_machine.specs.Messages.{running_for, is_quiet, execute, run_of}
+use Rattle.dm_ends.specs.Commands.{origin_of}
 
 -- and then what it breaks, which owes no more
 then-quiet : (s : State) (asked : List Post) (run m : Next) → NoneLost asked run.made s.group run.state.group

@@ -14,7 +14,7 @@ use Rattle.dm_machine.specs.declared.kinds.End.{End}
 use Rattle.dm_machine.specs.declared.progress.Progress.{Progress}
 use Rattle.dm_machine.specs.Machine.{Machine, Session}
 use Rattle.dm_machine.specs.Sending.{sends}
-use Rattle.dm_machine.specs.Messages.{Outcome, goes_on, ends, account_at, origin_of, execute, begins, ends_update}
+use Rattle.dm_machine.specs.Messages.{Outcome, goes_on, ends, account_at, execute, begins, ends_update}
 use Rattle.dm_machine.specs.Messages.{accepts}
 use Rattle.dm_machine.specs.Events.{Event, opened, message, loss, act, clock, after, machine_of}
 use Rattle.dm_machine.specs.Events.{message_outcome}
@@ -23,6 +23,7 @@ use Rattle.dm_machine.specs.Statuses.{Counted, counted, waiting_at, executed, me
 use Rattle.dm_machine.specs.Statuses.{session_counted}
 use Rattle.dm_machine.specs.Statuses.{asked_in_run, made_in_run, given_up_in_run}
 use Rattle.dm_machine.proofs.Statuses.{one_status_each}
+use Rattle.dm_ends.specs.Commands.{origin_of}
 
 -- what an event asks was made, was given up, or waits
 abbrev Balances : (Post → ℕ) → State → Counted → State → Type 0

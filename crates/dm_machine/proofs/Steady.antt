@@ -23,12 +23,13 @@ use Rattle.dm_machine.specs.declared.kinds.End.TheVariants.{Finished, Aborted}
 use Rattle.dm_machine.specs.declared.progress.Progress.{Progress}
 use Rattle.dm_machine.specs.Machine.{Machine, Session}
 use Rattle.dm_machine.specs.Messages.{Outcome, goes_on, ends, Waits, account_at, closed, finished, is_abort, is_over}
-use Rattle.dm_machine.specs.Messages.{denied, answered, by_header, is_last_own, is_quiet, origin_of, running_for}
+use Rattle.dm_machine.specs.Messages.{denied, answered, by_header, is_last_own, is_quiet, running_for}
 use Rattle.dm_machine.specs.Messages.{execute, run_of, waits_after, accepts, ends_update, begins}
 use Rattle.dm_machine.specs.Sending.{sends}
 use Rattle.dm_machine.specs.Events.{Event, clock, opened, message, loss, act, takes, after, machine_of, message_outcome}
 use Rattle.dm_machine.specs.History.{next}
 use Rattle.dm_machine.specs.Laws.{IsSteady, StaysSteady}
+use Rattle.dm_ends.specs.Commands.{origin_of}
 
 -- ---- what is executed
 

@@ -41,11 +41,12 @@ use Rattle.dm_atomic.specs.Run.{State, Running, Next, quietly, run_atomic, run_m
 use Rattle.dm_atomic.specs.Run.{run_command, run_all, still}
 use Rattle.dm_pack.specs.Entries.{IsReady, whole_entry}
 use Rattle.dm_machine.specs.Machine.{Machine}
-use Rattle.dm_machine.specs.Messages.{is_quiet, origin_of, running_for, quiet_after, execute, correlator_of}
+use Rattle.dm_machine.specs.Messages.{is_quiet, running_for, quiet_after, execute, correlator_of}
 use Rattle.dm_machine.specs.Ready.{IsReadyMade, IsCorrelator, IsReadyState}
 use Rattle.dm_machine.proofs.FormedDevices.{update_device}
 use Rattle.dm_machine.proofs.ToldTexts.{device_text}
 use Rattle.dm_ends.proofs.Statuses.{IsReadyPost, status_is_ready}
+use Rattle.dm_ends.specs.Commands.{origin_of}
 use Rattle.dm_machine.proofs.ToldSteps.{IsReadyTask, IsReadyRunning}
 use Rattle.dm_machine.proofs.ToldGroups.{AreReadyMade, IsReadyNext, all_append, quiet_ready, sequence_ready}
 use Rattle.dm_machine.proofs.ToldGroups.{atomic_ready, still_ready}

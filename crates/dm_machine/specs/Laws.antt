@@ -13,10 +13,11 @@ use Rattle.dm_atomic.specs.Run.{State, committed}
 use Rattle.dm_atomic.specs.Updates.{TellsStarted}
 use Rattle.dm_machine.specs.declared.progress.Progress.{Progress}
 use Rattle.dm_machine.specs.Machine.{Machine, Session}
-use Rattle.dm_machine.specs.Messages.{Outcome, goes_on, ends, origin_of, execute, run_of, accepts}
+use Rattle.dm_machine.specs.Messages.{Outcome, goes_on, ends, execute, run_of, accepts}
 use Rattle.dm_machine.specs.Events.{Event, opened, message, session_of}
 use Rattle.dm_machine.specs.History.{fresh, reached, answers, answers_from, state_from, next}
 use Rattle.dm_machine.specs.Ready.{IsReadyMachine, IsReadyEvent}
+use Rattle.dm_ends.specs.Commands.{origin_of}
 
 -- ---- runs
 

@@ -18,7 +18,6 @@ use Rattle.dm_headers.specs.Checks.{is_denied, passes}
 use Rattle.dm_headers.specs.Standings.{Heard, hears}
 use Rattle.dm_headers.specs.Headers.{header_answer}
 use Rattle.dm_commands.specs.Outcomes.{asked_by}
-use Rattle.dm_atomic.specs.declared.tasks.Origin.{Origin}
 use Rattle.dm_atomic.specs.declared.reports.Started.{Started}
 use Rattle.dm_atomic.specs.Made.{told}
 use Rattle.dm_atomic.specs.Updates.{update_finished}
@@ -27,6 +26,7 @@ use Rattle.dm_pack.specs.Entries.{Entry, whole_entry}
 pub use Rattle.dm_ends.specs.Commands.{is_abort, is_report}
 use Rattle.dm_ends.specs.Beginning.{first_standing as begun_standing}
 use Rattle.dm_ends.specs.Farewells.{farewell}
+use Rattle.dm_ends.specs.Commands.{origin_of}
 use Rattle.dm_machine.specs.declared.kinds.Kind.{Kind}
 use Rattle.dm_machine.specs.declared.kinds.End.{End}
 use Rattle.dm_machine.specs.declared.kinds.End.TheVariants.{Finished, Aborted, Denied}
@@ -136,9 +136,6 @@ has_step (command.Results c) = false
 -- the end of a package without a step of a verb
 abbrev pub is_quiet : Parts → Bool
 is_quiet m = m.last && not (list_any has_step m.body)
-
-abbrev pub origin_of : Parts → Origin
-origin_of m = record { msg = m.header.msg; quiet = m.header.no_resp }
 
 -- the server asks, at the machine's clock
 abbrev pub running_for : Machine → Account → Running

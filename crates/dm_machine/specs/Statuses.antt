@@ -12,10 +12,11 @@ use Rattle.dm_atomic.specs.Posts.{all_asked, made_posts, waiting_posts}
 use Rattle.dm_atomic.specs.Run.{Group, Next, quietly}
 use Rattle.dm_machine.specs.declared.progress.Progress.{Progress}
 use Rattle.dm_machine.specs.Machine.{Machine, Session}
-use Rattle.dm_machine.specs.Messages.{Outcome, goes_on, ends, account_at, origin_of, execute, is_abort, is_last_own}
+use Rattle.dm_machine.specs.Messages.{Outcome, goes_on, ends, account_at, execute, is_abort, is_last_own}
 use Rattle.dm_machine.specs.Messages.{accepts}
 use Rattle.dm_machine.specs.Events.{Event, opened, message, after}
 use Rattle.dm_machine.specs.History.{fresh, reached}
+use Rattle.dm_ends.specs.Commands.{origin_of}
 
 -- what one event asks, what is made with it, and what is given up
 pub record Counted : Type 0 where

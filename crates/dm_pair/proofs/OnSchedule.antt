@@ -20,8 +20,9 @@ use Rattle.dm_machine.specs.History as client_runs
 use Rattle.dm_service.specs.Service.{Service}
 use Rattle.dm_service.specs.Events as server
 use Rattle.dm_service.specs.History as server_runs
+use Rattle.dm_service.specs.Events.{arrival}
 use Rattle.dm_world.specs.World.{Reply, World, Happening, opens, up_comes, down_comes, update_ends, is_lost, with_new}
-use Rattle.dm_world.specs.World.{said, replied, arrival, client_has, down_delivered, up_delivered, happens, run}
+use Rattle.dm_world.specs.World.{said, replied, client_has, down_delivered, up_delivered, happens, run}
 use Rattle.dm_world.specs.Start.{at_start, IsWorldStart, IsNonce, IsInRange}
 use Rattle.dm_world.proofs.Ranges.{all-append}
 use Rattle.dm_world.proofs.ReadAgain.{reads_the_sent}

@@ -12,8 +12,7 @@ use Rattle.dm_report.specs.Known.{Known, GatheredSoFar}
 use Rattle.dm_service.specs.declared.progress.Progress.{Progress}
 use Rattle.dm_service.specs.declared.sent.Sent.{Sent}
 use Rattle.dm_service.specs.Sending.{header_for, goes_out, carried_on, is_last, runs_in_after, standing_sent, sends}
-use Rattle.dm_service.specs.Service.{Waiting, Service}
-use Rattle.dm_waiting.specs.View.{entries_of}
+use Rattle.dm_service.specs.Service.{Waiting, Service, entries_of}
 use Rattle.dm_server.specs.declared.held.Run.{Run}
 use Rattle.dm_server.specs.declared.held.Outbox.{Outbox}
 use Rattle.dm_server.specs.Inside.{at_work, service_of, session_with}

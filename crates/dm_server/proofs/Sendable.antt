@@ -17,8 +17,9 @@ use Rattle.dm_ends.specs.Ready.{IsReadyMessage}
 use Rattle.dm_ends.proofs.Answers.{nonce_is, answer_ready}
 use Rattle.dm_ends.proofs.Statuses.{AreReadyPosts, AreReadyMade, origin_ready, posts_ready, status_is_ready, told_ready}
 use Rattle.dm_ends.proofs.Texts.{known_number}
+use Rattle.dm_ends.specs.Commands.{origin_of}
 use Rattle.dm_job.specs.declared.job.JobEntry.{JobEntry}
-use Rattle.dm_service.specs.Answers.{code_for, answers_command, answers_all, origin_of, command_answers}
+use Rattle.dm_service.specs.Answers.{code_for, answers_command, answers_all, command_answers}
 use Rattle.dm_service.specs.Messages.{answer_waiting}
 use Rattle.dm_service.specs.Packages.{is_of_job, job_waiting}
 use Rattle.dm_service.specs.Ready.{IsReadyEntry, AreReadyWaiting}

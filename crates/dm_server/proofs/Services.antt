@@ -15,7 +15,7 @@ use Rattle.dm_report.specs.Known.{Known}
 use Rattle.dm_service.specs.declared.progress.Progress.{Progress}
 use Rattle.dm_service.specs.Events as events
 use Rattle.dm_service.specs.Events.{Arrival, number_of, last_of, takes, takes_in, takes_number, after, after_in_session}
-use Rattle.dm_service.specs.Events.{after_number}
+use Rattle.dm_service.specs.Events.{after_number, arrival}
 use Rattle.dm_service.specs.Events.{opens, old_message, old_in, number_refusal, refusal, reply_of, is_answered}
 use Rattle.dm_service.specs.Events.{kept_or_ended, taken_answer, sent_or_ended}
 use Rattle.dm_service.specs.History.{answer_now, next, state_from}
@@ -39,7 +39,7 @@ use Rattle.dm_server.specs.declared.server.Server.TheInside.{Inside}
 use Rattle.dm_server.specs.Inside.{at_work, message_in, newest_of, queue_in, server_of, service_of, session_in}
 use Rattle.dm_server.specs.Inside.{IsNumberedJob, IsPlace, IsReached, IsSound, IsSpelled, KeepsReply, Stands}
 use Rattle.dm_server.specs.View.{Tells}
-use Rattle.dm_server.specs.Working.{answer_with, arrival, drafted, with_account, CanAccept, ComesAs, IsReply}
+use Rattle.dm_server.specs.Working.{answer_with, drafted, with_account, CanAccept, ComesAs, IsReply}
 use Rattle.dm_server.proofs.Steps.{if_so, if_not}
 
 -- ---- what a message is to a machine

@@ -27,7 +27,7 @@ use Rattle.dm_service.specs.Sending.{sends}
 use Rattle.dm_service.specs.Ready.{AreReadyPackages, AreReadyWaiting}
 use Rattle.dm_service.specs.Service.{Session, Service}
 use Rattle.dm_service.specs.Messages.{answer_waiting, tells, in_session, by_header, accepts}
-use Rattle.dm_service.specs.Events.{Arrival, last_of, takes, after, opens, refusal, reply_of}
+use Rattle.dm_service.specs.Events.{Arrival, last_of, takes, after, opens, refusal, reply_of, arrival}
 use Rattle.dm_server.specs.declared.answers.Answer.{Answer}
 use Rattle.dm_server.specs.declared.answers.Answer.TheVariants as answer
 use Rattle.dm_server.specs.declared.coming.Coming.{Coming}
@@ -140,9 +140,6 @@ abbrev pub sent_without : ℕ → ℕ → List Sent → List Sent
 sent_without first count = filter (λ (s : Sent). not (is_within first count s.number))
 
 -- ---- what a message is to a machine
-
-abbrev pub arrival : Parts → List ℕ → Arrival
-arrival m nonce = record { read = Ok m; nonce = nonce }
 
 -- the first message of a session, a later one, or one that isn't taken
 abbrev pub ComesAs : Coming → Service → Parts → List ℕ → Type 0

@@ -3,12 +3,12 @@ ghost use Rattle.std.specs.Prelude.{◌≡◌, ◌<◌, false, ℕ, get_or, leng
 ghost use Rattle.std.specs.Prelude.{IfOk, OnOk, OnErr};
 ghost use Rattle.dm_ends.specs.Ready.{IsReadyMessage};
 ghost use Rattle.dm_job.specs.Sound.{IsSound};
-ghost use Rattle.dm_service.specs.Events.{takes};
+ghost use Rattle.dm_service.specs.Events.{takes, arrival};
 ghost use Rattle.dm_service.specs.History.{answer_now, next};
 ghost use Rattle.dm_service.specs.Messages.{first_service};
 ghost use Rattle.dm_service.specs.Report.{report_text};
 ghost use Rattle.dm_server.specs.View.{Tells, arrival_of, sent_last};
-ghost use Rattle.dm_server.specs.Working.{arrival, ComesAs};
+ghost use Rattle.dm_server.specs.Working.{ComesAs};
 ghost use Rattle.dm_server.specs.declared.coming.Coming.TheVariants as coming;
 
 use crate::answers::Answer;

@@ -20,7 +20,7 @@ use Rattle.dm_pack.specs.Entries.{Entry, IsReady, whole_entry}
 use Rattle.dm_pack.specs.Filling.{next_rest, left_after, fill, taken, cut, commands_of, IsReadyHeader}
 use Rattle.dm_pack.proofs.Left.{what_is_left_is_ready}
 use Rattle.dm_pack.proofs.Within.{fill_within}
-use Rattle.dm_ends.specs.Commands.{is_abort, session_of}
+use Rattle.dm_ends.specs.Commands.{is_abort, session_of, origin_of}
 use Rattle.dm_ends.specs.Ready.{IsReadyAccount, IsReadyLimits, IsReadyMessage}
 use Rattle.dm_ends.proofs.Answers.{IsNonce, nonce_is, answer_ready}
 use Rattle.dm_ends.proofs.ShortFarewells.{farewell_short}
@@ -31,7 +31,7 @@ use Rattle.dm_job.specs.declared.job.JobEntry.{JobEntry}
 use Rattle.dm_job.specs.Sound.{all_entries}
 use Rattle.dm_service.specs.Service.{Waiting, Session, Service}
 use Rattle.dm_service.specs.Packages.{is_of_job, job_waiting, queues_package, next_package, put_back, gives_up}
-use Rattle.dm_service.specs.Answers.{code_for, answers_command, answers_all, origin_of, command_answers}
+use Rattle.dm_service.specs.Answers.{code_for, answers_command, answers_all, command_answers}
 use Rattle.dm_service.specs.Sending.{header_for, carried_on, sends}
 use Rattle.dm_service.specs.Messages.{first_session, begins, ended, denies, answer_waiting, after_status, tells}
 use Rattle.dm_service.specs.Messages.{queues_answers, in_session, answers_message, by_header, accepts}

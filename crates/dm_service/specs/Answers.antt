@@ -9,6 +9,7 @@ use Rattle.dm_atomic.specs.declared.tasks.Origin.{Origin}
 use Rattle.dm_atomic.specs.declared.tasks.Post.{Post}
 use Rattle.dm_atomic.specs.Posts.{asked_posts}
 use Rattle.dm_atomic.specs.Made.{Made, Status, told}
+use Rattle.dm_ends.specs.Commands.{origin_of}
 
 abbrev pub verb_code : Verb → ℕ
 verb_code Replace = 200
@@ -27,9 +28,6 @@ answers_command origin c = map (λ (post : Post). Status post (code_for c)) (ask
 abbrev pub answers_all : Origin → List Command → List Made
 answers_all origin [] = []
 answers_all origin (c ∷ cs) = answers_command origin c ++ answers_all origin cs
-
-abbrev pub origin_of : Parts → Origin
-origin_of m = record { msg = m.header.msg; quiet = m.header.no_resp }
 
 unfoldable pub command_answers : Parts → List Command
 command_answers m = told (answers_all (origin_of m) m.body)

@@ -12,6 +12,10 @@ pub record Arrival : Type 0 where
   pub read : Result Parts Refusal
   pub nonce : List ℕ
 
+-- a message that is read comes
+abbrev pub arrival : Parts → List ℕ → Arrival
+arrival m nonce = record { read = Ok m; nonce = nonce }
+
 pub data Answer : Type 0 where
   sent : Parts → Answer
   kept : Parts → Answer

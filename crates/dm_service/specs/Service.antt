@@ -1,5 +1,5 @@
 -- The state of the server's machine.
-use Rattle.std.specs.Prelude.{ℕ, List, Option}
+use Rattle.std.specs.Prelude.{ℕ, List, Option, map}
 use Rattle.syncml_types.specs.declared.command.Step.{Step}
 use Rattle.syncml_types.specs.Message.{Parts}
 use Rattle.dm_objects.specs.declared.object.Object.{Object}
@@ -15,6 +15,9 @@ use Rattle.dm_service.specs.declared.sent.Sent.{Sent}
 pub record Waiting : Type 0 where
   pub entry : Entry
   pub carries : Option Carried
+
+abbrev pub entries_of : List Waiting → List Entry
+entries_of ws = map (λ (w : Waiting). w.entry) ws
 
 -- what the client told of a command of the job: its code, and each value that it found, as the Replace that it is
 -- gathered as

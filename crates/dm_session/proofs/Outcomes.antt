@@ -30,10 +30,11 @@ use Rattle.dm_machine.specs.Machine.{Machine}
 use Rattle.dm_machine.specs.Opening.{first_package}
 use Rattle.dm_machine.specs.Sending.{sends}
 use Rattle.dm_machine.specs.Messages.{Outcome, goes_on, ends, Waits, waits_after, queued_again, closed, finished}
-use Rattle.dm_machine.specs.Messages.{is_report, is_over, answered, run_of, execute, origin_of, quiet_after}
+use Rattle.dm_machine.specs.Messages.{is_report, is_over, answered, run_of, execute, quiet_after}
 use Rattle.dm_machine.specs.Messages.{farewell_of, denied, by_header, no_account, is_last_own, accepts}
 use Rattle.dm_machine.specs.Ready.{IsReadyProgress}
 use Rattle.dm_ends.proofs.Hearing.{IsReadyHeard}
+use Rattle.dm_ends.specs.Commands.{origin_of}
 use Rattle.dm_session.specs.declared.drafts.Next as drafts
 use Rattle.dm_session.specs.declared.drafts.Next.TheVariants as ends_with
 use Rattle.dm_session.specs.declared.rest.Rest.{Rest}

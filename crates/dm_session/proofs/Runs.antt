@@ -13,7 +13,8 @@ use Rattle.dm_atomic.specs.Updates.{clock_of, max_obj_of}
 use Rattle.dm_atomic.proofs.Giving.{IsGiving, gives_quietly}
 use Rattle.dm_atomic.proofs.Telling.{told_both}
 use Rattle.dm_atomic.proofs.Tried.{running_stays}
-use Rattle.dm_machine.specs.Messages.{origin_of, is_quiet, quiet_after}
+use Rattle.dm_machine.specs.Messages.{is_quiet, quiet_after}
+use Rattle.dm_ends.specs.Commands.{origin_of}
 
 abbrev with_made : List Made → Next → Next
 with_made made n = record n { made = made ++ n.made }

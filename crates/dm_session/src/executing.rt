@@ -7,6 +7,7 @@ ghost use Rattle.dm_atomic.specs.Made.{IsInFront};
 ghost use Rattle.dm_atomic.specs.Marks.{whole_of, Holds};
 ghost use Rattle.dm_atomic.specs.Stays.{StayBut};
 ghost use Rattle.dm_atomic.specs.Updates.{clock_of, max_obj_of};
+ghost use Rattle.dm_ends.specs.Commands.{origin_of};
 ghost use Rattle.dm_machine.specs.Messages as Spec;
 ghost use Rattle.dm_session.specs.Stays.{body_covers};
 
@@ -49,7 +50,7 @@ pub(crate) fn execute(
 ) -> Result<(), Memory>
     requires sound { IsSoundEngine engine.old }
     ensures gives { OnOk result (Gives (Spec.quiet_after message.now
-        (run_all (running engine.old caller.now) (Spec.origin_of message.now) (state_of engine.old) message.now.body))
+        (run_all (running engine.old caller.now) (origin_of message.now) (state_of engine.old) message.now.body))
         (state_of engine.new) out.old out.new) }
     ensures clock { clock_of engine.new ≡ clock_of engine.old }
     ensures max_obj { max_obj_of engine.new ≡ max_obj_of engine.old }

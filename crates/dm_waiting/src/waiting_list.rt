@@ -10,10 +10,11 @@ ghost use Rattle.dm_service.specs.Messages.{answer_waiting};
 ghost use Rattle.dm_service.specs.Packages.{is_of_job, job_waiting};
 ghost use Rattle.dm_service.specs.Ready.{IsReadyEntry, AreReadyWaiting};
 ghost use Rattle.dm_service.specs.Sending.{goes_out, carried_on};
+ghost use Rattle.dm_service.specs.Service.{entries_of};
 ghost use Rattle.dm_pack.specs.Entries.{whole_entry};
 ghost use Rattle.dm_waiting.specs.Held.{IsSmall, IsNumbered};
 ghost use Rattle.dm_waiting.specs.Inside.{IsOf, TellsAt};
-ghost use Rattle.dm_waiting.specs.View.{IsNumberedEntry, entries_of};
+ghost use Rattle.dm_waiting.specs.View.{IsNumberedEntry};
 
 use crate::holding::push_held;
 use crate::ids::id_at;

@@ -20,14 +20,14 @@ use Rattle.dm_atomic.specs.Posts.{task_posts, member_posts, members_posts, asked
 use Rattle.dm_atomic.specs.Posts.{waiting_posts}
 use Rattle.dm_atomic.specs.Made.{Made, Status, Result, Broken}
 use Rattle.dm_atomic.specs.Run.{Group, abandoned}
-use Rattle.dm_ends.specs.Commands.{session_of, is_number}
+use Rattle.dm_ends.specs.Commands.{session_of, is_number, origin_of}
 use Rattle.dm_job.specs.declared.job.Job.{Job}
 use Rattle.dm_tree.specs.declared.nodes.Stamp.{Stamp}
 use Rattle.dm_machine.specs.declared.kinds.Kind.{Kind}
 use Rattle.dm_machine.specs.declared.progress.Progress.{Progress}
 use Rattle.dm_machine.specs.Machine.{Session, Machine}
 use Rattle.dm_machine.specs.Sending.{sends}
-use Rattle.dm_machine.specs.Messages.{Outcome, goes_on, ends, begins, accepts, origin_of, ends_update}
+use Rattle.dm_machine.specs.Messages.{Outcome, goes_on, ends, begins, accepts, ends_update}
 use Rattle.dm_machine.specs.Statuses.{is_executed, executed, message_counted, session_counted, counted}
 use Rattle.dm_machine.specs.Statuses.{asked_in_run, made_in_run, given_up_in_run}
 use Rattle.dm_machine.specs.Events as client
@@ -38,7 +38,7 @@ use Rattle.dm_world.specs.Deeds.{all_deeds}
 use Rattle.dm_world.specs.World.{InSession, World, Reply, Happening, opens, up_comes, down_comes, update_ends}
 use Rattle.dm_world.specs.World.{clock_moves}
 use Rattle.dm_world.specs.World.{is_lost, finds_no_memory, with_new, replied, in_session, heard_by, deeds_in, made_in}
-use Rattle.dm_world.specs.World.{deeds_by, made_by, arrival, down_delivered, up_delivered, happens, run}
+use Rattle.dm_world.specs.World.{deeds_by, made_by, down_delivered, up_delivered, happens, run}
 use Rattle.dm_world.specs.Start.{at_start, IsWorldStart}
 use Rattle.dm_world.specs.Commands.{WasExecuted, AnswersTheExecuted, StandsInMessage, ExecutesTheSent}
 use Rattle.dm_world.proofs.Lists.{either, and-left, Each, each-map, each-append}
@@ -47,6 +47,7 @@ use Rattle.dm_world.proofs.Client.{OpenAs, Turns, Turned, message-turned}
 use Rattle.dm_world.proofs.SaysMade.{each-contains}
 use Rattle.dm_service.specs.History as server_runs
 use Rattle.dm_service.proofs.Codes.{first_in, later_in}
+use Rattle.dm_service.specs.Events.{arrival}
 
 -- ---- posts of what is executed
 

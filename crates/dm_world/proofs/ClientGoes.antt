@@ -10,7 +10,7 @@ use Rattle.dm_tree.specs.declared.nodes.Stamp.{Stamp}
 use Rattle.dm_pack.specs.Entries.{Entry}
 use Rattle.dm_machine.specs.declared.kinds.Kind.{Kind}
 use Rattle.dm_machine.specs.Machine.{Machine, Session as Opened}
-use Rattle.dm_machine.specs.Messages.{Outcome, goes_on, ends, begins, origin_of, accepts}
+use Rattle.dm_machine.specs.Messages.{Outcome, goes_on, ends, begins, accepts}
 use Rattle.dm_machine.specs.Messages.{ends_update}
 use Rattle.dm_machine.specs.Statuses.{is_executed}
 use Rattle.dm_machine.specs.Events as client
@@ -38,6 +38,7 @@ use Rattle.dm_world.proofs.Position.{seen, sent_by, NewestSays, Silent, Placed, 
 use Rattle.dm_world.proofs.Position.{done_then}
 use Rattle.dm_world.proofs.Position.{placed-opened, placed-turned}
 use Rattle.dm_world.proofs.Position.{placed-ended}
+use Rattle.dm_ends.specs.Commands.{origin_of}
 
 -- a message of the client says of the server's first message that it was refused, or of the last one before it; and its
 -- own first says nothing

@@ -13,12 +13,12 @@ use Rattle.dm_atomic.specs.declared.tasks.Named.TheVariants as named
 use Rattle.dm_atomic.specs.declared.tasks.Origin.{Origin}
 use Rattle.dm_atomic.specs.declared.tasks.Task.{Task}
 use Rattle.dm_atomic.specs.Tasks.{item_tasks, member_tasks, members_tasks}
-use Rattle.dm_machine.specs.Messages.{origin_of}
 use Rattle.dm_world.specs.Deeds.{Deed, step_deed, step_deeds, member_deeds, members_deeds, command_deeds, all_deeds}
 use Rattle.dm_world.specs.World.{InSession, in_session}
 use Rattle.dm_world.specs.Acts.{Act, block, item_act, item_acts, member_acts, members_acts, seq_member_acts}
 use Rattle.dm_world.specs.Acts.{seq_members_acts, command_acts, acts, doing_acts, deeds_acts}
 use Rattle.dm_world.specs.Packing.{ExecutesAll}
+use Rattle.dm_ends.specs.Commands.{origin_of}
 
 abbrev deed_acts : List Deed → List Act
 deed_acts [] = []

@@ -14,9 +14,8 @@ use Rattle.syncml_types.specs.Message.{Parts}
 use Rattle.dm_atomic.specs.declared.tasks.Origin.{Origin}
 use Rattle.dm_atomic.specs.declared.tasks.Task.{Task}
 use Rattle.dm_atomic.specs.Tasks.{item_tasks, member_tasks, members_tasks}
-use Rattle.dm_ends.specs.Commands.{session_of}
+use Rattle.dm_ends.specs.Commands.{session_of, origin_of}
 use Rattle.dm_job.specs.declared.job.JobEntry.{JobEntry}
-use Rattle.dm_machine.specs.Messages.{origin_of}
 use Rattle.dm_service.specs.declared.sent.Sent.{Sent}
 use Rattle.dm_service.specs.Service.{Session as Serving}
 use Rattle.dm_world.specs.Deeds.{Deed, step_deeds, member_deeds, members_deeds, command_deeds, all_deeds}

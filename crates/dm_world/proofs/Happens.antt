@@ -16,8 +16,9 @@ use Rattle.dm_service.specs.Service.{Service, Session as Serving}
 use Rattle.dm_service.specs.Messages as serving
 use Rattle.dm_service.specs.Events as server
 use Rattle.dm_service.specs.History as server_runs
+use Rattle.dm_service.specs.Events.{arrival}
 use Rattle.dm_world.specs.World.{World, Reply, Happening, opens, up_comes, down_comes, update_ends, clock_moves}
-use Rattle.dm_world.specs.World.{is_lost, finds_no_memory, with_new, said, replied, arrival, down_delivered}
+use Rattle.dm_world.specs.World.{is_lost, finds_no_memory, with_new, said, replied, down_delivered}
 use Rattle.dm_world.specs.World.{up_delivered, happens, run}
 use Rattle.dm_world.specs.Start.{at_start, IsWorldStart, IsInRange, IsSchedule}
 use Rattle.dm_world.proofs.Lists.{either, both-ways, and-left, and-right, Each, each-within, StandsIn, picked}

@@ -23,9 +23,10 @@ use Rattle.dm_service.specs.Messages.{in_session, answers_message, by_header, be
 use Rattle.dm_service.specs.Messages.{accepts as server_accepts}
 use Rattle.dm_service.specs.Events as server
 use Rattle.dm_service.specs.History as server_runs
+use Rattle.dm_service.specs.Events.{arrival}
 use Rattle.dm_world.specs.World.{World, Reply, Happening, opens, up_comes, down_comes, update_ends, clock_moves}
 use Rattle.dm_world.specs.World.{is_lost}
-use Rattle.dm_world.specs.World.{finds_no_memory, with_new, said, replied, arrival, down_delivered, up_delivered}
+use Rattle.dm_world.specs.World.{finds_no_memory, with_new, said, replied, down_delivered, up_delivered}
 use Rattle.dm_world.specs.World.{happens, run}
 use Rattle.dm_world.specs.Start.{at_start, IsWorldStart}
 use Rattle.dm_world.proofs.Lists.{either, both-ways}

@@ -10,10 +10,10 @@ use Rattle.dm_headers.specs.declared.checks.Side.TheVariants.{User}
 use Rattle.dm_headers.specs.Checks.{fault_of, is_denied, passes}
 use Rattle.dm_headers.specs.Headers.{header_answer}
 use Rattle.dm_headers.specs.Standings.{Heard, hears}
-use Rattle.dm_ends.specs.Commands.{alert, is_abort}
+use Rattle.dm_ends.specs.Commands.{alert, is_abort, origin_of}
 use Rattle.dm_service.specs.Service.{Session, Service}
 use Rattle.dm_service.specs.Packages.{gives_up, next_package}
-use Rattle.dm_service.specs.Answers.{command_answers, answers_all, origin_of}
+use Rattle.dm_service.specs.Answers.{command_answers, answers_all}
 use Rattle.dm_service.specs.Sending.{sends}
 use Rattle.dm_service.specs.Messages.{ended, denies, after_status, answer_waiting, tells, queues_answers, in_session}
 use Rattle.dm_service.specs.Messages.{answers_message, by_header, accepts}

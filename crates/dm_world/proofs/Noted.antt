@@ -17,12 +17,11 @@ use Rattle.dm_headers.specs.Checks.{fault_of, is_denied, passes}
 use Rattle.dm_headers.specs.Standings.{Heard, hears}
 use Rattle.dm_headers.specs.Headers.{header_answer, next_header}
 use Rattle.dm_pack.specs.Filling.{commands_of, taken, cut, next_rest, tail_of, tail_commands, fill}
-use Rattle.dm_ends.specs.Commands.{is_abort, session_of}
+use Rattle.dm_ends.specs.Commands.{is_abort, session_of, origin_of}
 use Rattle.dm_job.specs.declared.job.Job.{Job}
 use Rattle.dm_job.specs.declared.job.JobEntry.{JobEntry}
 use Rattle.dm_job.specs.Sound.{IsEntry, all_entries}
 use Rattle.dm_machine.specs.Machine.{Machine}
-use Rattle.dm_machine.specs.Messages.{origin_of}
 use Rattle.dm_service.specs.declared.progress.Progress.{Progress}
 use Rattle.dm_service.specs.declared.sent.Sent.{Sent}
 use Rattle.dm_service.specs.Service.{Waiting, Session, Service}
@@ -37,10 +36,11 @@ use Rattle.dm_service.specs.Messages.{by_header, accepts}
 use Rattle.dm_service.specs.Events as server
 use Rattle.dm_service.specs.History as server_runs
 use Rattle.dm_service.proofs.Codes.{first_in, later_in, filter_in}
+use Rattle.dm_service.specs.Events.{arrival}
 use Rattle.dm_world.specs.Deeds.{all_deeds}
 use Rattle.dm_world.specs.World.{World, Reply, Happening, opens, up_comes, down_comes, update_ends, clock_moves}
 use Rattle.dm_world.specs.World.{is_lost}
-use Rattle.dm_world.specs.World.{finds_no_memory, with_new, replied, arrival, down_delivered, up_delivered, happens}
+use Rattle.dm_world.specs.World.{finds_no_memory, with_new, replied, down_delivered, up_delivered, happens}
 use Rattle.dm_world.specs.World.{run}
 use Rattle.dm_world.specs.Start.{at_start, IsWorldStart}
 use Rattle.dm_world.specs.Commands.{StandsAs, NotesTheSent}

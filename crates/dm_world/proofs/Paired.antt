@@ -35,7 +35,7 @@ use Rattle.dm_atomic.specs.Run.{run_command, run_all, still_of, still}
 use Rattle.dm_atomic.specs.Run.{opens as opens_group}
 use Rattle.dm_machine.specs.declared.progress.Progress.{Progress}
 use Rattle.dm_machine.specs.Machine.{Session, Machine}
-use Rattle.dm_machine.specs.Messages.{origin_of, running_for, is_quiet, quiet_after, execute}
+use Rattle.dm_machine.specs.Messages.{running_for, is_quiet, quiet_after, execute}
 use Rattle.dm_machine.specs.Statuses.{is_executed, executed}
 use Rattle.dm_service.proofs.Codes.{first_in, later_in}
 use Rattle.dm_job.specs.declared.job.Job.{Job}
@@ -47,6 +47,7 @@ use Rattle.dm_world.specs.World.{up_delivered, happens, run}
 use Rattle.dm_world.specs.Start.{at_start}
 use Rattle.dm_world.proofs.Lists.{either}
 use Rattle.dm_world.proofs.SaysMade.{contains-map}
+use Rattle.dm_ends.specs.Commands.{origin_of}
 
 -- ---- lists of what is made
 

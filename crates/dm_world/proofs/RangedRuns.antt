@@ -53,8 +53,9 @@ use Rattle.dm_atomic.proofs.OneStatus.{one_step-steps}
 use Rattle.dm_pack.specs.Entries.{whole_entry}
 use Rattle.dm_ends.proofs.Statuses.{IsReadyPost}
 use Rattle.dm_ends.proofs.Texts.{known_number}
+use Rattle.dm_ends.specs.Commands.{origin_of}
 use Rattle.dm_machine.specs.Machine.{Machine}
-use Rattle.dm_machine.specs.Messages.{is_quiet, origin_of, running_for, quiet_after, execute}
+use Rattle.dm_machine.specs.Messages.{is_quiet, running_for, quiet_after, execute}
 use Rattle.dm_machine.specs.Ready.{IsReadyGroup, IsReadyState}
 use Rattle.dm_machine.proofs.ToldTexts.{device_text}
 use Rattle.dm_machine.proofs.ToldSteps.{IsReadyTask, IsReadyRunning, step_ready}

@@ -17,7 +17,7 @@ use Rattle.dm_atomic.specs.Made.{Status}
 use Rattle.dm_atomic.specs.Posts.{asked_posts}
 use Rattle.dm_pack.specs.Entries.{Entry, whole_entry}
 use Rattle.dm_pack.specs.Filling.{fill}
-use Rattle.dm_ends.specs.Commands.{is_abort, session_of}
+use Rattle.dm_ends.specs.Commands.{is_abort, session_of, origin_of}
 use Rattle.dm_ends.specs.Ready.{IsReadyAccount, IsReadyLimits, IsReadyMessage}
 use Rattle.dm_ends.proofs.Answers.{nonce_is, answer_ready}
 use Rattle.dm_ends.proofs.Hearing.{IsRoom, hears_ready}
@@ -28,7 +28,7 @@ use Rattle.dm_job.specs.Sound.{all_entries}
 use Rattle.dm_service.specs.declared.progress.Progress.{Progress}
 use Rattle.dm_service.specs.Service.{Waiting, Session, Service}
 use Rattle.dm_service.specs.Packages.{is_of_job, job_waiting, queues_package, next_package, put_back, gives_up}
-use Rattle.dm_service.specs.Answers.{code_for, answers_command, answers_all, origin_of, command_answers}
+use Rattle.dm_service.specs.Answers.{code_for, answers_command, answers_all, command_answers}
 use Rattle.dm_service.specs.Sending.{target_of, header_for, carried_on, sends}
 use Rattle.dm_service.specs.Messages.{first_session, begins, ended, denies, answer_waiting, after_status, tells}
 use Rattle.dm_service.specs.Messages.{matched_in, with_matched, queues_answers, in_session, answers_message, by_header}
@@ -37,7 +37,8 @@ use Rattle.dm_service.specs.Events as server
 use Rattle.dm_service.specs.History as server_runs
 use Rattle.dm_service.specs.Ready.{IsReadyProgress, IsReadyService}
 use Rattle.dm_service.proofs.Headers.{header_ready}
-use Rattle.dm_world.specs.World.{Reply, replied, arrival}
+use Rattle.dm_service.specs.Events.{arrival}
+use Rattle.dm_world.specs.World.{Reply, replied}
 use Rattle.dm_world.proofs.Lists.{either, both-ways}
 use Rattle.dm_world.proofs.Numbers.{lt-of}
 use Rattle.dm_world.proofs.Server.{HasProgress, status-has, tells-has, session-has, has-itself}

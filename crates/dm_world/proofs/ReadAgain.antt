@@ -22,8 +22,9 @@ use Rattle.dm_machine.proofs.Accounts.{accounts_stay}
 use Rattle.dm_service.specs.Ready.{IsReadyService}
 use Rattle.dm_service.proofs.First.{first_is_ready}
 use Rattle.dm_service.proofs.Stays.{stays_ready as server_stays}
+use Rattle.dm_service.specs.Events.{arrival}
 use Rattle.dm_world.specs.World.{World, Reply, Happening, opens, up_comes, down_comes, update_ends, clock_moves}
-use Rattle.dm_world.specs.World.{is_lost, finds_no_memory, said, client_has, arrival, down_delivered, up_delivered}
+use Rattle.dm_world.specs.World.{is_lost, finds_no_memory, said, client_has, down_delivered, up_delivered}
 use Rattle.dm_world.specs.World.{happens, run}
 use Rattle.dm_world.specs.Start.{at_start, IsWorldStart, IsNonce, IsInRange, IsSchedule}
 use Rattle.dm_world.specs.Held.{IsReadAgain, ReadsTheSent}

@@ -33,7 +33,7 @@ use Rattle.dm_pack.specs.Entries.{Entry, IsReady, whole_entry}
 use Rattle.dm_pack.specs.Filling.{fill, taken, cut, fits, commands_of, next_part, next_rest, tail_of, tail_commands}
 use Rattle.dm_pack.specs.Filling.{numbered, IsReadyHeader}
 use Rattle.dm_pack.proofs.Progress.{the_first_goes_out}
-use Rattle.dm_ends.specs.Commands.{alert, is_abort}
+use Rattle.dm_ends.specs.Commands.{alert, is_abort, origin_of}
 use Rattle.dm_ends.proofs.Hearing.{hears_ready}
 use Rattle.dm_machine.specs.declared.kinds.Kind.{Kind}
 use Rattle.dm_machine.specs.declared.kinds.End.TheVariants.{Finished, Aborted}
@@ -44,7 +44,7 @@ use Rattle.dm_machine.specs.Opening.{result_alert, update_uri, device_told, open
 use Rattle.dm_machine.specs.Sending.{header_from, sends}
 use Rattle.dm_machine.specs.Messages.{Outcome, goes_on, ends, begins, Waits, waits_after, is_over}
 use Rattle.dm_machine.specs.Messages.{account_at, closed, finished, first_progress, denied, run_of, answered, by_header}
-use Rattle.dm_machine.specs.Messages.{origin_of, execute, is_last_own, accepts, ends_update}
+use Rattle.dm_machine.specs.Messages.{execute, is_last_own, accepts, ends_update}
 use Rattle.dm_machine.specs.Statuses.{is_executed}
 use Rattle.dm_machine.specs.Events as client
 use Rattle.dm_machine.specs.Ready.{IsReadyMachine, IsReadyProgress, IsReadyMessage}

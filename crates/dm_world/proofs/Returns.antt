@@ -19,12 +19,12 @@ use Rattle.dm_atomic.specs.declared.tasks.Origin.{Origin}
 use Rattle.dm_atomic.specs.declared.tasks.Post.{Post}
 use Rattle.dm_atomic.specs.Posts.{asked_posts}
 use Rattle.dm_atomic.specs.Made.{Made, Status, told as made_told}
-use Rattle.dm_ends.specs.Commands.{is_abort, is_report}
+use Rattle.dm_ends.specs.Commands.{is_abort, is_report, origin_of}
 use Rattle.dm_job.specs.declared.job.JobEntry.{JobEntry}
 use Rattle.dm_service.specs.declared.sent.Carried.{Carried}
 use Rattle.dm_service.specs.Service.{Waiting, Session, Service}
 use Rattle.dm_service.specs.Packages.{is_of_job, job_waiting, queues_package, next_package, put_back, gives_up}
-use Rattle.dm_service.specs.Answers.{command_answers, answers_all, code_for, origin_of}
+use Rattle.dm_service.specs.Answers.{command_answers, answers_all, code_for}
 use Rattle.dm_service.specs.Sending.{header_for, sends}
 use Rattle.dm_service.specs.Messages.{first_service, begins, first_session, denies, after_status, answer_waiting}
 use Rattle.dm_service.specs.Messages.{tells, queues_answers, in_session, answers_message, by_header, accepts}

@@ -15,10 +15,9 @@ use Rattle.dm_pack.specs.Entries.{Entry, part_of}
 use Rattle.dm_pack.specs.Filling.{numbered, commands_of, taken, cut, next_part, next_rest, tail_of}
 use Rattle.dm_pack.specs.Filling.{tail_commands, fill}
 use Rattle.dm_pack.specs.Measures.{ids_of}
-use Rattle.dm_ends.specs.Commands.{alert, is_report}
+use Rattle.dm_ends.specs.Commands.{alert, is_report, origin_of}
 use Rattle.dm_ends.specs.Farewells.{farewell}
 use Rattle.dm_job.specs.declared.job.JobEntry.{JobEntry}
-use Rattle.dm_machine.specs.Messages.{origin_of}
 use Rattle.dm_service.specs.declared.sent.Carried.{Carried}
 use Rattle.dm_service.specs.Service.{Waiting}
 use Rattle.dm_world.specs.Deeds.{Deed, command_deeds, all_deeds}

@@ -25,9 +25,10 @@ use Rattle.dm_service.specs.Laws.{code_at, found_at}
 use Rattle.dm_service.proofs.Codes.{codes_are_told}
 use Rattle.dm_service.proofs.Limits.{limit-stays}
 use Rattle.dm_service.proofs.Values.{values_are_found, stands-in}
+use Rattle.dm_service.specs.Events.{arrival}
 use Rattle.dm_world.specs.World.{World, Reply, Happening, opens, up_comes, down_comes, update_ends, clock_moves}
 use Rattle.dm_world.specs.World.{is_lost}
-use Rattle.dm_world.specs.World.{finds_no_memory, with_new, said, client_has, arrival, down_delivered, up_delivered}
+use Rattle.dm_world.specs.World.{finds_no_memory, with_new, said, client_has, down_delivered, up_delivered}
 use Rattle.dm_world.specs.World.{happens, run}
 use Rattle.dm_world.specs.Start.{at_start}
 use Rattle.dm_world.proofs.Lists.{either}

@@ -21,7 +21,7 @@ use Rattle.dm_job.specs.declared.job.JobEntry.{JobEntry}
 use Rattle.dm_service.specs.declared.progress.Progress.{Progress}
 use Rattle.dm_service.specs.declared.sent.Carried.{Carried}
 use Rattle.dm_service.specs.declared.sent.Sent.{Sent}
-use Rattle.dm_service.specs.Service.{Waiting, Told, Session, Service}
+use Rattle.dm_service.specs.Service.{Waiting, Told, Session, Service, entries_of}
 use Rattle.dm_service.specs.Matching.{untold, Finding}
 use Rattle.dm_service.specs.Packages.{is_of_job, queues_package, next_package, holds_number, forgotten, not_sent}
 use Rattle.dm_service.specs.Packages.{gives_up}
@@ -31,7 +31,6 @@ use Rattle.dm_service.specs.Messages.{ended, denies, answer_waiting, matched_in,
 use Rattle.dm_service.specs.Messages.{queues_answers, session_or, in_session, answers_message, by_header, accepts}
 use Rattle.dm_service.specs.Laws.{found_at}
 use Rattle.dm_service.proofs.Codes.{filter_in}
-use Rattle.dm_world.specs.Packing.{entries_of}
 use Rattle.dm_world.proofs.Lists.{either, Each, each-append, each-drop}
 use Rattle.dm_world.proofs.Client.{OpenAs}
 use Rattle.dm_world.proofs.Server.{heard-numbers}

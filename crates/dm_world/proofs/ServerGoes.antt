@@ -9,7 +9,7 @@ use Rattle.dm_service.specs.Messages as serving
 use Rattle.dm_service.specs.Events as server
 use Rattle.dm_service.specs.History as server_runs
 use Rattle.dm_world.specs.World.{Reply}
-use Rattle.dm_world.specs.World.{with_new, replied, arrival}
+use Rattle.dm_world.specs.World.{with_new, replied}
 use Rattle.dm_world.specs.Acts.{Act}
 use Rattle.dm_world.specs.Acts.{job_acts}
 use Rattle.dm_world.specs.Lockstep.{first_of}
@@ -29,6 +29,7 @@ use Rattle.dm_world.proofs.Serving.{reply_to, OwnIs, Turn, Comes, Step_of, same-
 use Rattle.dm_world.proofs.Position.{seen, sent_by, NewestSays, Silent, Placed}
 use Rattle.dm_world.proofs.Position.{ByRun}
 use Rattle.dm_service.specs.declared.sent.Sent.{Sent}
+use Rattle.dm_service.specs.Events.{arrival}
 use Rattle.dm_world.proofs.Lockstep.{Bound, ServerFine}
 use Rattle.dm_world.proofs.Serves.{Outcome_of, GaveUp}
 use Rattle.dm_world.proofs.Happens.{served-by}

@@ -14,7 +14,8 @@ use Rattle.dm_service.specs.Messages as serving
 use Rattle.dm_service.specs.Events as server
 use Rattle.dm_service.specs.History as server_runs
 use Rattle.dm_service.specs.Laws.{found_at}
-use Rattle.dm_world.specs.World.{InSession, Reply, arrival}
+use Rattle.dm_service.specs.Events.{arrival}
+use Rattle.dm_world.specs.World.{InSession, Reply}
 use Rattle.dm_world.specs.Acts.{Act}
 use Rattle.dm_world.specs.Packing.{reply_acts}
 use Rattle.dm_world.proofs.Lists.{either_is, and-right, Each, each-append, each-within, StandsIn}

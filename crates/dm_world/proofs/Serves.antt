@@ -23,7 +23,7 @@ use Rattle.dm_job.specs.declared.job.JobEntry.{JobEntry}
 use Rattle.dm_service.specs.declared.sent.Carried.{Carried}
 use Rattle.dm_service.specs.declared.progress.Progress.{Progress}
 use Rattle.dm_service.specs.declared.sent.Sent.{Sent}
-use Rattle.dm_service.specs.Service.{Waiting, Session, Service}
+use Rattle.dm_service.specs.Service.{Waiting, Session, Service, entries_of}
 use Rattle.dm_service.specs.Packages.{is_of_job, queues_package, next_package, put_back, not_sent}
 use Rattle.dm_service.specs.Packages.{runs_after}
 use Rattle.dm_service.specs.Packages.{gives_up}
@@ -32,7 +32,7 @@ use Rattle.dm_service.specs.Messages.{ended, denies, answer_waiting, tells, queu
 use Rattle.dm_service.specs.Messages.{in_session, answers_message, by_header, accepts}
 use Rattle.dm_service.specs.Events.{reply_of}
 use Rattle.dm_world.specs.Acts.{Act, acts, entries_acts, job_acts, join}
-use Rattle.dm_world.specs.Packing.{entries_of, acts_to_send, reply_acts, IsOfJobOrReport}
+use Rattle.dm_world.specs.Packing.{acts_to_send, reply_acts, IsOfJobOrReport}
 use Rattle.dm_world.proofs.Lists.{either, either_is, Each, each-append, each-drop}
 use Rattle.dm_world.proofs.Client.{OpenAs}
 use Rattle.dm_world.proofs.Server.{heard-numbers}

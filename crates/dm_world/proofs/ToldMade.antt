@@ -32,9 +32,10 @@ use Rattle.dm_service.specs.History as server_runs
 use Rattle.dm_service.specs.Pieces.{still_sent, is_read}
 use Rattle.dm_service.specs.Laws.{code_at, IsTold}
 use Rattle.dm_service.proofs.Codes.{codes_are_told, still_within, told_still}
+use Rattle.dm_service.specs.Events.{arrival}
 use Rattle.dm_world.specs.World.{InSession, World, Happening, opens, up_comes, down_comes, update_ends, clock_moves}
 use Rattle.dm_world.specs.World.{is_lost}
-use Rattle.dm_world.specs.World.{with_new, replied, finds_no_memory, arrival, made_by, up_delivered, down_delivered}
+use Rattle.dm_world.specs.World.{with_new, replied, finds_no_memory, made_by, up_delivered, down_delivered}
 use Rattle.dm_world.specs.World.{happens, run, Reply}
 use Rattle.dm_world.specs.Start.{at_start, IsWorldStart, IsInRange, IsSchedule}
 use Rattle.dm_world.specs.Commands.{WasMade, SaysWhatItMade, WasExecuted, StandsAs}

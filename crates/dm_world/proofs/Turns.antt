@@ -17,9 +17,10 @@ use Rattle.dm_machine.specs.History as client_runs
 use Rattle.dm_service.specs.Service.{Service, Session as Serving}
 use Rattle.dm_service.specs.Events as server
 use Rattle.dm_service.specs.History as server_runs
+use Rattle.dm_service.specs.Events.{arrival}
 use Rattle.dm_world.specs.Deeds.{Deed}
 use Rattle.dm_world.specs.World.{World, Reply, InSession, opens, up_comes, down_comes, update_ends, clock_moves}
-use Rattle.dm_world.specs.World.{is_lost, finds_no_memory, with_new, said, replied, client_has, arrival, deeds_by}
+use Rattle.dm_world.specs.World.{is_lost, finds_no_memory, with_new, said, replied, client_has, deeds_by}
 use Rattle.dm_world.specs.World.{made_by, down_delivered, up_delivered, happens, run}
 use Rattle.dm_world.specs.Start.{at_start}
 use Rattle.dm_world.specs.Lockstep.{first_of, newest_in, TakesNewest, ServesNewest, is_down_taken, is_up_taken}

@@ -21,11 +21,12 @@ use Rattle.dm_atomic.specs.Run.{Group, State, Running, Next, quietly, one_step, 
 use Rattle.dm_atomic.specs.Run.{run_all, still_of, still}
 use Rattle.dm_machine.specs.declared.progress.Progress.{Progress}
 use Rattle.dm_machine.specs.Machine.{Machine}
-use Rattle.dm_machine.specs.Messages.{origin_of, running_for, is_quiet, quiet_after, execute}
+use Rattle.dm_machine.specs.Messages.{running_for, is_quiet, quiet_after, execute}
 use Rattle.dm_machine.specs.Statuses.{is_executed, executed}
 use Rattle.dm_world.specs.Acts.{command_acts, acts, item_acts}
 use Rattle.dm_world.proofs.Lists.{either}
 use Rattle.dm_world.proofs.Waits.{left-none, right-none}
+use Rattle.dm_ends.specs.Commands.{origin_of}
 
 abbrev pub NoneFound : List Made → Type 0
 NoneFound ms = (p : Post) (f : Found) → Contains ms (Result p f) → ⊥

@@ -21,12 +21,12 @@ use Rattle.dm_job.specs.declared.job.JobEntry.{JobEntry}
 use Rattle.dm_job.specs.Sound.{all_entries}
 use Rattle.dm_service.specs.declared.sent.Carried.{Carried}
 use Rattle.dm_service.specs.declared.sent.Sent.{Sent}
-use Rattle.dm_service.specs.Service.{Waiting, Session, Service}
+use Rattle.dm_service.specs.Service.{Waiting, Session, Service, entries_of}
 use Rattle.dm_service.specs.Packages.{is_of_job, job_waiting, queues_package, next_package}
 use Rattle.dm_service.specs.Sending.{header_for, in_a_row, rest_holds, part_holds, goes_out, carried_on, sends}
 use Rattle.dm_service.specs.Messages.{answer_waiting}
 use Rattle.dm_world.specs.Acts.{Act, command_acts, acts, entries_acts, job_acts, join}
-use Rattle.dm_world.specs.Packing.{entries_of, acts_to_send, IsCarried, IsOfJobOrReport}
+use Rattle.dm_world.specs.Packing.{acts_to_send, IsCarried, IsOfJobOrReport}
 use Rattle.dm_world.proofs.Lists.{either, Each, each-drop}
 use Rattle.dm_world.proofs.Joins.{acts-append}
 use Rattle.dm_world.proofs.Packing.{fill-joined, commands-append}

@@ -11,12 +11,11 @@ use Rattle.syncml_types.specs.declared.command.Command.{Command}
 use Rattle.syncml_types.specs.declared.command.Command.TheVariants as command
 use Rattle.syncml_types.specs.Message.{Parts}
 use Rattle.dm_atomic.specs.Made.{Made}
-use Rattle.dm_ends.specs.Commands.{session_of}
+use Rattle.dm_ends.specs.Commands.{session_of, origin_of}
 use Rattle.dm_job.specs.declared.job.Job.{Job}
 use Rattle.dm_job.specs.declared.job.JobEntry.{JobEntry}
 use Rattle.dm_job.specs.Sound.{all_entries}
 use Rattle.dm_machine.specs.Machine.{Machine}
-use Rattle.dm_machine.specs.Messages.{origin_of}
 use Rattle.dm_service.specs.Service.{Told, Session as Serving}
 use Rattle.dm_service.specs.Matching.{untold}
 use Rattle.dm_service.specs.Packages.{commands_in}

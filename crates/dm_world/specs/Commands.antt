@@ -14,14 +14,13 @@ use Rattle.syncml_parts.specs.Packing.{bytes_in}
 use Rattle.dm_atomic.specs.declared.tasks.Post.{Post}
 use Rattle.dm_commands.specs.declared.outcome.Found.{Found}
 use Rattle.dm_atomic.specs.Made.{Made, Status, Result}
-use Rattle.dm_ends.specs.Commands.{session_of}
+use Rattle.dm_ends.specs.Commands.{session_of, origin_of}
 use Rattle.dm_job.specs.declared.job.Job.{Job}
 use Rattle.dm_job.specs.declared.job.JobEntry.{JobEntry}
 use Rattle.dm_job.specs.Sound.{all_entries}
 use Rattle.dm_machine.specs.Machine.{Machine}
 use Rattle.dm_service.specs.declared.sent.Sent.{Sent}
 use Rattle.dm_service.specs.Service.{Session}
-use Rattle.dm_machine.specs.Messages.{origin_of}
 use Rattle.dm_world.specs.Acts.{Act, block, does, command_acts, doing_acts}
 use Rattle.dm_world.specs.Deeds.{Deed, all_deeds}
 use Rattle.dm_world.specs.World.{Reply, InSession, World, Happening, run}

@@ -1,5 +1,5 @@
 -- What packing, sending and executing make of acts: none is lost, and none comes twice.
-use Rattle.std.specs.Prelude.{◌≡◌, ◌<◌, ◌&&◌, ℕ, Bool, true, false, not, List, [], ◌++◌, map, Option, None, Some}
+use Rattle.std.specs.Prelude.{◌≡◌, ◌<◌, ◌&&◌, ℕ, Bool, true, false, not, List, [], ◌++◌, Option, None, Some}
 use Rattle.std.specs.List.{AllByRecursion}
 use Rattle.syncml_types.specs.declared.values.Header.{Header}
 use Rattle.syncml_types.specs.declared.command.Step.{Step}
@@ -13,7 +13,7 @@ use Rattle.dm_pack.specs.Filling.{Filling, fill, commands_of}
 use Rattle.dm_machine.specs.declared.progress.Progress.{Progress}
 use Rattle.dm_machine.specs.Machine.{Machine}
 use Rattle.dm_machine.specs.Statuses.{is_executed}
-use Rattle.dm_service.specs.Service.{Waiting, Session, Service}
+use Rattle.dm_service.specs.Service.{Waiting, Session, Service, entries_of}
 use Rattle.dm_service.specs.Messages.{first_service, accepts}
 use Rattle.dm_service.specs.Events.{Arrival, reply_of}
 use Rattle.dm_service.specs.History.{state_from}
@@ -39,9 +39,6 @@ ExecutesAll = (c : Machine) (p : Progress) (m : Parts) (nonce : List ℕ) → is
     → deeds_acts (deeds_in c p m nonce) ≡ acts m.body
 
 -- ---- at the server
-
-abbrev pub entries_of : List Waiting → List Entry
-entries_of ws = map (λ (w : Waiting). w.entry) ws
 
 -- the acts that it has still to send: of what waits, and of the packages that weren't queued
 abbrev pub acts_to_send : Service → List Act

@@ -11,14 +11,16 @@ use Rattle.dm_machine.specs.declared.kinds.Kind.{Kind}
 use Rattle.dm_machine.specs.declared.kinds.End.TheVariants.{Denied}
 use Rattle.dm_machine.specs.declared.progress.Progress.{Progress}
 use Rattle.dm_machine.specs.Machine.{Machine, Session}
-use Rattle.dm_machine.specs.Messages.{account_at, origin_of}
+use Rattle.dm_machine.specs.Messages.{account_at}
 use Rattle.dm_machine.specs.Events as client
 use Rattle.dm_machine.specs.History as client_runs
 use Rattle.dm_machine.specs.Statuses.{is_executed, executed}
 use Rattle.dm_service.specs.Service.{Service}
 use Rattle.dm_service.specs.Events as server
 use Rattle.dm_service.specs.History as server_runs
+use Rattle.dm_service.specs.Events.{arrival}
 use Rattle.dm_world.specs.Deeds.{Deed, all_deeds}
+use Rattle.dm_ends.specs.Commands.{origin_of}
 
 -- a message of the server, and the message of the client that it answers
 pub record Reply : Type 0 where
@@ -102,9 +104,6 @@ down_delivered w (Some d) nonce =
       executed = w.executed ++ deeds_by w.client w.client.session d.message nonce;
       made = w.made ++ made_by w.client w.client.session d.message nonce;
     }
-
-abbrev pub arrival : Parts → List ℕ → server.Arrival
-arrival m nonce = record { read = Ok m; nonce = nonce }
 
 abbrev pub up_delivered : World → Option Parts → List ℕ → World
 up_delivered w None nonce = w

@@ -3,7 +3,7 @@ use Rattle.syncml_types.specs.declared.values.Header.{Header}
 use Rattle.dm_pack.specs.Filling.{fill}
 use Rattle.dm_service.specs.declared.progress.Progress.{Progress}
 use Rattle.dm_service.specs.Sending.{goes_out}
-use Rattle.dm_waiting.specs.View.{entries_of}
+use Rattle.dm_service.specs.Service.{entries_of}
 use Rattle.dm_server.specs.Inside.{at_work}
 use Rattle.dm_server.specs.Working.{with_account}
 use Rattle.dm_server.proofs.Fillings.{sent_is}

@@ -1,8 +1,8 @@
 use Rattle.std.proofs.Common.{◌∙◌, ap, refl}
 use Rattle.std.specs.Prelude.{option_map}
 use Rattle.dm_service.specs.History.{next}
+use Rattle.dm_service.specs.Events.{arrival}
 use Rattle.dm_server.specs.Inside.{message_in}
-use Rattle.dm_server.specs.Working.{arrival}
 use Rattle.dm_server.proofs.Services.{follow_above, follow_taken, told_as}
 use Rattle.dm_server.proofs.server.Server.follow.Goals as goal
 

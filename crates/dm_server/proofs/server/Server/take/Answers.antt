@@ -1,7 +1,7 @@
 use Rattle.std.proofs.Common.{ap, subst, sym}
 use Rattle.dm_service.specs.Service.{Service}
+use Rattle.dm_service.specs.Events.{arrival}
 use Rattle.dm_server.specs.Inside.{KeepsReply}
-use Rattle.dm_server.specs.Working.{arrival}
 use Rattle.dm_server.proofs.Services.{next_old, old_tells}
 use Rattle.dm_server.proofs.server.Server.take.Goals as goal
 
