@@ -165,8 +165,8 @@ impl Journal {
 
     /// Drops all trees before the mark, with the subtrees that they alone need, and leaves the tree as it is. No roll
     /// back after the mark may have gone to a place before it. It answers the first place, where the mark now stands:
-    /// of the marks taken so far that one alone is to be used. It takes no memory, and time by the entries; none where
-    /// no tree is dropped.
+    /// of the marks taken so far that one alone is to be used. The room for spare entries stays, that of those given up
+    /// goes. It takes no memory, and time by the entries; none where no tree is dropped.
     pub fn settle(&mut self, tree: &mut Tree, mark: Mark) -> Mark
         requires held { mark ≤ length self.old.entries }
         requires within { StaysWithin (take (length self.old.entries - mark) self.old.entries) }
@@ -179,11 +179,13 @@ impl Journal {
         ensures parked { AreAllHeld self.old.entries tree.old.rows → AreAllHeld self.new.entries tree.new.rows }
         ensures entries { self.new ≡ record self.old {
           entries = take (length self.old.entries - mark) self.old.entries;
+          room = self.old.room - mark;
         } }
         ensures clock { tree.new.clock ≡ tree.old.clock }
     {
         let count = self.entries.len() - mark.place;
         keep_newest(&mut self.entries, tree, count);
+        self.room -= mark.place;
         Mark { place: 0 }
     }
 }

@@ -11,7 +11,7 @@ pub keep_newest-requires-clause-sound : goal.keep_newest-requires-clause-sound
 keep_newest-requires-clause-sound c = sound-kept c.self.inside.entries.items c.args.self.now.entries
     c.args.tree.now.rows (ap (λ (k : Journal). k.entries) c.self.view_is) c.requires.sound
 
-after : (c : goal.After-keep_newest) → Settle c.args.self.now.entries (reverse c.keep_newest.new.entries.items)
+after : (c : goal.After-self-1) → Settle c.args.self.now.entries (reverse c.keep_newest.new.entries.items)
     c.args.tree.now.rows c.keep_newest.new.tree.rows c.args.mark
 after c =
     let items = c.self.inside.entries.items in
