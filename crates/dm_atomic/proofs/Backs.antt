@@ -34,6 +34,11 @@ drop-none [] zero e = refl
 drop-none (x ∷ l) zero e = refl
 drop-none l (suc n) e = absurd (omega (arith, e))
 
+none-taken : {A : Type 0} (l : List A) (n : ℕ) → n ≡ 0 → take n l ≡ []
+none-taken [] zero e = refl
+none-taken (x ∷ l) zero e = refl
+none-taken l (suc n) e = absurd (omega (arith, e))
+
 few-taken : {A : Type 0} (k n : ℕ) (l : List A) → k ≤ n → k ≤ length l → k ≤ length (take n l)
 few-taken k zero [] h g = omega (arith, h)
 few-taken k zero (x ∷ l) h g = omega (arith, h)
@@ -86,6 +91,7 @@ module _ (e : Engine) (m : EngineMark) (s : IsSoundEngine e) (j : m.journal ≡ 
       update = subst (λ (x : Maps). IsUpdateInOrder x.nodes) (sym t) s.update;
       object = subst (λ l. FitsObject e.inbox.max_obj (present l)) (sym all) s.object;
       group = open_there;
+      closed = λ off. p ∙ ap length (s.closed (sym o ∙ off));
     };
     there =
         same-whole (tree_there e m.journal) (maps_of e.tree.rows) _ _ _ _ _ _ _ _ t (ap present all)
@@ -225,6 +231,7 @@ module _ (e f : Engine) (m : EngineMark) (h : IsHeld e m) (b : GoesBack e f m) w
           update = subst (λ (x : Maps). IsUpdateInOrder x.nodes) (sym (base (sym b.is_open ∙ is))) at.update;
         };
     ended = λ is. has_room s (sym b.is_open ∙ is);
+    closed = λ off. b.parts ∙ none-taken (group_at e m.groups).parts m.parts (h.closed (sym b.is_open ∙ off));
   }
 
   -- ---- an earlier mark
@@ -316,6 +323,7 @@ module _ (e f : Engine) (m : EngineMark) (h : IsHeld e m) (b : GoesBack e f m) w
         (sym (ap (λ (i : Seen). i.max_obj) b.inbox))
         (subst (λ l. FitsObject e.inbox.max_obj (present l)) (sym (taken k early)) hk.object);
     group = λ is. earlier-open k early is (hk.group is);
+    closed = hk.closed;
   }
 
   earlier-there : (k : EngineMark) → IsHeld e k → IsEarlier k m → recalled f k ≡ recalled e k
@@ -392,6 +400,7 @@ pub record Settles (e f : Engine) (first : ℕ) : Type 0 where
   pub trees : RecallsFrom first e.journal.entries e.tree.rows f.journal.entries f.tree.rows
   pub journal : f.journal ≡ record e.journal {
     entries = take (length e.journal.entries - first) e.journal.entries;
+    room = e.journal.room - first;
   }
   pub mark : f.mark ≡ 0
   pub inbox : f.inbox ≡ record e.inbox { objects = present e.inbox.objects ∷ [] }
@@ -446,7 +455,7 @@ module _ (e f : Engine) (first : ℕ) (s : IsSoundEngine e) (x : Settles e f fir
   entries_long =
       ap length entries_are ∙ length-take-le (length e.journal.entries - first) e.journal.entries (omega arith)
 
-  room_is : f.journal.room ≡ e.journal.room
+  room_is : f.journal.room ≡ e.journal.room - first
   room_is = ap (λ (j : Journal). j.room) x.journal
 
   closed_first : e.is_open ≡ false → first ≡ length e.journal.entries
@@ -495,7 +504,7 @@ module _ (e f : Engine) (first : ℕ) (s : IsSoundEngine e) (x : Settles e f fir
   pub settled_sound : IsSoundEngine f
   settled_sound = record {
     journal = x.sound;
-    spare = omega (arith, s.spare, entries_long, room_is);
+    spare = omega (arith, s.spare, entries_long, room_is, first_held e first s x.is_first);
     update = subst (λ (y : Maps). IsUpdateInOrder y.nodes) (sym x.there) s.update;
     max_obj = subst (λ (i : Seen). i.max_obj ≤ 4194304) (sym x.inbox) s.max_obj;
     object = subst (λ (i : Seen). FitsObject i.max_obj (present i.objects)) (sym x.inbox) s.object;
@@ -510,9 +519,10 @@ module _ (e f : Engine) (first : ℕ) (s : IsSoundEngine e) (x : Settles e f fir
               (subst (AreRecords c)
               (sym (entries_are ∙ ap (λ n. take (length e.journal.entries - n) e.journal.entries) (at_mark o)))
               (records_take c e.journal.entries can.plain));
-          spare = omega (arith, can.spare, entries_long, room_is);
+          spare = omega (arith, can.spare, entries_long, room_is, first_held e first s x.is_first);
           update = subst (λ (y : Maps). IsUpdateInOrder y.nodes) (sym (kept_base o)) can.update;
         };
     ended = λ is.
         omega (arith, s.ended (sym x.is_open ∙ is), x.capacity, f.ended.ok.0, ap length x.ended);
+    closed = λ off. x.parts ∙ s.closed (sym x.is_open ∙ off);
   }

@@ -42,6 +42,7 @@ skipped_sound e i s m fits = record {
   object = fits s.object;
   group = s.group;
   ended = s.ended;
+  closed = s.closed;
 }
 
 pub fail_gives : (e : Engine) (i : Seen) (s : State) (post : Post) (done : List Report) (failed : Report)

@@ -84,6 +84,7 @@ sound-after e f s o u fits = record {
       (s.group (sym o.is_open ∙ opened)));
   ended = λ opened. subst (λ (v : Vec EndedGroup). vec_len v < vec_capacity v) (sym o.ended)
       (s.ended (sym o.is_open ∙ opened));
+  closed = λ off. o.parts ∙ s.closed (sym o.is_open ∙ off);
 }
 
 -- another object is the present one
@@ -97,6 +98,7 @@ sound-holding e f next s is fits = subst IsSoundEngine (sym is) (record {
   object = subst (FitsObject e.inbox.max_obj) (sym (present-holding e.inbox.objects next)) fits;
   group = s.group;
   ended = s.ended;
+  closed = s.closed;
 })
 
 pub only_then : (a b c : Engine) → Only a b → Only b c → Only a c
@@ -181,6 +183,7 @@ started_sound e f started s is = subst IsSoundEngine (sym is) (record {
   object = s.object;
   group = s.group;
   ended = s.ended;
+  closed = s.closed;
 })
 
 pub started_only : (e f : Engine) (started : Option Started) → f ≡ record e { started = started; starts = f.starts }
@@ -266,8 +269,8 @@ pub closed_state : (e f : Engine) → f ≡ record e { is_open = false; parts = 
 closed_state e f is = ap state_of is
 
 pub closed_sound : (e f : Engine) → f ≡ record e { is_open = false; parts = f.parts; ended = f.ended }
-    → IsSoundEngine e → IsSoundEngine f
-closed_sound e f is s = subst IsSoundEngine (sym is) (record {
+    → f.parts ≡ [] → IsSoundEngine e → IsSoundEngine f
+closed_sound e f is empty s = subst IsSoundEngine (sym is) (record {
   journal = s.journal;
   spare = s.spare;
   update = s.update;
@@ -275,6 +278,7 @@ closed_sound e f is s = subst IsSoundEngine (sym is) (record {
   object = s.object;
   group = λ x. absurd (cc);
   ended = λ x. absurd (cc);
+  closed = λ x. empty;
 })
 
 abbrev rolled : Engine → Engine → Tree → Journal → Type 0
@@ -293,8 +297,8 @@ pub rolled_sound : (e f : Engine) (tree : Tree) (journal : Journal) (c : ℕ) �
     → IsSoundEngine e → IsSound journal.entries tree.rows
     → maps_of tree.rows ≡ tree_at e.journal.entries e.tree.rows e.mark
     → AreAlike (Flipped c ∷ e.journal.entries) journal.entries → journal.room ≡ e.journal.room
-    → rolled e f tree journal → IsSoundEngine f
-rolled_sound e f tree journal c o s j there alike room is = subst IsSoundEngine (sym is) (record {
+    → rolled e f tree journal → f.parts ≡ [] → IsSoundEngine f
+rolled_sound e f tree journal c o s j there alike room is empty = subst IsSoundEngine (sym is) (record {
   journal = j;
   spare = omega (arith, (s.group o).spare, room, alike_long (Flipped c ∷ e.journal.entries) journal.entries alike);
   update = subst (λ (m : Maps). IsUpdateInOrder m.nodes) (sym there) (s.group o).update;
@@ -302,11 +306,13 @@ rolled_sound e f tree journal c o s j there alike room is = subst IsSoundEngine 
   object = s.object;
   group = λ x. absurd (cc);
   ended = λ x. absurd (cc);
+  closed = λ x. empty;
 })
 
--- one more part is no part of it
-pub part_sound : (e : Engine) (parts : List Part) → IsSoundEngine e → IsSoundEngine (record e { parts = parts })
-part_sound e parts s = record {
+-- the parts of an open group are no part of it
+pub part_sound : (e : Engine) (parts : List Part) → IsSoundEngine e → e.is_open ≡ true
+    → IsSoundEngine (record e { parts = parts })
+part_sound e parts s o = record {
   journal = s.journal;
   spare = s.spare;
   update = s.update;
@@ -314,6 +320,7 @@ part_sound e parts s = record {
   object = s.object;
   group = s.group;
   ended = s.ended;
+  closed = λ x. absurd (cc);
 }
 
 -- ---- a group that opens
@@ -347,6 +354,7 @@ opened_sound e journal ended mark none s same room more place there = record {
     update = subst (λ (m : Maps). IsUpdateInOrder m.nodes) (sym there) s.update;
   };
   ended = λ x. omega (arith, more);
+  closed = λ x. absurd (cc);
 }
 
 pub reserved_sound : (e : Engine) (journal : Journal) (ended : Vec EndedGroup) → IsSoundEngine e → e.is_open ≡ false
@@ -360,6 +368,7 @@ reserved_sound e journal ended s o same room = record {
   object = s.object;
   group = λ x. absurd (cc);
   ended = λ x. absurd (cc);
+  closed = s.closed;
 }
 
 pub reserved_state : (e : Engine) (journal : Journal) (ended : Vec EndedGroup) → journal.entries ≡ e.journal.entries
@@ -401,4 +410,5 @@ clocked_sound e tree clock s is = subst (λ (t : Tree). IsSoundEngine (record e 
   object = s.object;
   group = s.group;
   ended = s.ended;
+  closed = s.closed;
 })

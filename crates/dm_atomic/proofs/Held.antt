@@ -283,6 +283,7 @@ held-holds old new m j o s g h = record {
       h.object);
   group = λ is. let at = h.group is in
       open-holds old new m j (g.each m.groups h.groups at.present) h.journal at;
+  closed = h.closed;
 }
 
 pub group-kept : (is : Bool) (rows rows' : List Row) (es es' : List Entry) (k k' : ℕ) (ps ps' : List Part)

@@ -44,10 +44,10 @@ begun_past es i max starts groups none is no_starts no_groups =
     same-past _ 0 _ 0 _ 0 _ 0 (ap length none) (omega (arith, ap (λ (x : Seen). length x.objects) is)) no_starts
     no_groups
 
-pub begun_sound : (f : Engine) (max : ℕ) → f.is_open ≡ false → IsSound f.journal.entries f.tree.rows
+pub begun_sound : (f : Engine) (max : ℕ) → f.is_open ≡ false → f.parts ≡ [] → IsSound f.journal.entries f.tree.rows
     → length f.journal.entries + 1 ≤ f.journal.room → IsUpdateInOrder (nodes f.tree.rows) → max ≤ 4194304
     → f.inbox ≡ record { max_obj = max; objects = Nothing ∷ [] } → IsSoundEngine f
-begun_sound f max closed sound room order small is = record {
+begun_sound f max closed empty sound room order small is = record {
   journal = sound;
   spare = omega (arith, room);
   update = order;
@@ -55,6 +55,7 @@ begun_sound f max closed sound room order small is = record {
   object = subst (λ (i : Seen). FitsObject i.max_obj (present i.objects)) (sym is) tt;
   group = λ o. absurd (cc);
   ended = λ o. absurd (cc);
+  closed = λ _. empty;
 }
 
 -- ---- a result

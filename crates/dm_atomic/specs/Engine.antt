@@ -1,6 +1,6 @@
 -- What an engine holds, and the state that it stands for.
-use Rattle.std.specs.Prelude.{◌≡◌, ◌≤◌, ◌<◌, ◌+◌, ◌-◌, ℕ, Bool, true, if◌then◌else◌, ⊤, List, ◌++◌, drop, length}
-use Rattle.std.specs.Prelude.{Option, None, Some, MatchOption, vec_len, vec_capacity}
+use Rattle.std.specs.Prelude.{◌≡◌, ◌≤◌, ◌<◌, ◌+◌, ◌-◌, ℕ, Bool, true, false, if◌then◌else◌, ⊤, List, [], ◌++◌, drop}
+use Rattle.std.specs.Prelude.{length, Option, None, Some, MatchOption, vec_len, vec_capacity}
 use Rattle.dm_base.specs.Limits.{object_limit}
 use Rattle.syncml_types.specs.declared.command.Command.{Command}
 use Rattle.syncml_types.specs.declared.command.Step.{Step}
@@ -62,8 +62,8 @@ FitsObject max Nothing = ⊤
 FitsObject max (Buffering begun) = begun.size ≤ max
 FitsObject max (Skipping key code) = ⊤
 
--- the journal tells trees, the update part is in order, no step is too large for the tree, and there is room for a
--- group that ends
+-- the journal tells trees, the update part is in order, no step is too large for the tree, there is room for a group
+-- that ends, and where none is open no parts are kept
 pub record IsSoundEngine (e : Engine) : Type 0 where
   pub journal : IsSound e.journal.entries e.tree.rows
   pub spare : length e.journal.entries < e.journal.room
@@ -72,6 +72,7 @@ pub record IsSoundEngine (e : Engine) : Type 0 where
   pub object : FitsObject e.inbox.max_obj (present e.inbox.objects)
   pub group : e.is_open ≡ true → CanRollBack e.tree.rows e.journal e.mark
   pub ended : e.is_open ≡ true → vec_len e.ended < vec_capacity e.ended
+  pub closed : e.is_open ≡ false → e.parts ≡ []
 
 -- a whole step is no larger than the tree takes
 abbrev pub IsShortWhat : What → Type 0

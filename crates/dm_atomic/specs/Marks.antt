@@ -1,6 +1,6 @@
 -- What the marks of an engine recall: all of it.
-use Rattle.std.specs.Prelude.{◌≡◌, ◌≤◌, ◌<◌, ◌+◌, ◌-◌, ℕ, Bool, true, if◌then◌else◌, List, [], ◌∷◌, ◌++◌, length, take}
-use Rattle.std.specs.Prelude.{drop, get_or, Option, None, Some}
+use Rattle.std.specs.Prelude.{◌≡◌, ◌≤◌, ◌<◌, ◌+◌, ◌-◌, ℕ, Bool, true, false, if◌then◌else◌, List, [], ◌∷◌, ◌++◌, length}
+use Rattle.std.specs.Prelude.{take, drop, get_or, Option, None, Some}
 use Rattle.dm_tree.specs.declared.rows.Row.{Row}
 use Rattle.dm_tree.specs.Nodes.{Ids}
 use Rattle.dm_tree.specs.Rows.{ids}
@@ -107,7 +107,7 @@ pub record IsOpenAt (e : Engine) (m : EngineMark) : Type 0 where
   pub spare : m.journal + 1 < e.journal.room
   pub update : IsUpdateInOrder (tree_there e (group_at e m.groups).mark).nodes
 
--- all that stood there is known still
+-- all that stood there is known still; where no group was open there were no parts
 pub record IsHeld (e : Engine) (m : EngineMark) : Type 0 where
   pub journal : m.journal ≤ length e.journal.entries
   pub inbox : m.inbox < length e.inbox.objects
@@ -116,6 +116,7 @@ pub record IsHeld (e : Engine) (m : EngineMark) : Type 0 where
   pub update : IsUpdateInOrder (tree_there e m.journal).nodes
   pub object : FitsObject e.inbox.max_obj (present (take (m.inbox + 1) e.inbox.objects))
   pub group : m.is_open ≡ true → IsOpenAt e m
+  pub closed : m.is_open ≡ false → m.parts ≡ 0
 
 -- the mark can be gone back to, and this stood there
 pub record Recalls (e : Engine) (m : EngineMark) (w : Whole) : Type 0 where

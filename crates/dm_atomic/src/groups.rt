@@ -18,6 +18,7 @@ impl Engine {
         ensures same { self.new ≡ record self.old { is_open = false; parts = self.new.parts; ended = self.new.ended } }
         ensures ended { self.new.ended.items
             ≡ self.old.ended.items ++ record { mark = self.old.mark; parts = self.old.parts } ∷ [] }
+        ensures empty { self.new.parts ≡ [] }
     {
         let parts = mem::replace(&mut self.parts, List::new(self.alloc));
         let mark = self.mark;
@@ -61,6 +62,7 @@ impl Engine {
     #[tactic(auto, using(crate::proofs::Held::holds_part, crate::proofs::Held::holds_self, crate::proofs::Engines::part_sound, crate::proofs::Staying::stay_self))]
     pub(crate) fn push_part(&mut self, part: Part) -> Result<(), Memory>
         requires sound { IsSoundEngine self.old }
+        requires is_open { self.old.is_open ≡ true }
         ensures ok { OnOk result (self.new ≡ record self.old { parts = self.old.parts ++ part ∷ [] }) }
         ensures err { OnErr result (self.new ≡ self.old) }
         ensures ids { StayBut none_moved (whole_of self.old) (whole_of self.new) }

@@ -7,7 +7,7 @@ ghost use Rattle.dm_undo.specs.Entries.{AreRecords};
 ghost use Rattle.dm_undo.specs.Sound.{IsSound};
 ghost use Rattle.dm_undo.specs.Notes.{Notes};
 
-use crate::asserts::assert_no_place_wrong;
+use crate::asserts::{assert_holds, assert_no_place_wrong};
 use crate::rows::rows_of;
 use crate::trees::{Start, add_all, at, bare_tree, chr, put, rename};
 use dm_tree::{NodeId, Role, Tree, Undo};
@@ -271,9 +271,25 @@ fn marks_bring_their_trees_back(rt: HostRuntime) {
 
 fn forget(tree: &mut Tree, journal: &mut Journal)
     requires { IsSound journal.old.entries tree.old.rows }
+    ensures { IsSound journal.new.entries tree.new.rows }
 {
     let mark = journal.mark();
     let _ = journal.settle(tree, mark);
+}
+
+// Whether none is spare after a hundred edits, each of which is noted and then settled.
+fn settles_without_spare(alloc: Global) -> Option<bool> {
+    let (mut tree, mut journal) = started(alloc)?;
+    for _ in 0..100 {
+        noted(alloc, &mut tree, &mut journal, Set(b"./T/a", b"1"))?;
+        forget(&mut tree, &mut journal);
+    }
+    Some(journal.spare() == 0)
+}
+
+#[test]
+fn settled_entries_leave_no_room(rt: HostRuntime) {
+    assert_holds(&rt, settles_without_spare(rt.alloc()));
 }
 
 // Three nodes, each below the one before, are rolled back and then given up, the uppermost one first: the row of each

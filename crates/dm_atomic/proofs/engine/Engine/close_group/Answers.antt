@@ -18,4 +18,5 @@ returns-clause-marks c =
     holds_ended c.args.self.now c.end_group.new.self c.end_group.ensures.same c.end_group.ensures.ended
 
 pub returns-clause-sound : goal.returns-clause-sound
-returns-clause-sound c = closed_sound c.args.self.now c.end_group.new.self c.end_group.ensures.same c.requires.sound
+returns-clause-sound c =
+    closed_sound c.args.self.now c.end_group.new.self c.end_group.ensures.same c.end_group.ensures.empty c.requires.sound

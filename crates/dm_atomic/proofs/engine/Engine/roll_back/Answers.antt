@@ -31,4 +31,4 @@ returns-clause-sound c =
     let e = c.args.self.now in
     rolled_sound e c.end_group.new.self c.roll_back.new.tree c.roll_back.new.self (length e.journal.entries - e.mark)
     c.requires.is_open c.requires.sound c.roll_back.ensures.sound c.roll_back.ensures.there c.roll_back.ensures.entries
-    c.roll_back.ensures.room c.end_group.ensures.same
+    c.roll_back.ensures.room c.end_group.ensures.same c.end_group.ensures.empty
