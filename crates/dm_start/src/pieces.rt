@@ -1,5 +1,5 @@
 // The tree text, put to a sink a piece at a time.
-ghost use Rattle.std.specs.Prelude.{◌≡◌, ◌<◌, ◌++◌, length, OnOk};
+ghost use Rattle.std.specs.Prelude.{◌≡◌, ◌<◌, ◌≤◌, ◌++◌, length, OnOk};
 ghost use Rattle.dm_base.specs.Fields.{hex_text};
 ghost use Rattle.dm_base.specs.Lines.{line_feed};
 ghost use Rattle.dm_base.specs.Outside.{PutsAll, PutCounts};
@@ -23,6 +23,7 @@ const CHUNK: usize = 32_768;
 fn put_piece<K: Sink>(out: &mut K, text: &mut Bytes) -> Result<(), Fault>
     ensures bytes { PutsOn (K.got out.old) (K.got out.new) text.old text.new result }
     ensures few { OnOk result (length text.new < 65536) }
+    ensures waits { OnOk result (length text.old < 65536 → text.new ≡ text.old) }
     ensures count { PutCounts (K.faults out.old) (K.faults out.new) result }
     ensures source { K.as_source out.new ≡ K.as_source out.old }
 {
@@ -39,7 +40,9 @@ fn put_piece<K: Sink>(out: &mut K, text: &mut Bytes) -> Result<(), Fault>
 
 // Puts digits behind the text that waits.
 fn put_digits<K: Sink>(out: &mut K, text: &mut Bytes, bytes: &[u8]) -> Result<(), Fault>
+    requires chunk { length bytes.now ≤ 32768 }
     ensures bytes { PutsOn (K.got out.old) (K.got out.new) (text.old ++ hex_text bytes.now) text.new result }
+    ensures few { OnOk result (length text.new < 65536) }
     ensures count { PutCounts (K.faults out.old) (K.faults out.new) result }
     ensures source { K.as_source out.new ≡ K.as_source out.old }
 {
@@ -52,6 +55,7 @@ fn put_digits<K: Sink>(out: &mut K, text: &mut Bytes, bytes: &[u8]) -> Result<()
 // Puts the digits of a value behind the text that waits, a piece of them at a time.
 fn put_value<K: Sink>(out: &mut K, text: &mut Bytes, bytes: &[u8]) -> Result<(), Fault>
     ensures bytes { PutsOn (K.got out.old) (K.got out.new) (text.old ++ hex_text bytes.now) text.new result }
+    ensures few { OnOk result (length text.new < 65536) }
     ensures count { PutCounts (K.faults out.old) (K.faults out.new) result }
     ensures source { K.as_source out.new ≡ K.as_source out.old }
 {
@@ -73,7 +77,8 @@ fn put_value<K: Sink>(out: &mut K, text: &mut Bytes, bytes: &[u8]) -> Result<(),
 
 // Puts a leaf's value, if it is one, behind a space and the text that waits.
 fn put_bytes<K: Sink>(out: &mut K, text: &mut Bytes, view: View) -> Result<(), Fault>
-    ensures bytes { PutsOn (K.got out.old) (K.got out.new) (text.old ++ Spec.bytes_text (shown view.entry)) text.new result }
+    ensures bytes { PutsOn (K.got out.old) (K.got out.new)
+        (text.old ++ Spec.bytes_text (shown view.entry)) text.new result }
     ensures count { PutCounts (K.faults out.old) (K.faults out.new) result }
     ensures source { K.as_source out.new ≡ K.as_source out.old }
 {
@@ -88,7 +93,9 @@ fn put_bytes<K: Sink>(out: &mut K, text: &mut Bytes, view: View) -> Result<(), F
 
 // Puts what a line has behind its front: a leaf's value, and the line feed.
 fn put_behind<K: Sink>(out: &mut K, text: &mut Bytes, view: View) -> Result<(), Fault>
-    ensures bytes { PutsOn (K.got out.old) (K.got out.new) (text.old ++ (Spec.bytes_text (shown view.entry) ++ line_feed)) text.new result }
+    ensures bytes { PutsOn (K.got out.old) (K.got out.new)
+        (text.old ++ (Spec.bytes_text (shown view.entry) ++ line_feed)) text.new result }
+    ensures few { OnOk result (length text.new < 65536) }
     ensures count { PutCounts (K.faults out.old) (K.faults out.new) result }
     ensures source { K.as_source out.new ≡ K.as_source out.old }
 {
@@ -114,6 +121,7 @@ fn put_line<K: Sink>(
     requires { IsLive tree.now.rows id }
     ensures bytes { PutsOn (K.got out.old) (K.got out.new)
         (text.old ++ Spec.line_at version (nodes tree.now.rows) (path_of tree.now.rows id)) text.new result }
+    ensures few { OnOk result (length text.new < 65536) }
     ensures count { PutCounts (K.faults out.old) (K.faults out.new) result }
     ensures source { K.as_source out.new ≡ K.as_source out.old }
 {

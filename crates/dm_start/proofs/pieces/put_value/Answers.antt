@@ -18,6 +18,7 @@ loop-rest-init g c =
       front = front-starts _ _ c.args.text.now c.args.bytes.now c.split_at.result.0.now c.split_at.result.1.now
           c.put_digits.new.text (cut_at _ _ _ c.min.result c.split_at.ensures.front c.split_at.ensures.back
           (λ some. grind (arith, nat_tests, c.min.ensures, some))) c.in-Ok.ensures.bytes;
+      few = c.in-Ok.ensures.few;
       count = c.in-Ok.ensures.count;
       source = c.put_digits.ensures.source;
     }
@@ -64,6 +65,7 @@ loop-rest-preserved g c =
           (cut_at _ _ _ c.min-in-loop-rest.result c.split_at-in-loop-rest.ensures.front
           c.split_at-in-loop-rest.ensures.back (λ some. grind (arith, nat_tests, c.min-in-loop-rest.ensures, some)))
           c.in-Ok-put_digits.ensures.bytes;
+      few = c.in-Ok-put_digits.ensures.few;
       count = c.in-Ok-put_digits.ensures.count ∙ c.loop-rest.invariant.count;
       source = c.put_digits-in-loop-rest.ensures.source ∙ c.loop-rest.invariant.source;
     }
@@ -78,3 +80,6 @@ returns-clause-count g c = c.loop-rest.invariant.count
 
 pub returns-clause-source : goal.returns-clause-source
 returns-clause-source g c = c.loop-rest.invariant.source
+
+pub returns-clause-few : goal.returns-clause-few
+returns-clause-few g c = c.loop-rest.invariant.few
