@@ -9,6 +9,8 @@ mod header_rows;
 #[cfg(test)]
 mod headers;
 #[cfg(test)]
+mod large;
+#[cfg(test)]
 mod object_rows;
 #[cfg(test)]
 mod objects;

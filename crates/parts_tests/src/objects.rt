@@ -15,8 +15,8 @@ fn target_of(alloc: Global, text: &[u8]) -> Result<Option<Bytes>, Memory> {
     Ok(Some(Bytes::of_slice(alloc, text)?))
 }
 
-// An empty target is none.
-fn piece(
+/// An empty target is none.
+pub(crate) fn piece(
     alloc: Global,
     verb: Verb,
     target: &[u8],
@@ -37,8 +37,8 @@ fn piece(
     Ok(Piece { step, size, more })
 }
 
-// The code of a piece; 200 for a whole step.
-fn code_of(taken: &Taken) -> u32 {
+/// The code of a piece; 200 for a whole step.
+pub(crate) fn code_of(taken: &Taken) -> u32 {
     match &taken.what {
         What::Whole(_) => 200,
         What::Buffered => 213,
@@ -46,8 +46,8 @@ fn code_of(taken: &Taken) -> u32 {
     }
 }
 
-// The value of a whole step.
-fn value_of(taken: &Taken) -> &[u8] {
+/// The value of a whole step.
+pub(crate) fn value_of(taken: &Taken) -> &[u8] {
     match &taken.what {
         What::Whole(step) => step.value.as_slice(),
         What::Buffered => b"",
@@ -76,8 +76,8 @@ fn is_taken(alloc: Global, inbox: &mut Inbox, sent: &Sent) -> Result<bool, Memor
     Ok(is_told)
 }
 
-// What a piece is that was taken over, by the step that stands in it now.
-fn what_of(sort: Sort, step: Step) -> What {
+/// What a piece is that was taken over, by the step that stands in it now.
+pub(crate) fn what_of(sort: Sort, step: Step) -> What {
     match sort {
         Sort::Whole => What::Whole(step),
         Sort::Buffered => What::Buffered,

@@ -14,12 +14,12 @@ use std::test::Fail;
 use syncml_parts::cut_item;
 use syncml_types::{Block, Command, Header, Item, Loc, Member, Meta, Plain, Verb};
 
-// A command with Data that may be cut: how many members it has, how many bytes of the Data, what Size it tells, and
-// whether more follow.
+/// A command with Data that may be cut: how many members it has, how many bytes of the Data, what Size it tells, and
+/// whether more follow.
 #[derive(Clone, Copy, Debug, PartialEq, Eq)]
-struct Part {
+pub(crate) struct Part {
     members: usize,
-    bytes: usize,
+    pub(crate) bytes: usize,
     size: Option<u64>,
     more: bool,
 }
@@ -66,8 +66,9 @@ fn part_in(filled: &Filled) -> Option<Part> {
     None
 }
 
+/// What stands of it in the next message, of at most 2,048 bytes.
 #[tactic(auto, using(dm_pack::proofs::Left::what_is_left_is_ready))]
-fn sent_part(queue: &mut Queue, header: Boxed<Header>) -> Result<Option<Part>, Memory>
+pub(crate) fn sent_part(queue: &mut Queue, header: Boxed<Header>) -> Result<Option<Part>, Memory>
     requires ready { AllByRecursion IsReady queue.old }
     requires header { IsReadyHeader header }
     ensures { AllByRecursion IsReady queue.new }

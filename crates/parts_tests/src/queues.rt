@@ -88,7 +88,7 @@ fn results_of(
 ) -> Result<Command, Memory>
     requires texts { (is_text uri ≡ true) × ((is_text format ≡ true) × (is_text media ≡ true)) }
     requires few { (length uri ≤ 20) × ((length format ≤ 20) × (length media ≤ 20)) }
-    requires value { length value ≤ 10000 }
+    requires value { length value ≤ 4194304 }
     ensures { IfOk result (λ c. IsReady (whole_entry c)) }
 {
     let mut items = List::new(alloc);
@@ -128,7 +128,7 @@ pub(crate) fn status(alloc: Global, cmd: &[u8], cmd_ref: u32) -> Result<Command,
 }
 
 fn results(alloc: Global, value: Bytes) -> Result<Command, Memory>
-    requires { length value ≤ 10000 }
+    requires { length value ≤ 4194304 }
     ensures { IfOk result (λ c. IsReady (whole_entry c)) }
 {
     let uri = text(alloc, b"./A")?;
@@ -189,7 +189,7 @@ fn sent(queue: &mut Queue, header: Boxed<Header>, room: u64, heard: bool) -> Res
 
 /// Two Statuses and Results.
 pub(crate) fn queue_of(alloc: Global, value: Bytes) -> Result<Queue, Memory>
-    requires { length value ≤ 10000 }
+    requires { length value ≤ 4194304 }
     ensures { IfOk result (AllByRecursion IsReady) }
 {
     let results = results(alloc, value)?;
