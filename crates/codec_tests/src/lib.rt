@@ -12,6 +12,8 @@ mod shape_rows;
 #[cfg(test)]
 mod tables;
 #[cfg(test)]
+mod takers;
+#[cfg(test)]
 mod tokens;
 #[cfg(test)]
 mod values;

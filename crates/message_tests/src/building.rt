@@ -175,11 +175,83 @@ fn reads_bodies(rt: HostRuntime) -> Result<(), Fail> {
     Ok(())
 }
 
+// A builder takes a piece, a leaf at once.
+fn give(builder: &mut Builder, piece: Piece) -> Result<(), Stop> {
+    match piece {
+        Open(element) => builder.tag(element, true),
+        Bare(element) => builder.tag(element, false),
+        End => builder.end(),
+        Text(text) => builder.text(text),
+        Opaque(bytes) if bytes.len() < 100 => builder.opaque(bytes),
+        Opaque(_) => Err(Stop::Memory),
+        Leaf(element, text) => builder.leaf(element, text),
+    }
+}
+
+fn give_all(builder: &mut Builder, head: &[Piece], pieces: &[Piece]) -> Result<(), Stop> {
+    for piece in head {
+        give(builder, *piece)?;
+    }
+    for piece in pieces {
+        give(builder, *piece)?;
+    }
+    Ok(())
+}
+
+// The message of pieces that are all taken.
+fn built(alloc: Global, head: &[Piece], pieces: &[Piece]) -> Option<Message> {
+    let mut builder = Builder::new(alloc);
+    let given = give_all(&mut builder, head, pieces);
+    let message = builder.finish();
+    match given {
+        Ok(()) => message,
+        Err(_) => None,
+    }
+}
+
+fn is_built(
+    alloc: Global,
+    head: &[Piece],
+    front: &[u8],
+    reading: &Reading,
+) -> Result<bool, Memory> {
+    let want = joined(alloc, front, reading.spelling)?;
+    match built(alloc, head, reading.pieces) {
+        Some(message) => Ok(spelling_of(alloc, &message)?.as_slice() == want.as_slice()),
+        None => Ok(false),
+    }
+}
+
+// The number of the first of these of which another message is built.
+fn first_misbuilt(
+    alloc: Global,
+    head: &[Piece],
+    front: &[u8],
+    readings: &[Reading],
+) -> Result<Option<usize>, Memory> {
+    for (at, reading) in readings.iter().enumerate() {
+        if !is_built(alloc, head, front, reading)? {
+            return Ok(Some(at));
+        }
+    }
+    Ok(None)
+}
+
+// A leaf that is given at once builds what its three tokens do.
+#[test]
+fn leaves_are_taken_at_once(rt: HostRuntime) -> Result<(), Fail> {
+    assert_eq!(rt; first_misbuilt(rt.alloc(), &[], b"", &WHOLES)?, None);
+    assert_eq!(rt; first_misbuilt(rt.alloc(), &HEAD, FRONT, &BODIES)?, None);
+    Ok(())
+}
+
 fn refuses_all(builder: &mut Builder) -> bool {
     let stop = Err(Stop::Refused(Reason::Leftout));
     builder.tag(ECred, true) == stop
         && builder.tag(ESyncML, true) == stop
         && builder.text(b"x") == stop
+        && builder.leaf(EMsgID, b"1") == stop
+        && builder.opaque(b"x") == stop
         && builder.end() == stop
 }
 
