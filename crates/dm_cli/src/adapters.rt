@@ -87,13 +87,14 @@ mod tests {
         left: &'static [u8],
         calls: u64,
         failing: u64,
+        kind: ErrorKind,
     }
 
     impl Read for HalfReader {
         fn read(&mut self, buf: &mut [u8]) -> io::Result<usize> {
             self.calls = self.calls.saturating_add(1);
             if self.calls == self.failing {
-                return Err(Error::from(ErrorKind::ConnectionReset));
+                return Err(Error::from(self.kind));
             }
             let count = (buf.len() - buf.len() / 2).min(self.left.len());
             let (front, behind) = self.left.split_at(count);
@@ -109,13 +110,14 @@ mod tests {
         got: Vec<u8>,
         calls: u64,
         failing: u64,
+        kind: ErrorKind,
     }
 
     impl Write for HalfWriter {
         fn write(&mut self, buf: &[u8]) -> io::Result<usize> {
             self.calls = self.calls.saturating_add(1);
             if self.calls == self.failing {
-                return Err(Error::from(ErrorKind::BrokenPipe));
+                return Err(Error::from(self.kind));
             }
             let count = buf.len() - buf.len() / 2;
             self.got.extend_from_slice(&buf[..count])?;
@@ -127,20 +129,30 @@ mod tests {
         }
     }
 
-    fn source(failing: u64) -> StdSource<HalfReader> {
+    fn source_of(left: &'static [u8], failing: u64, kind: ErrorKind) -> StdSource<HalfReader> {
         StdSource::new(HalfReader {
-            left: b"abcdef",
+            left,
             calls: 0,
             failing,
+            kind,
         })
     }
 
-    fn sink(alloc: Global, failing: u64) -> StdSink<HalfWriter> {
+    fn source(failing: u64) -> StdSource<HalfReader> {
+        source_of(b"abcdef", failing, ErrorKind::ConnectionReset)
+    }
+
+    fn sink_of(alloc: Global, failing: u64, kind: ErrorKind) -> StdSink<HalfWriter> {
         StdSink::new(HalfWriter {
             got: Vec::new(alloc),
             calls: 0,
             failing,
+            kind,
         })
+    }
+
+    fn sink(alloc: Global, failing: u64) -> StdSink<HalfWriter> {
+        sink_of(alloc, failing, ErrorKind::BrokenPipe)
     }
 
     #[test]
@@ -153,6 +165,7 @@ mod tests {
         assert_eq!(rt; src.take(&mut buf), Ok(2));
         assert_eq!(rt; &buf[..2], b"ef".as_slice());
         assert_eq!(rt; src.take(&mut buf), Ok(0));
+        assert_eq!(rt; src.inner.calls, 4);
         let failed = take_all(rt.alloc(), &mut source(2), 9).err();
         assert_eq!(rt; failed, Some(TakeError::Read));
         let whole = take_all(rt.alloc(), &mut source(0), 9)?;
@@ -166,6 +179,7 @@ mod tests {
         assert_eq!(rt; out.put(b"abcd"), Ok(2));
         assert_eq!(rt; out.put(b"cd"), Err(Fault::Failed));
         assert_eq!(rt; out.put(b"cd"), Ok(1));
+        assert_eq!(rt; out.inner.calls, 3);
         assert_eq!(rt; out.inner.got.as_slice(), b"abc".as_slice());
         let mut out = sink(rt.alloc(), 0);
         assert_eq!(rt; put_all(&mut out, b"abcdef"), Ok(()));
@@ -173,5 +187,41 @@ mod tests {
         let mut out = sink(rt.alloc(), 2);
         assert_eq!(rt; put_all(&mut out, b"abcdef"), Err(Fault::Failed));
         assert_eq!(rt; out.inner.got.as_slice(), b"abc".as_slice());
+    }
+
+    const KINDS: [ErrorKind; 4] = [
+        ErrorKind::Interrupted,
+        ErrorKind::TimedOut,
+        ErrorKind::UnexpectedEof,
+        ErrorKind::Other,
+    ];
+
+    #[test]
+    fn no_fault_is_tried_again(rt: HostRuntime) {
+        for kind in &KINDS {
+            let mut src = source_of(b"abcdef", 1, *kind);
+            let mut buf = [0u8; 8];
+            assert_eq!(rt; src.take(&mut buf), Err(Failed));
+            assert_eq!(rt; src.inner.calls, 1);
+            let mut out = sink_of(rt.alloc(), 1, *kind);
+            assert_eq!(rt; out.put(b"abcd"), Err(Fault::Failed));
+            assert_eq!(rt; out.inner.calls, 1);
+        }
+    }
+
+    const LONG: &[u8] = b"0123456789abcdef0123456789abcdef0123456789abcdef0123456789abcdef";
+
+    // One call of the reader or the writer stands behind each.
+    #[test]
+    fn a_call_is_not_made_whole(rt: HostRuntime) {
+        let mut src = source_of(LONG, 0, ErrorKind::Other);
+        let mut buf = [0u8; 64];
+        assert_eq!(rt; src.take(&mut buf), Ok(32));
+        assert_eq!(rt; &buf[..32], &LONG[..32]);
+        assert_eq!(rt; src.inner.calls, 1);
+        let mut out = sink(rt.alloc(), 0);
+        assert_eq!(rt; out.put(LONG), Ok(32));
+        assert_eq!(rt; out.inner.got.as_slice(), &LONG[..32]);
+        assert_eq!(rt; out.inner.calls, 1);
     }
 }

@@ -33,7 +33,7 @@ const PLAIN: Row = Row {
     output: Text::OneGetAnswered,
 };
 
-const ROWS: [Row; 31] = [
+const ROWS: [Row; 35] = [
     PLAIN,
     Row {
         name: "one Get, in pieces of 1",
@@ -133,6 +133,11 @@ const ROWS: [Row; 31] = [
         ..PLAIN
     },
     Row {
+        name: "a source of a trace that isn't asked behind its end",
+        source_fails: &[3],
+        ..PLAIN
+    },
+    Row {
         name: "a sink that fails at its first call",
         sink_fails: &[1],
         exit: Exit::WriteFault,
@@ -195,6 +200,22 @@ const ROWS: [Row; 31] = [
         ..PLAIN
     },
     Row {
+        name: "a source of a Get to be shown that isn't asked behind its end",
+        words: &["show"],
+        input: Text::Get,
+        source_fails: &[3],
+        output: Text::GetListed,
+        ..PLAIN
+    },
+    Row {
+        name: "a source of a Get to be checked that isn't asked behind its end",
+        words: &["check"],
+        input: Text::Get,
+        source_fails: &[3],
+        output: Text::GetChecked,
+        ..PLAIN
+    },
+    Row {
         name: "a workload, which reads nothing",
         words: &["bench", "7", "20", "5"],
         source_fails: &[1],
@@ -231,6 +252,14 @@ const ROWS: [Row; 31] = [
         source_fails: &[2],
         exit: Exit::ReadFault,
         output: Text::Nothing,
+        ..PLAIN
+    },
+    Row {
+        name: "a source for both ends that isn't asked behind its end",
+        words: &["pair"],
+        input: Text::Both,
+        source_fails: &[3],
+        output: Text::BothRun,
         ..PLAIN
     },
     Row {
@@ -311,6 +340,47 @@ fn line_longer_than_any_piece(rt: HostRuntime) -> Result<()> {
     let output = with_digits(rt.alloc(), TREE_FRONT, TREE_BEHIND)?;
     for row in &ROWS_OF_DIGITS {
         assert!(rt; row.piece > 0, "{}", row.name);
+        let passed = writes(rt.alloc(), row, input.as_slice(), output.as_slice())?;
+        assert!(rt; passed, "{}", row.name);
+    }
+    Ok(())
+}
+
+const FOUR_EVENTS: [Row; 1] = [Row {
+    name: "a source that fails right behind the fourth event",
+    source_fails: &[2],
+    exit: Exit::ReadFault,
+    ..PLAIN
+}];
+
+// The trace of a repeated Get, with a loss in place of its end.
+fn four_events(alloc: Global) -> Result<Vec<u8>> {
+    let trace = bytes_of(Text::Repeated);
+    let (events, _) = trace.split_at(trace.len().saturating_sub(4));
+    let mut text = Vec::from_slice(alloc, events)?;
+    text.extend_from_slice(b"loss\n")?;
+    Ok(text)
+}
+
+// Its last message comes three times.
+fn four_answers(alloc: Global) -> Result<Vec<u8>> {
+    let both = bytes_of(Text::BothAnswers);
+    let (_, second) = both.split_at(bytes_of(Text::FirstAnswer).len().min(both.len()));
+    let (_, message) = second.split_at(second.len().min(4));
+    let mut text = Vec::from_slice(alloc, both)?;
+    for word in [b"kept".as_slice(), b"again".as_slice()] {
+        text.extend_from_slice(word)?;
+        text.extend_from_slice(message)?;
+    }
+    Ok(text)
+}
+
+#[test]
+fn each_event_before_a_fault_is_answered(rt: HostRuntime) -> Result<()> {
+    let input = four_events(rt.alloc())?;
+    let output = four_answers(rt.alloc())?;
+    for row in &FOUR_EVENTS {
+        assert!(rt; row.piece > input.len());
         let passed = writes(rt.alloc(), row, input.as_slice(), output.as_slice())?;
         assert!(rt; passed, "{}", row.name);
     }
