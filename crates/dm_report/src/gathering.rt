@@ -13,12 +13,17 @@ pub struct Gathering {
 }
 
 impl Model for Gathering {
+    ghost use Rattle.std.specs.Prelude.{◌≡◌, ◌∷◌, []};
+    ghost use Rattle.dm_objects.specs.Seen.{present};
     ghost use Rattle.dm_report.specs.Known.{GatheredSoFar};
     ghost use Rattle.dm_report.specs.Receiving.{gathered_of};
 
     ghost Value = { GatheredSoFar };
 
     ghost view = { λ g. gathered_of g.inbox };
+
+    // Nothing that stood here before the last message is kept.
+    ghost invariant = { λ g. g.inbox.objects ≡ present g.inbox.objects ∷ [] };
 }
 
 impl Gathering {

@@ -1,6 +1,6 @@
 // What waits to be sent.
-ghost use Rattle.std.specs.Prelude.{◌≡◌, ◌<◌, ◌≤◌, ◌+◌, ◌∷◌, ◌++◌, [], true, length, take, drop, map, not, OnOk, OnErr};
-ghost use Rattle.std.specs.Prelude.{IfOk, IfSome};
+ghost use Rattle.std.specs.Prelude.{◌≡◌, ◌<◌, ◌≤◌, ◌+◌, ◌-◌, ◌∷◌, ◌++◌, [], true, false, length, take, drop, map, not};
+ghost use Rattle.std.specs.Prelude.{OnOk, OnErr, IfOk, IfSome};
 ghost use Rattle.std.specs.List.{AllByRecursion, filter, list_any, list_all};
 ghost use Rattle.std.specs.Option.{option_to_list};
 ghost use Rattle.dm_base.specs.Limits.{least_room, message_limit};
@@ -264,6 +264,7 @@ impl WaitingList {
         requires { end ≤ length self.now }
         ensures start { result ≤ end }
         ensures job { list_all is_of_job (drop result (take end self.now)) ≡ true }
+        ensures first { 0 < result → TellsAt (result - 1) self.now false }
     {
         let mut start = end;
         while start > 0 && self.is_of_job(start - 1) {
