@@ -4,3 +4,4 @@ pub mod Texts
 pub mod From
 pub mod Seen
 pub mod Schedules
+pub mod Begins
