@@ -15,7 +15,10 @@ pub struct StdSource<R: Drop> {
 
 impl<R: Read + Drop> StdSource<R> {
     /// A source of what the reader gives, with no fault so far.
-    pub fn new(inner: R) -> StdSource<R> {
+    pub fn new(inner: R) -> StdSource<R>
+        ensures inner { result.inner ≡ inner }
+        ensures faults { result.faults ≡ 0 }
+    {
         StdSource { inner, faults: 0 }
     }
 }
@@ -45,7 +48,10 @@ pub struct StdSink<W: Drop> {
 
 impl<W: Write + Drop> StdSink<W> {
     /// A sink to the writer, with no fault so far.
-    pub fn new(inner: W) -> StdSink<W> {
+    pub fn new(inner: W) -> StdSink<W>
+        ensures inner { result.inner ≡ inner }
+        ensures faults { result.faults ≡ 0 }
+    {
         StdSink { inner, faults: 0 }
     }
 }

@@ -4,7 +4,7 @@ ghost use Rattle.std.specs.Process.{exit_status};
 ghost use Rattle.dm_exit.specs.Causes.{SourceCause, SinkCause};
 ghost use Rattle.dm_words.specs.declared.forms.Form.TheVariants as forms;
 ghost use Rattle.dm_words.specs.Forms.{form_of, IsWithinBounds};
-ghost use Rattle.dm_cli.specs.Forms.{Runs, TakesFor, UsageMeansNoForm, status_of};
+ghost use Rattle.dm_cli.specs.Forms.{Runs, TakesFor, AnswersTaken, UsageMeansNoForm, status_of};
 
 use dm_base::{Fault, Memory, Sink, Source, put_all};
 use dm_bench::bench;
@@ -32,6 +32,7 @@ fn put_usage<K: Sink>(out: &mut K) -> Exit
 #[tactic(auto, unfolding(crate::specs::Forms::Runs, crate::specs::Forms::TakesFor))]
 fn run_replay<S: Source, K: Sink>(alloc: Global, src: &mut S, out: &mut K) -> Exit
     ensures output { Runs (Some forms.Replay) (S.left src.old) (K.got out.old) (K.got out.new) result }
+    ensures asked { AnswersTaken (S.left src.old) (S.left src.new) (K.got out.old) (K.got out.new) result }
     ensures usage { result ≢ Exit.Usage }
     ensures taken { TakesFor S.left (Some forms.Replay) src.old src.new }
     ensures source { SourceCause (S.faults src.old) (S.faults src.new) result }
@@ -91,6 +92,8 @@ fn run_bench<K: Sink>(alloc: Global, seed: u64, nodes: u32, messages: u32, out: 
 fn run_form<S: Source, K: Sink>(alloc: Global, form: Form, src: &mut S, out: &mut K) -> Exit
     requires { IsWithinBounds form }
     ensures output { Runs (Some form) (S.left src.old) (K.got out.old) (K.got out.new) result }
+    ensures asked { form ≡ forms.Replay
+        → AnswersTaken (S.left src.old) (S.left src.new) (K.got out.old) (K.got out.new) result }
     ensures usage { result ≢ Exit.Usage }
     ensures taken { TakesFor S.left (Some form) src.old src.new }
     ensures source { SourceCause (S.faults src.old) (S.faults src.new) result }
@@ -110,12 +113,15 @@ fn run_form<S: Source, K: Sink>(alloc: Global, form: Form, src: &mut S, out: &mu
 }
 
 /// Does all that the tool does: reads the source, writes to the sink, and answers how the run ended. Want of memory
-/// ends it by `NoMemory` at any place; what was written is a prefix of the defined text then. Words of no form and a
-/// workload take nothing of the source, of a trace and of a text for both ends at most 67,108,865 bytes are taken, and
-/// one message is taken no further than to the piece that settles its refusal, or to its end.
+/// ends it by `NoMemory` at any place; what was written is a prefix of the defined text then. Where the source of a
+/// trace fails, the answers to all lines that were taken whole were written. Words of no form and a workload take
+/// nothing of the source, of a trace and of a text for both ends at most 67,108,865 bytes are taken, and one message is
+/// taken no further than to the piece that settles its refusal, or to its end.
 pub fn run<S: Source, K: Sink>(alloc: Global, words: &[String], src: &mut S, out: &mut K) -> Exit
     ensures output { Runs (form_of (map string_bytes words.now)) (S.left src.old) (K.got out.old)
         (K.got out.new) result }
+    ensures asked { form_of (map string_bytes words.now) ≡ Some forms.Replay
+        → AnswersTaken (S.left src.old) (S.left src.new) (K.got out.old) (K.got out.new) result }
     ensures usage { UsageMeansNoForm (form_of (map string_bytes words.now)) result }
     ensures taken { TakesFor S.left (form_of (map string_bytes words.now)) src.old src.new }
     ensures source { SourceCause (S.faults src.old) (S.faults src.new) result }

@@ -19,7 +19,7 @@ pub end_is_no_fault : (text : List ℕ) (good : Exit) (old new : Option (List �
 end_is_no_fault text good old new e other h is =
     elim h [ inl put ↦ other (sym put.1 ∙ is) | inr part ↦ part_is_no_fault old new text e part is ]
 
-other_is_no_fault : (good e : Exit) → e ≡ good → good ≢ exit.ReadFault → e ≢ exit.ReadFault
+pub other_is_no_fault : (good e : Exit) → e ≡ good → good ≢ exit.ReadFault → e ≢ exit.ReadFault
 other_is_no_fault good e same other is = other (sym same ∙ is)
 
 pub fault_behind : (h : Halt) (due : List ℕ) (old mid new : Option (List ℕ)) (e : Exit) → Appends old mid due

@@ -12,3 +12,5 @@ pub mod Whole
 pub mod WholeTraces
 pub mod Back
 pub mod Faults
+pub mod Over
+pub mod Asked

@@ -2,8 +2,8 @@
 use Rattle.std.specs.Prelude.{◌≡◌, ◌⊎◌, ◌+◌, ℕ, Bool, false, if◌then◌else◌, List, [], ◌∷◌, ◌++◌, Option, Some, None}
 use Rattle.std.specs.Prelude.{Result, Ok, Err, ⊤, IsSomeAnd, option_map}
 use Rattle.std.specs.List.{AllByRecursion}
-use Rattle.std.specs.Io.KnownBytes.{Appends, Keeps}
-use Rattle.dm_base.specs.Outside.{Rose}
+use Rattle.std.specs.Io.KnownBytes.{Appends, Consumes, Keeps}
+use Rattle.dm_base.specs.Outside.{OfKnown, Rose}
 use Rattle.dm_base.specs.declared.lines.LineReason.TheVariants as reason
 use Rattle.dm_base.specs.declared.outside.Fault.{Fault}
 use Rattle.dm_base.specs.declared.outside.Fault.TheVariants as fault
@@ -14,6 +14,7 @@ use Rattle.dm_tree.specs.Devices.{IsDeviceTree}
 use Rattle.dm_tree.specs.Rows.{nodes}
 use Rattle.dm_machine.specs.Machine.{Machine}
 use Rattle.dm_machine.specs.Events.{Event as Happening}
+use Rattle.dm_machine.specs.History.{answers_from}
 use Rattle.dm_machine.specs.Ready.{IsReadyAccount, IsReadyLimits}
 use Rattle.dm_start.specs.declared.errors.LineError.{LineError}
 use Rattle.dm_start.specs.declared.errors.LineError.TheVariants as line_error
@@ -30,7 +31,7 @@ use Rattle.dm_replay.specs.Input.{Input, input_of}
 use Rattle.dm_replay.specs.Events.{happening_of}
 use Rattle.dm_replay.specs.Trace.{Stop, bad, too_long, Ending, whole, stopped, Trace, Begun, began, unbegun, is_long}
 use Rattle.dm_replay.specs.Trace.{tail_stop, start_from, end_from, events_from, no_events, with_event, trace_of}
-use Rattle.dm_replay.specs.Output.{bad_line, ending_exit, trace_text, client_of}
+use Rattle.dm_replay.specs.Output.{bad_line, ending_exit, trace_text, client_of, begun_answers, answers_text}
 
 -- ---- the input to come
 
@@ -64,6 +65,24 @@ stop_of_front n (line ∷ lines) tail more = if is_long line then Some (bad n re
 -- why there is no line n
 abbrev pub stop_at : ℕ → Input → Option Stop
 stop_at n i = stop_of_front n i.lines i.tail i.more
+
+-- ---- the bytes that were taken
+
+-- this holds of the inputs that are to come before and behind what was taken, whatever comes behind that
+abbrev pub OverTaken : LinesState → LinesState → Option (List ℕ) → Option (List ℕ) → (Input → Input → Type 0) → Type 0
+OverTaken a b left rest P =
+    OfKnown left (λ _. (taken : List ℕ) × Consumes left rest taken
+    × ((more : List ℕ) → Between (seen a (Some (taken ++ more))) (seen b (Some more)) P))
+
+-- this holds of what was taken, as all the input that was to come
+abbrev pub OfTaken : LinesState → Option (List ℕ) → Option (List ℕ) → (Input → Type 0) → Type 0
+OfTaken a left rest P =
+    OfKnown left (λ _. (taken : List ℕ) × Consumes left rest taken × OfInput (seen a (Some taken)) P)
+
+-- a line leads what comes, whatever stands behind what was taken; where the source failed, that holds no whole line
+abbrev pub LeadsOver : LinesState → LinesState → Option (List ℕ) → Option (List ℕ) → Result (List ℕ) Halt → Type 0
+LeadsOver a b left rest (Ok line) = OverTaken a b left rest (λ i j. Leads line i j)
+LeadsOver a b left rest (Err h) = h ≡ halt.Read → OfTaken a left rest (λ i. i.lines ≡ [])
 
 -- ---- the rest of each phase
 
@@ -115,6 +134,13 @@ abbrev pub StartsAs : Option Input → Option Input → ℕ → Section → Resu
 StartsAs a b n s (Ok started) = Between a b (λ i j. begun_at n s i ≡ began started.number (told_of started.start) j)
 StartsAs a b n s (Err h) = OfInput a (λ i. OfStop h (λ stop. begun_at n s i ≡ unbegun stop))
 
+-- the same, whatever comes behind what was taken; where the source failed, that holds no whole start section
+abbrev pub StartsOver : LinesState → LinesState → Option (List ℕ) → Option (List ℕ) → ℕ → Section → Result Started Halt
+    → Type 0
+StartsOver a b left rest n s (Ok started) =
+    OverTaken a b left rest (λ i j. begun_at n s i ≡ began started.number (told_of started.start) j)
+StartsOver a b left rest n s (Err h) = h ≡ halt.Read → OfTaken a left rest (λ i. begun_answers (begun_at n s i) ≡ [])
+
 -- what a client needs of the start that it is made of
 pub record CanBegin (s : Start) : Type 0 where
   pub accounts : AllByRecursion IsReadyAccount s.accounts
@@ -129,6 +155,17 @@ GoesOn a b version ids n (Ok (Some event)) =
 GoesOn a b version ids n (Ok None) = Between a b (λ i j. events_at version ids n i ≡ no_events (ending_at (n + 1) j))
 GoesOn a b version ids n (Err h) =
     OfInput a (λ i. OfStop h (λ stop. events_at version ids n i ≡ no_events (stopped stop)))
+
+-- the same, whatever comes behind what was taken; where the source failed, that holds no event
+abbrev pub GoesOver : LinesState → LinesState → Option (List ℕ) → Option (List ℕ) → ℕ → List (List ℕ) → ℕ
+    → Result (Option Event) Halt → Type 0
+GoesOver a b left rest version ids n (Ok (Some event)) =
+    IsSomeAnd (happening_of event) (λ (e : Happening). OverTaken a b left rest
+    (λ i j. events_at version ids n i ≡ with_event e (events_at version ids (n + 1) j)))
+GoesOver a b left rest version ids n (Ok None) =
+    OverTaken a b left rest (λ i j. events_at version ids n i ≡ no_events (ending_at (n + 1) j))
+GoesOver a b left rest version ids n (Err h) =
+    h ≡ halt.Read → OfTaken a left rest (λ i. (events_at version ids n i).events ≡ [])
 
 -- the same of what stands behind the `end` line
 abbrev pub EndsAs : Option Input → ℕ → Result (Unit {0}) Halt → Type 0
@@ -155,6 +192,12 @@ abbrev pub EndsEvents : Started → Option Input → Option (List ℕ) → Optio
 EndsEvents s a old new e =
     OfInput a (λ i. EndsTrace s.start.version (client_of (told_of s.start))
     (trace_of s.number (told_of s.start) i) old new e)
+
+-- the answers to the events of what was taken, and nothing else, were put
+abbrev pub PutsEvents : Machine → (Input → Trace) → LinesState → Option (List ℕ) → Option (List ℕ) → Option (List ℕ)
+    → Option (List ℕ) → Type 0
+PutsEvents c t a left rest old new =
+    OfTaken a left rest (λ i. Appends old new (answers_text (answers_from c (t i).events)))
 
 -- a halted run puts its stop; a fault of the source and want of memory put nothing
 abbrev pub PutsHalt : Halt → Option (List ℕ) → Option (List ℕ) → Exit → Type 0

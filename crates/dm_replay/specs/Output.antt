@@ -1,7 +1,7 @@
 -- What `replay` writes and answers.
 use Rattle.std.specs.Prelude.{◌≡◌, ℕ, List, [], ◌∷◌, ◌++◌, codes, Option, Some, None}
 use Rattle.std.specs.Fmt.{decimal}
-use Rattle.std.specs.Io.KnownBytes.{Appends}
+use Rattle.std.specs.Io.KnownBytes.{Appends, Consumes}
 use Rattle.wbxml_tokens.specs.declared.reason.Refusal.{Refusal}
 use Rattle.wbxml_tokens.specs.Reasons.{word_of}
 use Rattle.dm_base.specs.declared.lines.LineReason.{LineReason}
@@ -152,6 +152,22 @@ Replays bytes old new exit.ReadFault = PutsPrefix old new (replay_text bytes)
 Replays bytes old new exit.WriteFault = PutsPrefix old new (replay_text bytes)
 Replays bytes old new exit.NoMemory = PutsPrefix old new (replay_text bytes)
 Replays bytes old new exit.Usage = ⊥
+
+-- ---- what was answered where the source failed
+
+-- the answers to the events behind a start section that is whole
+abbrev pub begun_answers : Begun → List ℕ
+begun_answers (unbegun stop) = []
+begun_answers (began n told input) = answers_text (answers (client_of told) (trace_of n told input).events)
+
+-- the answers to all whole lines behind the start section that these bytes hold, and none where it isn't whole
+unfoldable pub answered_text : List ℕ → List ℕ
+answered_text bytes = begun_answers (begun_of bytes)
+
+-- of the bytes that were taken each whole line was answered, and nothing else was put
+abbrev pub PutsTaken : Option (List ℕ) → Option (List ℕ) → Option (List ℕ) → Option (List ℕ) → Type 0
+PutsTaken left rest old new =
+    (taken : List ℕ) × Consumes left rest taken × Appends old new (answered_text taken)
 
 -- ---- the same by the state of the machine alone, which is how a run goes on
 

@@ -6,6 +6,7 @@ ghost use Rattle.dm_start.specs.Start.{opening};
 ghost use Rattle.dm_replay.specs.Events.{IsOf};
 ghost use Rattle.dm_replay.specs.From.{seen, Between, OfInput, OfStop, Leads, stop_at, HaltCounts, halt_after};
 ghost use Rattle.dm_replay.specs.From.{halt_for, HaltsAsking, StartsAs, CanBegin, GoesOn, EndsAs};
+ghost use Rattle.dm_replay.specs.From.{LeadsOver, StartsOver, GoesOver};
 
 use crate::events::{Event, read_event};
 use dm_base::{Bytes, LineOut, LineReason, Lines, List, Source, TakeError};
@@ -56,6 +57,7 @@ fn next_line<S: Source>(lines: &mut Lines, src: &mut S, number: u64) -> Result<B
     ensures halt { IfErr result (λ h. OfInput (seen lines.old (S.left src.old))
         (λ i. OfStop h (λ stop. stop_at number i ≡ Some stop))) }
     ensures asked { IfErr result (HaltsAsking lines.old.pending) }
+    ensures over { LeadsOver lines.old lines.new (S.left src.old) (S.left src.new) result }
     ensures room { IfOk result (λ line. room lines.new + (length line + 1) ≡ room lines.old) }
     ensures taken { CountsTaken (S.left src.old) (S.left src.new) lines.old.taken lines.new.taken }
     ensures limit { lines.new.taken ≤ 67108865 }
@@ -81,6 +83,7 @@ pub(crate) fn read_start<S: Source>(
     requires { room lines.old < 2 ^ 60 }
     ensures start { StartsAs (seen lines.old (S.left src.old)) (seen lines.new (S.left src.new)) 1
         (opening First) result }
+    ensures over { StartsOver lines.old lines.new (S.left src.old) (S.left src.new) 1 (opening First) result }
     ensures client { IfOk result (λ s. CanBegin s.start) }
     ensures room { IfOk result (λ s. s.number + room lines.new ≤ 1 + room lines.old) }
     ensures taken { CountsTaken (S.left src.old) (S.left src.new) lines.old.taken lines.new.taken }
@@ -141,6 +144,7 @@ pub(crate) fn next_event<S: Source>(
     requires { number < 2 ^ 60 }
     ensures events { GoesOn (seen lines.old (S.left src.old)) (seen lines.new (S.left src.new)) version
         ids.now number result }
+    ensures over { GoesOver lines.old lines.new (S.left src.old) (S.left src.new) version ids.now number result }
     ensures asked { IfErr result (HaltsAsking lines.old.pending) }
     ensures account { IfOk result (λ next. IfSome next (λ event. IsOf (length ids.now) event)) }
     ensures room { OnOk result (room lines.new < room lines.old) }

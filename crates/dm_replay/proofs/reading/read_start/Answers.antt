@@ -1,7 +1,8 @@
 use Rattle.std.proofs.Common.{arith, ◌∙◌, sym}
 use Rattle.dm_base.proofs.Pending.{taken_more}
-use Rattle.dm_start.specs.Start.{section_at}
+use Rattle.dm_start.specs.Start.{section_at, told_of}
 use Rattle.dm_replay.proofs.Beginning.{can_begin}
+use Rattle.dm_replay.proofs.Over.{section_goes, section_comes, section_fails, line_is_no_fault}
 use Rattle.dm_replay.proofs.Sections.{section_more}
 use Rattle.dm_replay.proofs.reading.read_start.Goals as goal
 
@@ -16,6 +17,10 @@ lines-preserved g c =
       section = section_more _ _ _ c.lines.number (section_at c.lines.reader)
           (section_at c.line.new.self) c.in-Ok.line c.as_slice.result.now c.as_slice.ensures
           (read.read, read.last) c.lines.invariant.section c.in-Ok.ensures.line;
+      over = section_goes c.args.lines.now c.lines.lines c.next_line.new.lines (g.S.Source.left c.args.src.now)
+          (g.S.Source.left c.lines.src) (g.S.Source.left c.next_line.new.src) c.lines.number
+          (section_at c.lines.reader) (section_at c.line.new.self) c.in-Ok.line c.as_slice.result.now c.as_slice.ensures
+          (read.read, read.last) c.lines.invariant.over c.in-Ok.ensures.over;
       taken = taken_more _ _ _ _ c.lines.lines.taken _ c.lines.invariant.taken c.in-Ok.ensures.taken;
       count = c.in-Ok.ensures.count ∙ c.lines.invariant.count;
     }
@@ -34,3 +39,21 @@ returns-in-Err-line-clause-taken g c =
 
 pub returns-in-Ok-true-clause-client : goal.returns-in-Ok-true-clause-client
 returns-in-Ok-true-clause-client g c = can_begin c.finish.result c.finish.ensures.sound
+
+pub returns-in-Err-clause-over : goal.returns-in-Err-clause-over
+returns-in-Err-clause-over g c =
+    λ failed. section_fails c.args.lines.now c.lines.lines (g.S.Source.left c.args.src.now)
+    (g.S.Source.left c.lines.src) (g.S.Source.left c.next_line.new.src) c.lines.number (section_at c.lines.reader)
+    c.lines.invariant.over (c.in-Err.ensures.over failed)
+
+pub returns-in-Ok-true-clause-over : goal.returns-in-Ok-true-clause-over
+returns-in-Ok-true-clause-over g c =
+    let read = rw c.in-Ok-true.field-0-test at c.in-Ok-true.ensures in
+    section_comes c.args.lines.now c.lines.lines c.next_line.new.lines (g.S.Source.left c.args.src.now)
+    (g.S.Source.left c.lines.src) (g.S.Source.left c.next_line.new.src) c.lines.number (section_at c.lines.reader)
+    (section_at c.line.new.self) (told_of c.finish.result) c.in-Ok.line c.as_slice.result.now c.as_slice.ensures
+    (read.read, read.last) c.finish.ensures.told c.lines.invariant.over c.in-Ok.ensures.over
+
+pub returns-in-Err-line-clause-over : goal.returns-in-Err-line-clause-over
+returns-in-Err-line-clause-over g c =
+    λ failed. absurd (line_is_no_fault c.lines.number c.in-Err-line.error (sym c.halt_at.ensures ∙ failed))

@@ -3,6 +3,8 @@ use Rattle.dm_base.proofs.Pending.{taken_more}
 use Rattle.dm_exit.specs.declared.exit.Exit.TheVariants as exit
 use Rattle.dm_replay.specs.From.{ending_at, events_at}
 use Rattle.dm_replay.proofs.Accounts.{said_many}
+use Rattle.dm_replay.proofs.Asked.{answered_put, answered_said, answered_all, ended_over, due_fault, due_none}
+use Rattle.dm_replay.proofs.Faults.{part_is_no_fault}
 use Rattle.dm_replay.proofs.Fronts.{feedless_at_read}
 use Rattle.dm_replay.proofs.Running.{so_far_ends, so_far_put, said_more, due_breaks, due_stays, end_ends, halt_ends}
 use Rattle.dm_replay.proofs.Running.{due_source}
@@ -21,6 +23,12 @@ events-preserved g c =
       accounts = c.events.invariant.accounts ∙ sym (said_many c.in-Ok-Some.event _ _ _ of answered.state);
       so_far = said_more c.in-Ok-Some.event _ _ _ _ _ c.args.version _ _ _ c.events.number _ _ c.put_due.new.due
           c.answer.new.due so_far read answered.due answered.state;
+      answered = answered_said c.in-Ok-Some.event _ c.events.lines c.next_event.new.lines _
+          (g.S.Source.left c.events.src) (g.S.Source.left c.next_event.new.src) _ _ c.args.version c.args.ids.now _ _
+          c.events.number _ _ c.put_due.new.due c.answer.new.due
+          (answered_put _ _ _ _ _ _ _ c.args.version c.args.ids.now _ _ c.events.number _ c.events.due
+          c.put_due.new.due c.events.invariant.answered c.in-Ok.ensures.bytes)
+          (rw c.in-Ok-Some.field-0-is at c.in-Ok-Some.ensures.over) answered.due answered.state;
       taken = taken_more _ _ _ _ c.events.lines.taken _ c.events.invariant.taken c.in-Ok-Some.ensures.taken;
       source = c.in-Ok-Some.ensures.count ∙ c.events.invariant.source;
       sink = c.in-Ok.ensures.count ∙ c.events.invariant.sink;
@@ -39,6 +47,12 @@ events-preserved-in-Ok-answer g c =
       accounts = c.events.invariant.accounts ∙ sym (said_many c.in-Ok-Some.event _ _ _ of answered.state);
       so_far = said_more c.in-Ok-Some.event _ _ _ _ _ c.args.version _ _ _ c.events.number _ _ c.put_due.new.due
           c.answer.new.due so_far read answered.due answered.state;
+      answered = answered_said c.in-Ok-Some.event _ c.events.lines c.next_event.new.lines _
+          (g.S.Source.left c.events.src) (g.S.Source.left c.next_event.new.src) _ _ c.args.version c.args.ids.now _ _
+          c.events.number _ _ c.put_due.new.due c.answer.new.due
+          (answered_put _ _ _ _ _ _ _ c.args.version c.args.ids.now _ _ c.events.number _ c.events.due
+          c.put_due.new.due c.events.invariant.answered c.in-Ok.ensures.bytes)
+          (rw c.in-Ok-Some.field-0-is at c.in-Ok-Some.ensures.over) answered.due answered.state;
       taken = taken_more _ _ _ _ c.events.lines.taken _ c.events.invariant.taken c.in-Ok-Some.ensures.taken;
       source = c.in-Ok-Some.ensures.count ∙ c.events.invariant.source;
       sink = c.in-Ok.ensures.count ∙ c.events.invariant.sink;
@@ -103,3 +117,33 @@ put_due_and_halt-requires g c = record {
   asking = λ read. c.as_slice-in-Err-next_event.ensures
       ∙ c.in-Ok.ensures.all (feedless_at_read _ c.in-Err-next_event.halt c.in-Err-next_event.ensures.asked read);
 }
+
+pub returns-in-Err-clause-asked : goal.returns-in-Err-clause-asked
+returns-in-Err-clause-asked g c =
+    λ is. absurd (part_is_no_fault _ _ c.events.due c.in-Err.exit c.in-Err.ensures.bytes is)
+
+pub returns-in-Ok-None-clause-asked : goal.returns-in-Ok-None-clause-asked
+returns-in-Ok-None-clause-asked g c =
+    let over = rw c.in-Ok-None.field-0-is at c.in-Ok-None.ensures.over in
+    let put = rw c.as_slice.ensures at c.put_end.ensures.asked in
+    λ is. answered_all _ c.events.lines _ (g.S.Source.left c.events.src) (g.S.Source.left c.put_end.new.src) _ _
+    (g.K.Sink.got c.put_end.new.out) c.args.version c.args.ids.now _ _ c.events.number _ c.put_due.new.due
+    (answered_put _ _ _ _ _ _ _ c.args.version c.args.ids.now _ _ c.events.number _ c.events.due
+    c.put_due.new.due c.events.invariant.answered c.in-Ok.ensures.bytes)
+    (ended_over c.events.lines c.next_event.new.lines (g.S.Source.left c.events.src)
+    (g.S.Source.left c.next_event.new.src) (g.S.Source.left c.put_end.new.src) c.next_event.new.lines.taken
+    c.put_end.new.lines.taken c.args.version c.args.ids.now c.events.number over c.put_end.ensures.taken) (put is)
+
+pub returns-in-Err-next_event-clause-asked : goal.returns-in-Err-next_event-clause-asked
+returns-in-Err-next_event-clause-asked g c = λ is.
+    let fault = due_fault _ c.in-Err-next_event.halt _ _ _ c.put_due_and_halt.ensures.bytes is in
+    let none = c.in-Ok.ensures.all (feedless_at_read _ c.in-Err-next_event.halt c.in-Err-next_event.ensures.asked
+    fault.0) in
+    answered_all _ c.events.lines _ (g.S.Source.left c.events.src) (g.S.Source.left c.next_event.new.src) _ _
+    (g.K.Sink.got c.put_due_and_halt.new.out) c.args.version c.args.ids.now _ _ c.events.number _ c.put_due.new.due
+    (answered_put _ _ _ _ _ _ _ c.args.version c.args.ids.now _ _ c.events.number _ c.events.due
+    c.put_due.new.due c.events.invariant.answered c.in-Ok.ensures.bytes)
+    (c.in-Err-next_event.ensures.over fault.0) (due_none _ _ c.put_due.new.due none fault.1)
+
+pub returns-in-Err-answer-clause-asked : goal.returns-in-Err-answer-clause-asked
+returns-in-Err-answer-clause-asked g c = λ is. cc

@@ -1,3 +1,5 @@
+use Rattle.dm_start.specs.Start.{told_of}
+use Rattle.dm_replay.proofs.Asked.{begun_puts, unbegun_puts, puts_taken, halt_fault}
 use Rattle.dm_replay.proofs.Whole.{all_events_replay, all_halts_replay}
 use Rattle.dm_replay.proofs.Taken.{one_past, one_past_then}
 use Rattle.dm_replay.proofs.trace.replay.Goals as goal
@@ -22,3 +24,24 @@ pub returns-clause-taken : goal.returns-clause-taken
 returns-clause-taken g c =
     one_past _ _ c.new-lines.result c.read_start.new.lines c.new-lines.ensures c.in-Err.ensures.taken
     c.in-Err.ensures.limit
+
+pub returns-in-Ok-clause-asked : goal.returns-in-Ok-clause-asked
+returns-in-Ok-clause-asked g c =
+    let left = g.S.Source.left in
+    let got = g.K.Sink.got in
+    let last = c.answer_all.new in
+    λ is. puts_taken c.new-lines.result (left c.args.src.now) (left last.src) (got c.args.out.now) (got last.out)
+    c.new-lines.ensures
+    (begun_puts c.new-lines.result c.read_start.new.lines (left c.args.src.now) (left c.read_start.new.src)
+    (left last.src) (got c.args.out.now) (got last.out) c.in-Ok.started.number (told_of c.in-Ok.started.start)
+    c.in-Ok.ensures.over (c.answer_all.ensures.asked is))
+
+pub returns-clause-asked : goal.returns-clause-asked
+returns-clause-asked g c = λ is.
+    let left = g.S.Source.left in
+    let got = g.K.Sink.got in
+    let fault = halt_fault c.in-Err.halt _ _ _ c.put_halt.ensures.bytes is in
+    puts_taken c.new-lines.result (left c.args.src.now) (left c.read_start.new.src) (got c.args.out.now)
+    (got c.put_halt.new.out) c.new-lines.ensures
+    (unbegun_puts c.new-lines.result (left c.args.src.now) (left c.read_start.new.src) (got c.args.out.now)
+    (got c.put_halt.new.out) fault.1 (c.in-Err.ensures.over fault.0))
