@@ -159,8 +159,8 @@ impl Lines {
 
     /// The next line. Where a line feed is pending the source isn't asked. A line that is whole within the first
     /// 67,108,864 bytes is given before another byte is asked for, also where the source fails; `TooLong` comes exactly
-    /// where no whole line is left in them and another byte comes. After `Bad`, `End` and `TooLong` the same comes again.
-    /// After `Read` nothing is lost, and the source is asked again; after `Memory` what was taken may be lost.
+    /// where no whole line is left in them and another byte comes. After `Bad`, `End` and `TooLong` the same comes
+    /// again. After `Read` nothing is lost, and the source is asked again; after `Memory` what was taken may be lost.
     pub fn next<S: Source>(&mut self, src: &mut S) -> Result<LineOut, TakeError>
         ensures line { ReadsLine (room self.old) (ahead self.old (S.left src.old))
             (ahead self.new (S.left src.new)) result }

@@ -21,8 +21,9 @@ pub fn runs_on_schedules()
 {}
 
 /// Law: whatever the lines of a text are, where they come behind its job, those before its events bring both ends to a
-/// client and a job such as schedules begin with, and a schedule from there brings the world to the two machines and the
-/// messages that all the lines bring both ends to. So the laws over schedules hold of what any text makes of both ends.
+/// client and a job such as schedules begin with, and a schedule from there brings the world to the two machines and
+/// the messages that all the lines bring both ends to. So the laws over schedules hold of what any text makes of both
+/// ends.
 pub fn texts_begin()
     ensures { TextsBegin }
 {

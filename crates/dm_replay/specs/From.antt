@@ -134,7 +134,7 @@ abbrev pub StartsAs : Option Input → Option Input → ℕ → Section → Resu
 StartsAs a b n s (Ok started) = Between a b (λ i j. begun_at n s i ≡ began started.number (told_of started.start) j)
 StartsAs a b n s (Err h) = OfInput a (λ i. OfStop h (λ stop. begun_at n s i ≡ unbegun stop))
 
--- the same, whatever comes behind what was taken; where the source failed, that holds no whole start section
+-- the same, whatever comes behind what was taken; where the source failed, that holds nothing to be answered
 abbrev pub StartsOver : LinesState → LinesState → Option (List ℕ) → Option (List ℕ) → ℕ → Section → Result Started Halt
     → Type 0
 StartsOver a b left rest n s (Ok started) =

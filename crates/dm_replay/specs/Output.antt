@@ -160,11 +160,11 @@ abbrev pub begun_answers : Begun → List ℕ
 begun_answers (unbegun stop) = []
 begun_answers (began n told input) = answers_text (answers (client_of told) (trace_of n told input).events)
 
--- the answers to all whole lines behind the start section that these bytes hold, and none where it isn't whole
+-- the answers to the events of these bytes as a trace, and none where their start section isn't whole
 unfoldable pub answered_text : List ℕ → List ℕ
 answered_text bytes = begun_answers (begun_of bytes)
 
--- of the bytes that were taken each whole line was answered, and nothing else was put
+-- the events of the bytes that were taken were answered, and nothing else was put
 abbrev pub PutsTaken : Option (List ℕ) → Option (List ℕ) → Option (List ℕ) → Option (List ℕ) → Type 0
 PutsTaken left rest old new =
     (taken : List ℕ) × Consumes left rest taken × Appends old new (answered_text taken)

@@ -22,7 +22,7 @@ impl Model for Gathering {
 
     ghost view = { λ g. gathered_of g.inbox };
 
-    // Nothing that stood here before the last message is kept.
+    // Only the present object is kept, and none that stood here before it.
     ghost invariant = { λ g. g.inbox.objects ≡ present g.inbox.objects ∷ [] };
 }
 
