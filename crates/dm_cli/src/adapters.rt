@@ -223,7 +223,7 @@ mod tests {
         let mut src = source_of(LONG, 0, ErrorKind::Other);
         let mut buf = [0u8; 64];
         assert_eq!(rt; src.take(&mut buf), Ok(32));
-        assert_eq!(rt; &buf[..32], &LONG[..32]);
+        assert_eq!(rt; src.inner.left, &LONG[32..]);
         assert_eq!(rt; src.inner.calls, 1);
         let mut out = sink(rt.alloc(), 0);
         assert_eq!(rt; out.put(LONG), Ok(32));
