@@ -4,18 +4,16 @@ use Rattle.std.proofs.Common.{length, refl, sym, ◌∙◌, arith, Option, None,
 use Rattle.std.specs.Prelude.{is_some, ⊤}
 use Rattle.std.proofs.lemmas.List.{length-append}
 use Rattle.std.proofs.lemmas.Bool.Decides.{nat_tests}
-use Rattle.syncml_types.specs.declared.command.Verb.{Verb}
-use Rattle.syncml_types.specs.declared.command.Verb.TheVariants as verb
+use Rattle.syncml_types.specs.Verbs.{is_write}
 use Rattle.dm_objects.specs.declared.object.Object.{Object}
 use Rattle.dm_objects.specs.declared.object.Begun.{Begun}
 use Rattle.dm_objects.specs.declared.object.Object.TheVariants.{Nothing, Buffering, Skipping}
 use Rattle.dm_objects.specs.declared.piece.Piece.{Piece}
 use Rattle.dm_objects.specs.declared.piece.What.{What}
 use Rattle.dm_objects.specs.declared.piece.What.TheVariants.{Whole, Buffered, Refused}
-use Rattle.dm_objects.specs.Gathering.{Came, came, is_write, skipped, first_of_several, single, write_piece, by_rules}
+use Rattle.dm_objects.specs.Gathering.{Came, came, skipped, first_of_several, single, write_piece, by_rules}
 use Rattle.dm_objects.specs.Gathering.{gather, continues, begun_by, whole_step}
 use Rattle.dm_objects.specs.Seen.{present, is_unfinished, now_holding}
-use Rattle.dm_commands.specs.Promises as promises
 use Rattle.dm_atomic.specs.Engine.{FitsObject, IsShortWhat}
 
 abbrev WhatFits : ℕ → What → Type 0
@@ -118,17 +116,9 @@ gathered-fits : (max : ℕ) (o : Object) (piece : Piece) (continued : Bool) → 
 gathered-fits max o piece true f = rules-fit max o piece (is_write piece.step.verb) f refl
 gathered-fits max o piece false f = rules-fit max Nothing piece (is_write piece.step.verb) tt refl
 
-same-write : (v : Verb) → promises.is_write v ≡ is_write v
-same-write verb.Add = refl
-same-write verb.Copy = refl
-same-write verb.Delete = refl
-same-write verb.Exec = refl
-same-write verb.Get = refl
-same-write verb.Replace = refl
-
 short-what : (max : ℕ) (w : What) → max ≤ 4194304 → WhatFits max w → IsShortWhat w
 short-what max (Whole step) h f =
-    λ write. let l = f (sym (same-write step.verb) ∙ write) in omega (arith, l, h)
+    λ write. let l = f write in omega (arith, l, h)
 short-what max Buffered h f = tt
 short-what max (Refused code) h f = tt
 

@@ -9,13 +9,14 @@ use Rattle.syncml_types.specs.declared.command.Block.{Block}
 use Rattle.syncml_types.specs.declared.command.Member.{Member}
 use Rattle.syncml_types.specs.declared.command.Member.TheVariants as member
 use Rattle.syncml_types.specs.declared.command.Plain.{Plain}
+use Rattle.syncml_types.specs.Verbs.{is_write}
 use Rattle.dm_objects.specs.declared.object.Begun.{Begun}
 use Rattle.dm_objects.specs.declared.object.Object.{Object}
 use Rattle.dm_objects.specs.declared.object.Object.TheVariants.{Nothing, Buffering, Skipping}
 use Rattle.dm_objects.specs.declared.piece.Piece.{Piece}
 use Rattle.dm_objects.specs.declared.piece.What.{What}
 use Rattle.dm_objects.specs.declared.piece.What.TheVariants.{Whole, Buffered, Refused}
-use Rattle.dm_objects.specs.Gathering.{Came, is_write, first_of_several, next_piece, write_piece, by_rules, continues}
+use Rattle.dm_objects.specs.Gathering.{Came, first_of_several, next_piece, write_piece, by_rules, continues}
 use Rattle.dm_objects.specs.Gathering.{gather}
 use Rattle.dm_commands.specs.Outcomes.{is_success}
 use Rattle.dm_commands.proofs.Refusals.{nothing_in_atomic}

@@ -7,6 +7,7 @@ use Rattle.std.specs.List.{list_any}
 use Rattle.std.specs.FinMap.{get}
 use Rattle.syncml_types.specs.declared.command.SeqMember.{SeqMember}
 use Rattle.syncml_types.specs.declared.command.Step.{Step}
+use Rattle.syncml_types.specs.Verbs.{is_write}
 use Rattle.dm_tree.specs.declared.rows.Row.{Row}
 use Rattle.dm_tree.specs.Nodes.{Path, Ids}
 use Rattle.dm_tree.specs.Rows.{Tree, ids}
@@ -20,7 +21,7 @@ use Rattle.dm_objects.specs.declared.object.Object.TheVariants.{Nothing, Bufferi
 use Rattle.dm_objects.specs.declared.piece.Piece.{Piece}
 use Rattle.dm_objects.specs.declared.piece.What.{What}
 use Rattle.dm_objects.specs.declared.piece.What.TheVariants.{Whole, Refused}
-use Rattle.dm_objects.specs.Gathering.{Came, is_write, first_of_several, next_piece, write_piece, by_rules, continues}
+use Rattle.dm_objects.specs.Gathering.{Came, first_of_several, next_piece, write_piece, by_rules, continues}
 use Rattle.dm_objects.specs.Gathering.{gather}
 use Rattle.dm_commands.specs.Promises.{KeepIdsBut, KeepsIds, is_moved, none_moved, StaysAsBefore}
 use Rattle.dm_atomic.specs.declared.tasks.Task.{Task}

@@ -26,8 +26,8 @@ impl<T: Drop> From<AllocFailed<T>> for Memory {
     }
 }
 
-/// A list of bytes. Its calls are those of a list; after `Memory` it is as before. One that never had room for more than
-/// 16 bytes takes no block.
+/// A list of bytes. Its calls are those of a list; after `Memory` it is as before. One that never had room for more
+/// than 16 bytes takes no block.
 pub struct Bytes {
     items: SmallVec<u8, INLINE>,
 }

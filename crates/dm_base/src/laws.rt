@@ -1,7 +1,7 @@
 // What the forms of fields and their values say together.
 ghost use Rattle.dm_base.specs.Laws.{HexHasBytes, NonceHasBytes, NumHasNumber, HexIsReadAgain};
 
-/// A law: a text is a `Hex`, a `Nonce` or a `Num` exactly where it has a value.
+/// Law: a text is a `Hex`, a `Nonce` or a `Num` exactly where it has a value.
 #[tactic(auto, using(crate::proofs::FieldValues::hex_has_bytes, crate::proofs::FieldValues::nonce_has_bytes, crate::proofs::FieldValues::num_has_number))]
 pub fn forms_have_values()
     ensures hex { HexHasBytes }
@@ -9,7 +9,7 @@ pub fn forms_have_values()
     ensures num { NumHasNumber }
 {}
 
-/// A law: the `Hex` that is written of bytes stands for these bytes.
+/// Law: the `Hex` that is written of bytes stands for these bytes.
 #[tactic(auto, using(crate::proofs::FieldValues::hex_is_read_again))]
 pub fn hex_is_read_again()
     ensures { HexIsReadAgain }

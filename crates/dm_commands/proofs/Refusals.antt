@@ -6,6 +6,7 @@ use Rattle.std.specs.List.{list_any, list_all}
 use Rattle.syncml_types.specs.declared.command.Step.{Step}
 use Rattle.syncml_types.specs.declared.command.Verb.{Verb}
 use Rattle.syncml_types.specs.declared.command.Verb.TheVariants as verb
+use Rattle.syncml_types.specs.Verbs.{is_exec}
 use Rattle.dm_uri.specs.declared.uri.Prop.{Prop}
 use Rattle.dm_uri.specs.declared.uri.Prop.TheVariants as prop
 use Rattle.dm_uri.specs.declared.uri.Query.{Query}
@@ -19,7 +20,7 @@ use Rattle.dm_tree.specs.Nodes.{Nodes, above}
 use Rattle.dm_tree.specs.Rights.{allows}
 use Rattle.dm_commands.specs.Outcomes.{Setting, Done, refused, first_refusal, first_of, unless, no_node, node_at}
 use Rattle.dm_commands.specs.Outcomes.{is_success}
-use Rattle.dm_commands.specs.Table.{is_copy, is_exec, has_query, is_root, exec_refusals, get_refusals, add_refusals}
+use Rattle.dm_commands.specs.Table.{is_copy, has_query, is_root, exec_refusals, get_refusals, add_refusals}
 use Rattle.dm_commands.specs.Table.{value_refusals, acl_refusals, acl_decider, name_refusals, title_refusals}
 use Rattle.dm_commands.specs.Table.{replace_other, replace_prop, replace, delete_refusals, uri_or_code, by_verb}
 use Rattle.dm_commands.specs.Table.{target_in, target_unless, target_of, at_target, act}

@@ -6,6 +6,7 @@ use Rattle.dm_base.specs.Limits.{object_limit}
 use Rattle.syncml_types.specs.declared.command.Step.{Step}
 use Rattle.syncml_types.specs.declared.command.Verb.{Verb}
 use Rattle.syncml_types.specs.declared.command.Verb.TheVariants as verb
+use Rattle.syncml_types.specs.Verbs.{is_write}
 use Rattle.dm_uri.specs.declared.uri.Prop.TheVariants as prop
 use Rattle.dm_uri.specs.declared.uri.Query.{Query}
 use Rattle.dm_uri.specs.declared.uri.Query.TheVariants as query
@@ -18,15 +19,6 @@ use Rattle.dm_undo.specs.Journals.{Journal}
 use Rattle.dm_undo.specs.Notes.{Notes}
 use Rattle.dm_commands.specs.declared.outcome.Outcome.{Outcome}
 use Rattle.dm_commands.specs.Outcomes.{Done, Does}
-
--- the command of a verb puts its value into the tree
-abbrev pub is_write : Verb → Bool
-is_write verb.Add = true
-is_write verb.Replace = true
-is_write verb.Copy = false
-is_write verb.Delete = false
-is_write verb.Exec = false
-is_write verb.Get = false
 
 -- what goes into the tree has at most 4,194,304 bytes
 abbrev pub IsShortStep : Step → Type 0

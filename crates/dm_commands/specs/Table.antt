@@ -8,6 +8,7 @@ use Rattle.syncml_types.specs.Canonical.{is_text}
 use Rattle.syncml_types.specs.declared.command.Step.{Step}
 use Rattle.syncml_types.specs.declared.command.Verb.{Verb}
 use Rattle.syncml_types.specs.declared.command.Verb.TheVariants as verb
+use Rattle.syncml_types.specs.Verbs.{is_exec}
 use Rattle.dm_uri.specs.declared.uri.Prop.{Prop}
 use Rattle.dm_uri.specs.declared.uri.Prop.TheVariants as prop
 use Rattle.dm_uri.specs.declared.uri.Query.{Query}
@@ -307,10 +308,6 @@ by_verb s m step uri verb.Delete = delete s m uri
 abbrev pub is_copy : Verb → Bool
 is_copy verb.Copy = true
 is_copy other = false
-
-abbrev pub is_exec : Verb → Bool
-is_exec verb.Exec = true
-is_exec other = false
 
 -- what is refused whatever the target is: a Copy, and an Exec in an Atomic
 abbrev pub step_refusals : Step → List (Bool × ℕ)

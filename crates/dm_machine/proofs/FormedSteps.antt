@@ -12,6 +12,7 @@ use Rattle.std.proofs.lemmas.Bool.Decides.{nat_tests}
 use Rattle.syncml_types.specs.declared.command.Step.{Step}
 use Rattle.syncml_types.specs.declared.command.Verb.{Verb}
 use Rattle.syncml_types.specs.declared.command.Verb.TheVariants as verb
+use Rattle.syncml_types.specs.Verbs.{is_write}
 use Rattle.dm_uri.specs.declared.uri.Prop.{Prop}
 use Rattle.dm_uri.specs.declared.uri.Prop.TheVariants as prop
 use Rattle.dm_uri.specs.declared.uri.Query.{Query}
@@ -47,7 +48,7 @@ use Rattle.dm_tree.proofs.LiveRows.{above-append, last_name-append}
 use Rattle.dm_commands.specs.Outcomes.{Setting, Done, asked_by, refused, unless, first_refusal, no_node, node_at}
 use Rattle.dm_commands.specs.Updates.{state_of, state_after_write, rewritten, with_text, with_state, package_at}
 use Rattle.dm_commands.specs.Updates.{update_ended}
-use Rattle.dm_commands.specs.Promises.{is_write, IsShortStep}
+use Rattle.dm_commands.specs.Promises.{IsShortStep}
 use Rattle.dm_commands.specs.Table as table
 use Rattle.dm_commands.specs.Table.{act}
 use Rattle.dm_commands.proofs.Keeping.{none_holds, is_there, state_there}

@@ -5,6 +5,7 @@ use Rattle.std.specs.Prelude.{IfSome, is_some, nat_lt, ⊤}
 use Rattle.std.specs.List.{AllByRecursion}
 use Rattle.syncml_types.specs.declared.command.Step.{Step}
 use Rattle.syncml_types.specs.Canonical.{is_text}
+use Rattle.syncml_types.specs.Verbs.{is_write}
 use Rattle.dm_tree.specs.Nodes.{IsStamp}
 use Rattle.dm_tree.specs.Devices.{IsText}
 use Rattle.dm_objects.specs.declared.object.Object.{Object}
@@ -13,7 +14,7 @@ use Rattle.dm_objects.specs.declared.object.Object.TheVariants.{Nothing, Bufferi
 use Rattle.dm_objects.specs.declared.piece.Piece.{Piece}
 use Rattle.dm_objects.specs.declared.piece.What.{What}
 use Rattle.dm_objects.specs.declared.piece.What.TheVariants.{Whole, Buffered, Refused}
-use Rattle.dm_objects.specs.Gathering.{Came, came, is_write, skipped, first_of_several, single, next_piece, write_piece}
+use Rattle.dm_objects.specs.Gathering.{Came, came, skipped, first_of_several, single, next_piece, write_piece}
 use Rattle.dm_objects.specs.Gathering.{by_rules, gather, continues}
 use Rattle.dm_commands.specs.Promises.{IsShortStep}
 use Rattle.dm_commands.specs.Table.{act}

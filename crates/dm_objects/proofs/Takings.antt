@@ -4,13 +4,14 @@ use Rattle.std.proofs.Common.{refl, sym, ◌∙◌, ap, subst, arith}
 use Rattle.std.specs.Prelude.{is_some}
 use Rattle.std.proofs.lemmas.Bool.Decides.{nat_tests}
 use Rattle.syncml_types.specs.declared.command.Step.{Step}
+use Rattle.syncml_types.specs.Verbs.{is_write}
 use Rattle.dm_objects.specs.declared.object.Object.{Object}
 use Rattle.dm_objects.specs.declared.object.Object.TheVariants.{Nothing, Buffering, Skipping}
 use Rattle.dm_objects.specs.declared.piece.Piece.{Piece}
 use Rattle.dm_objects.specs.declared.piece.Taken.{Taken}
 use Rattle.dm_objects.specs.declared.piece.TakenOver.{TakenOver}
 use Rattle.dm_objects.specs.declared.piece.What.TheVariants.{Whole, Refused}
-use Rattle.dm_objects.specs.Gathering.{gather, gathered_by, Gathered, Came, came, continues, is_write}
+use Rattle.dm_objects.specs.Gathering.{gather, gathered_by, Gathered, Came, came, continues}
 use Rattle.dm_objects.specs.Gathering.{first_of_several, single, write_piece, by_rules, buffered_target}
 use Rattle.dm_objects.specs.declared.log.Past.{Past}
 use Rattle.dm_objects.specs.declared.rules.Verdict.{Verdict}

@@ -10,6 +10,7 @@ use Rattle.std.proofs.lemmas.List.{flat_map_more}
 use Rattle.syncml_types.specs.declared.command.Step.{Step}
 use Rattle.syncml_types.specs.declared.command.Verb.{Verb}
 use Rattle.syncml_types.specs.declared.command.Verb.TheVariants.{Add, Copy, Delete, Exec, Get, Replace}
+use Rattle.syncml_types.specs.Verbs.{is_write}
 use Rattle.dm_objects.specs.declared.object.Key.{Key}
 use Rattle.dm_objects.specs.declared.object.Begun.{Begun}
 use Rattle.dm_objects.specs.declared.object.Object.{Object}
@@ -18,7 +19,7 @@ use Rattle.dm_objects.specs.declared.piece.Piece.{Piece}
 use Rattle.dm_objects.specs.declared.piece.What.{What}
 use Rattle.dm_objects.specs.declared.piece.What.TheVariants.{Whole, Buffered, Refused}
 use Rattle.dm_objects.specs.Gathering.{key_of, verb_number, is_same_text, is_same_place, is_same_key, continues, Came}
-use Rattle.dm_objects.specs.Gathering.{came, is_write, skipped, begun_by, first_of_several, single, whole_step}
+use Rattle.dm_objects.specs.Gathering.{came, skipped, begun_by, first_of_several, single, whole_step}
 use Rattle.dm_objects.specs.Gathering.{next_piece, write_piece, by_rules, gather}
 use Rattle.dm_objects.specs.Laws.{gather_all, bytes_of, wants_more, is_earlier, IsPutTogether, WholesArePutTogether}
 

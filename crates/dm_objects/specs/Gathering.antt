@@ -4,6 +4,7 @@ use Rattle.std.specs.Prelude.{bytes_eq, Option, None, Some, is_some, unwrap_or}
 use Rattle.syncml_types.specs.declared.command.Step.{Step}
 use Rattle.syncml_types.specs.declared.command.Verb.{Verb}
 use Rattle.syncml_types.specs.declared.command.Verb.TheVariants.{Add, Copy, Delete, Exec, Get, Replace}
+use Rattle.syncml_types.specs.Verbs.{is_write}
 use Rattle.dm_objects.specs.declared.object.Key.{Key}
 use Rattle.dm_objects.specs.declared.object.Begun.{Begun}
 use Rattle.dm_objects.specs.declared.object.Object.{Object}
@@ -62,11 +63,6 @@ pub record Came : Type 0 where
 
 abbrev pub came : Object → What → Came
 came object what = record { object = object; what = what }
-
-abbrev pub is_write : Verb → Bool
-is_write Add = true
-is_write Replace = true
-is_write verb = false
 
 -- refused, and so are the pieces that continue it
 abbrev pub skipped : Piece → ℕ → Came

@@ -2,11 +2,12 @@
 use Rattle.std.specs.Prelude.{◌≡◌, ℕ, ◌&&◌, Bool, true, false, List, [], ◌∷◌, ◌++◌, None, IfSome, is_some}
 use Rattle.std.specs.List.{AllByRecursion, flat_map, last_or}
 use Rattle.syncml_types.specs.declared.command.Step.{Step}
+use Rattle.syncml_types.specs.Verbs.{is_write}
 use Rattle.dm_objects.specs.declared.object.Object.{Object}
 use Rattle.dm_objects.specs.declared.object.Object.TheVariants.{Nothing}
 use Rattle.dm_objects.specs.declared.piece.Piece.{Piece}
 use Rattle.dm_objects.specs.declared.piece.What.TheVariants.{Whole}
-use Rattle.dm_objects.specs.Gathering.{gather, is_same_key, is_write, key_of}
+use Rattle.dm_objects.specs.Gathering.{gather, is_same_key, key_of}
 
 -- the object that pieces leave of one
 abbrev pub gather_all : ℕ → Object → List Piece → Object

@@ -1,7 +1,7 @@
 // Which pieces belong together.
 ghost use Rattle.std.specs.Prelude.{◌≡◌, bytes_eq};
+ghost use Rattle.syncml_types.specs.Verbs.{is_write};
 ghost use Rattle.dm_objects.specs.Gathering.{key_of, verb_number, is_same_text, is_same_place, is_same_key, continues};
-ghost use Rattle.dm_objects.specs.Gathering.{is_write};
 ghost use Rattle.dm_objects.specs.Seen.{is_unfinished};
 
 use crate::object::{Key, Object};

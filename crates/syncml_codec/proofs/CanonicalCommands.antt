@@ -38,7 +38,8 @@ use Rattle.syncml_types.specs.Canonical.{item_tokens, items_tokens, texts_tokens
 use Rattle.syncml_types.specs.Canonical.{plain_tokens, alert_tokens, member_tokens, members_tokens, atomic_tokens}
 use Rattle.syncml_types.specs.Canonical.{seq_member_tokens, seq_members_tokens, sequence_tokens, status_tokens}
 use Rattle.syncml_types.specs.Canonical.{results_tokens, command_tokens}
-use Rattle.syncml_types.specs.Fitness.{all_of, is_in_limit, is_number, is_filled, is_exec, item_texts, item_data}
+use Rattle.syncml_types.specs.Fitness.{all_of, is_in_limit, is_number, is_filled, item_texts, item_data}
+use Rattle.syncml_types.specs.Verbs.{is_exec}
 use Rattle.syncml_types.specs.Fitness.{plain_texts, alert_texts, member_texts, atomic_texts, seq_member_texts}
 use Rattle.syncml_types.specs.Fitness.{sequence_texts, status_texts, results_texts, command_texts, member_data}
 use Rattle.syncml_types.specs.Fitness.{seq_member_data, command_data, member_numbers, atomic_numbers}

@@ -9,27 +9,27 @@ ghost use Rattle.syncml_codec.specs.Laws as Law;
 use crate::ranges::numbers_are_in_range;
 use syncml_types::Message;
 
-/// A law: what is read of bytes is the message that they spell, and no other.
+/// Law: what is read of bytes is the message that they spell, and no other.
 pub fn spelled_is_read()
     ensures { Law.SpelledIsRead }
 {}
 
-/// A law: the refusal that is read of bytes is the place and the reason of the first refusal, and no other.
+/// Law: the refusal that is read of bytes is the place and the reason of the first refusal, and no other.
 pub fn refused_is_read()
     ensures { Law.RefusedIsRead }
 {}
 
-/// A law: bytes spell at most one message.
+/// Law: bytes spell at most one message.
 pub fn one_is_spelled()
     ensures { Law.OneIsSpelled }
 {}
 
-/// A law: no spelling is a proper prefix of another.
+/// Law: no spelling is a proper prefix of another.
 pub fn none_goes_on()
     ensures { Law.NoneGoesOn }
 {}
 
-/// A law: bytes settle a refusal exactly where it is theirs, whatever follows them; they settle each that they have but
+/// Law: bytes settle a refusal exactly where it is theirs, whatever follows them; they settle each that they have but
 /// Truncated. A token that the grammar refuses is settled by the bytes up to its end, and a part that the reader
 /// refuses by no more than six from its place on, an identifier aside, whose text is looked up once the string table is
 /// whole.
@@ -40,24 +40,24 @@ pub fn settled_is_for_good()
     ensures part { Law.RefusedPartIsSettled }
 {}
 
-/// A law: bytes that are refused as truncated aren't so at that place with any byte more.
+/// Law: bytes that are refused as truncated aren't so at that place with any byte more.
 pub fn truncated_is_open()
     ensures { Law.TruncatedIsOpen }
 {}
 
-/// A law: the canonical tokens of a fit message spell it, and each of them can be spelled.
+/// Law: the canonical tokens of a fit message spell it, and each of them can be spelled.
 pub fn canonical_is_spelled()
     ensures message { Law.CanonicalIsSpelled }
     ensures tokens { Law.CanonicalCanBeSpelled }
 {}
 
-/// A law: the canonical spelling of a fit message, where it has at most 65,536 bytes, spells it, so it is read again as
+/// Law: the canonical spelling of a fit message, where it has at most 65,536 bytes, spells it, so it is read again as
 /// that message.
 pub fn canonical_is_read()
     ensures { Law.CanonicalIsRead }
 {}
 
-/// A law: each number of what bytes spell is in the range of its type.
+/// Law: each number of what bytes spell is in the range of its type.
 pub fn spelled_is_in_range()
     ensures { Law.SpelledIsInRange }
 {}

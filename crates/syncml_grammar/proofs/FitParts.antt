@@ -27,7 +27,8 @@ use Rattle.syncml_types.specs.declared.command.ResultsCmd.{ResultsCmd}
 use Rattle.syncml_types.specs.declared.command.Command.{Command}
 use Rattle.syncml_types.specs.declared.command.Command.TheVariants as command
 use Rattle.syncml_types.specs.Canonical.{is_text}
-use Rattle.syncml_types.specs.Fitness.{all_of, is_in_limit, is_number, is_filled, is_exec, loc_texts, meta_texts}
+use Rattle.syncml_types.specs.Fitness.{all_of, is_in_limit, is_number, is_filled, loc_texts, meta_texts}
+use Rattle.syncml_types.specs.Verbs.{is_exec}
 use Rattle.syncml_types.specs.Fitness.{item_texts, cred_texts, header_texts, plain_texts, alert_texts, member_texts}
 use Rattle.syncml_types.specs.Fitness.{atomic_texts, seq_member_texts, sequence_texts, status_texts, results_texts}
 use Rattle.syncml_types.specs.Fitness.{command_texts, item_data, header_data, member_data, seq_member_data}

@@ -28,7 +28,8 @@ use Rattle.syncml_shape.proofs.Accepts.{and_true}
 use Rattle.syncml_shape.proofs.Completes.{and_both}
 use Rattle.syncml_types.specs.Message.{Parts}
 use Rattle.syncml_types.specs.Canonical.{is_text}
-use Rattle.syncml_types.specs.Fitness.{is_in_limit, is_number, is_exec, IsFit}
+use Rattle.syncml_types.specs.Fitness.{is_in_limit, is_number, IsFit}
+use Rattle.syncml_types.specs.Verbs.{is_exec}
 use Rattle.syncml_types.specs.declared.values.Header.{Header}
 use Rattle.syncml_grammar.specs.declared.leaf.Leaf.{Leaf}
 use Rattle.syncml_grammar.specs.declared.leaf.Leaf.TheVariants as leaves

@@ -30,7 +30,8 @@ use Rattle.syncml_types.specs.declared.command.StatusCmd.{StatusCmd}
 use Rattle.syncml_types.specs.declared.command.ResultsCmd.{ResultsCmd}
 use Rattle.syncml_types.specs.declared.command.Command.TheVariants as command
 use Rattle.syncml_types.specs.Canonical.{is_text}
-use Rattle.syncml_types.specs.Fitness.{is_in_limit, is_number, is_filled, is_exec}
+use Rattle.syncml_types.specs.Fitness.{is_in_limit, is_number, is_filled}
+use Rattle.syncml_types.specs.Verbs.{is_exec}
 use Rattle.syncml_grammar.specs.declared.leaf.Simple.{Simple}
 use Rattle.syncml_grammar.specs.declared.leaf.Simple.TheVariants as simples
 use Rattle.syncml_grammar.specs.declared.draft.BodyDraft.{BodyDraft}

@@ -5,53 +5,53 @@ ghost use Rattle.syncml_grammar.specs.Refusals.{UnreadIsText};
 ghost use Rattle.syncml_grammar.specs.Decimals.{NumbersAreDecimal, PiecesAreText, WrittenIsRead};
 ghost use Rattle.syncml_grammar.specs.Taken.{BuiltIsTaken};
 
-/// A law: of each list of tokens exactly one thing is judged, and it is the computed one.
+/// Law: of each list of tokens exactly one thing is judged, and it is the computed one.
 pub fn judged_is_computed()
     ensures { JudgedIsComputed }
 {}
 
-/// A law: behind tokens that were taken, a step refuses a token exactly where it is refused, and for its reason.
+/// Law: behind tokens that were taken, a step refuses a token exactly where it is refused, and for its reason.
 pub fn step_is_refused()
     ensures { StepIsRefused }
 {}
 
-/// A law: the parts behind tokens that were taken are those that they spell.
+/// Law: the parts behind tokens that were taken are those that they spell.
 pub fn finished_is_spelled()
     ensures { FinishedIsSpelled }
 {}
 
-/// A law: tokens are all taken exactly where they begin a document and no text that they close is unread.
+/// Law: tokens are all taken exactly where they begin a document and no text that they close is unread.
 pub fn taken_is_read()
     ensures { TakenIsRead }
 {}
 
-/// A law: what doesn't read in a document is a text or a number.
+/// Law: what doesn't read in a document is a text or a number.
 pub fn unread_is_text()
     ensures { UnreadIsText }
 {}
 
-/// A law: bytes that came one by one are a number exactly where their text is one, and the same: digits without a sign
+/// Law: bytes that came one by one are a number exactly where their text is one, and the same: digits without a sign
 /// or a leading zero, of 64 bits.
 pub fn numbers_are_decimal()
     ensures { NumbersAreDecimal }
 {}
 
-/// A law: pieces of a number that come one after the other are one text.
+/// Law: pieces of a number that come one after the other are one text.
 pub fn pieces_are_text()
     ensures { PiecesAreText }
 {}
 
-/// A law: what is written of a number of 64 bits in decimal is read as that number.
+/// Law: what is written of a number of 64 bits in decimal is read as that number.
 pub fn written_is_read()
     ensures { WrittenIsRead }
 {}
 
-/// A law: a builder takes the tokens that the grammar takes, and else has the first refusal, at the place of its token.
+/// Law: a builder takes the tokens that the grammar takes, and else has the first refusal, at the place of its token.
 pub fn built_is_taken()
     ensures { BuiltIsTaken }
 {}
 
-/// A law: a document whose texts read, and aren't too long together, gives a message, and that is fit.
+/// Law: a document whose texts read, and aren't too long together, gives a message, and that is fit.
 pub fn read_is_fit()
     ensures { ReadIsFit }
 {}

@@ -1,6 +1,6 @@
 // What a child with children puts into its parent. The box of a header and of a Meta goes along; what a call takes from
-// another child's box it replaces by what a new one has, in a function of its own, since each function pays at its entry
-// for its largest locals.
+// another child's box it replaces by what a new one has, in a function of its own, since each function pays at its
+// entry for its largest locals.
 ghost use Rattle.std.specs.Prelude.{◌≡◌, ◌∷◌, ◌++◌, [], false, Some, OnOk};
 ghost use Rattle.syncml_types.specs.declared.values.Header.{Header};
 ghost use Rattle.syncml_grammar.specs.declared.draft.Draft.TheVariants as drafts;

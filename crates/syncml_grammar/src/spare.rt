@@ -17,8 +17,8 @@ use wbxml_tables::Element;
 
 /// The boxes of elements that have ended, with anything in them. No more elements of a kind are open at once than have
 /// places here, so that no element takes memory but for what the message keeps, the first of each kind aside. The box
-/// of a Meta stays in the message; one is left over where a MetInf, or the Meta of a Chal, takes its parent's place, and
-/// of two that are left over in a row one is given back.
+/// of a Meta stays in the message; one is left over where a MetInf, or the Meta of a Chal, takes its parent's place,
+/// and of two that are left over in a row one is given back.
 #[derive(Drop)]
 pub(crate) struct Spares {
     pub(crate) alloc: Global,

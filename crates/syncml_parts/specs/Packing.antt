@@ -66,11 +66,6 @@ BoundsData =
 
 -- ---- the item whose Data may be cut
 
-abbrev pub is_write : Verb → Bool
-is_write verb.Add = true
-is_write verb.Replace = true
-is_write other = false
-
 -- the one item of a list
 abbrev pub only_item : List Item → Option Item
 only_item (i ∷ []) = Some i

@@ -5,63 +5,63 @@ ghost use Rattle.syncml_shape.specs.Laws.{OneTree, FitsInOrder, DocumentInOrder,
 ghost use Rattle.syncml_shape.specs.Laws.{FaultsHaveNoShape, FitsIsStepped, ClosingIsFit, ViableIsOpen, ViableIsTaken};
 ghost use Rattle.syncml_shape.specs.Laws.{JudgedIsComputed};
 
-/// A law: the rows that the code goes by are those of the grammar's table, for each element.
+/// Law: the rows that the code goes by are those of the grammar's table, for each element.
 pub fn rows_are_table()
     ensures { RowsAreTable }
 {}
 
-/// A law: tokens spell one tree at most.
+/// Law: tokens spell one tree at most.
 pub fn one_tree()
     ensures { OneTree }
 {}
 
-/// A law: what fits an element with rows is children that follow the rows, each with what fits it, without text between
+/// Law: what fits an element with rows is children that follow the rows, each with what fits it, without text between
 /// them.
 pub fn fits_in_order()
     ensures { FitsInOrder }
 {}
 
-/// A law: a document is one SyncML, without text beside it.
+/// Law: a document is one SyncML, without text beside it.
 pub fn document_in_order()
     ensures { DocumentInOrder }
 {}
 
-/// A law: what fits a MetInf is children of a Meta in any order, no two of one element, without text between them.
+/// Law: what fits a MetInf is children of a Meta in any order, no two of one element, without text between them.
 pub fn fits_in_any_order()
     ensures { FitsInAnyOrder }
 {}
 
-/// A law: what fits a Meta is what fits a MetInf, or one MetInf that holds it.
+/// Law: what fits a Meta is what fits a MetInf, or one MetInf that holds it.
 pub fn fits_meta()
     ensures { FitsMeta }
 {}
 
-/// A law: no document has a tag that is refused for its name and its parent's.
+/// Law: no document has a tag that is refused for its name and its parent's.
 pub fn faults_have_no_shape()
     ensures { FaultsHaveNoShape }
 {}
 
-/// A law: a tree that fits an open element is stepped over, with the END behind it, and ends that element.
+/// Law: a tree that fits an open element is stepped over, with the END behind it, and ends that element.
 pub fn fits_is_stepped()
     ensures { FitsIsStepped }
 {}
 
-/// A law: steps that end all that is open are over trees that fit, one for each open element.
+/// Law: steps that end all that is open are over trees that fit, one for each open element.
 pub fn closing_is_fit()
     ensures { ClosingIsFit }
 {}
 
-/// A law: tokens begin a document exactly where the steps over them leave something open.
+/// Law: tokens begin a document exactly where the steps over them leave something open.
 pub fn viable_is_open()
     ensures { ViableIsOpen }
 {}
 
-/// A law: tokens begin a document exactly where an outline takes them all.
+/// Law: tokens begin a document exactly where an outline takes them all.
 pub fn viable_is_taken()
     ensures { ViableIsTaken }
 {}
 
-/// A law: of each list of tokens exactly one thing is judged, and it is the computed one.
+/// Law: of each list of tokens exactly one thing is judged, and it is the computed one.
 pub fn judged_is_computed()
     ensures { JudgedIsComputed }
 {}

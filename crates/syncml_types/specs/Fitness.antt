@@ -9,8 +9,6 @@ use Rattle.syncml_types.specs.declared.values.Meta.{Meta}
 use Rattle.syncml_types.specs.declared.values.Item.{Item}
 use Rattle.syncml_types.specs.declared.values.Cred.{Cred}
 use Rattle.syncml_types.specs.declared.values.Header.{Header}
-use Rattle.syncml_types.specs.declared.command.Verb.{Verb}
-use Rattle.syncml_types.specs.declared.command.Verb.TheVariants as verb
 use Rattle.syncml_types.specs.declared.command.Plain.{Plain}
 use Rattle.syncml_types.specs.declared.command.AlertCmd.{AlertCmd}
 use Rattle.syncml_types.specs.declared.command.Member.{Member}
@@ -25,6 +23,7 @@ use Rattle.syncml_types.specs.declared.command.Command.TheVariants as command
 use Rattle.syncml_types.specs.declared.message.Unfit.{Unfit}
 use Rattle.syncml_types.specs.declared.message.Unfit.TheVariants as unfit
 use Rattle.syncml_types.specs.Message.{Parts}
+use Rattle.syncml_types.specs.Verbs.{is_exec}
 use Rattle.syncml_types.specs.Canonical.{canonical, is_text}
 
 -- what holds of a value where there is one
@@ -167,10 +166,6 @@ message_numbers h body = is_number h.msg && list_all command_numbers body
 
 abbrev pub is_filled : {A : Type 0} → List A → Bool
 is_filled xs = not (length xs == 0)
-
-abbrev pub is_exec : Verb → Bool
-is_exec verb.Exec = true
-is_exec other = false
 
 -- an Exec has one item, any other command of these one or more
 unfoldable pub plain_filled : Plain → Bool

@@ -1,4 +1,5 @@
 pub mod Message
+pub mod Verbs
 pub mod Canonical
 pub mod Lengths
 pub mod Fitness

@@ -3,7 +3,8 @@
 ghost use Rattle.std.specs.Prelude.{◌≡◌, ◌&&◌};
 ghost use Rattle.std.specs.List.{list_all};
 ghost use Rattle.syncml_types.specs.Fitness as Spec;
-ghost use Rattle.syncml_types.specs.Fitness.{is_exec, is_filled};
+ghost use Rattle.syncml_types.specs.Fitness.{is_filled};
+ghost use Rattle.syncml_types.specs.Verbs.{is_exec};
 
 use crate::command::{Block, Command, Member, Plain, SeqMember, Verb};
 

@@ -304,19 +304,19 @@ pub fn name_of(element: Element) -> &'static str
     rows!(name_arms, element)
 }
 
-/// A law: no two rows of a table have the same page and code.
+/// Law: no two rows of a table have the same page and code.
 pub fn tables_are_distinct()
     ensures protocol { are_distinct table.PROTOCOL.rows ≡ true }
     ensures meta { are_distinct table.META.rows ≡ true }
 {}
 
-/// A law: each row of a table has the table's page.
+/// Law: each row of a table has the table's page.
 pub fn tables_have_their_pages()
     ensures protocol { are_on_page 0 table.PROTOCOL.rows ≡ true }
     ensures meta { are_on_page 1 table.META.rows ≡ true }
 {}
 
-/// A law: no two elements have the same code on the same page. So `element_of`, called with the codes that `code_of`
+/// Law: no two elements have the same code on the same page. So `element_of`, called with the codes that `code_of`
 /// answers for an element, answers that element.
 pub fn codes_are_distinct()
     ensures { CodesAreDistinct }
