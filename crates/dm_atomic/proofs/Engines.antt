@@ -412,3 +412,9 @@ clocked_sound e tree clock s is = subst (λ (t : Tree). IsSoundEngine (record e 
   ended = s.ended;
   closed = s.closed;
 })
+
+-- a group is opened
+pub ruleset opening = (opened_state, opened_sound, reserved_sound, reserved_state)
+
+-- an update is started, where there is room for it
+pub ruleset starting = (room_sound, room_only, started_sound, started_only, only_then)

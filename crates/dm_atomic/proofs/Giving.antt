@@ -181,3 +181,6 @@ alone_steps e f caller s next t report out first second third c m b h w =
     alone_gives (running e caller) s (state_of f) next t report out first second third b
     (subst (λ (r : Running). Runs (one_step r (state_of f) t) next report first second)
     (running_stays e f caller c m) h) w
+
+-- commands are run, one after the other
+pub ruleset giving = (giving_starts, giving_breaks)

@@ -17,6 +17,7 @@ pub mod Giving
 pub mod Skips
 pub mod UpdateEnds
 pub mod Held
+pub mod Frames
 pub mod Backs
 pub mod Results
 pub mod Staying

@@ -54,3 +54,6 @@ pub failed_fits : (old new : Seen) → new ≡ failed old → FitsObject old.max
 failed_fits old new e f =
     subst (λ n. FitsObject n (present new.objects)) (sym (failed_max old new e))
     (subst (FitsObject old.max_obj) (sym (failed_object old new e)) (stays-fit old.max_obj (present old.objects) f))
+
+-- an object that was begun in an Atomic is given up
+pub ruleset failing = (failed_object, failed_max, failed_fits)

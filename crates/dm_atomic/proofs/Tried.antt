@@ -190,3 +190,9 @@ next_left object ts k t l is = rw (add-one k)
 
 pub none_left : (object : Object) (ts : List Task) (k : ℕ) → length ts ≤ k → left_object object (drop k ts) ≡ object
 none_left object ts k l = ap (left_object object) (drop_all k ts l)
+
+-- tasks are tried, one after the other
+pub ruleset trying = (runs_still, trying_starts, trying_stands, trying_breaks)
+
+-- what is left of the tasks, one after the other
+pub ruleset leaving = (next_left, none_left)

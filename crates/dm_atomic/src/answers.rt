@@ -73,7 +73,7 @@ fn answer_members(
 }
 
 // The Atomic's Status, and then its members'.
-#[tactic(auto, using(crate::proofs::Telling::told_both, crate::proofs::Telling::nothing_more, crate::proofs::Telling::some_more))]
+#[tactic(auto, using(crate::proofs::Frames::telling))]
 fn answer_atomic(
     alloc: Global,
     origin: Origin,
@@ -123,7 +123,7 @@ fn answer_seq_members(
 }
 
 // The Sequence's Status, and then its members'.
-#[tactic(auto, unfolding(crate::specs::Posts::asked_posts), using(crate::proofs::Telling::told_both, crate::proofs::Telling::nothing_more, crate::proofs::Telling::some_more))]
+#[tactic(auto, unfolding(crate::specs::Posts::asked_posts), using(crate::proofs::Frames::telling))]
 fn answer_sequence(
     alloc: Global,
     origin: Origin,

@@ -19,7 +19,7 @@ use syncml_types::Command;
 
 impl Engine {
     // A step failed: the group is closed, and the tree before its first part stands again.
-    #[tactic(auto, using(crate::proofs::Held::holds_self, crate::proofs::Held::holds_then, crate::proofs::Held::holds_objects, crate::proofs::Closings::skipped_sound, crate::proofs::Telling::some_more, crate::proofs::Telling::told_both, crate::proofs::Staying::stay_self, crate::proofs::Staying::stay_then, crate::proofs::Staying::none_then, crate::proofs::Staying::then_none))]
+    #[tactic(auto, using(crate::proofs::Frames::keeping, crate::proofs::Held::holds_objects, crate::proofs::Closings::skipped_sound, crate::proofs::Telling::some_more, crate::proofs::Telling::told_both))]
     fn fail(
         &mut self,
         post: &Post,
@@ -54,7 +54,7 @@ impl Engine {
     }
 
     // All steps succeeded and no object is being buffered: the answers of all parts are told, and the group is closed.
-    #[tactic(auto, using(crate::proofs::Held::holds_self, crate::proofs::Held::holds_then, crate::proofs::Closings::succeed_gives, crate::proofs::Telling::some_more, crate::proofs::Staying::stay_self, crate::proofs::Staying::stay_then, crate::proofs::Staying::none_then, crate::proofs::Staying::then_none))]
+    #[tactic(auto, using(crate::proofs::Frames::keeping, crate::proofs::Closings::succeed_gives, crate::proofs::Telling::some_more))]
     fn succeed(
         &mut self,
         post: &Post,
@@ -85,7 +85,7 @@ impl Engine {
     }
 
     // An object is being buffered: the group stays open with one more part, whose answers wait.
-    #[tactic(auto, using(crate::proofs::Held::holds_self, crate::proofs::Held::holds_then, crate::proofs::Closings::stay_state, crate::proofs::Closings::stay_same, crate::proofs::Staying::stay_self, crate::proofs::Staying::stay_then, crate::proofs::Staying::none_then, crate::proofs::Staying::then_none))]
+    #[tactic(auto, using(crate::proofs::Frames::keeping, crate::proofs::Closings::stay_state, crate::proofs::Closings::stay_same))]
     fn stay(&mut self, post: Post, done: List<Report>) -> Result<(), Memory>
         requires sound { IsSoundEngine self.old }
         requires is_open { self.old.is_open ≡ true }
@@ -111,7 +111,7 @@ impl Engine {
     }
 
     // No step failed.
-    #[tactic(auto, using(crate::proofs::Held::holds_self, crate::proofs::Held::holds_then, crate::proofs::Closings::stay_closes, crate::proofs::Closings::succeed_closes, crate::proofs::Telling::nothing_more, crate::proofs::Staying::stay_self, crate::proofs::Staying::stay_then, crate::proofs::Staying::none_then, crate::proofs::Staying::then_none))]
+    #[tactic(auto, using(crate::proofs::Frames::keeping, crate::proofs::Closings::stay_closes, crate::proofs::Closings::succeed_closes, crate::proofs::Telling::nothing_more))]
     fn close(
         &mut self,
         post: Post,
@@ -144,7 +144,7 @@ impl Engine {
     }
 
     // The tasks of an Atomic in its open group.
-    #[tactic(auto, using(crate::proofs::Held::holds_self, crate::proofs::Held::holds_then, crate::proofs::Closings::group_is_open, crate::proofs::Telling::some_more, crate::proofs::Staying::stay_self, crate::proofs::Staying::stay_then, crate::proofs::Staying::none_then, crate::proofs::Staying::then_none))]
+    #[tactic(auto, using(crate::proofs::Frames::keeping, crate::proofs::Closings::group_is_open, crate::proofs::Telling::some_more))]
     fn run_open(
         &mut self,
         caller: &[u8],
@@ -192,7 +192,7 @@ impl Engine {
     }
 
     // An open group that these don't continue is broken.
-    #[tactic(auto, using(crate::proofs::Held::holds_self, crate::proofs::Held::holds_then, crate::proofs::Closings::joins_gives, crate::proofs::Closings::breaks_gives, crate::proofs::Telling::nothing_more, crate::proofs::Staying::stay_self, crate::proofs::Staying::stay_then, crate::proofs::Staying::none_then, crate::proofs::Staying::then_none))]
+    #[tactic(auto, using(crate::proofs::Frames::keeping, crate::proofs::Closings::joins_gives, crate::proofs::Closings::breaks_gives, crate::proofs::Telling::nothing_more))]
     fn join_or_break(&mut self, tasks: &[Task], out: &mut List<Command>) -> Result<(), Memory>
         requires sound { IsSoundEngine self.old }
         ensures gives { OnOk result (Gives (join_or_break_of (state_of self.old) tasks.now) (state_of self.new)
@@ -214,7 +214,7 @@ impl Engine {
 
     /// An Atomic of these tasks: all are run or none, and the answers wait where its object goes on. After `Memory` a
     /// part may be told.
-    #[tactic(auto, using(crate::proofs::Held::holds_self, crate::proofs::Held::holds_then, crate::proofs::Giving::gives_in_front, crate::proofs::Giving::gives_more, crate::proofs::Staying::stay_self, crate::proofs::Staying::stay_then, crate::proofs::Staying::none_then, crate::proofs::Staying::then_none))]
+    #[tactic(auto, using(crate::proofs::Frames::keeping, crate::proofs::Giving::gives_in_front, crate::proofs::Giving::gives_more))]
     pub(crate) fn atomic(
         &mut self,
         caller: &[u8],

@@ -55,7 +55,7 @@ fn skip_one(inbox: &mut Inbox, work: &Work) -> Result<(), Memory>
 
 /// After a failure what continues the object that is being buffered inside is refused, and so is what continues the
 /// last piece with MoreData that was not run. After `Memory` a part may have been skipped.
-#[tactic(auto, using(crate::proofs::Held::objects_then, crate::proofs::Held::objects_failed, crate::proofs::Held::objects_same, crate::proofs::Skips::failed_object, crate::proofs::Skips::failed_max, crate::proofs::Skips::failed_fits, crate::proofs::Tried::next_left, crate::proofs::Tried::none_left))]
+#[tactic(auto, using(crate::proofs::Held::objects_then, crate::proofs::Held::objects_failed, crate::proofs::Held::objects_same, crate::proofs::Skips::failing, crate::proofs::Tried::leaving))]
 pub(crate) fn skip_left(inbox: &mut Inbox, unrun: &[Task]) -> Result<(), Memory>
     ensures object { OnOk result
         (present inbox.new.objects ≡ left_object (stays (present inbox.old.objects)) unrun.now) }
@@ -75,7 +75,7 @@ impl Engine {
     /// Runs tasks up to the first that fails: its report, and how many were run. `done` gets the reports of those
     /// before it. None of the reports is told. The values of tasks that were run may be moved into the tree. After
     /// `Memory` a notice may be told.
-    #[tactic(auto, using(crate::proofs::Held::holds_self, crate::proofs::Held::holds_then, crate::proofs::Engines::only_then, crate::proofs::Tried::runs_still, crate::proofs::Tried::trying_starts, crate::proofs::Tried::trying_stands, crate::proofs::Tried::trying_breaks, crate::proofs::Staying::stay_self, crate::proofs::Staying::stay_then))]
+    #[tactic(auto, using(crate::proofs::Frames::holding, crate::proofs::Engines::only_then, crate::proofs::Tried::trying, crate::proofs::Staying::stay_self, crate::proofs::Staying::stay_then))]
     pub(crate) fn try_all(
         &mut self,
         caller: &[u8],

@@ -25,7 +25,7 @@ use syncml_types::{AlertCmd, Block, Command, Member, Plain, SeqMember};
 
 impl Engine {
     // A step of a verb breaks an open group first.
-    #[tactic(auto, using(crate::proofs::Held::holds_self, crate::proofs::Held::holds_then, crate::proofs::Giving::gives_quietly, crate::proofs::Telling::nothing_more, crate::proofs::Staying::stay_self, crate::proofs::Staying::stay_then, crate::proofs::Staying::none_then, crate::proofs::Staying::then_none))]
+    #[tactic(auto, using(crate::proofs::Frames::keeping, crate::proofs::Giving::gives_quietly, crate::proofs::Telling::nothing_more))]
     fn break_first(&mut self, work: &Work, out: &mut List<Command>) -> Result<(), Memory>
         requires sound { IsSoundEngine self.old }
         ensures gives { OnOk result (Gives (breaks_first (state_of self.old) work.now) (state_of self.new)
@@ -47,7 +47,7 @@ impl Engine {
     }
 
     // A task outside an Atomic.
-    #[tactic(auto, using(crate::proofs::Held::holds_self, crate::proofs::Held::holds_then, crate::proofs::Giving::gives_in_front, crate::proofs::Giving::gives_more, crate::proofs::Staying::stay_self, crate::proofs::Staying::stay_then, crate::proofs::Staying::none_then, crate::proofs::Staying::then_none))]
+    #[tactic(auto, using(crate::proofs::Frames::keeping, crate::proofs::Giving::gives_in_front, crate::proofs::Giving::gives_more))]
     fn one_alone(
         &mut self,
         caller: &[u8],
@@ -71,7 +71,7 @@ impl Engine {
     }
 
     // The items of a command outside an Atomic, whatever their codes.
-    #[tactic(auto, using(crate::proofs::Held::holds_self, crate::proofs::Held::holds_then, crate::proofs::Giving::giving_starts, crate::proofs::Giving::giving_breaks, crate::proofs::Giving::items_over, crate::proofs::Staying::stay_self, crate::proofs::Staying::stay_then, crate::proofs::Staying::none_then, crate::proofs::Staying::then_none))]
+    #[tactic(auto, using(crate::proofs::Frames::keeping, crate::proofs::Giving::giving, crate::proofs::Giving::items_over))]
     fn run_plain(
         &mut self,
         caller: &[u8],
@@ -97,7 +97,7 @@ impl Engine {
         Ok(())
     }
 
-    #[tactic(auto, using(crate::proofs::Held::holds_self, crate::proofs::Held::holds_then, crate::proofs::Giving::lone_gives, crate::proofs::Staying::stay_self, crate::proofs::Staying::stay_then, crate::proofs::Staying::none_then, crate::proofs::Staying::then_none))]
+    #[tactic(auto, using(crate::proofs::Frames::keeping, crate::proofs::Giving::lone_gives))]
     fn run_alert(
         &mut self,
         caller: &[u8],
@@ -121,7 +121,7 @@ impl Engine {
         Ok(())
     }
 
-    #[tactic(auto, using(crate::proofs::Held::holds_self, crate::proofs::Held::holds_then, crate::proofs::Telling::nothing_more, crate::proofs::Staying::stay_self, crate::proofs::Staying::stay_then, crate::proofs::Staying::none_then, crate::proofs::Staying::then_none))]
+    #[tactic(auto, using(crate::proofs::Frames::keeping, crate::proofs::Telling::nothing_more))]
     fn run_single(
         &mut self,
         caller: &[u8],
@@ -146,7 +146,7 @@ impl Engine {
         }
     }
 
-    #[tactic(auto, using(crate::proofs::Held::holds_self, crate::proofs::Held::holds_then, crate::proofs::Telling::nothing_more, crate::proofs::Staying::stay_self, crate::proofs::Staying::stay_then, crate::proofs::Staying::none_then, crate::proofs::Staying::then_none))]
+    #[tactic(auto, using(crate::proofs::Frames::keeping, crate::proofs::Telling::nothing_more))]
     fn run_atomic(
         &mut self,
         caller: &[u8],
@@ -174,7 +174,7 @@ impl Engine {
         Ok(())
     }
 
-    #[tactic(auto, using(crate::proofs::Staying::stay_self, crate::proofs::Staying::stay_then, crate::proofs::Staying::none_then, crate::proofs::Staying::then_none))]
+    #[tactic(auto, using(crate::proofs::Frames::staying))]
     fn run_member(
         &mut self,
         caller: &[u8],
@@ -199,7 +199,7 @@ impl Engine {
         }
     }
 
-    #[tactic(auto, using(crate::proofs::Held::holds_self, crate::proofs::Held::holds_then, crate::proofs::Giving::giving_starts, crate::proofs::Giving::giving_breaks, crate::proofs::Giving::members_over, crate::proofs::Staying::stay_self, crate::proofs::Staying::stay_then, crate::proofs::Staying::none_then, crate::proofs::Staying::then_none))]
+    #[tactic(auto, using(crate::proofs::Frames::keeping, crate::proofs::Giving::giving, crate::proofs::Giving::members_over))]
     fn run_members(
         &mut self,
         caller: &[u8],
@@ -225,7 +225,7 @@ impl Engine {
         Ok(())
     }
 
-    #[tactic(auto, using(crate::proofs::Held::holds_self, crate::proofs::Held::holds_then, crate::proofs::Telling::nothing_more, crate::proofs::Telling::some_more, crate::proofs::Giving::sequence_gives, crate::proofs::Staying::stay_self, crate::proofs::Staying::stay_then, crate::proofs::Staying::none_then, crate::proofs::Staying::then_none))]
+    #[tactic(auto, using(crate::proofs::Frames::keeping, crate::proofs::Telling::nothing_more, crate::proofs::Telling::some_more, crate::proofs::Giving::sequence_gives))]
     fn run_sequence(
         &mut self,
         caller: &[u8],
@@ -253,7 +253,7 @@ impl Engine {
     /// Runs one command of a message's body: what it comes to is put behind `out`, or waits where it joins a group that
     /// stays open. Statuses and Results aren't commands to run. After `Memory` a part may be told, and the state may be
     /// anywhere on the way: go back to a mark.
-    #[tactic(auto, unfolding(crate::specs::Run::run_command), using(crate::proofs::Held::holds_self, crate::proofs::Giving::gives_quietly, crate::proofs::Telling::nothing_more, crate::proofs::Staying::stay_self, crate::proofs::Staying::stay_then, crate::proofs::Staying::none_then, crate::proofs::Staying::then_none))]
+    #[tactic(auto, unfolding(crate::specs::Run::run_command), using(crate::proofs::Frames::staying, crate::proofs::Held::holds_self, crate::proofs::Giving::gives_quietly, crate::proofs::Telling::nothing_more))]
     pub fn run(
         &mut self,
         caller: &[u8],

@@ -11,7 +11,7 @@ use std::alloc::Global;
 use syncml_types::Command;
 
 /// Tells a container's Status, and then its reports. After `Memory` a part of these may be told.
-#[tactic(auto, using(crate::proofs::Telling::told_both, crate::proofs::Telling::nothing_more, crate::proofs::Telling::some_more))]
+#[tactic(auto, using(crate::proofs::Frames::telling))]
 pub(crate) fn put_container(
     alloc: Global,
     post: &Post,
@@ -28,7 +28,7 @@ pub(crate) fn put_container(
 }
 
 /// As `put_container`, where no found value is copied.
-#[tactic(auto, using(crate::proofs::Telling::told_both, crate::proofs::Telling::nothing_more, crate::proofs::Telling::some_more))]
+#[tactic(auto, using(crate::proofs::Frames::telling))]
 pub(crate) fn put_own_container(
     alloc: Global,
     post: &Post,
@@ -72,7 +72,7 @@ fn put_undone(alloc: Global, reports: &List<Report>, out: &mut List<Command>) ->
     Ok(())
 }
 
-#[tactic(auto, using(crate::proofs::Telling::told_both, crate::proofs::Telling::nothing_more, crate::proofs::Telling::some_more))]
+#[tactic(auto, using(crate::proofs::Frames::telling))]
 fn put_part_undone(alloc: Global, part: &Part, out: &mut List<Command>) -> Result<(), Memory>
     ensures ok { OnOk result (out.new ≡ out.old ++ told (container part.now.post 507 (map undone part.now.reports))) }
     ensures err { OnErr result (IsInFront out.old out.new) }
@@ -142,7 +142,7 @@ fn put_steps_failed(
 
 /// Tells a container in which a step failed: 507, 216 without Results for the steps before it, its own report, and 215
 /// for the steps behind it. After `Memory` a part may be told.
-#[tactic(auto, using(crate::proofs::Telling::told_both, crate::proofs::Telling::nothing_more, crate::proofs::Telling::some_more))]
+#[tactic(auto, using(crate::proofs::Frames::telling))]
 pub(crate) fn put_failed(
     alloc: Global,
     post: &Post,

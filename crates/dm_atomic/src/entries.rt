@@ -228,7 +228,7 @@ fn put_own_results(
 }
 
 /// Tells the Status of a task, and then its Results, of which no value is copied. After `Memory` a part may be told.
-#[tactic(auto, using(crate::proofs::Telling::told_both, crate::proofs::Telling::nothing_more, crate::proofs::Telling::some_more))]
+#[tactic(auto, using(crate::proofs::Frames::telling))]
 pub(crate) fn put_own_report(
     alloc: Global,
     report: Report,
@@ -259,7 +259,7 @@ pub(crate) fn put_own_reports(
 }
 
 /// Tells the Status of a task, and then its Results. After `Memory` a part of these may be told.
-#[tactic(auto, using(crate::proofs::Telling::told_both, crate::proofs::Telling::nothing_more, crate::proofs::Telling::some_more))]
+#[tactic(auto, using(crate::proofs::Frames::telling))]
 pub(crate) fn put_report(
     alloc: Global,
     report: &Report,

@@ -74,7 +74,7 @@ impl Engine {
     }
 
     /// A group begins here, unless one is open. After `Memory` the state is as before.
-    #[tactic(auto, using(crate::proofs::Held::holds_self, crate::proofs::Held::holds_reserved, crate::proofs::Held::holds_opened, crate::proofs::Engines::opened_state, crate::proofs::Engines::opened_sound, crate::proofs::Engines::reserved_sound, crate::proofs::Engines::reserved_state, crate::proofs::Staying::stay_self))]
+    #[tactic(auto, using(crate::proofs::Held::holds_self, crate::proofs::Held::holds_reserved, crate::proofs::Held::holds_opened, crate::proofs::Engines::opening, crate::proofs::Staying::stay_self))]
     pub(crate) fn open_group(&mut self) -> Result<(), Memory>
         requires sound { IsSoundEngine self.old }
         ensures state { OnOk result (state_of self.new ≡ opens (state_of self.old)) }

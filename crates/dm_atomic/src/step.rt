@@ -99,7 +99,7 @@ impl Engine {
         act(self.alloc, &mut self.tree, &mut self.journal, caller, step)
     }
 
-    #[tactic(auto, using(crate::proofs::Held::holds_self, crate::proofs::Held::holds_then, crate::proofs::Held::holds_room, crate::proofs::Held::holds_started, crate::proofs::Engines::room_sound, crate::proofs::Engines::room_only, crate::proofs::Engines::started_sound, crate::proofs::Engines::started_only, crate::proofs::Engines::only_then, crate::proofs::Staying::stay_self, crate::proofs::Staying::then_none, crate::proofs::Staying::stay_more))]
+    #[tactic(auto, using(crate::proofs::Frames::keeping_in_step, crate::proofs::Held::holds_room, crate::proofs::Held::holds_started, crate::proofs::Engines::starting))]
     fn start(&mut self, started: bool, step: &Step) -> Result<(), Memory>
         requires sound { IsSoundEngine self.old }
         ensures ok { OnOk result (self.new ≡ record self.old {
@@ -120,7 +120,7 @@ impl Engine {
     }
 
     // A whole step, by the step table.
-    #[tactic(auto, using(crate::proofs::Held::holds_self, crate::proofs::Held::holds_then, crate::proofs::Engines::only_then, crate::proofs::Engines::stepped, crate::proofs::Staying::stay_self, crate::proofs::Staying::then_none, crate::proofs::Staying::stay_more))]
+    #[tactic(auto, using(crate::proofs::Frames::keeping_in_step, crate::proofs::Engines::only_then, crate::proofs::Engines::stepped))]
     fn whole_step(&mut self, caller: &[u8], post: &Post, step: &mut Step) -> Result<Report, Memory>
         requires sound { IsSoundEngine self.old }
         requires short { IsShortStep step.old }
@@ -146,7 +146,7 @@ impl Engine {
         })
     }
 
-    #[tactic(auto, using(crate::proofs::Held::holds_self, crate::proofs::Staying::stay_self, crate::proofs::Staying::then_none, crate::proofs::Staying::stay_more))]
+    #[tactic(auto, using(crate::proofs::Frames::staying_in_step, crate::proofs::Held::holds_self))]
     fn by_sort(
         &mut self,
         caller: &[u8],
@@ -172,7 +172,7 @@ impl Engine {
     }
 
     // A piece, gathered first, unless it is a whole step as it stands.
-    #[tactic(auto, using(crate::proofs::Held::holds_then, crate::proofs::Engines::only_then, crate::proofs::Telling::nothing_more, crate::proofs::Telling::some_more, crate::proofs::Staying::stay_self, crate::proofs::Staying::then_none, crate::proofs::Staying::stay_more))]
+    #[tactic(auto, using(crate::proofs::Frames::staying_in_step, crate::proofs::Held::holds_then, crate::proofs::Engines::only_then, crate::proofs::Telling::nothing_more, crate::proofs::Telling::some_more))]
     fn one_piece(
         &mut self,
         caller: &[u8],
@@ -198,7 +198,7 @@ impl Engine {
     }
 
     // What a piece comes to; of an object that it broke is told.
-    #[tactic(auto, using(crate::proofs::Held::holds_inbox, crate::proofs::Staying::stay_self, crate::proofs::Staying::then_none, crate::proofs::Staying::stay_more))]
+    #[tactic(auto, using(crate::proofs::Frames::staying_in_step, crate::proofs::Held::holds_inbox))]
     fn gather(&mut self, piece: &mut Piece, out: &mut List<Command>) -> Result<Sort, Memory>
         requires sound { IsSoundEngine self.old }
         ensures object { OnOk result (self.new ≡ record self.old {
@@ -222,7 +222,7 @@ impl Engine {
     }
 
     /// One task. The report isn't told. The task's value may be moved into the tree.
-    #[tactic(auto, using(crate::proofs::Held::holds_self, crate::proofs::Staying::stay_self, crate::proofs::Staying::then_none, crate::proofs::Staying::stay_more), unfolding(crate::specs::Run::one_step))]
+    #[tactic(auto, using(crate::proofs::Frames::staying_in_step, crate::proofs::Held::holds_self), unfolding(crate::specs::Run::one_step))]
     pub(crate) fn one_step(
         &mut self,
         caller: &[u8],

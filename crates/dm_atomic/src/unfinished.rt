@@ -17,7 +17,7 @@ use syncml_types::Command;
 impl Engine {
     /// All that is unfinished is given up: the object, and the open group, before which the tree stands again. It takes
     /// no memory.
-    #[tactic(auto, using(crate::proofs::Held::holds_then, crate::proofs::Held::holds_self, crate::proofs::Held::holds_next, crate::proofs::Held::holds_inbox, crate::proofs::GivenUps::cleared_sound, crate::proofs::GivenUps::abandoned_open, crate::proofs::GivenUps::abandoned_closed))]
+    #[tactic(auto, using(crate::proofs::Frames::holding_inbox, crate::proofs::GivenUps::cleared_sound, crate::proofs::GivenUps::abandoned_open, crate::proofs::GivenUps::abandoned_closed))]
     pub fn abandon(&mut self)
         requires sound { IsSoundEngine self.old }
         ensures state { state_of self.new ≡ abandoned (state_of self.old) }
@@ -35,7 +35,7 @@ impl Engine {
     }
 
     // The open group is broken.
-    #[tactic(auto, using(crate::proofs::Held::holds_then, crate::proofs::Held::holds_self, crate::proofs::Held::holds_next, crate::proofs::Held::holds_inbox, crate::proofs::GivenUps::cleared_sound, crate::proofs::GivenUps::broken_gives, crate::proofs::Telling::told_both, crate::proofs::Telling::nothing_more, crate::proofs::Telling::some_more, crate::proofs::Staying::stay_self))]
+    #[tactic(auto, using(crate::proofs::Frames::holding_inbox, crate::proofs::Frames::telling, crate::proofs::GivenUps::cleared_sound, crate::proofs::GivenUps::broken_gives, crate::proofs::Staying::stay_self))]
     fn break_open(&mut self, out: &mut List<Command>) -> Result<(), Memory>
         requires sound { IsSoundEngine self.old }
         requires is_open { self.old.is_open ≡ true }
@@ -58,7 +58,7 @@ impl Engine {
 
     /// An open group is broken: its object is lost, which an Alert tells, its steps are undone, and the tree before it
     /// stands again. After `Memory` a part may be told.
-    #[tactic(auto, using(crate::proofs::Held::holds_then, crate::proofs::Held::holds_self, crate::proofs::Held::holds_next, crate::proofs::Held::holds_inbox, crate::proofs::GivenUps::unbroken_gives, crate::proofs::Staying::stay_self))]
+    #[tactic(auto, using(crate::proofs::Frames::holding_inbox, crate::proofs::GivenUps::unbroken_gives, crate::proofs::Staying::stay_self))]
     pub(crate) fn break_group(&mut self, out: &mut List<Command>) -> Result<(), Memory>
         requires sound { IsSoundEngine self.old }
         ensures gives { OnOk result (Gives (break_of (state_of self.old)) (state_of self.new) out.old out.new) }
@@ -78,7 +78,7 @@ impl Engine {
 
     /// A message with Final that has no step of a verb breaks what is unfinished: the object, which an Alert tells, and
     /// the open group. After `Memory` a part may be told, and a part given up: go back to a mark.
-    #[tactic(auto, using(crate::proofs::Held::holds_then, crate::proofs::Held::holds_self, crate::proofs::Held::holds_next, crate::proofs::Held::holds_inbox, crate::proofs::GivenUps::cleared_sound, crate::proofs::GivenUps::still_open, crate::proofs::GivenUps::still_closed, crate::proofs::Telling::nothing_more, crate::proofs::Staying::stay_self))]
+    #[tactic(auto, using(crate::proofs::Frames::holding_inbox, crate::proofs::GivenUps::cleared_sound, crate::proofs::GivenUps::still_open, crate::proofs::GivenUps::still_closed, crate::proofs::Telling::nothing_more, crate::proofs::Staying::stay_self))]
     pub fn still(&mut self, out: &mut List<Command>) -> Result<(), Memory>
         requires sound { IsSoundEngine self.old }
         ensures gives { OnOk result (Gives (still_of (state_of self.old)) (state_of self.new) out.old out.new) }
