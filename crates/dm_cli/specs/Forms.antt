@@ -7,7 +7,7 @@ use Rattle.dm_exit.specs.declared.exit.Exit.{Exit}
 use Rattle.dm_exit.specs.declared.exit.Exit.TheVariants as exit
 use Rattle.dm_exit.specs.Puts.{PutsPrefix, PutsEnd, Ends}
 use Rattle.dm_replay.specs.Input.{TakesOnePast}
-use Rattle.dm_replay.specs.Output.{Replays, PutsTaken}
+use Rattle.dm_replay.specs.Output.{Replays}
 use Rattle.dm_check.specs.Answers.{show_text, check_text, message_exit}
 use Rattle.dm_check.specs.Receiving.{TakesNoMore}
 use Rattle.dm_bench.specs.Workload.{bench_text}
@@ -38,10 +38,6 @@ Runs (Some forms.Show) left old new e = OfKnown left (λ bytes. Ends (show_text 
 Runs (Some forms.Check) left old new e = OfKnown left (λ bytes. Ends (check_text bytes) (message_exit bytes) old new e)
 Runs (Some (forms.Bench seed nodes messages)) left old new e =
     PutsEnd (bench_text seed nodes messages) exit.Done old new e
-
--- where the source of a trace failed, each line that was taken whole was answered, and nothing else was put
-abbrev pub AnswersTaken : Option (List ℕ) → Option (List ℕ) → Option (List ℕ) → Option (List ℕ) → Exit → Type 0
-AnswersTaken left rest old new e = e ≡ exit.ReadFault → OfKnown left (λ _. PutsTaken left rest old new)
 
 -- whatever the source tells, Usage is answered only to words of no form
 abbrev pub UsageMeansNoForm : Option Form → Exit → Type 0

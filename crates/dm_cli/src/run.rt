@@ -2,9 +2,10 @@
 ghost use Rattle.std.specs.Prelude.{◌≡◌, ◌≢◌, ◌<◌, ℕ, List, Option, Some, None, map, string_bytes};
 ghost use Rattle.std.specs.Process.{exit_status};
 ghost use Rattle.dm_exit.specs.Causes.{SourceCause, SinkCause};
+ghost use Rattle.dm_replay.specs.Output.{AnswersTaken};
 ghost use Rattle.dm_words.specs.declared.forms.Form.TheVariants as forms;
 ghost use Rattle.dm_words.specs.Forms.{form_of, IsWithinBounds};
-ghost use Rattle.dm_cli.specs.Forms.{Runs, TakesFor, AnswersTaken, UsageMeansNoForm, status_of};
+ghost use Rattle.dm_cli.specs.Forms.{Runs, TakesFor, UsageMeansNoForm, status_of};
 
 use dm_base::{Fault, Memory, Sink, Source, put_all};
 use dm_bench::bench;
@@ -32,7 +33,7 @@ fn put_usage<K: Sink>(out: &mut K) -> Exit
 #[tactic(auto, unfolding(crate::specs::Forms::Runs, crate::specs::Forms::TakesFor))]
 fn run_replay<S: Source, K: Sink>(alloc: Global, src: &mut S, out: &mut K) -> Exit
     ensures output { Runs (Some forms.Replay) (S.left src.old) (K.got out.old) (K.got out.new) result }
-    ensures asked { AnswersTaken (S.left src.old) (S.left src.new) (K.got out.old) (K.got out.new) result }
+    ensures answered { AnswersTaken (S.left src.old) (S.left src.new) (K.got out.old) (K.got out.new) result }
     ensures usage { result ≢ Exit.Usage }
     ensures taken { TakesFor S.left (Some forms.Replay) src.old src.new }
     ensures source { SourceCause (S.faults src.old) (S.faults src.new) result }
@@ -92,7 +93,7 @@ fn run_bench<K: Sink>(alloc: Global, seed: u64, nodes: u32, messages: u32, out: 
 fn run_form<S: Source, K: Sink>(alloc: Global, form: Form, src: &mut S, out: &mut K) -> Exit
     requires { IsWithinBounds form }
     ensures output { Runs (Some form) (S.left src.old) (K.got out.old) (K.got out.new) result }
-    ensures asked { form ≡ forms.Replay
+    ensures answered { form ≡ forms.Replay
         → AnswersTaken (S.left src.old) (S.left src.new) (K.got out.old) (K.got out.new) result }
     ensures usage { result ≢ Exit.Usage }
     ensures taken { TakesFor S.left (Some form) src.old src.new }
@@ -120,7 +121,7 @@ fn run_form<S: Source, K: Sink>(alloc: Global, form: Form, src: &mut S, out: &mu
 pub fn run<S: Source, K: Sink>(alloc: Global, words: &[String], src: &mut S, out: &mut K) -> Exit
     ensures output { Runs (form_of (map string_bytes words.now)) (S.left src.old) (K.got out.old)
         (K.got out.new) result }
-    ensures asked { form_of (map string_bytes words.now) ≡ Some forms.Replay
+    ensures answered { form_of (map string_bytes words.now) ≡ Some forms.Replay
         → AnswersTaken (S.left src.old) (S.left src.new) (K.got out.old) (K.got out.new) result }
     ensures usage { UsageMeansNoForm (form_of (map string_bytes words.now)) result }
     ensures taken { TakesFor S.left (form_of (map string_bytes words.now)) src.old src.new }

@@ -190,8 +190,8 @@ module _ (sound : JobsAreSound) (p : Pairing) where
           → OnWorldSchedule (jobbing told r) (line ∷ lines) p
       by_line (Err why) is g = absurd g
       by_line (Ok read) is g =
-          one_more (jobbing told r) (stage_behind told read (job_in read)) line lines (job_line_turn told r line read is)
-          (by_end read is (job_in read) refl g)
+          one_more (jobbing told r) (stage_behind told read (job_in read)) line lines
+          (job_line_turn told r line read is) (by_end read is (job_in read) refl g)
 
   in_job : (told : Setup) → IsGoodSection (telling phase.Begun told) → (lines past : List (List ℕ)) (n : ℕ)
       (r : Reading) → HasRead past n r → AllByRecursion IsCut lines → HasEnds p (brought (jobbing told r) lines)

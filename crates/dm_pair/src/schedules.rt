@@ -14,8 +14,8 @@ pub fn starts_and_jobs_begin()
 }
 
 /// Law: from a client and a job such as schedules begin with, whatever lines stand behind the job, taken or refused, a
-/// schedule brings the world to the two machines and the messages that they bring both ends to. So the laws over schedules
-/// hold of what such lines make of them.
+/// schedule brings the world to the two machines and the messages that they bring both ends to. So the laws over
+/// schedules hold of what such lines make of them.
 pub fn runs_on_schedules()
     ensures { RunsOnSchedules }
 {}

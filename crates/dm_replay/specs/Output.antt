@@ -8,6 +8,7 @@ use Rattle.dm_base.specs.declared.lines.LineReason.{LineReason}
 use Rattle.dm_base.specs.declared.lines.LineReason.TheVariants as reason
 use Rattle.dm_base.specs.Fields.{hex_text}
 use Rattle.dm_base.specs.Lines.{line_feed}
+use Rattle.dm_base.specs.Outside.{OfKnown}
 use Rattle.syncml_types.specs.Canonical.{canonical}
 use Rattle.syncml_types.specs.Message.{Parts}
 use Rattle.dm_tree.specs.Nodes.{Nodes}
@@ -168,6 +169,10 @@ answered_text bytes = begun_answers (begun_of bytes)
 abbrev pub PutsTaken : Option (List ℕ) → Option (List ℕ) → Option (List ℕ) → Option (List ℕ) → Type 0
 PutsTaken left rest old new =
     (taken : List ℕ) × Consumes left rest taken × Appends old new (answered_text taken)
+
+-- where the source of a trace failed, each line that was taken whole was answered, and nothing else was put
+abbrev pub AnswersTaken : Option (List ℕ) → Option (List ℕ) → Option (List ℕ) → Option (List ℕ) → Exit → Type 0
+AnswersTaken left rest old new e = e ≡ exit.ReadFault → OfKnown left (λ _. PutsTaken left rest old new)
 
 -- ---- the same by the state of the machine alone, which is how a run goes on
 

@@ -152,7 +152,7 @@ pub(crate) fn put_end<S: Source, K: Sink>(
         (due.now ++ ending_text version (nodes tree.now.rows) (ending_at number i))
         (ending_exit (ending_at number i)) (K.got out.old) (K.got out.new) result) }
     ensures usage { result ≢ Exit.Usage }
-    ensures asked { result ≡ Exit.ReadFault → Appends (K.got out.old) (K.got out.new) due.now }
+    ensures answered { result ≡ Exit.ReadFault → Appends (K.got out.old) (K.got out.new) due.now }
     ensures taken { CountsTaken (S.left src.old) (S.left src.new) lines.old.taken lines.new.taken }
     ensures limit { lines.new.taken ≤ 67108865 }
     ensures source { SourceCause (S.faults src.old) (S.faults src.new) result }

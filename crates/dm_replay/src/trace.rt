@@ -8,7 +8,7 @@ ghost use Rattle.dm_replay.specs.Events.{IsOf, happening_of};
 ghost use Rattle.dm_replay.specs.Trace as Spec;
 ghost use Rattle.dm_replay.specs.Input.{TakesOnePast};
 ghost use Rattle.dm_start.specs.Start.{told_of};
-ghost use Rattle.dm_replay.specs.Output.{Replays, PutsTaken, answer_text, client_of};
+ghost use Rattle.dm_replay.specs.Output.{Replays, AnswersTaken, answer_text, client_of};
 ghost use Rattle.dm_replay.specs.From.{seen, OfInput, EndsTrace, EndsEvents, PutsEvents, CanBegin, events_at};
 
 use crate::answers::step;
@@ -74,7 +74,7 @@ fn answer_events<S: Source, K: Sink>(
     requires accounts { length ids.now ≡ length client.old.machine.accounts }
     ensures output { OfInput (seen lines.old (S.left src.old)) (λ i. EndsTrace version client.old.machine
         (events_at version ids.now first i) (K.got out.old) (K.got out.new) result) }
-    ensures asked { result ≡ Exit.ReadFault → PutsEvents client.old.machine (events_at version ids.now first)
+    ensures answered { result ≡ Exit.ReadFault → PutsEvents client.old.machine (events_at version ids.now first)
         lines.old (S.left src.old) (S.left src.new) (K.got out.old) (K.got out.new) }
     ensures usage { result ≢ Exit.Usage }
     ensures taken { CountsTaken (S.left src.old) (S.left src.new) lines.old.taken lines.new.taken }
@@ -125,7 +125,7 @@ fn answer_all<S: Source, K: Sink>(
     requires limit { lines.old.taken ≤ 67108865 }
     requires client { CanBegin started.start }
     ensures output { EndsEvents started (seen lines.old (S.left src.old)) (K.got out.old) (K.got out.new) result }
-    ensures asked { result ≡ Exit.ReadFault → PutsEvents (client_of (told_of started.start))
+    ensures answered { result ≡ Exit.ReadFault → PutsEvents (client_of (told_of started.start))
         (Spec.trace_of started.number (told_of started.start))
         lines.old (S.left src.old) (S.left src.new) (K.got out.old) (K.got out.new) }
     ensures usage { result ≢ Exit.Usage }
@@ -157,8 +157,7 @@ fn answer_all<S: Source, K: Sink>(
 /// It takes at most 67,108,865 bytes of the source.
 pub fn replay<S: Source, K: Sink>(alloc: Global, src: &mut S, out: &mut K) -> Exit
     ensures output { OfKnown (S.left src.old) (λ bytes. Replays bytes (K.got out.old) (K.got out.new) result) }
-    ensures asked { result ≡ Exit.ReadFault → OfKnown (S.left src.old)
-        (λ _. PutsTaken (S.left src.old) (S.left src.new) (K.got out.old) (K.got out.new)) }
+    ensures answered { AnswersTaken (S.left src.old) (S.left src.new) (K.got out.old) (K.got out.new) result }
     ensures usage { result ≢ Exit.Usage }
     ensures taken { TakesOnePast (S.left src.old) (S.left src.new) }
     ensures source { SourceCause (S.faults src.old) (S.faults src.new) result }

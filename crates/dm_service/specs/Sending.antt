@@ -99,9 +99,9 @@ is_done_there m code = m.last || (passes code && list_any asks_next m.body)
 abbrev pub is_welcome : Account → Standing → Bool
 is_welcome a s = not (is_some a.server_password) || s.welcomed
 
--- nothing is left on either side: the client is accepted, and has accepted the server where that shows a credential; its
--- own package is at its end, or it asks for the next message; the message has Final and no command, nothing waits, and no
--- package is left
+-- nothing is left on either side: the client is accepted, and has accepted the server where that shows a credential;
+-- its own package is at its end, or it asks for the next message; the message has Final and no command, nothing waits,
+-- and no package is left
 abbrev pub is_last : Service → Standing → Parts → ℕ → Filling → Bool
 is_last v s m code f =
     s.accepted && is_final f.tail && list_all is_report f.message.body && length v.packages == 0

@@ -19,13 +19,14 @@ returns-in-Err-read_end-clause-output g c =
     so_halts _ c.args.version _ (ending_at c.args.number) c.in-Err-read_end.halt c.args.due.now _ _ _ _
     c.in-Ok.ensures.bytes c.in-Err-read_end.ensures.ending c.put_halt.ensures.bytes
 
-pub returns-in-Err-clause-asked : goal.returns-in-Err-clause-asked
-returns-in-Err-clause-asked g c is = absurd (part_is_no_fault _ _ c.args.due.now c.in-Err.exit c.in-Err.ensures.bytes is)
+pub returns-in-Err-clause-answered : goal.returns-in-Err-clause-answered
+returns-in-Err-clause-answered g c is =
+    absurd (part_is_no_fault _ _ c.args.due.now c.in-Err.exit c.in-Err.ensures.bytes is)
 
-pub returns-in-Ok-read_end-clause-asked : goal.returns-in-Ok-read_end-clause-asked
-returns-in-Ok-read_end-clause-asked g c is =
+pub returns-in-Ok-read_end-clause-answered : goal.returns-in-Ok-read_end-clause-answered
+returns-in-Ok-read_end-clause-answered g c is =
     absurd (end_is_no_fault _ exit.Done _ _ _ (λ same. cc) c.put_whole.ensures.bytes is)
 
-pub returns-in-Err-read_end-clause-asked : goal.returns-in-Err-read_end-clause-asked
-returns-in-Err-read_end-clause-asked g c is =
+pub returns-in-Err-read_end-clause-answered : goal.returns-in-Err-read_end-clause-answered
+returns-in-Err-read_end-clause-answered g c is =
     fault_behind c.in-Err-read_end.halt c.args.due.now _ _ _ _ c.in-Ok.ensures.bytes c.put_halt.ensures.bytes is

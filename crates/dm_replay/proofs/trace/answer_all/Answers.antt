@@ -12,8 +12,8 @@ returns-in-Ok-new-clause-output g c =
 pub returns-clause-output : goal.returns-clause-output
 returns-clause-output g c = nothing_put _ c.args.started _
 
-pub returns-in-Ok-new-clause-asked : goal.returns-in-Ok-new-clause-asked
-returns-in-Ok-new-clause-asked g c =
+pub returns-in-Ok-new-clause-answered : goal.returns-in-Ok-new-clause-answered
+returns-in-Ok-new-clause-answered g c =
     λ is. client_answers c.args.started _ _ c.args.lines.now (g.S.Source.left c.args.src.now)
     (g.S.Source.left c.answer_events.new.src) (g.K.Sink.got c.args.out.now) (g.K.Sink.got c.answer_events.new.out)
-    c.in-Ok-new.ensures.machine c.in-Ok.ensures (c.answer_events.ensures.asked is)
+    c.in-Ok-new.ensures.machine c.in-Ok.ensures (c.answer_events.ensures.answered is)

@@ -118,14 +118,14 @@ put_due_and_halt-requires g c = record {
       ∙ c.in-Ok.ensures.all (feedless_at_read _ c.in-Err-next_event.halt c.in-Err-next_event.ensures.asked read);
 }
 
-pub returns-in-Err-clause-asked : goal.returns-in-Err-clause-asked
-returns-in-Err-clause-asked g c =
+pub returns-in-Err-clause-answered : goal.returns-in-Err-clause-answered
+returns-in-Err-clause-answered g c =
     λ is. absurd (part_is_no_fault _ _ c.events.due c.in-Err.exit c.in-Err.ensures.bytes is)
 
-pub returns-in-Ok-None-clause-asked : goal.returns-in-Ok-None-clause-asked
-returns-in-Ok-None-clause-asked g c =
+pub returns-in-Ok-None-clause-answered : goal.returns-in-Ok-None-clause-answered
+returns-in-Ok-None-clause-answered g c =
     let over = rw c.in-Ok-None.field-0-is at c.in-Ok-None.ensures.over in
-    let put = rw c.as_slice.ensures at c.put_end.ensures.asked in
+    let put = rw c.as_slice.ensures at c.put_end.ensures.answered in
     λ is. answered_all _ c.events.lines _ (g.S.Source.left c.events.src) (g.S.Source.left c.put_end.new.src) _ _
     (g.K.Sink.got c.put_end.new.out) c.args.version c.args.ids.now _ _ c.events.number _ c.put_due.new.due
     (answered_put _ _ _ _ _ _ _ c.args.version c.args.ids.now _ _ c.events.number _ c.events.due
@@ -134,8 +134,8 @@ returns-in-Ok-None-clause-asked g c =
     (g.S.Source.left c.next_event.new.src) (g.S.Source.left c.put_end.new.src) c.next_event.new.lines.taken
     c.put_end.new.lines.taken c.args.version c.args.ids.now c.events.number over c.put_end.ensures.taken) (put is)
 
-pub returns-in-Err-next_event-clause-asked : goal.returns-in-Err-next_event-clause-asked
-returns-in-Err-next_event-clause-asked g c = λ is.
+pub returns-in-Err-next_event-clause-answered : goal.returns-in-Err-next_event-clause-answered
+returns-in-Err-next_event-clause-answered g c = λ is.
     let fault = due_fault _ c.in-Err-next_event.halt _ _ _ c.put_due_and_halt.ensures.bytes is in
     let none = c.in-Ok.ensures.all (feedless_at_read _ c.in-Err-next_event.halt c.in-Err-next_event.ensures.asked
     fault.0) in
@@ -145,5 +145,5 @@ returns-in-Err-next_event-clause-asked g c = λ is.
     c.put_due.new.due c.events.invariant.answered c.in-Ok.ensures.bytes)
     (c.in-Err-next_event.ensures.over fault.0) (due_none _ _ c.put_due.new.due none fault.1)
 
-pub returns-in-Err-answer-clause-asked : goal.returns-in-Err-answer-clause-asked
-returns-in-Err-answer-clause-asked g c = λ is. cc
+pub returns-in-Err-answer-clause-answered : goal.returns-in-Err-answer-clause-answered
+returns-in-Err-answer-clause-answered g c = λ is. cc

@@ -25,8 +25,8 @@ returns-clause-taken g c =
     one_past _ _ c.new-lines.result c.read_start.new.lines c.new-lines.ensures c.in-Err.ensures.taken
     c.in-Err.ensures.limit
 
-pub returns-in-Ok-clause-asked : goal.returns-in-Ok-clause-asked
-returns-in-Ok-clause-asked g c =
+pub returns-in-Ok-clause-answered : goal.returns-in-Ok-clause-answered
+returns-in-Ok-clause-answered g c =
     let left = g.S.Source.left in
     let got = g.K.Sink.got in
     let last = c.answer_all.new in
@@ -34,10 +34,10 @@ returns-in-Ok-clause-asked g c =
     c.new-lines.ensures
     (begun_puts c.new-lines.result c.read_start.new.lines (left c.args.src.now) (left c.read_start.new.src)
     (left last.src) (got c.args.out.now) (got last.out) c.in-Ok.started.number (told_of c.in-Ok.started.start)
-    c.in-Ok.ensures.over (c.answer_all.ensures.asked is))
+    c.in-Ok.ensures.over (c.answer_all.ensures.answered is))
 
-pub returns-clause-asked : goal.returns-clause-asked
-returns-clause-asked g c = λ is.
+pub returns-clause-answered : goal.returns-clause-answered
+returns-clause-answered g c = λ is.
     let left = g.S.Source.left in
     let got = g.K.Sink.got in
     let fault = halt_fault c.in-Err.halt _ _ _ c.put_halt.ensures.bytes is in

@@ -19,4 +19,5 @@ returns-clause-marks c =
 
 pub returns-clause-sound : goal.returns-clause-sound
 returns-clause-sound c =
-    closed_sound c.args.self.now c.end_group.new.self c.end_group.ensures.same c.end_group.ensures.empty c.requires.sound
+    closed_sound c.args.self.now c.end_group.new.self c.end_group.ensures.same c.end_group.ensures.empty
+    c.requires.sound
