@@ -169,9 +169,9 @@ fn with_front(front: Option<Command>, entries: List<Command>) -> Result<List<Com
     }
 }
 
-/// The message that `fill_out` would give where an entry, if there is one, and others behind it were put into a queue
-/// in which nothing waits; and what doesn't go out waits then. Where all of them fit they don't go through the queue.
-/// After `Memory` nothing waits.
+/// The message that `fill` would give where an entry, if there is one, and others behind it were put into a queue in
+/// which nothing waits; what doesn't go out waits then. Where all of them fit they don't go through the queue. After
+/// `Memory` nothing waits.
 #[tactic(auto, using(crate::proofs::Listed::put_around))]
 pub fn fill_at_once(
     queue: &mut Queue,

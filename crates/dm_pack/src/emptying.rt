@@ -150,7 +150,7 @@ fn fill_by_move(
 
 /// The message that `fill` would give, taken off the queue as `commit` does: the entries that go out whole are moved
 /// into it, and not copied. After `Memory` the queue has lost some of them.
-pub fn fill_out(
+pub(crate) fn fill_out(
     queue: &mut Queue,
     header: Boxed<Header>,
     room: u64,

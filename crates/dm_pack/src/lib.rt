@@ -2,7 +2,7 @@
 #![tactic(auto)]
 
 pub mod at_once;
-pub mod emptying;
+mod emptying;
 pub mod filled;
 mod fitting;
 pub mod laws;
@@ -12,6 +12,5 @@ pub mod queue;
 mod waiting;
 
 pub use at_once::fill_at_once;
-pub use emptying::fill_out;
 pub use filled::{Filled, Tail, fill};
 pub use queue::Queue;
