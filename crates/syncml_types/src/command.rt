@@ -57,17 +57,18 @@ pub enum SeqMember {
     Atomic(Block<Member>),
 }
 
-/// The answer to the command `cmd_ref` of the message `msg_ref`; 0 stands for that message's header.
+/// The answer to the command `cmd_ref` of the message `msg_ref`; 0 stands for that message's header. Statuses wait in
+/// great numbers, so the four numbers stand together, where they leave no room unused.
 #[derive(Drop)]
 pub struct StatusCmd {
     pub id: u32,
     pub msg_ref: u32,
     pub cmd_ref: u32,
+    pub code: u32,
     pub cmd: Bytes,
     pub target_refs: List<Bytes>,
     pub source_refs: List<Bytes>,
     pub chal: Option<Boxed<Meta>>,
-    pub code: u32,
     pub items: List<Item>,
 }
 
