@@ -12,6 +12,7 @@ use Rattle.syncml_types.specs.Lengths.{head_tokens}
 use Rattle.syncml_parts.specs.Numbering.{ids_in, with_numbers}
 use Rattle.syncml_parts.specs.Packing.{cut_item, cut_changed, cut_data, data_length, head_bytes, body_tag, tail_tokens}
 use Rattle.syncml_parts.specs.Pages.{with_value}
+use Rattle.dm_pack.specs.declared.kept_data.Apart.{Apart}
 use Rattle.dm_pack.specs.declared.place.Place.{Place}
 use Rattle.dm_pack.specs.declared.filled.Tail.{Tail}
 use Rattle.dm_pack.specs.Entries.{Entry, with_size, part_of, data_left}
@@ -22,6 +23,15 @@ use Rattle.dm_pack.specs.Filling.{numbered, asks_next, greatest, tail_commands, 
 -- an item whose Data was taken out
 abbrev pub hollow_item : Item → Item
 hollow_item i = record i { value = option_map (λ _. []) i.value }
+
+-- Data that is kept apart, and how many bytes of it went out
+abbrev pub value_in : Option Apart → List ℕ
+value_in None = []
+value_in (Some apart) = apart.value
+
+abbrev pub sent_in : Option Apart → ℕ
+sent_in None = 0
+sent_in (Some apart) = apart.sent
 
 -- what is left of the Data, put back where it was taken out
 abbrev pub put_back : List ℕ → Command → Command

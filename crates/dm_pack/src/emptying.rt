@@ -25,9 +25,10 @@ fn move_first(queue: &mut Queue, first: u32, body: &mut List<Command>) -> Result
     ensures body { OnOk result ((e : Entry) (es : ListOf Entry) → queue.old ≡ e ∷ es
         → body.new ≡ body.old ++ with_numbers first e.command ∷ []) }
 {
+    let alloc = queue.alloc();
     match queue.pop_front() {
         None => unreachable!(),
-        Some(entry) => body.push(entry.into_command(first)),
+        Some(entry) => body.push(entry.into_command(alloc, first)),
     }
 }
 

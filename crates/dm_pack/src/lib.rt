@@ -5,6 +5,7 @@ pub mod at_once;
 mod emptying;
 pub mod filled;
 mod fitting;
+mod kept_data;
 pub mod laws;
 mod marks;
 mod place;

@@ -56,7 +56,7 @@ impl Queue {
         ensures ok { OnOk result (self.new ≡ self.old ++ whole_entry entry ∷ []) }
         ensures err { OnErr result (self.new ≡ self.old) }
     {
-        self.entries.push_back(Waiting::new(self.alloc, entry))?;
+        self.entries.push_back(Waiting::new(self.alloc, entry)?)?;
         Ok(())
     }
 
@@ -75,7 +75,7 @@ impl Queue {
         ensures ok { OnOk result (self.new ≡ whole_entry entry ∷ self.old) }
         ensures err { OnErr result (self.new ≡ self.old) }
     {
-        self.entries.push_front(Waiting::new(self.alloc, entry))?;
+        self.entries.push_front(Waiting::new(self.alloc, entry)?)?;
         Ok(())
     }
 

@@ -1,6 +1,6 @@
 // An entry that waits. The Data that may be cut is kept apart, so that the rest is measured without looking at it, and
 // what went out of it is a number, so that nothing moves.
-ghost use Rattle.std.specs.Prelude.{◌≡◌, ◌<◌, ◌≤◌, ◌+◌, ◌-◌, ◌^◌, IfOk, OnOk, length, drop, true};
+ghost use Rattle.std.specs.Prelude.{◌≡◌, ◌<◌, ◌≤◌, ◌+◌, ◌-◌, ◌^◌, IfOk, OnOk, true};
 ghost use Rattle.wbxml_tokens.specs.Spelling.{page_behind};
 ghost use Rattle.syncml_types.specs.Fitness.{is_in_limit, command_data};
 ghost use Rattle.syncml_parts.specs.Pages.{with_value};
@@ -9,8 +9,9 @@ ghost use Rattle.syncml_types.specs.Lengths.{spelled_length};
 ghost use Rattle.syncml_parts.specs.Numbering.{ids_in as ids_of_command, with_numbers};
 ghost use Rattle.syncml_parts.specs.Packing.{cut_changed, cut_data, bytes_in};
 ghost use Rattle.dm_pack.specs.Entries.{whole_entry, data_left, part_of, rest_of, with_size, last_only, last_alone};
-ghost use Rattle.dm_pack.specs.Measures.{hollow_item, marked, marks_of, put_back, size_told};
+ghost use Rattle.dm_pack.specs.Measures.{hollow_item, marked, marks_of, put_back};
 
+use crate::kept_data::{Apart, copy_apart, into_left, kept_apart, leave, left_of, size_of};
 use crate::marks::{marked_cost, marks_cost};
 use dm_base::{Boxed, Bytes, List, Memory};
 use std::alloc::Global;
@@ -22,19 +23,18 @@ use syncml_types::{Command, Item, Meta};
 #[derive(Drop)]
 pub(crate) struct Waiting {
     command: Command,
-    value: Bytes,
-    sent: usize,
+    apart: Option<Boxed<Apart>>,
 }
 
 impl Model for Waiting {
     ghost use Rattle.dm_pack.specs.Entries.{Entry};
-    ghost use Rattle.dm_pack.specs.Measures.{entry_of, IsApart};
+    ghost use Rattle.dm_pack.specs.Measures.{entry_of, value_in, sent_in, IsApart};
 
     ghost Value = { Entry };
 
-    ghost view = { λ w. entry_of w.command w.value w.sent };
+    ghost view = { λ w. entry_of w.command (value_in w.apart) (sent_in w.apart) };
 
-    ghost invariant = { λ w. IsApart w.command w.value w.sent };
+    ghost invariant = { λ w. IsApart w.command (value_in w.apart) (sent_in w.apart) };
 }
 
 fn take_value(alloc: Global, item: &mut Item) -> Bytes
@@ -86,19 +86,6 @@ fn put_data(command: &mut Command, value: Bytes)
     }
 }
 
-// What is left of Data behind so many bytes.
-#[tactic(auto, using(crate::proofs::Moving::whole_value))]
-fn rest_behind(value: Bytes, sent: usize) -> Bytes
-    ensures { result ≡ drop sent value }
-{
-    if sent > 0 {
-        let mut rest = value;
-        rest.drop_front(sent);
-        return rest;
-    }
-    value
-}
-
 // A command with CmdIDs, and with this Data put back.
 fn numbered_with(command: Command, value: Bytes, first: u32) -> Command
     requires { first + ids_of_command command < 2 ^ 32 }
@@ -108,17 +95,6 @@ fn numbered_with(command: Command, value: Bytes, first: u32) -> Command
     set_ids(&mut numbered, first);
     put_data(&mut numbered, value);
     numbered
-}
-
-// How long the Data is, where none of it went out.
-fn size_of(value: &Bytes, sent: usize) -> Option<u64>
-    ensures { result ≡ size_told sent value.now }
-{
-    if sent == 0 {
-        Some(value.len() as u64)
-    } else {
-        None
-    }
 }
 
 fn set_size(alloc: Global, meta: &mut Option<Boxed<Meta>>, size: u64) -> Result<(), Memory>
@@ -176,16 +152,13 @@ fn keep_last(command: &mut Command)
 }
 
 impl Waiting {
-    pub(crate) fn new(alloc: Global, command: Command) -> Waiting
-        ensures { result ≡ whole_entry command }
+    pub(crate) fn new(alloc: Global, command: Command) -> Result<Waiting, Memory>
+        ensures { IfOk result (λ waiting. waiting ≡ whole_entry command) }
     {
         let mut command = command;
         let value = take_data(alloc, &mut command);
-        Waiting {
-            command,
-            value,
-            sent: 0,
-        }
+        let apart = kept_apart(alloc, value)?;
+        Ok(Waiting { command, apart })
     }
 
     pub(crate) fn copy(&self, alloc: Global) -> Result<Waiting, Memory>
@@ -193,8 +166,7 @@ impl Waiting {
     {
         Ok(Waiting {
             command: self.command.copy(alloc)?,
-            value: self.value.copy(alloc)?,
-            sent: self.sent,
+            apart: copy_apart(alloc, &self.apart)?,
         })
     }
 
@@ -202,7 +174,7 @@ impl Waiting {
     pub(crate) fn left(&self) -> &[u8]
         ensures { result.now ≡ cut_data self.now.command }
     {
-        &self.value.as_slice()[self.sent..]
+        left_of(&self.apart)
     }
 
     // How many CmdIDs it has.
@@ -237,16 +209,12 @@ impl Waiting {
     }
 
     // The command itself, with CmdIDs.
-    pub(crate) fn into_command(self, first: u32) -> Command
+    pub(crate) fn into_command(self, alloc: Global, first: u32) -> Command
         requires { first + ids_of_command self.command < 2 ^ 32 }
         ensures { result ≡ with_numbers first self.command }
     {
-        let Waiting {
-            command,
-            value,
-            sent,
-        } = self;
-        numbered_with(command, rest_behind(value, sent), first)
+        let Waiting { command, apart } = self;
+        numbered_with(command, into_left(alloc, apart), first)
     }
 
     // How far a message comes with the next part where it comes so far with the whole, both without Data.
@@ -260,7 +228,7 @@ impl Waiting {
         match cut_item(&self.command) {
             None => used,
             Some(item) => {
-                let size = size_of(&self.value, self.sent);
+                let size = size_of(&self.apart);
                 used + marked_cost(item, size) - marks_cost(item)
             }
         }
@@ -276,7 +244,7 @@ impl Waiting {
         let value = Bytes::of_slice(alloc, &self.left()[..bytes])?;
         let mut command = self.command.copy(alloc)?;
         set_ids(&mut command, first);
-        mark_part(alloc, &mut command, size_of(&self.value, self.sent))?;
+        mark_part(alloc, &mut command, size_of(&self.apart))?;
         put_value(&mut command, value);
         Ok(command)
     }
@@ -288,7 +256,7 @@ impl Waiting {
         ensures { self.new ≡ rest_of self.old bytes }
     {
         let left = self.left().len() - bytes;
-        self.sent = self.value.len() - left;
+        leave(&mut self.apart, left);
         keep_last(&mut self.command);
     }
 }

@@ -1,37 +1,36 @@
-use Rattle.std.proofs.Common.{◌∙◌, ◌-◌, ap, arith, length}
-use Rattle.dm_pack.specs.Measures.{entry_of}
+use Rattle.std.proofs.Common.{ap, arith, length}
+use Rattle.dm_pack.specs.Measures.{value_in, sent_in}
 use Rattle.dm_pack.proofs.Parts.{left_long, gone_apart, gone_is}
 use Rattle.dm_pack.proofs.waiting.Waiting.go_on.Goals as goal
 
-pub overflow_sub-self : goal.overflow_sub-self
-overflow_sub-self c =
+pub leave-requires : goal.leave-requires
+leave-requires c =
+    let apart = c.self.inside.apart in
     let long =
-    left_long c.self.inside.command c.self.inside.value c.self.inside.sent c.args.self.now c.self.invariant
-    c.self.view_is in
+    left_long c.self.inside.command (value_in apart) (sent_in apart) c.args.self.now c.self.invariant c.self.view_is in
     let left = ap length c.left.ensures in
-    omega (arith, long, left, c.len.ensures)
+    omega (arith, long, left)
 
 pub invariant_of-self : goal.invariant_of-self
 invariant_of-self c =
+    let apart = c.self.inside.apart in
     let long =
-    left_long c.self.inside.command c.self.inside.value c.self.inside.sent c.args.self.now c.self.invariant
-    c.self.view_is in
+    left_long c.self.inside.command (value_in apart) (sent_in apart) c.args.self.now c.self.invariant c.self.view_is in
     let left = ap length c.left.ensures in
     let low = c.self.invariant.within in
-    rw c.keep_last.ensures
-    (gone_apart c.self.inside.command c.self.inside.value c.self.inside.sent c.args.bytes _ c.args.self.now
-    c.self.invariant c.self.view_is
-    c.requires.left (omega (arith, long, left, low, c.len.ensures, c.requires.left)))
+    rw (c.keep_last.ensures, c.leave.ensures.value)
+    (gone_apart c.self.inside.command (value_in apart) (sent_in apart) c.args.bytes (sent_in c.leave.new.apart)
+    c.args.self.now c.self.invariant c.self.view_is c.requires.left
+    (omega (arith, long, left, low, c.leave.ensures.sent, c.requires.left)))
 
 pub returns : goal.returns
 returns c =
+    let apart = c.self.inside.apart in
     let long =
-    left_long c.self.inside.command c.self.inside.value c.self.inside.sent c.args.self.now c.self.invariant
-    c.self.view_is in
+    left_long c.self.inside.command (value_in apart) (sent_in apart) c.args.self.now c.self.invariant c.self.view_is in
     let left = ap length c.left.ensures in
     let low = c.self.invariant.within in
-    ap (λ d. entry_of d c.self.inside.value (c.len.result - (length c.left.result.now - c.args.bytes)))
-    c.keep_last.ensures
-    ∙ gone_is c.self.inside.command c.self.inside.value c.self.inside.sent c.args.bytes _ c.args.self.now
-    c.self.invariant c.self.view_is
-    c.requires.some c.requires.left (omega (arith, long, left, low, c.len.ensures, c.requires.left))
+    rw (c.keep_last.ensures, c.leave.ensures.value)
+    (gone_is c.self.inside.command (value_in apart) (sent_in apart) c.args.bytes (sent_in c.leave.new.apart)
+    c.args.self.now c.self.invariant c.self.view_is c.requires.some c.requires.left
+    (omega (arith, long, left, low, c.leave.ensures.sent, c.requires.left)))

@@ -1,16 +1,18 @@
 use Rattle.std.proofs.Common.{◌∙◌, arith}
+use Rattle.dm_pack.specs.Measures.{value_in, sent_in}
 use Rattle.dm_pack.proofs.Parts.{kept_ids}
 use Rattle.dm_pack.proofs.waiting.Waiting.ids.Goals as goal
 
 pub ids_in-requires : goal.ids_in-requires
 ids_in-requires c =
+    let apart = c.self.inside.apart in
     let same =
-    kept_ids c.self.inside.command c.self.inside.value c.self.inside.sent c.args.self.now c.self.invariant
-    c.self.view_is in
+    kept_ids c.self.inside.command (value_in apart) (sent_in apart) c.args.self.now c.self.invariant c.self.view_is in
     omega (arith, same, c.requires)
 
 pub returns : goal.returns
 returns c =
+    let apart = c.self.inside.apart in
     c.ids_in.ensures
-    ∙ kept_ids c.self.inside.command c.self.inside.value c.self.inside.sent c.args.self.now c.self.invariant
+    ∙ kept_ids c.self.inside.command (value_in apart) (sent_in apart) c.args.self.now c.self.invariant
     c.self.view_is
