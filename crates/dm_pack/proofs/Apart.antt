@@ -139,12 +139,6 @@ drop_slice sent value = let long = length-drop sent value in
 pub untaken : (c : Command) → cut_item c ≡ None → cut_changed hollow_item c ≡ c
 untaken c h = no_item hollow_item c h
 
-pub untaken_data : (c : Command) → cut_item c ≡ None → cut_data c ≡ []
-untaken_data c h = ap data_in h
-
-pub taken_data : (c : Command) (i : Item) → cut_item c ≡ Some i → bytes_in i.value ≡ cut_data c
-taken_data c i h = sym (ap data_in h)
-
 -- an item that was written in place of the command's own
 pub written : (f : Item → Item) (c : Command) (i j : Item) → cut_item c ≡ Some i → j ≡ f i
     → cut_changed (λ _. j) c ≡ cut_changed f c

@@ -22,7 +22,7 @@ use Rattle.dm_pack.proofs.Measuring.{place_at, same_place, over_false, fits_next
 use Rattle.dm_pack.proofs.Parts.{hollow_part, part_data}
 use Rattle.dm_pack.proofs.Numbers.{numbered_append}
 use Rattle.std.proofs.Common.{◌++◌, drop}
-use Rattle.std.proofs.lemmas.List.{append-nil, drop_all, length-drop}
+use Rattle.std.proofs.lemmas.List.{drop_all, length-drop}
 
 -- where none between passes, it may be looked for from below
 greatest_down : (passes : ℕ → Bool) (n more : ℕ) → ((k : ℕ) → n < k → k ≤ n + more → passes k ≡ false)
@@ -141,9 +141,6 @@ no_part p e room h = let most = part_most p e room in omega (arith, most, h)
 
 -- ---- what is sent of the next entry
 
-pub none_pushed : (body : List Command) (k n : ℕ) (es : List Entry) → n ≡ 0 → body ≡ body ++ numbered k (next_part n es)
-none_pushed body k n es h = sym (append-nil body) ∙ ap (λ m. body ++ numbered k (next_part m es)) (sym h)
-
 one_pushed : (k n : ℕ) (e : Entry) (es : List Entry) → 0 < n
     → numbered k (next_part n (e ∷ es)) ≡ with_numbers k (part_of e n) ∷ []
 one_pushed k zero e es h = absurd (omega (arith, h))
@@ -176,11 +173,6 @@ first_by : (k n : ℕ) (e : Entry) (es : List Entry)
 first_by k zero e es = refl
 first_by k (suc n) e es = refl
 
-pub first_pushed : (body : List Command) (k n : ℕ) (e : Entry) (es xs : List Entry) → xs ≡ e ∷ es
-    → body ++ numbered k (next_part n (e ∷ [])) ≡ body ++ numbered k (next_part n xs)
-first_pushed body k n e es xs is =
-    ap (λ l. body ++ l) (first_by k n e es ∙ ap (λ l. numbered k (next_part n l)) (sym is))
-
 pub none_next : (p : Place) (es : List Entry) → None ≡ hollow_next p es → es ≡ []
 none_next p [] h = refl
 none_next p (e ∷ es) h = absurd (cc)
@@ -192,19 +184,6 @@ some_next p q (e ∷ es) h = omega arith
 pub hollow_first : (p q : Place) (e : Entry) (es xs : List Entry) → xs ≡ e ∷ es → Some q ≡ hollow_next p xs
     → q ≡ behind_hollow p e
 hollow_first p q e es xs is h = let first : Some q ≡ Some (behind_hollow p e) = h ∙ ap (hollow_next p) is in cc
-
-pub first_reached : (p : Place) (n : ℕ) (e : Entry) (es xs : List Entry) → xs ≡ e ∷ es
-    → behind_all p (next_part n (e ∷ [])) ≡ behind_all p (next_part n xs)
-first_reached p zero e es xs is = refl
-first_reached p (suc n) e es xs is = ap (λ l. behind_all p (next_part (suc n) l)) (sym is)
-
-pub cut_first : (p : Place) (room : ℕ) (e : Entry) (es xs : List Entry) → xs ≡ e ∷ es
-    → greatest_at p e room ≡ cut_at p room xs
-cut_first p room e es xs is = ap (cut_at p room) (sym is)
-
-pub nothing_next : (whole : ℕ) (es : List Entry) (p : Place) (room : ℕ) → length es ≤ whole
-    → 0 ≡ cut_at p room (drop whole es)
-nothing_next whole es p room h = ap (cut_at p room) (sym (drop_all whole es h))
 
 pub cut_is : (h : Header) (room : ℕ) (before : List Command) (next : List Entry)
     → cut h room before next ≡ cut_at (place_of h before) room next

@@ -7,7 +7,6 @@ use Rattle.std.proofs.lemmas.List.{append-nil, drop-drop, drop-set, take-set, dr
 use Rattle.std.proofs.lemmas.List.{map-append, drop-map}
 use Rattle.std.proofs.lemmas.Option.{slice_get_within, get_or_from_slice_get}
 use Rattle.std.proofs.Math.Seq.{take-add, drop-cons}
-use Rattle.std.specs.List.{AllByRecursion}
 use Rattle.wbxml_tokens.specs.Spelling.{page_behind}
 use Rattle.syncml_types.specs.declared.values.Header.{Header}
 use Rattle.syncml_types.specs.declared.command.Command.{Command}
@@ -16,13 +15,13 @@ use Rattle.syncml_types.specs.Lengths.{up_to_most, spelled_length}
 use Rattle.syncml_parts.specs.Numbering.{with_numbers, ids_in}
 use Rattle.dm_pack.specs.declared.place.Place.{Place}
 use Rattle.dm_pack.specs.declared.filled.Tail.{Tail}
-use Rattle.dm_pack.specs.Entries.{Entry, IsReady, whole_entry}
+use Rattle.dm_pack.specs.Entries.{Entry, whole_entry}
 use Rattle.dm_pack.specs.Filling.{Filling, numbered, commands_of, taken, tail_of, tail_commands, fill}
 use Rattle.dm_pack.specs.Measures.{ids_of, behind, fits_at, within, place_of, end_length, cut_at}
 use Rattle.dm_pack.proofs.Measuring.{place_at, same_place}
 use Rattle.dm_pack.proofs.Numbers.{numbered_append}
 use Rattle.dm_pack.proofs.Packed.{Packs, packed}
-use Rattle.dm_pack.proofs.Taking.{HasTaken, commands_next, one_more, none_yet, all_taken}
+use Rattle.dm_pack.proofs.Taking.{HasTaken, commands_next, one_more, all_taken}
 
 -- ---- measured one by one
 
@@ -55,16 +54,6 @@ fresh_at cs at c is =
 abbrev pub HasListed : Header → ℕ → List Command → ℕ → Place → Type 0
 HasListed h room cs at place =
     HasTaken h room (map whole_entry cs) at place (numbered 1 (commands_of (take at (map whole_entry cs))))
-
-none_before : (es : List Entry) → numbered 1 (commands_of (take 0 es)) ≡ []
-none_before [] = refl
-none_before (e ∷ es) = refl
-
-pub none_listed : (h : Header) (room : ℕ) (cs : List Command) (place : Place) → place ≡ place_of h []
-    → place.used ≤ 612 → place.next ≤ 1 + place.used → AllByRecursion IsReady (map whole_entry cs)
-    → HasListed h room cs 0 place
-none_listed h room cs place is low next ready =
-    none_yet h room (map whole_entry cs) place _ is (none_before (map whole_entry cs)) (omega (arith, low)) next ready
 
 pub one_listed : (h : Header) (room at : ℕ) (cs : List Command) (c : Command) (place next : Place)
     → HasListed h room cs at place → room ≤ 65536 → drop at cs ≡ c ∷ drop (at + 1) cs

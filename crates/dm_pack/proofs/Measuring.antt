@@ -349,7 +349,3 @@ with_data p v room end least cost e most is under some =
     let low = costs.0 in
     ap (λ n. Some (place_at (p.used + n) p.page p.next)) costs.1
     ∙ sym (is_within room (with_cost v p) (le-leb _ room (omega (arith, e, most, is, under, low))))
-
-pub cost_most : (v : List ℕ) (room cost : ℕ) → Some cost ≡ cost_within v room → cost ≤ room
-cost_most v room cost some = let costs = cost_was_under v room cost (sym some) in let low = costs.0 in
-    let is = costs.1 in omega (arith, low, is)

@@ -25,13 +25,13 @@ abbrev pub hollow_item : Item → Item
 hollow_item i = record i { value = option_map (λ _. []) i.value }
 
 -- Data that is kept apart, and how many bytes of it went out
-abbrev pub value_in : Option Apart → List ℕ
-value_in None = []
-value_in (Some apart) = apart.value
+abbrev pub apart_value : Option Apart → List ℕ
+apart_value None = []
+apart_value (Some apart) = apart.value
 
-abbrev pub sent_in : Option Apart → ℕ
-sent_in None = 0
-sent_in (Some apart) = apart.sent
+abbrev pub apart_sent : Option Apart → ℕ
+apart_sent None = 0
+apart_sent (Some apart) = apart.sent
 
 -- what is left of the Data, put back where it was taken out
 abbrev pub put_back : List ℕ → Command → Command

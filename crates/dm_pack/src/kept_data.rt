@@ -1,7 +1,7 @@
 // The Data of an entry that may be cut, kept apart from its command. It stands in a box, since most entries have none,
 // and they wait in great numbers.
 ghost use Rattle.std.specs.Prelude.{◌≡◌, ◌≤◌, ◌-◌, IfOk, length, drop};
-ghost use Rattle.dm_pack.specs.Measures.{size_told, value_in, sent_in};
+ghost use Rattle.dm_pack.specs.Measures.{size_told, apart_value, apart_sent};
 
 use dm_base::{Boxed, Bytes, Memory};
 use std::alloc::Global;
@@ -15,8 +15,8 @@ pub(crate) struct Apart {
 
 /// Data of which nothing has gone out. Where there is no byte of it, it takes no memory.
 pub(crate) fn kept_apart(alloc: Global, value: Bytes) -> Result<Option<Boxed<Apart>>, Memory>
-    ensures value { IfOk result (λ apart. value_in apart ≡ value) }
-    ensures sent { IfOk result (λ apart. sent_in apart ≡ 0) }
+    ensures value { IfOk result (λ apart. apart_value apart ≡ value) }
+    ensures sent { IfOk result (λ apart. apart_sent apart ≡ 0) }
 {
     if value.is_empty() {
         return Ok(None);
@@ -46,8 +46,8 @@ pub(crate) fn copy_apart(
 /// What hasn't gone out.
 #[tactic(auto, using(crate::proofs::Apart::drop_slice))]
 pub(crate) fn left_of(apart: &Option<Boxed<Apart>>) -> &[u8]
-    requires within { sent_in apart.now ≤ length (value_in apart.now) }
-    ensures { result.now ≡ drop (sent_in apart.now) (value_in apart.now) }
+    requires within { apart_sent apart.now ≤ length (apart_value apart.now) }
+    ensures { result.now ≡ drop (apart_sent apart.now) (apart_value apart.now) }
 {
     match apart {
         None => &[],
@@ -70,7 +70,7 @@ fn rest_behind(value: Bytes, sent: usize) -> Bytes
 
 /// What hasn't gone out, without a copy.
 pub(crate) fn into_left(alloc: Global, apart: Option<Boxed<Apart>>) -> Bytes
-    ensures { result ≡ drop (sent_in apart) (value_in apart) }
+    ensures { result ≡ drop (apart_sent apart) (apart_value apart) }
 {
     match apart {
         None => Bytes::new(alloc),
@@ -83,7 +83,7 @@ pub(crate) fn into_left(alloc: Global, apart: Option<Boxed<Apart>>) -> Bytes
 
 /// How long the Data is, where none of it went out.
 pub(crate) fn size_of(apart: &Option<Boxed<Apart>>) -> Option<u64>
-    ensures { result ≡ size_told (sent_in apart.now) (value_in apart.now) }
+    ensures { result ≡ size_told (apart_sent apart.now) (apart_value apart.now) }
 {
     match apart {
         None => Some(0),
@@ -99,9 +99,9 @@ pub(crate) fn size_of(apart: &Option<Boxed<Apart>>) -> Option<u64>
 
 /// All but so many bytes have gone out.
 pub(crate) fn leave(apart: &mut Option<Boxed<Apart>>, left: usize)
-    requires within { left ≤ length (value_in apart.old) }
-    ensures value { value_in apart.new ≡ value_in apart.old }
-    ensures sent { sent_in apart.new ≡ length (value_in apart.old) - left }
+    requires within { left ≤ length (apart_value apart.old) }
+    ensures value { apart_value apart.new ≡ apart_value apart.old }
+    ensures sent { apart_sent apart.new ≡ length (apart_value apart.old) - left }
 {
     match apart {
         None => {}

@@ -5,7 +5,7 @@ ghost use Rattle.dm_pack.specs.Entries.{whole_entry};
 ghost use Rattle.dm_pack.specs.Filling.{next_rest, left_after, HasMore, CanBeTaken};
 
 use crate::filled::Filled;
-use crate::waiting::Waiting;
+use crate::waiting::{Waiting, take_apart};
 use dm_base::{List, Memory};
 use std::alloc::Global;
 use std::collections::VecDeque;
@@ -56,7 +56,9 @@ impl Queue {
         ensures ok { OnOk result (self.new ≡ self.old ++ whole_entry entry ∷ []) }
         ensures err { OnErr result (self.new ≡ self.old) }
     {
-        self.entries.push_back(Waiting::new(self.alloc, entry)?)?;
+        let mut command = entry;
+        let apart = take_apart(self.alloc, &mut command)?;
+        self.entries.push_back(Waiting::new(command, apart))?;
         Ok(())
     }
 
@@ -75,7 +77,9 @@ impl Queue {
         ensures ok { OnOk result (self.new ≡ whole_entry entry ∷ self.old) }
         ensures err { OnErr result (self.new ≡ self.old) }
     {
-        self.entries.push_front(Waiting::new(self.alloc, entry)?)?;
+        let mut command = entry;
+        let apart = take_apart(self.alloc, &mut command)?;
+        self.entries.push_front(Waiting::new(command, apart))?;
         Ok(())
     }
 

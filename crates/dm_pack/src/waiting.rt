@@ -9,7 +9,8 @@ ghost use Rattle.syncml_types.specs.Lengths.{spelled_length};
 ghost use Rattle.syncml_parts.specs.Numbering.{ids_in as ids_of_command, with_numbers};
 ghost use Rattle.syncml_parts.specs.Packing.{cut_changed, cut_data, bytes_in};
 ghost use Rattle.dm_pack.specs.Entries.{whole_entry, data_left, part_of, rest_of, with_size, last_only, last_alone};
-ghost use Rattle.dm_pack.specs.Measures.{hollow_item, marked, marks_of, put_back};
+ghost use Rattle.dm_pack.specs.Measures.{hollow_item, marked, marks_of, put_back, entry_of, IsApart};
+ghost use Rattle.dm_pack.specs.Measures.{apart_value, apart_sent};
 
 use crate::kept_data::{Apart, copy_apart, into_left, kept_apart, leave, left_of, size_of};
 use crate::marks::{marked_cost, marks_cost};
@@ -28,13 +29,13 @@ pub(crate) struct Waiting {
 
 impl Model for Waiting {
     ghost use Rattle.dm_pack.specs.Entries.{Entry};
-    ghost use Rattle.dm_pack.specs.Measures.{entry_of, value_in, sent_in, IsApart};
+    ghost use Rattle.dm_pack.specs.Measures.{entry_of, apart_value, apart_sent, IsApart};
 
     ghost Value = { Entry };
 
-    ghost view = { λ w. entry_of w.command (value_in w.apart) (sent_in w.apart) };
+    ghost view = { λ w. entry_of w.command (apart_value w.apart) (apart_sent w.apart) };
 
-    ghost invariant = { λ w. IsApart w.command (value_in w.apart) (sent_in w.apart) };
+    ghost invariant = { λ w. IsApart w.command (apart_value w.apart) (apart_sent w.apart) };
 }
 
 fn take_value(alloc: Global, item: &mut Item) -> Bytes
@@ -56,6 +57,21 @@ fn take_data(alloc: Global, command: &mut Command) -> Bytes
         None => Bytes::new(alloc),
         Some(item) => take_value(alloc, item),
     }
+}
+
+/// Takes the Data out that may be cut, of which nothing has gone out, into memory of its own. After `Memory` it is
+/// lost.
+#[tactic(auto, using(crate::proofs::Apart::taken_apart, crate::proofs::Apart::fresh_apart))]
+pub(crate) fn take_apart(
+    alloc: Global,
+    command: &mut Command,
+) -> Result<Option<Boxed<Apart>>, Memory>
+    ensures apart { IfOk result (λ apart. IsApart command.new (apart_value apart) (apart_sent apart)) }
+    ensures whole { IfOk result (λ apart. entry_of command.new (apart_value apart) (apart_sent apart)
+        ≡ whole_entry command.old) }
+{
+    let value = take_data(alloc, command);
+    kept_apart(alloc, value)
 }
 
 fn write_value(item: &mut Item, value: Bytes)
@@ -152,13 +168,12 @@ fn keep_last(command: &mut Command)
 }
 
 impl Waiting {
-    pub(crate) fn new(alloc: Global, command: Command) -> Result<Waiting, Memory>
-        ensures { IfOk result (λ waiting. waiting ≡ whole_entry command) }
+    // The entry of a command without its Data, which stands apart.
+    pub(crate) fn new(command: Command, apart: Option<Boxed<Apart>>) -> Waiting
+        requires { IsApart command (apart_value apart) (apart_sent apart) }
+        ensures { result ≡ entry_of command (apart_value apart) (apart_sent apart) }
     {
-        let mut command = command;
-        let value = take_data(alloc, &mut command);
-        let apart = kept_apart(alloc, value)?;
-        Ok(Waiting { command, apart })
+        Waiting { command, apart }
     }
 
     pub(crate) fn copy(&self, alloc: Global) -> Result<Waiting, Memory>

@@ -1,5 +1,5 @@
 use Rattle.std.proofs.Common.{◌∙◌, sym, ap, arith, option_map}
-use Rattle.dm_pack.specs.Measures.{marked, marks_in, value_in, sent_in}
+use Rattle.dm_pack.specs.Measures.{marked, marks_in, apart_value, apart_sent}
 use Rattle.dm_pack.proofs.Marking.{marks_kept, marks_part}
 use Rattle.dm_pack.proofs.waiting.Waiting.marked_length.Goals as goal
 
@@ -7,8 +7,8 @@ pub overflow_sub-result : goal.overflow_sub-result
 overflow_sub-result c =
     let e = c.args.self.now in
     let command = c.self.inside.command in
-    let value = value_in c.self.inside.apart in
-    let sent = sent_in c.self.inside.apart in
+    let value = apart_value c.self.inside.apart in
+    let sent = apart_sent c.self.inside.apart in
     let size = c.size_of-size.result in
     let old = marks_kept command value sent e c.self.view_is ∙ ap marks_in (sym c.in-Some.ensures) in
     let new =
@@ -20,8 +20,8 @@ pub returns-in-Some-clause-value : goal.returns-in-Some-clause-value
 returns-in-Some-clause-value c =
     let e = c.args.self.now in
     let command = c.self.inside.command in
-    let value = value_in c.self.inside.apart in
-    let sent = sent_in c.self.inside.apart in
+    let value = apart_value c.self.inside.apart in
+    let sent = apart_sent c.self.inside.apart in
     let size = c.size_of-size.result in
     let old = marks_kept command value sent e c.self.view_is ∙ ap marks_in (sym c.in-Some.ensures) in
     let new =
