@@ -13,7 +13,7 @@ use Rattle.dm_atomic.specs.declared.tasks.Task.{Task}
 use Rattle.dm_atomic.specs.declared.reports.Part.{Part}
 use Rattle.dm_atomic.specs.declared.reports.Report.{Report}
 use Rattle.dm_atomic.specs.declared.engine.Engine.{Engine}
-use Rattle.dm_atomic.specs.Made.{Made, told, IsInFront}
+use Rattle.dm_atomic.specs.Made.{Made, told}
 use Rattle.dm_atomic.specs.Run.{State, Group, Running, Next, Tried, break_group, undone, not_run, container, parts_done}
 use Rattle.dm_atomic.specs.Run.{parts_undone, tried, joins, left_object, opened, opens, stays_open, succeeds, fails}
 use Rattle.dm_atomic.specs.Run.{closes, in_group, join_or_break, atomically}
@@ -211,7 +211,3 @@ atomic_gives e f caller s b o next post ts out mid after c m first is h =
       state_is = g.state_is;
       told_is = told_both out mid after begun.made w.made first.told_is g.told_is;
     }
-
-pub told_in_front : (out first second : List Command) (a b : List Made) → first ≡ out ++ told a
-    → second ≡ first ++ told b → IsInFront out second
-told_in_front out first second a b e f = (told (a ++ b), told_both out first second a b e f)

@@ -401,9 +401,6 @@ holds_objects e i o =
 pub holds_next : (e : Engine) (i : Seen) (next : Object) → i ≡ holding e.inbox next → Holds e (record e { inbox = i })
 holds_next e i next is = holds_objects e i (objects_next e.inbox i next is)
 
-pub holds_failed : (e : Engine) (i : Seen) → i ≡ failed e.inbox → Holds e (record e { inbox = i })
-holds_failed e i is = holds_objects e i (objects_failed e.inbox i is)
-
 pub holds_inbox : (e : Engine) (i : Seen) → i ≡ e.inbox → Holds e (record e { inbox = i })
 holds_inbox e i is = holds_objects e i (objects_same e.inbox i is)
 

@@ -1,19 +1,15 @@
 -- Nodes that keep their numbers, while an engine goes on.
 use Rattle.std.proofs.Common.{◌≡◌, ℕ, zero, suc, ◌+◌, ◌<◌, Bool, true, false, not, cond, List, [], ◌∷◌, length, get_or}
 use Rattle.std.proofs.Common.{refl, sym, ◌∙◌, ap, subst, arith, Option, None, Some}
-use Rattle.std.specs.Prelude.{◌&&◌, ◌||◌, ◌==◌, IfSome, OnOk, OnErr, Result, Ok, Err, is_some, nat_lt, unwrap_or}
+use Rattle.std.specs.Prelude.{◌&&◌, ◌||◌, ◌==◌, IfSome, OnOk, Result, Ok, Err, is_some, nat_lt, unwrap_or}
 use Rattle.std.specs.Global.{Vec}
 use Rattle.std.specs.List.{list_any}
 use Rattle.std.specs.FinMap.{get}
 use Rattle.syncml_types.specs.declared.command.SeqMember.{SeqMember}
-use Rattle.syncml_types.specs.declared.command.Step.{Step}
 use Rattle.syncml_types.specs.Verbs.{is_write}
-use Rattle.dm_tree.specs.declared.rows.Row.{Row}
 use Rattle.dm_tree.specs.Nodes.{Path, Ids}
 use Rattle.dm_tree.specs.Rows.{Tree, ids}
 use Rattle.dm_undo.specs.Journals.{Journal}
-use Rattle.dm_undo.specs.Notes.{Notes}
-use Rattle.dm_undo.specs.Sound.{IsSound}
 use Rattle.dm_undo.specs.Trees.{Maps, maps_of, tree_at}
 use Rattle.dm_objects.specs.declared.object.Begun.{Begun}
 use Rattle.dm_objects.specs.declared.object.Object.{Object}
@@ -23,12 +19,12 @@ use Rattle.dm_objects.specs.declared.piece.What.{What}
 use Rattle.dm_objects.specs.declared.piece.What.TheVariants.{Whole, Refused}
 use Rattle.dm_objects.specs.Gathering.{Came, first_of_several, next_piece, write_piece, by_rules, continues}
 use Rattle.dm_objects.specs.Gathering.{gather}
-use Rattle.dm_commands.specs.Promises.{KeepIdsBut, KeepsIds, is_moved, none_moved, StaysAsBefore}
+use Rattle.dm_commands.specs.Promises.{KeepIdsBut, is_moved, none_moved}
 use Rattle.dm_atomic.specs.declared.tasks.Task.{Task}
 use Rattle.dm_atomic.specs.declared.reports.Part.{Part}
 use Rattle.dm_atomic.specs.declared.engine.Engine.{Engine}
 use Rattle.dm_atomic.specs.declared.engine.EndedGroup.{EndedGroup}
-use Rattle.dm_atomic.specs.Engine.{state_of, CanRollBack, IsSoundEngine, Only}
+use Rattle.dm_atomic.specs.Engine.{state_of}
 use Rattle.dm_atomic.specs.Marks.{Whole as AllOf, base_ids_of, whole_of}
 use Rattle.dm_atomic.specs.Stays.{work_covers, task_covers, tasks_cover, what_covers, seq_member_covers, HasId, StayBut}
 use Rattle.dm_atomic.specs.Stays.{committed_ids}
@@ -100,36 +96,6 @@ pub committed_ok : {X E : Type 0} (r : Result X E) (v w : AllOf) → OnOk r (w.b
     → OnOk r (w.ids ≡ committed_ids v) → OnOk r (committed_ids w ≡ committed_ids v)
 committed_ok (Ok x) v w none is = ap (λ o. unwrap_or o w.ids) none ∙ is
 committed_ok (Err x) v w none is = none
-
--- ---- edits that were noted
-
-base-noted : (old new : Journal) (before now : List Row) (is_open : Bool) (mark : ℕ) → Notes old before new now
-    → IsSound old.entries before → (is_open ≡ true → CanRollBack before old mark)
-    → base_ids_of now new.entries is_open mark ≡ base_ids_of before old.entries is_open mark
-base-noted old new before now true mark n s g = ap (λ (m : Maps). some m.ids) (n.recalls s mark (g refl).held).1
-  where
-    some : Ids → Option Ids
-    some i = Some i
-base-noted old new before now false mark n s g = refl
-
-pub base_only : (e f : Engine) → IsSoundEngine e → Only e f → (whole_of f).base_ids ≡ (whole_of e).base_ids
-base_only e f s o = rw (o.is_open, o.mark)
-    (base-noted e.journal f.journal e.tree.rows f.tree.rows e.is_open e.mark o.notes s.journal s.group)
-
-pub stay_noted : (c : Path → Bool) (e f : Engine) → IsSoundEngine e → Only e f
-    → KeepIdsBut c (ids e.tree.rows) (ids f.tree.rows) → StayBut c (whole_of e) (whole_of f)
-stay_noted c e f s o k = record {
-  each = λ p id h u. record {
-    now = k p id h.now u;
-    base = subst (λ b. IfSome b (λ i. get i p ≡ Some id)) (sym (base_only e f s o)) h.base;
-  };
-}
-
-pub acted_ids : {X E : Type 0} (r : Result X E) (step : Step) (old new : Journal) (before now : Tree)
-    → OnOk r (KeepsIds step (ids before.rows) (ids now.rows)) → OnErr r (StaysAsBefore old before new now)
-    → KeepIdsBut (is_moved step) (ids before.rows) (ids now.rows)
-acted_ids (Ok x) step old new before now k b = k
-acted_ids (Err x) step old new before now k b = λ p id there u. ap (λ (t : Tree). get (ids t.rows) p) b.tree ∙ there
 
 -- ---- what a piece comes to covers what the piece covers
 
@@ -209,14 +175,6 @@ one_of_tasks ts k t v w l is a =
     stay_within (work_covers t.work) (tasks_cover ts) v w (λ p u. none_at (task_covers p) ts k t l is u) a
 
 -- ---- a group that opens, and ends
-
-pub closed_base : (e f : Engine) → f ≡ record e { is_open = false; parts = f.parts; ended = f.ended }
-    → (whole_of f).base_ids ≡ None
-closed_base e f is = ap (λ (x : Engine). (whole_of x).base_ids) is
-
-pub closed_ids : (e f : Engine) → f ≡ record e { is_open = false; parts = f.parts; ended = f.ended }
-    → (whole_of f).ids ≡ (whole_of e).ids
-closed_ids e f is = ap (λ (x : Engine). (whole_of x).ids) is
 
 module _ (e f : Engine) (tree : Tree) (journal : Journal)
     (is : f ≡ record e { tree = tree; journal = journal; is_open = false; parts = f.parts; ended = f.ended }) where

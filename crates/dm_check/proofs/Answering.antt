@@ -1,5 +1,5 @@
 -- What is put of what was received is what is put of the bytes of the source.
-use Rattle.std.proofs.Common.{ℕ, ◌≡◌, ◌≢◌, List, refl, sym, ap, ◌∙◌, subst, inl, inr}
+use Rattle.std.proofs.Common.{ℕ, ◌≡◌, List, refl, sym, ap, ◌∙◌, subst, inl, inr}
 use Rattle.std.specs.Prelude.{Option, Some, None, Result, Ok, Err}
 use Rattle.std.specs.Io.KnownBytes.{Appends}
 use Rattle.dm_base.specs.Outside.{OfKnown}
@@ -11,7 +11,6 @@ use Rattle.dm_exit.specs.declared.exit.Exit.TheVariants as exit
 use Rattle.dm_exit.specs.Causes.{SourceCause}
 use Rattle.dm_exit.specs.Puts.{PutsPrefix, PutsPart, PutsEnd, Ends}
 use Rattle.dm_exit.proofs.Parts.{ends_put, prefix_none}
-use Rattle.dm_replay.proofs.Usage.{end_is_no_usage}
 use Rattle.dm_check.specs.declared.message.Received.{Received}
 use Rattle.dm_check.specs.declared.message.Received.TheVariants as received
 use Rattle.dm_check.specs.Receiving.{Receives}
@@ -95,10 +94,6 @@ no_read_fault : (r : Result Parts Refusal) → exit_of r ≡ exit.ReadFault → 
 no_read_fault (Ok message) e = cc
 no_read_fault (Err refusal) e = cc
 
-no_usage : (r : Result Parts Refusal) → exit_of r ≡ exit.Usage → ⊥
-no_usage (Ok message) e = cc
-no_usage (Err refusal) e = cc
-
 part_no_read : (text : List ℕ) (old new : Option (List ℕ)) (e : Exit) → PutsPart old new text e → e ≡ exit.ReadFault → ⊥
 part_no_read text old new e h is = subst (PutsPart old new text) is h
 
@@ -119,8 +114,3 @@ source_cause r text good old new e before now is h same =
       | inl put ↦ no_read_fault (read_in r) (sym is ∙ sym put.1 ∙ fault)
       | inr part ↦ part_no_read text old new e part fault
     ]) same
-
-pub usage_never : (r : Received) (text : List ℕ) (good : Exit) (old new : Option (List ℕ)) (e : Exit)
-    → good ≡ exit_of (read_in r) → PutsEnd text good old new e → e ≢ exit.Usage
-usage_never r text good old new e is h =
-    end_is_no_usage text good old new e (λ usage. no_usage (read_in r) (sym is ∙ usage)) h

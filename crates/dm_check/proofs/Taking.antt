@@ -1,9 +1,9 @@
 -- What was taken of a source says what all of its bytes are.
 use Rattle.std.proofs.Common.{ℕ, ◌≡◌, ◌≤◌, ◌+◌, List, [], ◌++◌, length, take, refl, sym, ap, ◌∙◌, subst, arith}
-use Rattle.std.proofs.lemmas.List.{append-nil, length-append, length-take}
+use Rattle.std.proofs.lemmas.List.{length-append, length-take}
 use Rattle.std.proofs.KnownBytes.{Consumes-nil, Consumes-kept, Consumes-trans}
 use Rattle.std.specs.Prelude.{Option, Some, None, Result, Ok, Err}
-use Rattle.std.specs.Io.KnownBytes.{Consumes, IsAtEnd, Keeps}
+use Rattle.std.specs.Io.KnownBytes.{Consumes, Keeps}
 use Rattle.dm_base.specs.Outside.{OfKnown}
 use Rattle.dm_base.specs.declared.outside.Fault.{Fault}
 use Rattle.wbxml_tokens.specs.declared.reason.Refusal.{Refusal}
@@ -33,13 +33,6 @@ unfolding settled
 unsettled_within bytes h = sound_within bytes (sound_by (built bytes) (reading bytes).refused h)
 
 -- ---- what all of the bytes are
-
-pub all_received : (old new : Option (List ℕ)) (bytes : List ℕ) (r : Result Received Fault) → Consumes old new bytes
-    → IsAtEnd new → Receives r bytes → OfKnown old (Receives r)
-all_received None new bytes r taken end h = tt
-all_received (Some xs) None bytes r taken end h = absurd taken
-all_received (Some xs) (Some ys) bytes r taken end h =
-    subst (Receives r) (sym (taken ∙ ap (λ l. bytes ++ l) end ∙ append-nil bytes)) h
 
 refused_received : (old new : Option (List ℕ)) (bytes : List ℕ) (f : Refusal) → Consumes old new bytes
     → settled bytes ≡ Some f → OfKnown old (λ all. read_of all ≡ Err f)

@@ -15,7 +15,7 @@ use Rattle.dm_tree.specs.Notes.{TakesEditBack}
 use Rattle.dm_undo.specs.declared.entries.Entry.TheVariants.{Record}
 use Rattle.dm_undo.specs.Journals.{Journal}
 use Rattle.dm_undo.specs.Notes.{Notes}
-use Rattle.dm_undo.proofs.Noted.{notes-none, notes-one, notes-then}
+use Rattle.dm_undo.proofs.Noted.{notes-one, notes-then}
 use Rattle.dm_commands.specs.declared.outcome.Outcome.{Outcome}
 use Rattle.dm_commands.specs.Outcomes.{Done, refused, changed_to, first_refusal, first_of, node_at}
 use Rattle.dm_commands.specs.Promises.{Ends, KeepIdsBut, none_moved}
@@ -49,21 +49,6 @@ noted-two old made new x y z u v e r f t s =
     (omega (arith, r, ap (λ (j : Journal). j.room) f, ap length is, ap length e)) s)
 
 -- ---- how steps end
-
-pub ends-refused : (moved : Path → Bool) (journal : Journal) (tree : Tree) (code : ℕ) (outcome : Outcome)
-    → outcome ≡ record { code = code; results = []; started = false }
-    → Ends (refused (nodes tree.rows) code) moved journal tree journal tree outcome
-ends-refused moved journal tree code outcome e = record {
-  does = record {
-    tree = refl;
-    code = ap (λ (o : Outcome). o.code) e;
-    found = ap (λ (o : Outcome). o.results) e;
-    started = ap (λ (o : Outcome). o.started) e;
-  };
-  ids = λ p id is apart. is;
-  notes = notes-none journal journal tree.rows tree.rows refl (omega arith) refl;
-  clock = refl;
-}
 
 pub ends-changed : (m : Nodes) (moved : Path → Bool) (old : Journal) (before : Tree) (new : Journal) (now : Tree)
     (outcome : Outcome)

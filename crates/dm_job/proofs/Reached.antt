@@ -1,11 +1,10 @@
 -- Readings that lines lead to, and the jobs that they end with.
-use Rattle.std.proofs.Common.{◌≡◌, ◌+◌, ◌∙◌, ℕ, List, [], ◌∷◌, ◌++◌, Option, Some, Result, Ok, Err, refl, sym, ap}
-use Rattle.std.proofs.Common.{subst}
+use Rattle.std.proofs.Common.{◌≡◌, ◌+◌, ◌∙◌, ℕ, List, [], ◌∷◌, ◌++◌, Some, Result, Ok, Err, refl, ap}
 use Rattle.dm_base.specs.declared.lines.LineReason.{LineReason}
 use Rattle.dm_job.specs.declared.job.Job.{Job}
 use Rattle.dm_job.specs.declared.draft.Reading.{Reading}
 use Rattle.dm_job.specs.declared.draft.Reading.TheVariants as reading
-use Rattle.dm_job.specs.Measures.{CanGoOn, IsReached, IsGoing}
+use Rattle.dm_job.specs.Measures.{IsGoing}
 use Rattle.dm_job.specs.Reading.{after_line, behind_line, lines_after}
 use Rattle.dm_job.specs.Sound.{IsSound}
 use Rattle.dm_job.specs.Texts.{job_in}
@@ -35,9 +34,6 @@ line_added n r reached next (first ∷ lines) line e k =
     by_first (Ok s) is h rest =
         ap (λ x. behind_line n x (λ s. lines_after (n + 1) s (lines ++ line ∷ []))) is ∙ rest s h
     by_first (Err why) is h rest = absurd (cc)
-
-pub going_first : IsGoing reading.First
-going_first = record { can_go_on = tt; reached = record { lines = []; taken = refl } }
 
 pub going_more : (r next : Reading) (line : List ℕ) → after_line r line ≡ Ok next → IsGoing r → IsGoing next
 going_more r next line e h = record {

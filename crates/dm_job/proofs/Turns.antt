@@ -97,9 +97,6 @@ goes_on r e = by_job (job_in r) e
     by_job None h = refl
     by_job (Some job) h = absurd (cc)
 
-pub is_going : (r : Reading) → job_in r ≡ None → is_ended r ≡ false
-is_going r e = ap is_some e
-
 -- ---- behind the last line
 
 pub nothing_behind : (text : List ℕ) → length text ≡ 0 → segments text ≡ [] ∷ []

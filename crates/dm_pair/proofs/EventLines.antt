@@ -8,13 +8,12 @@ use Rattle.dm_base.specs.Fields.{parts, is_id, is_numeral, num_of, nonce_of, hex
 use Rattle.dm_base.specs.declared.lines.LineReason.{LineReason}
 use Rattle.dm_base.specs.declared.lines.LineReason.TheVariants as reason
 use Rattle.dm_base.specs.declared.values.Nonce.{Nonce}
-use Rattle.dm_tree.specs.declared.nodes.Stamp.{Stamp}
 use Rattle.dm_machine.specs.declared.kinds.Kind.{Kind}
 use Rattle.dm_start.specs.Fields.{begins_with}
 use Rattle.dm_replay.specs.declared.events.Event.{Event as TraceEvent}
 use Rattle.dm_replay.specs.declared.events.Event.TheVariants as trace
 use Rattle.dm_replay.specs.Events.{event_of as trace_event_of, kind_of, session_by, session_of, place_of, opened_at}
-use Rattle.dm_replay.specs.Events.{opened_by, open_in, msg_by, msg_in, clock_by}
+use Rattle.dm_replay.specs.Events.{opened_by, open_in, msg_by, msg_in}
 use Rattle.dm_world.proofs.Lists.{either, either_is, and-left, and-right}
 use Rattle.dm_pair.specs.declared.events.Event.{Event}
 use Rattle.dm_pair.specs.declared.events.Event.TheVariants as event
@@ -144,10 +143,6 @@ msgs-open (w ∷ []) = tt
 msgs-open (w ∷ a ∷ []) = tt
 msgs-open (w ∷ a ∷ b ∷ []) = msg-opens (nonce_of a) (hex_of b)
 msgs-open (w ∷ a ∷ b ∷ c ∷ cs) = tt
-
-clock-opens : (s : Option Stamp) → Opens (clock_by s)
-clock-opens None = tt
-clock-opens (Some s) = tt
 
 trace-opens : (ids : List (List ℕ)) (line : List ℕ) → Opens (trace_event_of 1 ids line)
 unfolding trace_event_of

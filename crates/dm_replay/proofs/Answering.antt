@@ -1,5 +1,5 @@
 -- What is answered to events that aren't messages, and which of them leave the machine as it is.
-use Rattle.std.proofs.Common.{◌≡◌, ◌++◌, ℕ, Bool, true, false, List, Some, None, Ok, Err, OnOk, IfOk, refl, sym, ap}
+use Rattle.std.proofs.Common.{◌≡◌, ◌++◌, ℕ, Bool, true, false, List, Some, None, Ok, Err, OnOk, refl, sym, ap}
 use Rattle.std.proofs.Common.{◌∙◌, if◌then◌else◌}
 use Rattle.std.specs.Prelude.{codes}
 use Rattle.std.specs.Option.{option_map}
@@ -46,10 +46,6 @@ again_line c bytes h = again_by c.session bytes h ∙ ap answer_line (sym (loss_
 pub nobody_line : (c : Machine) → None ≡ option_map (λ (s : Session). canonical s.sent) c.session
     → codes "nosession" ≡ answer_line (answer_now c loss)
 nobody_line c h = nobody_by c.session h ∙ ap answer_line (sym (loss_answered c))
-
-pub ok_same : {E : Type 0} (r : Result (List ℕ) E) (a b : List ℕ) → IfOk r (λ t. t ≡ a) → a ≡ b → IfOk r (λ t. t ≡ b)
-ok_same (Ok t) a b h same = h ∙ same
-ok_same (Err e) a b h same = tt
 
 pub on_ok : {T E : Type 0} (r : Result T E) (P : Type 0) → P → OnOk r P
 on_ok (Ok x) P p = p

@@ -1,7 +1,7 @@
 -- Where the source failed, each line that was taken whole was answered.
 use Rattle.std.proofs.Common.{None, Some, Ok, ◌≡◌, ◌≢◌, ◌+◌, ℕ, inl, inr, List, [], ◌++◌}
 use Rattle.std.proofs.Common.{refl, sym, ap, subst, ◌∙◌, append_assoc, append-nil}
-use Rattle.std.proofs.KnownBytes.{Appends-nil, Appends-trans}
+use Rattle.std.proofs.KnownBytes.{Appends-trans}
 use Rattle.std.specs.Prelude.{IfSome}
 use Rattle.std.specs.declared.option.Option.{Option}
 use Rattle.std.specs.Io.KnownBytes.{Appends, Keeps}
@@ -26,7 +26,7 @@ use Rattle.dm_replay.specs.Trace.{Trace, began, no_events, with_event, trace_of,
 use Rattle.dm_replay.specs.Output.{answer_text, answers_text, begun_answers, answered_text, client_of, PutsTaken}
 use Rattle.dm_replay.specs.From.{OverTaken, OfTaken, PutsOn, PutsHalt, PutsBehind, PutsDueAndHalt}
 use Rattle.dm_replay.specs.From.{GoesOver, PutsEvents, events_at, ending_at, begun_at}
-use Rattle.dm_replay.proofs.Over.{over_none, over_then, over_ends, over_counted, of_taken}
+use Rattle.dm_replay.proofs.Over.{over_then, over_ends, over_counted, of_taken}
 use Rattle.dm_replay.proofs.Whole.{fresh_lines}
 use Rattle.dm_replay.proofs.Faults.{part_is_no_fault, end_is_no_fault, other_is_no_fault}
 
@@ -43,16 +43,6 @@ pub record Answered (a b : LinesState) (left rest old new : Option (List ℕ)) (
   pub put : Appends old new done
   pub over : OverTaken a b left rest (λ i j. said_text c (events_at version ids n i)
       ≡ (done ++ due) ++ said_text now (events_at version ids m j))
-
-pub answered_starts : (a : LinesState) (left old : Option (List ℕ)) (version : ℕ) (ids : List (List ℕ)) (n : ℕ)
-    (c : Machine) (due : List ℕ) → due ≡ [] → Answered a a left left old old version ids n c n c due
-answered_starts a left old version ids n c due none = record {
-  done = [];
-  put = Appends-nil old;
-  over = over_none a left (λ i j. said_text c (events_at version ids n i)
-      ≡ ([] ++ due) ++ said_text c (events_at version ids n j))
-      (λ i. ap (λ l. l ++ said_text c (events_at version ids n i)) (sym none));
-}
 
 -- a front of what is due was put
 pub answered_put : (a b : LinesState) (x y : Option (List ℕ)) (old mid new : Option (List ℕ)) (version : ℕ)

@@ -128,16 +128,6 @@ line_behind (Some xs) (Some ys) r n line h =
 nothing : (r : ℕ) → input_of r [] ≡ record { lines = []; tail = []; more = false }
 nothing r = input_cut r [] (λ k below is. absurd (omega (arith, below))) (omega arith)
 
-pub end_stops : (a b : Option (List ℕ)) (r n : ℕ) → ReadsLine r a b (Ok line_out.End)
-    → OfInput (option_map (input_of r) a) (λ i. stop_at n i ≡ Some (bad n reason.Cut))
-end_stops None b r n h = tt
-end_stops (Some xs) b r n h = ap (stop_at n) (ap (input_of r) h.1 ∙ nothing r)
-
-pub end_behind : (a b : Option (List ℕ)) (r n : ℕ) → ReadsLine r a b (Ok line_out.End)
-    → OfInput (option_map (input_of r) a) (λ i. ending_at n i ≡ whole)
-end_behind None b r n h = tt
-end_behind (Some xs) b r n h = ap (ending_at n) (ap (input_of r) h.1 ∙ nothing r)
-
 -- ---- past the bytes that are looked at
 
 short_front : (r : ℕ) (xs : List ℕ) → r ≤ 8400000 → length (take r xs) ≤ 8400000

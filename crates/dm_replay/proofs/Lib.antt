@@ -6,7 +6,6 @@ pub mod Beginning
 pub mod Accounts
 pub mod Saying
 pub mod Answering
-pub mod Usage
 pub mod Running
 pub mod Whole
 pub mod WholeTraces

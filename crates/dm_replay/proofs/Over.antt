@@ -1,6 +1,6 @@
 -- What holds of the input over bytes that were taken, whatever comes behind them.
 use Rattle.std.proofs.Common.{None, Some, Ok, Err, ◌≡◌, ◌≢◌, ◌<◌, ◌+◌, ℕ, true, false, inl, inr, List, [], ◌∷◌, ◌++◌}
-use Rattle.std.proofs.Common.{refl, sym, ap, subst, ◌∙◌, length, take, arith, length-take, append_assoc}
+use Rattle.std.proofs.Common.{sym, ap, subst, ◌∙◌, length, take, arith, length-take, append_assoc}
 use Rattle.std.proofs.Common.{if◌then◌else◌}
 use Rattle.std.proofs.lemmas.Bool.{cases_lt}
 use Rattle.std.proofs.lemmas.List.{append_cancel_right, get_or-take}
@@ -32,11 +32,6 @@ use Rattle.dm_replay.proofs.Fronts.{line_leads}
 use Rattle.dm_replay.proofs.Sections.{section_more, section_whole}
 
 -- ---- what holds over the bytes that were taken
-
-pub over_none : (a : LinesState) (left : Option (List ℕ)) (P : Input → Input → Type 0) → ((i : Input) → P i i)
-    → OverTaken a a left left P
-over_none a None P same = tt
-over_none a (Some xs) P same = ([], refl, λ more. same _)
 
 pub over_then : (a b c : LinesState) (x y z : Option (List ℕ)) (P Q R : Input → Input → Type 0)
     → ((i j k : Input) → P i j → Q j k → R i k)
@@ -157,11 +152,6 @@ line_is_no_fault n line_error.Memory is = cc
 -- the section from a line on is the one behind it, whatever comes behind what was taken
 abbrev pub SectionOver : LinesState → LinesState → Option (List ℕ) → Option (List ℕ) → ℕ → Section → Type 0
 SectionOver a b left rest n s = OverTaken a b left rest (λ i j. begun_at 1 (opening First) i ≡ begun_at n s j)
-
-pub section_starts : (a : LinesState) (left : Option (List ℕ)) (s : Section) → s ≡ opening First
-    → SectionOver a a left left 1 s
-section_starts a left s is =
-    over_none a left (λ i j. begun_at 1 (opening First) i ≡ begun_at 1 s j) (λ i. ap (λ t. begun_at 1 t i) (sym is))
 
 pub section_goes : (a b c : LinesState) (x y z : Option (List ℕ)) (n : ℕ) (at next : Section) (line looked : List ℕ)
     → looked ≡ line → Reads (after_line at looked) at next (Ok false)

@@ -9,15 +9,13 @@ use Rattle.std.specs.Io.KnownBytes.{Appends, Keeps}
 use Rattle.dm_machine.specs.Machine.{Machine}
 use Rattle.dm_machine.specs.Events.{Event as Happening}
 use Rattle.dm_machine.specs.History.{answer_now, next, answers_from, state_from}
-use Rattle.dm_base.specs.declared.outside.Fault.{Fault}
 use Rattle.dm_base.specs.declared.outside.Fault.TheVariants as fault
-use Rattle.dm_base.specs.Outside.{PutsAll}
 use Rattle.dm_tree.specs.Nodes.{Nodes}
 use Rattle.dm_exit.specs.declared.exit.Exit.{Exit}
 use Rattle.dm_exit.specs.declared.exit.Exit.TheVariants as exit
 use Rattle.dm_exit.specs.Causes.{SourceCause}
 use Rattle.dm_exit.specs.Puts.{PutsPart, PutsEnd, Ends}
-use Rattle.dm_exit.proofs.Parts.{kept_appends, prefix_none, prefix_of_front, prefix_behind, front_breaks}
+use Rattle.dm_exit.proofs.Parts.{kept_appends, prefix_none, prefix_behind, front_breaks}
 use Rattle.dm_exit.proofs.Parts.{ends_part, ends_after, ends_put}
 use Rattle.dm_replay.specs.declared.reading.Halt.{Halt}
 use Rattle.dm_replay.specs.declared.reading.Halt.TheVariants as halt
@@ -31,7 +29,7 @@ use Rattle.dm_replay.specs.Trace.{Ending, whole, stopped, Trace, no_events, with
 use Rattle.dm_replay.specs.Output.{answer_text, answers_text, ending_text, ending_exit, bad_line, tree_and_done}
 use Rattle.dm_replay.specs.Output.{trace_text, client_of}
 use Rattle.dm_replay.specs.From.{OfInput, Between, events_at, OfStop, EndsTrace, PutsHalt}
-use Rattle.dm_replay.specs.From.{PutsOn, PutsBehind, PutsDueAndHalt, exit_after, Follows, SoFar, GoesOn, EndsEvents}
+use Rattle.dm_replay.specs.From.{PutsOn, PutsBehind, PutsDueAndHalt, Follows, SoFar, GoesOn, EndsEvents}
 use Rattle.dm_replay.specs.From.{HaltCounts}
 
 ends_trace : (v : ℕ) (s : Machine) (t t' : Trace) (old new : Option (List ℕ)) (e : Exit) → t ≡ t'
@@ -272,10 +270,6 @@ so_halts (Some i) v tree ending h due old mid new e put is p =
 
 -- ---- the tree text and the last line
 
-pub whole_put : (old mid new : Option (List ℕ)) (text last : List ℕ) → Appends old mid text → Appends mid new last
-    → PutsEnd (text ++ last) exit.Done old new exit.Done
-whole_put old mid new text last put more = inl (Appends-trans old mid new _ _ put more, refl)
-
 pub last_breaks : (old mid new : Option (List ℕ)) (text last : List ℕ) (e : Exit) → Appends old mid text
     → PutsPart mid new last e → PutsEnd (text ++ last) exit.Done old new e
 last_breaks old mid new text last exit.WriteFault put h = inr (prefix_behind old mid new text last put h)
@@ -285,11 +279,6 @@ last_breaks old mid new text last exit.Usage put h = absurd h
 last_breaks old mid new text last exit.BadInput put h = absurd h
 last_breaks old mid new text last exit.ReadFault put h = absurd h
 last_breaks old mid new text last exit.TooLong put h = absurd h
-
-pub tree_breaks : (old new : Option (List ℕ)) (text last : List ℕ) (f : Fault) → PutsAll old new (Err f) text
-    → PutsEnd (text ++ last) exit.Done old new (exit_after f)
-tree_breaks old new text last fault.Failed h = inr (prefix_of_front old new text last (h.0, h.2))
-tree_breaks old new text last fault.Memory h = inr (prefix_of_front old new text last (h.0, h.2))
 
 -- ---- an event
 

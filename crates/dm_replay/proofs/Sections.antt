@@ -1,17 +1,16 @@
 -- A line moves the start section on, ends it, or is refused.
-use Rattle.std.proofs.Common.{◌≡◌, ◌+◌, ℕ, true, false, if◌then◌else◌, List, Option, Some, None, Ok, Err, refl, sym, ap}
+use Rattle.std.proofs.Common.{◌≡◌, ◌+◌, ℕ, true, false, if◌then◌else◌, List, Option, Some, None, Ok, refl, sym, ap}
 use Rattle.std.proofs.Common.{◌∙◌}
 use Rattle.std.specs.declared.result.Result.{Result}
 use Rattle.dm_base.specs.declared.lines.LineReason.{LineReason}
 use Rattle.dm_base.specs.declared.lines.LineReason.TheVariants as reason
 use Rattle.dm_start.specs.declared.heads.Head.TheVariants.{First}
 use Rattle.dm_start.specs.declared.telling.Phase.TheVariants as phase
-use Rattle.dm_start.specs.declared.errors.LineError.{LineError}
 use Rattle.dm_start.specs.declared.errors.LineError.TheVariants as line_error
 use Rattle.dm_start.specs.Start.{Setup, Section, opening, telling, after_line, is_begun, Reads}
 use Rattle.dm_replay.specs.Input.{Input}
 use Rattle.dm_replay.specs.Trace.{bad, began, unbegun, is_long, start_line, behind_begin, told_in}
-use Rattle.dm_replay.specs.From.{OfInput, Between, Leads, OfStop, with_front, begun_at, halt_for}
+use Rattle.dm_replay.specs.From.{Between, Leads, with_front, begun_at}
 
 -- the step of a line that isn't too long
 stepped : (n : ℕ) (s : Section) (line : List ℕ) (j : Input) → is_long line ≡ false
@@ -44,12 +43,6 @@ behind_last n s next told line j short is last =
     stepped n s line j short ∙ ap (λ (r : Result Section LineReason). start_line n r j (λ p. begun_at (n + 1) p j))
     (is ∙ ap Ok last)
 
-behind_bad : (n : ℕ) (s : Section) (why : LineReason) (line : List ℕ) (j : Input) → is_long line ≡ false
-    → after_line s line ≡ Err why
-    → begun_at n s (with_front line j) ≡ unbegun (bad n why)
-behind_bad n s why line j short is =
-    stepped n s line j short ∙ ap (λ (r : Result Section LineReason). start_line n r j (λ p. begun_at (n + 1) p j)) is
-
 pub section_more : (a b c : Option Input) (n : ℕ) (at next : Section) (line looked : List ℕ) → looked ≡ line
     → Reads (after_line at looked) at next (Ok false)
     → Between a b (λ i j. begun_at 1 (opening First) i ≡ begun_at n at j) → Between b c (λ i j. Leads line i j)
@@ -72,15 +65,3 @@ section_whole (Some i) (Some j) None n at next told line looked is read last bef
 section_whole (Some i) (Some j) (Some k) n at next told line looked is read last before leads =
     before ∙ ap (begun_at n at) leads.0 ∙ behind_last n at next told line k leads.1
     (ap (after_line at) (sym is) ∙ read.0) last
-
-pub section_bad : (a b c : Option Input) (n : ℕ) (at next : Section) (error : LineError) (line looked : List ℕ)
-    → looked ≡ line
-    → Reads (after_line at looked) at next (Err error)
-    → Between a b (λ i j. begun_at 1 (opening First) i ≡ begun_at n at j) → Between b c (λ i j. Leads line i j)
-    → OfInput a (λ i. OfStop (halt_for n error) (λ stop. begun_at 1 (opening First) i ≡ unbegun stop))
-section_bad None b c n at next error line looked is read before leads = tt
-section_bad (Some i) None c n at next error line looked is read before leads = absurd before
-section_bad (Some i) (Some j) None n at next error line looked is read before leads = absurd leads
-section_bad (Some i) (Some j) (Some k) n at next (line_error.Bad why) line looked is read before leads =
-    before ∙ ap (begun_at n at) leads.0 ∙ behind_bad n at why line k leads.1 (ap (after_line at) (sym is) ∙ read.0)
-section_bad (Some i) (Some j) (Some k) n at next line_error.Memory line looked is read before leads = tt

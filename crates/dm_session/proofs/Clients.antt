@@ -1,5 +1,5 @@
 -- A client's calls, as steps of its machine.
-use Rattle.std.proofs.Common.{◌≡◌, ◌==◌, ◌<◌, ◌^◌, ℕ, Bool, true, false, cond, List, [], length, refl, sym, ◌∙◌, ap}
+use Rattle.std.proofs.Common.{◌≡◌, ◌<◌, ◌^◌, ℕ, Bool, true, false, cond, List, [], length, refl, sym, ◌∙◌, ap}
 use Rattle.std.proofs.Common.{subst, None, Some, Ok}
 use Rattle.std.specs.Prelude.{Option, Result, IfOk, IfSome, IsSomeAnd, option_map, nat_lt}
 use Rattle.std.specs.Option.{option_or}
@@ -15,12 +15,11 @@ use Rattle.dm_atomic.specs.Marks.{whole_of, past_of, no_past}
 use Rattle.dm_atomic.specs.Marks as engine
 use Rattle.dm_atomic.specs.Updates.{clock_of, max_obj_of, TellsStarted}
 use Rattle.dm_ends.specs.declared.farewells.LastMessage.{LastMessage}
-use Rattle.dm_machine.specs.declared.kinds.End.{End}
 use Rattle.dm_machine.specs.declared.kinds.Kind.{Kind}
 use Rattle.dm_machine.specs.Machine.{Machine, Session}
 use Rattle.dm_machine.specs.Opening.{first_package}
 use Rattle.dm_machine.specs.Sending.{sends}
-use Rattle.dm_machine.specs.Messages.{Outcome, goes_on, ends, accepts, account_at, first_progress, begins}
+use Rattle.dm_machine.specs.Messages.{goes_on, accepts, account_at, first_progress, begins}
 use Rattle.dm_machine.specs.Events as events
 use Rattle.dm_machine.specs.Events.{Event, message, opened, takes, message_outcome, machine_of}
 use Rattle.dm_machine.specs.History.{answer_now, next, kept_in}
@@ -41,7 +40,7 @@ use Rattle.dm_session.specs.Inside as inside
 use Rattle.dm_session.specs.Inside.{CanGoOn, IsSpelled, session_in}
 use Rattle.dm_session.specs.View.{Whole, Tells}
 use Rattle.dm_session.proofs.Closed.{closed_behind}
-use Rattle.dm_session.specs.Working.{outcome, answer_of, rest_behind, told, ended_rest, begun_rest, account_behind}
+use Rattle.dm_session.specs.Working.{outcome, rest_behind, told, begun_rest, account_behind}
 use Rattle.dm_session.specs.Working.{drafted, IsNextSpelled}
 
 -- ---- an engine that is as it was
@@ -104,28 +103,6 @@ accepted_next c d s n m nonce t o e =
   where
     after_is : machine_of (message_outcome c c.session m nonce) ≡ events.after c (message (Ok m) nonce)
     after_is = refl
-
-tells_outcome : (e : Engine) (q : List Entry) (r : Rest) (n : Next)
-    → Tells (answer_of n) (inside.machine_of e q (rest_behind r n))
-    (events.outcome_answer (outcome (inside.machine_of e q (rest_behind r n)) n))
-tells_outcome e q r (drafts.GoesOn s) = refl
-tells_outcome e q r (drafts.Ends end farewell) = refl
-
-pub accepted_answer : (c : Machine) (e : Engine) (q : List Entry) (r : Rest) (s : Session) (n : Next) (m : Parts)
-    (nonce : List ℕ)
-    → takes c (message (Ok m) nonce) ≡ true → c.session ≡ Some s
-    → outcome (inside.machine_of e q (rest_behind r n)) n ≡ accepts c s.progress m nonce
-    → Tells (answer_of n) (inside.machine_of e q (rest_behind r n)) (answer_now c (message (Ok m) nonce))
-unfolding answer_now events.taken_answer
-accepted_answer c e q r s n m nonce t o is =
-    subst (Tells (answer_of n) (inside.machine_of e q (rest_behind r n)))
-    (ap events.outcome_answer (is ∙ sym (came_to c c.session s m nonce o)) ∙ answer_is
-    ∙ sym (answer_if (takes c (message (Ok m) nonce)) _ (events.taken_answer c (message (Ok m) nonce)) t))
-    (tells_outcome e q r n)
-  where
-    answer_is : events.outcome_answer (message_outcome c c.session m nonce)
-        ≡ events.taken_answer c (message (Ok m) nonce)
-    answer_is = refl
 
 -- ---- what is kept with its bytes
 

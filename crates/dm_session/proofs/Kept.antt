@@ -32,10 +32,6 @@ body_goes_on e m f cs k c l is a b =
     (stay_within (covers c) (body_covers cs) (whole_of m) (whole_of f)
     (λ p u. none_at (λ d. covers d p) cs k c l is u) b)
 
-pub body_same : (shown cs : List Command) (v w : AllOf) → shown ≡ cs → StayBut (body_covers shown) v w
-    → StayBut (body_covers cs) v w
-body_same shown cs v w e = subst (λ xs. StayBut (body_covers xs) v w) e
-
 -- ---- what is all as it was
 
 pub stay_is : (c : Path → Bool) (v w : AllOf) → w ≡ v → StayBut c v w
@@ -63,11 +59,6 @@ pub kept_seen : (c : Path → Bool) (i : Inside) (old : Whole) (w : AllOf) → w
 kept_seen c i old w e stay closed =
     stay_closed c (engine_in old) w
     (subst (λ (x : Whole). x.machine.engine.group ≡ None → x.base_ids ≡ None) e (base_closed i.engine) closed) stay
-
-pub kept_read : (read : Result Parts Refusal) (m : Parts) (old new : Ids) → read ≡ Ok m
-    → KeepIdsBut (body_covers m.body) old new
-    → KeepIdsBut (read_covers read) old new
-kept_read read m old new e = subst (λ x. KeepIdsBut (read_covers x) old new) (sym e)
 
 -- an update ends where no session is open
 pub not_open : (e : Engine) (q : List Entry) (r : Rest) (ok : Bool) → takes (machine_of e q r) (act ok) ≡ true

@@ -1,6 +1,6 @@
 -- What a message that is accepted comes to, as its outcome by the machine.
 use Rattle.std.proofs.Common.{◌≡◌, ◌&&◌, ◌==◌, ◌<◌, ◌+◌, ◌^◌, ℕ, Bool, true, false, cond, List, [], ◌∷◌, ◌++◌, length}
-use Rattle.std.proofs.Common.{map, suc, refl, sym, ◌∙◌, ap, subst, arith, None, Some, if◌then◌else◌, length-append}
+use Rattle.std.proofs.Common.{map, refl, sym, ◌∙◌, ap, subst, arith, None, Some}
 use Rattle.std.proofs.Common.{take, drop}
 use Rattle.std.proofs.lemmas.Bool.{ne_eqb, eqb-false}
 use Rattle.std.specs.Prelude.{Option, set, get_or, unwrap_or}
@@ -21,13 +21,12 @@ use Rattle.dm_pack.specs.Entries.{Entry, whole_entry}
 use Rattle.dm_commands.specs.Outcomes.{asked_by}
 use Rattle.dm_atomic.specs.declared.engine.Engine.{Engine}
 use Rattle.dm_atomic.specs.Made.{told}
-use Rattle.dm_atomic.specs.Run.{State, Next, Running, quietly, run_all, abandoned}
+use Rattle.dm_atomic.specs.Run.{State, Next, quietly, run_all, abandoned}
 use Rattle.dm_atomic.specs.Engine.{state_of, running, Gives}
 use Rattle.dm_atomic.specs.Updates.{clock_of, max_obj_of}
 use Rattle.dm_machine.specs.declared.kinds.End.TheVariants.{Finished, Aborted, Denied}
 use Rattle.dm_machine.specs.declared.progress.Progress.{Progress}
 use Rattle.dm_machine.specs.Machine.{Machine}
-use Rattle.dm_machine.specs.Opening.{first_package}
 use Rattle.dm_machine.specs.Sending.{sends}
 use Rattle.dm_machine.specs.Messages.{Outcome, goes_on, ends, Waits, waits_after, queued_again, closed, finished}
 use Rattle.dm_machine.specs.Messages.{is_report, is_over, answered, run_of, execute, quiet_after}
@@ -45,14 +44,6 @@ use Rattle.dm_session.proofs.Machines.{moved_by, account_put, closed_machine, en
 use Rattle.dm_session.proofs.Machines.{answered_ends}
 
 -- ---- the commands
-
-pub ran_not : (c : Machine) (a : Account) (m : Parts) (code : ℕ) (s : State) (made : List Command) → passes code ≡ false
-    → c.engine ≡ s → made ≡ [] → Ran (run_of c a m code) s made
-ran_not c a m code s made p e n = none (passes code) p
-  where
-    none : (b : Bool) → b ≡ false → Ran (cond b (execute c a m) (quietly c.engine)) s made
-    none true h = absurd (cc)
-    none false h = record { state_is = sym e; made_is = n }
 
 abbrev executed : Account → Parts → Stamp → ℕ → State → Next
 executed a m stamp most s =
@@ -105,11 +96,6 @@ again_not_over : (c : Machine) (w : Waits) (m : Parts) (code : ℕ) (zs : List E
 again_not_over c w m code zs =
     let p = w.progress in
     not_over m code (take p.opening_at w.queue ++ drop (p.opening_at + p.opening_left) w.queue) _ zs _
-
-abbrev sent_out : Machine → List Command → List Command → Progress → List Entry → Account → Outcome
-sent_out c front made p q a =
-    goes_on (sends (record c { queue = map whole_entry front ++ (q ++ map whole_entry made) })
-    (moved_by p (length front)) a)
 
 waits_if : (c : Machine) (w : Waits) (b : Bool) → b ≡ true → cond b (queued_again c w) w ≡ queued_again c w
 waits_if c w true e = refl

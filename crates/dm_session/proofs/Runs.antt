@@ -1,20 +1,19 @@
 -- Commands of a body that are run one after another.
-use Rattle.std.proofs.Common.{◌≡◌, ℕ, suc, ◌+◌, ◌<◌, ◌≤◌, List, [], ◌∷◌, ◌++◌, length, drop, get_or, Bool, true, false}
+use Rattle.std.proofs.Common.{◌≡◌, ℕ, suc, ◌+◌, ◌<◌, List, ◌∷◌, ◌++◌, length, drop, get_or, Bool, true, false}
 use Rattle.std.proofs.Common.{cond, refl, sym, ◌∙◌, ap, subst, append_assoc, add-one, drop-cons}
-use Rattle.std.proofs.lemmas.List.{append-nil, drop_all}
+use Rattle.std.proofs.lemmas.List.{append-nil}
 use Rattle.syncml_types.specs.declared.command.Command.{Command}
 use Rattle.syncml_types.specs.Message.{Parts}
 use Rattle.dm_atomic.specs.declared.tasks.Origin.{Origin}
 use Rattle.dm_atomic.specs.declared.engine.Engine.{Engine}
 use Rattle.dm_atomic.specs.Made.{Made, told}
 use Rattle.dm_atomic.specs.Run.{State, Running, Next, quietly, run_command, run_all, still}
-use Rattle.dm_atomic.specs.Engine.{state_of, running, Gives}
+use Rattle.dm_atomic.specs.Engine.{running, Gives}
 use Rattle.dm_atomic.specs.Updates.{clock_of, max_obj_of}
-use Rattle.dm_atomic.proofs.Giving.{IsGiving, gives_quietly}
+use Rattle.dm_atomic.proofs.Giving.{IsGiving}
 use Rattle.dm_atomic.proofs.Telling.{told_both}
 use Rattle.dm_atomic.proofs.Tried.{running_stays}
 use Rattle.dm_machine.specs.Messages.{is_quiet, quiet_after}
-use Rattle.dm_ends.specs.Commands.{origin_of}
 
 abbrev with_made : List Made → Next → Next
 with_made made n = record n { made = made ++ n.made }
@@ -49,10 +48,6 @@ run_goes_on r o s next cs shown k c whole before now after i e l is h =
   where
     behind : drop k shown ≡ c ∷ drop (k + 1) shown
     behind = rw (add-one k) (drop-cons shown k c l ∙ ap (λ y. y ∷ drop (suc k) shown) (sym is))
-
-pub run_over : (r : Running) (o : Origin) (s : State) (cs shown : List Command) (k : ℕ) → shown ≡ cs → length shown ≤ k
-    → run_all r o s (drop k cs) ≡ quietly s
-run_over r o s cs shown k e l = rw (sym e) (ap (run_all r o s) (drop_all k shown l))
 
 pub run_still : (e f : Engine) (caller : List ℕ) (o : Origin) (s next : State) (c : Command)
     (before after : List Command)

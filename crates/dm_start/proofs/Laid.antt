@@ -38,11 +38,6 @@ pub refuses_same : {Y : Type 0} (one wanted : Result Y LineReason) (e : LineErro
 refuses_same one wanted (line_error.Bad why) same h = sym same ∙ h
 refuses_same one wanted line_error.Memory same h = tt
 
-pub refuses_outside : (clock : Stamp) (m : Nodes) (p : Path) (new : NewNode) (e : LineError) → IsOutside p e
-    → Refuses (with_one clock m p new) e
-refuses_outside clock m p new (line_error.Bad why) h = not_within clock m p new h.0 ∙ ap (λ w. Err w) (sym h.1)
-refuses_outside clock m p new line_error.Memory h = tt
-
 pub device_is_within : {Y : Type 0} (wanted : Result Y LineReason) (e : LineError)
     → IsOutside (codes "DevInfo" ∷ []) e → Refuses wanted e
 device_is_within wanted (line_error.Bad why) h =

@@ -65,10 +65,6 @@ pub puts_nothing : (old : Option (List ℕ)) (text rest : List ℕ) (e : Fault) 
     → PutsOn old old text rest (Err e)
 puts_nothing old text rest e some = (0, some, Appends-nil old)
 
--- nothing came behind what waits, so it waits on
-pub waits_on : (old : Option (List ℕ)) (text : List ℕ) → PutsOn old old (text ++ []) text (Ok tt)
-waits_on old text = ([], Appends-nil old, append-nil text)
-
 -- a front of what came first was put, and then of what waits and of what came behind
 pub puts_then : (old mid new : Option (List ℕ)) (text a more b rest : List ℕ) (r : Result (Unit {0}) Fault)
     → PutsOn old mid (text ++ a) more (Ok tt) → PutsOn mid new (more ++ b) rest r

@@ -154,18 +154,6 @@ list_pushed es fs ls ms ws c l e f h is =
     (list_both es (whole_entry c ∷ []) ls (l ∷ []) h
     ∙ ap (λ (x : List Waiting). x ++ record { entry = whole_entry c; carries = l.carries } ∷ []) is)
 
-pub beside_front : (es fs : List Entry) (ls ms : List Load) (c : Command) (l : Load) → fs ≡ whole_entry c ∷ es
-    → ms ≡ l ∷ ls → l.begun ≡ false → IfSome l.carries IsSmall → AreBeside es ls → AreBeside fs ms
-beside_front es fs ls ms c l e f begun small h =
-    beside_same (whole_entry c ∷ es) fs (l ∷ ls) ms e f (begun, small, h)
-
-pub list_front : (es fs : List Entry) (ls ms : List Load) (ws : List Waiting) (c : Command) (l : Load)
-    → fs ≡ whole_entry c ∷ es → ms ≡ l ∷ ls → list_of es ls ≡ ws
-    → list_of fs ms ≡ record { entry = whole_entry c; carries = l.carries } ∷ ws
-list_front es fs ls ms ws c l e f is =
-    list_same (whole_entry c ∷ es) fs (l ∷ ls) ms _ e f
-    (ap (λ (x : List Waiting). record { entry = whole_entry c; carries = l.carries } ∷ x) is)
-
 pub jobs_any : (es : List Entry) (ls : List Load) (ws : List Waiting) → AreBeside es ls → list_of es ls ≡ ws
     → list_any (λ (l : Load). is_some l.carries) ls ≡ list_any is_of_job ws
 jobs_any es ls ws h is = any-jobs es ls h ∙ ap (list_any is_of_job) is

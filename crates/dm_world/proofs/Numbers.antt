@@ -1,6 +1,6 @@
 -- The numbers of a message, and the texts that tell them.
-use Rattle.std.proofs.Common.{◌≡◌, ◌<◌, ◌≤◌, ◌==◌, ◌&&◌, ◌||◌, ◌^◌, ℕ, Bool, true, false, cond, not, List}
-use Rattle.std.proofs.Common.{length, Option, Some, None, refl, sym, ◌∙◌, ap, arith, nat_lt, nat_le, ◌⊎◌, inl}
+use Rattle.std.proofs.Common.{◌≡◌, ◌<◌, ◌==◌, ◌&&◌, ◌||◌, ◌^◌, ℕ, Bool, true, false, cond, not, List}
+use Rattle.std.proofs.Common.{length, Option, Some, None, refl, sym, ◌∙◌, ap, arith, nat_lt, ◌⊎◌, inl}
 use Rattle.std.proofs.Common.{inr}
 use Rattle.std.specs.Prelude.{nat_eq, slice_index, unwrap_or}
 use Rattle.std.specs.Fmt.{decimal}
@@ -43,9 +43,6 @@ is-lt a b h =
 pub lt-of : (a b : ℕ) → nat_lt a b ≡ true → a < b
 lt-of a b h = grind (arith, nat_tests)
 
-pub le-of : (a b : ℕ) → nat_le a b ≡ true → a ≤ b
-le-of a b h = grind (arith, nat_tests)
-
 pub eq-of : (a b : ℕ) → nat_eq a b ≡ true → a ≡ b
 eq-of a b h = grind (arith, nat_tests)
 
@@ -59,9 +56,6 @@ order a b = first (nat_lt a b) (nat_lt b a) refl refl
     first true d e f = inl (is-lt a b e)
     first false true e f = inr (inr (is-lt b a f))
     first false false e f = inr (inl (neither a b e f))
-
-pub not-lt-self : (a : ℕ) → nat_lt a a ≡ false
-not-lt-self a = grind (arith, nat_tests)
 
 pub eq-self : (a : ℕ) → nat_eq a a ≡ true
 eq-self a = grind (arith, nat_tests)

@@ -175,9 +175,6 @@ code-is accepted login m f =
 
 -- ---- the header's Status stands first in the message that answers
 
-nat-zero : (n : ℕ) → n ≡ 0 → (0 < n) → ⊥
-nat-zero n e l = omega (arith, e, l)
-
 status-taken : (c : StatusCmd) (es : List Entry) (h : Header) (room : ℕ) (heard : Bool)
     → IsReady (whole_entry (command.Status c))
     → IsReadyHeader h
