@@ -16,7 +16,7 @@ use Rattle.dm_base.specs.declared.lines.LineOut.TheVariants as line_out
 use Rattle.dm_base.specs.declared.lines.LineReason.TheVariants as reason
 use Rattle.dm_base.specs.Outside.{OfKnown}
 use Rattle.dm_base.specs.Lines.{LinesState, FillsPending, ReadsLine, ahead, behind, IsFeedless, IsLongLine, CountsTaken}
-use Rattle.dm_base.specs.Lines.{AskedForMore, HasFeed, IsPastRoom, room}
+use Rattle.dm_base.specs.Lines.{AskedForMore, LeavesNoLine, HasFeed, IsPastRoom, room, line_limit}
 
 -- no line feed among the first n bytes
 abbrev pub IsClear : List ℕ → ℕ → Type 0
@@ -272,14 +272,15 @@ asked_for_more first now n Memory all clear unasked = tt
 
 -- and none is held back even then
 pub asked_last : (old new : LinesState) (left rest : Option (List ℕ)) (n : ℕ) (error : TakeError)
-    → FillsPending old new left rest (Err error) → n ≡ length old.pending → IsClear old.pending n
-    → AskedForMore (new.pending ++ new.past) (Err error)
-asked_last old new left rest n Read fill all clear =
-    subst (λ s. IsFeedless (s.pending ++ s.past)) (sym fill.0)
-    (subst (λ past. IsFeedless (old.pending ++ past)) (sym fill.2)
-    (subst IsFeedless (sym (append-nil old.pending)) (subst (λ m. IsClear old.pending m) all clear)))
-asked_last old new left rest n TooLong fill all clear = tt
-asked_last old new left rest n Memory fill all clear = tt
+    → FillsPending old new left rest (Err error) → n ≡ length old.pending → n ≤ line_limit → IsClear old.pending n
+    → LeavesNoLine (new.pending ++ new.past) (Err error)
+asked_last old new left rest n Read fill all short clear =
+    subst (λ s. LeavesNoLine (s.pending ++ s.past) (Err Read)) (sym fill.0)
+    (subst (λ past. LeavesNoLine (old.pending ++ past) (Err Read)) (sym fill.2)
+    (subst (λ bytes. LeavesNoLine bytes (Err Read)) (sym (append-nil old.pending))
+    (subst (λ m. IsClear old.pending m) all clear, omega (arith, all, short))))
+asked_last old new left rest n TooLong fill all short clear = tt
+asked_last old new left rest n Memory fill all short clear = tt
 
 -- what a search from the front says where it found a place
 pub line_there : (bytes looked : List ℕ) (r : Option ℕ) → looked ≡ bytes

@@ -96,6 +96,11 @@ abbrev pub AskedForMore : List ℕ → Result LineOut TakeError → Type 0
 AskedForMore pending (Err take_error.Read) = IsFeedless pending
 AskedForMore pending other = ⊤
 
+-- where it failed no line is among these bytes: no line feed, and no more of them than a line may have
+abbrev pub LeavesNoLine : List ℕ → Result LineOut TakeError → Type 0
+LeavesNoLine pending (Err take_error.Read) = IsFeedless pending × (length pending ≤ line_limit)
+LeavesNoLine pending other = ⊤
+
 -- bytes that were taken are counted
 abbrev pub CountsTaken : Option (List ℕ) → Option (List ℕ) → ℕ → ℕ → Type 0
 CountsTaken old new before now = (bytes : List ℕ) × Consumes old new bytes × (now ≡ before + length bytes)

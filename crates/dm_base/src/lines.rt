@@ -3,7 +3,7 @@ ghost use Rattle.std.specs.Prelude.{◌≡◌, ◌≢◌, ◌<◌, ◌≤◌, �
 ghost use Rattle.std.specs.Prelude.{MatchOption, IfOk, OnOk, OnErr, IsErrOf, true, false};
 ghost use Rattle.dm_base.specs.Outside.{ReadCounts};
 ghost use Rattle.dm_base.specs.Lines.{LinesState, ReadsLine, StaysUnlessLine, CountsTaken, FillsPending, ahead};
-ghost use Rattle.dm_base.specs.Lines.{AskedForMore, HasFeed, IsFeedless, room, bytes_given, run_limit};
+ghost use Rattle.dm_base.specs.Lines.{AskedForMore, LeavesNoLine, HasFeed, IsFeedless, room, bytes_given, run_limit};
 
 use crate::bytes::{Bytes, Memory};
 use crate::outside::{Failed, Source, TakeError};
@@ -158,15 +158,17 @@ impl Lines {
     }
 
     /// The next line. Where a line feed is pending the source isn't asked. A line that is whole within the first
-    /// 67,108,864 bytes is given before another byte is asked for, also where the source fails; `TooLong` comes exactly
-    /// where no whole line is left in them and another byte comes. After `Bad`, `End` and `TooLong` the same comes
-    /// again. After `Read` nothing is lost, and the source is asked again; after `Memory` what was taken may be lost.
+    /// 67,108,864 bytes is given before another byte is asked for, also where the source fails. `TooLong` comes exactly
+    /// where no whole line is left in them, at most 8,400,000 bytes of the next one stand there, and another byte
+    /// comes; where there are more of it, it is too long without another byte. After `Bad`, `End` and `TooLong` the
+    /// same comes again. After `Read` nothing is lost, and the source is asked again; after `Memory` what was taken may
+    /// be lost.
     pub fn next<S: Source>(&mut self, src: &mut S) -> Result<LineOut, TakeError>
         ensures line { ReadsLine (room self.old) (ahead self.old (S.left src.old))
             (ahead self.new (S.left src.new)) result }
         ensures pending { HasFeed self.old.pending → src.new ≡ src.old }
         ensures asked { AskedForMore self.old.pending result }
-        ensures no_line { AskedForMore (self.new.pending ++ self.new.past) result }
+        ensures no_line { LeavesNoLine (self.new.pending ++ self.new.past) result }
         ensures again { StaysUnlessLine (ahead self.old (S.left src.old)) (ahead self.new (S.left src.new))
             (room self.old) (room self.new) result }
         ensures taken { CountsTaken (S.left src.old) (S.left src.new) self.old.taken self.new.taken }

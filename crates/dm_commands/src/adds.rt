@@ -1,6 +1,6 @@
 // Add: a new node below an interior one.
-ghost use Rattle.std.specs.Prelude.{◌≡◌, ◌≤◌, ◌∷◌, ◌++◌, [], length, true, false, None, IfOk, OnErr, IsTrue};
-ghost use Rattle.std.specs.Prelude.{MatchOption};
+ghost use Rattle.std.specs.Prelude.{◌≡◌, ◌≤◌, ◌∷◌, ◌++◌, [], length, true, false, None, IfOk, OnOk, OnErr};
+ghost use Rattle.std.specs.Prelude.{IsTrue, MatchOption};
 ghost use Rattle.std.specs.FinMap as map;
 ghost use Rattle.dm_base.specs.Limits.{object_limit};
 ghost use Rattle.dm_uri.specs.Names.{is_within_limits};
@@ -53,6 +53,7 @@ fn added_node(alloc: Global, step: &mut Step) -> Result<NewNode, Memory>
     ensures node { IfOk result (λ node. (node.permanent ≡ false)
         × ((clock : Time) → made clock node ≡ node_for clock step.old)) }
     ensures step { step.new ≡ record step.old { value = step.new.value } }
+    ensures taken { OnOk result (step.new.value ≡ []) }
 {
     let interior = is_node_format(added_format(step));
     let format = Bytes::of_slice(alloc, added_format(step))?;

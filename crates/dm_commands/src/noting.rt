@@ -22,8 +22,8 @@ fn make_room(journal: &mut Journal, count: usize) -> Result<(), Memory>
     requires few { count < 2 ^ 8 }
     ensures entries { journal.new.entries ≡ journal.old.entries }
     ensures more { journal.old.room ≤ journal.new.room }
-    ensures room { OnOk result ((journal.old.room - length journal.old.entries) + count
-        ≤ journal.new.room - length journal.new.entries) }
+    ensures room { OnOk result (journal.new.room - length journal.new.entries
+        ≡ (journal.old.room - length journal.old.entries) + count) }
 {
     journal.reserve(journal.spare() + count)
 }

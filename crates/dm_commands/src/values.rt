@@ -1,5 +1,5 @@
 // Values that steps give, and what is tested of them.
-ghost use Rattle.std.specs.Prelude.{◌≡◌, IfOk, unwrap_or};
+ghost use Rattle.std.specs.Prelude.{◌≡◌, [], IfOk, unwrap_or};
 ghost use Rattle.std.specs.Fmt.{decimal};
 ghost use Rattle.dm_tree.specs.Nodes.{is_format as is_one_of, is_node_format as is_node};
 ghost use Rattle.dm_tree.specs.Devices.{is_role as is_one};
@@ -69,7 +69,7 @@ pub(crate) fn value_of(
 /// The value that a step gives, moved out of it.
 pub(crate) fn take_value(alloc: Global, step: &mut Step) -> Bytes
     ensures value { result ≡ step.old.value }
-    ensures step { step.new ≡ record step.old { value = step.new.value } }
+    ensures step { step.new ≡ record step.old { value = [] } }
 {
     mem::replace(&mut step.value, Bytes::new(alloc))
 }

@@ -12,7 +12,7 @@ use Rattle.dm_base.specs.declared.outside.TakeError.TheVariants as take_error
 use Rattle.dm_base.specs.declared.lines.LineOut.TheVariants as line_out
 use Rattle.dm_base.specs.declared.lines.LineReason.{LineReason}
 use Rattle.dm_base.specs.declared.lines.LineReason.TheVariants as reason
-use Rattle.dm_base.specs.Lines.{LinesState, ReadsLine, CountsTaken, AskedForMore, IsFeedless, ahead, room}
+use Rattle.dm_base.specs.Lines.{LinesState, ReadsLine, CountsTaken, LeavesNoLine, IsFeedless, ahead, room}
 use Rattle.dm_start.specs.declared.errors.LineError.{LineError}
 use Rattle.dm_start.specs.declared.errors.LineError.TheVariants as line_error
 use Rattle.dm_start.specs.declared.heads.Head.TheVariants.{First}
@@ -122,14 +122,14 @@ no_lines r xs none =
 -- where the source failed, no line is whole in what was pending and what was taken
 pub none_whole : (a b : LinesState) (x y : Option (List ℕ)) (error : TakeError)
     → ReadsLine (room a) (ahead a x) (ahead b y) (Err error) → CountsTaken x y a.taken b.taken
-    → AskedForMore (b.pending ++ b.past) (Err error)
+    → LeavesNoLine (b.pending ++ b.past) (Err error)
     → halt_after error ≡ halt.Read → OfTaken a x y (λ i. i.lines ≡ [])
 none_whole a b x y take_error.TooLong read taken none is = cc
 none_whole a b x y take_error.Memory read taken none is = cc
 none_whole a b None y take_error.Read read taken none is = tt
 none_whole a b (Some xs) None take_error.Read read taken none is = absurd taken.1
 none_whole a b (Some xs) (Some ys) take_error.Read read taken none is =
-    (taken.0, taken.1, no_lines (room a) _ (subst IsFeedless same none))
+    (taken.0, taken.1, no_lines (room a) _ (subst IsFeedless same none.0))
   where
     same : b.pending ++ b.past ≡ a.pending ++ (a.past ++ taken.0)
     same =

@@ -79,6 +79,7 @@ fn put_value<K: Sink>(out: &mut K, text: &mut Bytes, bytes: &[u8]) -> Result<(),
 fn put_bytes<K: Sink>(out: &mut K, text: &mut Bytes, view: View) -> Result<(), Fault>
     ensures bytes { PutsOn (K.got out.old) (K.got out.new)
         (text.old ++ Spec.bytes_text (shown view.entry)) text.new result }
+    ensures few { OnOk result (view.interior ≡ false → length text.new < 65536) }
     ensures count { PutCounts (K.faults out.old) (K.faults out.new) result }
     ensures source { K.as_source out.new ≡ K.as_source out.old }
 {

@@ -1,6 +1,6 @@
 // A journal of what edits gave to take them back.
 ghost use Rattle.std.specs.Prelude.{◌≡◌, ◌≤◌, ◌<◌, ◌+◌, ◌-◌, ◌^◌, ◌∷◌, ◌++◌, [], List as ListOf, IfOk, OnOk};
-ghost use Rattle.std.specs.Prelude.{length, take, drop, suc};
+ghost use Rattle.std.specs.Prelude.{length, take, drop, suc, max, OnErr};
 ghost use Rattle.dm_tree.specs.declared.rows.Row.{Row};
 ghost use Rattle.dm_tree.specs.Rows.{IsTree};
 ghost use Rattle.dm_tree.specs.Notes.{TakesEditBack};
@@ -89,12 +89,14 @@ impl Journal {
         self.room - self.entries.len()
     }
 
-    /// Makes room for so many further entries, where there isn't yet. The only error is want of memory; the entries
-    /// stay either way.
+    /// Makes room for so many further entries, and no more, where there isn't yet. The only error is want of memory;
+    /// all is as before then. The entries stay either way.
     pub fn reserve(&mut self, count: usize) -> Result<(), Memory>
         ensures ok { OnOk result (length self.new.entries + count ≤ self.new.room) }
         ensures entries { self.new.entries ≡ self.old.entries }
         ensures room { self.old.room ≤ self.new.room }
+        ensures asked { OnOk result (self.new.room ≡ max self.old.room (length self.old.entries + count)) }
+        ensures err { OnErr result (self.new ≡ self.old) }
     {
         self.entries.reserve(count)?;
         self.room = self.room.max(self.entries.len() + count);

@@ -134,12 +134,6 @@ fed_stopped d bytes piece errors.Memory h stops = (tt, fed_lacking d (bytes ++ p
 
 -- ---- the end
 
--- a refusal, or want of memory, that a feed tells is what is read
-pub told_is_read : (bytes : List ℕ) (e : FeedError) → TellsSettled (Err e) (settled bytes)
-    → IsRead (Err e) (read_of bytes)
-told_is_read bytes (errors.Refused f) h = settled_read bytes f h
-told_is_read bytes errors.Memory h = tt
-
 pub finished_stopped : (d : Decoding) (bytes : List ℕ) (e : FeedError) → HasDecoded d bytes → d.stopped ≡ Some e
     → IsRead (Err e) (read_of bytes)
 unfolding HasDecoded

@@ -157,11 +157,6 @@ piece_page : (v : List ℕ) (p : ℕ) (as_text : Bool) → page_after p (if as_t
 piece_page v p true = refl
 piece_page v p false = refl
 
-piece_bytes : (v : List ℕ) (p : ℕ) (as_text : Bool)
-    → token_bytes p (if as_text then Text v else Opaque v) ≡ token_bytes 0 (if as_text then Text v else Opaque v)
-piece_bytes v p true = refl
-piece_bytes v p false = refl
-
 tag_long : (p : ℕ) (same : Bool)
     → length {A = ℕ} (if same then 79 ∷ [] else 0 ∷ 0 ∷ 79 ∷ [])
     ≡ length {A = ℕ} (if same then 15 ∷ [] else 0 ∷ 0 ∷ 15 ∷ [])

@@ -13,7 +13,7 @@ refused_so : {W : Type 0} (k : Taking W) (left : W → W → Type 0) (w v : W) (
     → Tells left (k.placed w r.place) v why (k.refusal (k.placed w r.place) t)
     → GivesPart k left (Err (stop_at r.place (stop_of why))) r s w v (token t size)
 refused_so k left w v t size r s (Some reason) h = inr (rw h refl)
-refused_so k left w v t size r s None h = (0, w, refl, inr (r.place, h))
+refused_so k left w v t size r s None h = ((0, w, refl, inr (r.place, h)), tt)
 
 -- a writer that was told the place refuses the token, or lacks memory for it
 pub refused_by : {W : Type 0} (k : Taking W) (left : W → W → Type 0) (w w1 v : W) (t : Token) (size : ℕ) (r s : Reader)

@@ -119,7 +119,7 @@ pub head_given : {W : Type 0} (k : Taking W) (left : W → W → Type 0) (answer
     → GivesNoToken answer r s part → GivesPart k left answer r s w w part
 head_given k left (Ok n) r s w part (size, behind_it, none, is_taken) = (size, behind_it, ap (taken k w) none, is_taken)
 head_given k left (Err (errors.Refused f)) r s w part h = inl (h, refl)
-head_given k left (Err errors.Memory) r s w part h = (0, w, refl, inl refl)
+head_given k left (Err errors.Memory) r s w part h = ((0, w, refl, inl refl), h)
 
 pub found_before : (r : Reader) (bytes : List ℕ) → r.is_in_body ≡ false → prologue_at bytes ≡ found r bytes
 found_before r bytes e = sym (ap (λ (c : Bool). if c then front r.page r.table bytes else prologue_at bytes) e)

@@ -213,10 +213,6 @@ alone at (head table size) bytes e = (0, omega (arith, e), omega arith, λ b. re
 alone at (switch page) bytes e = (0, omega (arith, e), omega arith, λ b. refl)
 alone at (token t size) bytes e = (0, omega (arith, e), omega arith, λ b. refl)
 
-wrong_alone : (at place : ℕ) (reason : _) (bytes : List ℕ)
-    → Settles at (λ _. wrong place reason) bytes (wrong place reason)
-wrong_alone at place reason bytes = λ b. refl
-
 table_either : (table : List ℕ) (index at : ℕ) (bytes : List ℕ) (c : Bool)
     → Settles at (λ _. if c then token (Text (until_zero (drop index table))) at else wrong 0 reasons.Index) bytes
     (if c then token (Text (until_zero (drop index table))) at else wrong 0 reasons.Index)

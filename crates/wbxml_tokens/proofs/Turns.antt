@@ -200,7 +200,7 @@ stops_first k left (errors.Refused f) r s w v bytes part b p is (inr h) =
 stops_first k left errors.Memory r s w v bytes part b p is h =
     let later : List Placed = (reads (begun_by (behind r part)) (drop (size_of part) bytes)).tokens in
     subst (StopsAmong k left w v) (sym (ap (λ x. x.tokens) (after_part r bytes part b p is)))
-    (stops_before k left w v (tokens_of r.place part) later h)
+    (stops_before k left w v (tokens_of r.place part) later h.0)
 
 wrong_refused : {W : Type 0} (k : Taking W) (left : W → W → Type 0) (r : Reader) (w v : W) (bytes : List ℕ)
     (part : Front) (f : Refusal)
@@ -220,13 +220,12 @@ stops_turn : {W : Type 0} (k : Taking W) (left : W → W → Type 0) (e : FeedEr
 stops_turn k left (errors.Refused f) r s w v bytes more b is (inl h) = absurd h.0
 stops_turn k left (errors.Refused f) r s w v bytes more b is (inr h) = absurd cc
 stops_turn k left errors.Memory r s w v bytes more b is h =
-    stops_before k left w v [] (reads (begun_by r) bytes).tokens h
+    stops_before k left w v [] (reads (begun_by r) bytes).tokens h.0
 stops_turn k left (errors.Refused f) r s w v bytes (wrong at reason) b is (inl h) =
     wrong_refused k left r w v bytes (wrong at reason) f
     (subst (Walks (begun_by r) bytes bytes) is (walks_first r bytes b)) h.0 h.1
 stops_turn k left (errors.Refused f) r s w v bytes (wrong at reason) b is (inr h) = absurd cc
-stops_turn k left errors.Memory r s w v bytes (wrong at reason) b is h =
-    stops_before k left w v [] (reads (begun_by r) bytes).tokens h
+stops_turn k left errors.Memory r s w v bytes (wrong at reason) b is h = absurd h.1
 stops_turn k left e r s w v bytes (head table size) b is h =
     stops_first k left e r s w v bytes (head table size) b tt is h
 stops_turn k left e r s w v bytes (switch page) b is h = stops_first k left e r s w v bytes (switch page) b tt is h

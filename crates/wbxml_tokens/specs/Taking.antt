@@ -79,14 +79,15 @@ abbrev pub IsTaken : Front → Type 0
 IsTaken (wrong at reason) = ⊥
 IsTaken other = ⊤
 
--- what reading one part gives: its size, or 0 where it isn't whole
+-- what reading one part gives: its size, or 0 where it isn't whole; of one that is refused no want of memory is told
 abbrev pub GivesPart : {W : Type 0} → Taking W → (W → W → Type 0) → Result ℕ FeedError → Reader → Reader → W → W → Front
     → Type 0
 GivesPart k left (Ok size) old new w v part =
     (size ≡ size_of part) × (new ≡ behind old part) × (taken k w (tokens_of old.place part) ≡ Ok v) × IsTaken part
 GivesPart k left (Err (errors.Refused f)) old new w v part =
     (Refuses old.place part f × (v ≡ w)) ⊎ (taken k w (tokens_of old.place part) ≡ Err f)
-GivesPart k left (Err errors.Memory) old new w v part = StopsAmong k left w v (tokens_of old.place part)
+GivesPart k left (Err errors.Memory) old new w v part =
+    StopsAmong k left w v (tokens_of old.place part) × IsTaken part
 
 -- why a taker stops that tells this of a token
 abbrev pub stop_of : Option Reason → Stop
@@ -107,7 +108,7 @@ abbrev pub GivesNoToken : Result ℕ FeedError → Reader → Reader → Front �
 GivesNoToken (Ok size) old new part =
     (size ≡ size_of part) × (new ≡ behind old part) × (tokens_of old.place part ≡ []) × IsTaken part
 GivesNoToken (Err (errors.Refused f)) old new part = Refuses old.place part f
-GivesNoToken (Err errors.Memory) old new part = ⊤
+GivesNoToken (Err errors.Memory) old new part = IsTaken part
 
 -- ---- the parts at the front of bytes
 

@@ -55,7 +55,8 @@ pub trait Writer {
         ensures ok { OnOk result (self.new ≡ after self.old (Text text.now)) }
         ensures taken { Takes told left result self.old self.new (refusal self.old (Text text.now)) };
 
-    /// An element whose content is a text: its tag, the text and its end, up to the first that isn't taken.
+    /// An element whose content is a text: its tag, the text and its end. Where one of them isn't taken, nothing is
+    /// promised of those before it.
     fn leaf(&mut self, element: Element, text: &[u8]) -> Result<(), Self::Error>
         ensures ok { OnOk result (self.new ≡ given after self.old (leaf_tokens element text.now)) }
     {

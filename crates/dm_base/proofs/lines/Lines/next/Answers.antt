@@ -62,7 +62,8 @@ returns-in-Err-fill-clause-no_line g c =
     let all = c.len-scanned.ensures ∙ ap (λ s. length s.pending) c.self.view_is in
     let clear =
     none_found c.pieces.self.pending _ c.pieces.scanned _ looked all c.pieces.invariant.clear c.in-None.ensures in
-    asked_last c.pieces.self _ _ _ _ c.in-Err-fill.error c.in-Err-fill.ensures.bytes all clear
+    asked_last c.pieces.self _ _ _ _ c.in-Err-fill.error c.in-Err-fill.ensures.bytes all
+    (omega (arith, c.if-scanned-gt-LINE_LIMIT.false)) clear
 
 pub returns-in-Err-fill-clause-taken : goal.returns-in-Err-fill-clause-taken
 returns-in-Err-fill-clause-taken g c = taken_at_error _ _ _ _ _ _ _ c.in-Err-fill.ensures.bytes c.pieces.invariant.taken
