@@ -39,7 +39,8 @@ pub fn failed_task_leaves_the_tree()
     ensures refused { RefusedRightLeavesTree }
 {}
 
-/// Law: where an engine begins, an update was started exactly where the tree's State is 60.
+/// Law: where an engine begins on a tree whose update part is in order, an update was started exactly where the tree's
+/// State is 60.
 pub fn begins_with_its_update()
     ensures { BegunWithItsUpdate }
 {}
@@ -49,8 +50,8 @@ pub fn runs_where_started()
     ensures { RunsWhereStarted }
 {}
 
-/// Law: an update was started and has no result yet exactly where State is 60, as an engine begins and whatever it
-/// does; and the same holds of the tree before an open group.
+/// Law: on a tree whose update part is in order an update was started and has no result yet exactly where State is 60,
+/// as an engine begins and whatever it does; and the same holds of the tree before an open group.
 pub fn what_was_started_is_told()
     ensures begins { BeginsTelling }
     ensures command { CommandKeepsTelling }

@@ -79,9 +79,9 @@ impl Engine {
         }
     }
 
-    /// What stood here before is given up, with the memory that it took: entries of the journal, objects, what was
-    /// started, and groups that ended. It can't be gone back to any more; the marks taken so far are at their end. All
-    /// stays as it is, also an open group with what it takes to roll it back. It takes no memory.
+    /// What stood here before is given up: entries of the journal, objects, what was started, and groups that ended. It
+    /// can't be gone back to any more; the marks taken so far are at their end. All stays as it is, also an open group
+    /// with what it takes to roll it back. It takes no memory.
     pub fn settle(&mut self)
         requires sound { IsSoundEngine self.old }
         ensures whole { whole_of self.new ≡ whole_of self.old }

@@ -106,11 +106,15 @@ cause_by exit.WriteFault before now other h = h
 cause_by exit.NoMemory before now other h = h
 cause_by exit.TooLong before now other h = h
 
+pub no_read : (r : Received) (text : List ℕ) (good : Exit) (old new : Option (List ℕ)) (e : Exit)
+    → good ≡ exit_of (read_in r) → PutsEnd text good old new e → e ≡ exit.ReadFault → ⊥
+no_read r text good old new e is h fault = elim h [
+  | inl put ↦ no_read_fault (read_in r) (sym is ∙ sym put.1 ∙ fault)
+  | inr part ↦ part_no_read text old new e part fault
+]
+
 pub source_cause : (r : Received) (text : List ℕ) (good : Exit) (old new : Option (List ℕ)) (e : Exit) (before now : ℕ)
     → good ≡ exit_of (read_in r) → PutsEnd text good old new e
     → now ≡ before → SourceCause before now e
 source_cause r text good old new e before now is h same =
-    cause_by e before now (λ fault. elim h [
-      | inl put ↦ no_read_fault (read_in r) (sym is ∙ sym put.1 ∙ fault)
-      | inr part ↦ part_no_read text old new e part fault
-    ]) same
+    cause_by e before now (no_read r text good old new e is h) same

@@ -2,7 +2,7 @@
 use Rattle.std.proofs.Common.{ℕ, ◌≡◌, ◌≤◌, ◌+◌, List, [], ◌++◌, length, take, refl, sym, ap, ◌∙◌, subst, arith}
 use Rattle.std.proofs.lemmas.List.{length-append, length-take}
 use Rattle.std.proofs.KnownBytes.{Consumes-nil, Consumes-kept, Consumes-trans}
-use Rattle.std.specs.Prelude.{Option, Some, None, Result, Ok, Err}
+use Rattle.std.specs.Prelude.{Option, Some, None, Result, Ok, Err, ⊥}
 use Rattle.std.specs.Io.KnownBytes.{Consumes, Keeps}
 use Rattle.dm_base.specs.Outside.{OfKnown}
 use Rattle.dm_base.specs.declared.outside.Fault.{Fault}
@@ -16,7 +16,8 @@ use Rattle.syncml_codec.proofs.Unrefused.{sound_within}
 use Rattle.syncml_codec.proofs.Decoded.{settled_more, settled_read}
 use Rattle.dm_check.specs.declared.message.Received.{Received}
 use Rattle.dm_check.specs.Kept.{answer_to}
-use Rattle.dm_check.specs.Receiving.{Receives, TakesNoMore}
+use Rattle.dm_base.specs.declared.outside.Fault.TheVariants as fault
+use Rattle.dm_check.specs.Receiving.{Receives, ReceiveCounts, TakesNoMore, Unsettled}
 
 -- ---- bytes of which nothing is refused
 
@@ -76,6 +77,17 @@ pub took_none : (old mid new : Option (List ℕ)) (before : List ℕ) → Consum
 took_none old mid new before first unsettled keeps within =
     took old mid new before [] first unsettled (Consumes-kept mid mid new [] (Consumes-nil mid) keeps) (omega (arith))
     (omega (arith, within))
+
+-- which was asked while nothing was settled
+pub asked_unsettled : (old mid new : Option (List ℕ)) (before : List ℕ) → Consumes old mid before
+    → settled before ≡ None → Keeps mid new
+    → Unsettled old new
+asked_unsettled old mid new before first unsettled keeps =
+    (before, Consumes-kept old mid new before first keeps, unsettled)
+
+-- an answer that leaves each count tells of no fault
+pub no_fault : (r : Result Received Fault) → ((faults : ℕ) → ReceiveCounts faults faults r) → r ≡ Err fault.Failed → ⊥
+no_fault r counts is = let rose = subst (ReceiveCounts 0 0) is (counts 0) in omega (arith, rose)
 
 -- nothing was taken yet
 pub none_taken : (known : Option (List ℕ)) (bytes : List ℕ) → bytes ≡ [] → Consumes known known bytes

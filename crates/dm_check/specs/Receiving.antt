@@ -1,4 +1,4 @@
--- What is received of a source: what all of its bytes are, by as few of them as settle it.
+-- What is received of a source: what all of its bytes are, by a piece more of them at most than settles it.
 use Rattle.std.specs.Prelude.{◌≡◌, ◌≤◌, ℕ, List, ◌++◌, length, Option, None, Result, Ok, Err, ⊤}
 use Rattle.std.specs.Io.KnownBytes.{Consumes}
 use Rattle.dm_base.specs.Outside.{Rose}
@@ -25,10 +25,14 @@ abbrev pub Receives : Result Received Fault → List ℕ → Type 0
 Receives (Ok r) bytes = IsReceived r bytes
 Receives (Err e) bytes = ⊤
 
--- what was taken: all but a last piece of it settles no refusal, and it is no more than settles one
+-- what was taken: all but a last piece of it settles no refusal, and it is no more than a message may have and one byte
 abbrev pub TakesNoMore : Option (List ℕ) → Option (List ℕ) → Type 0
 TakesNoMore old new = (before : List ℕ) × (last : List ℕ) × Consumes old new (before ++ last) × (settled before ≡ None)
     × (length last ≤ most_piece) × (length (before ++ last) ≤ most_taken)
+
+-- where the source failed it was asked while nothing that was taken settles a refusal
+abbrev pub Unsettled : Option (List ℕ) → Option (List ℕ) → Type 0
+Unsettled old new = (bytes : List ℕ) × Consumes old new bytes × (settled bytes ≡ None)
 
 -- a fault is answered only where the source's count rose; every other answer leaves the count
 abbrev pub ReceiveCounts : ℕ → ℕ → Result Received Fault → Type 0

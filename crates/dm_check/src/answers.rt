@@ -6,7 +6,7 @@ ghost use Rattle.dm_exit.specs.Puts.{PutsEnd, Ends};
 ghost use Rattle.dm_check.specs.Answers as Spec;
 ghost use Rattle.dm_check.specs.Answers.{show_text, check_text, message_exit};
 ghost use Rattle.dm_check.specs.Kept.{read_in};
-ghost use Rattle.dm_check.specs.Receiving.{TakesNoMore};
+ghost use Rattle.dm_check.specs.Receiving.{TakesNoMore, Unsettled};
 
 use crate::lines::{check_line, show_lines};
 use crate::message::{Received, receive};
@@ -33,12 +33,13 @@ fn put_answer<K: Sink>(out: &mut K, text: &[u8], received: &Received) -> Exit
 /// - `Done` where the bytes spell a message,
 /// - `BadInput` where they are refused,
 /// - `ReadFault` and `WriteFault` after a fault of the source and of the sink, and `NoMemory` at any place; then what
-///   was written is a prefix of the text.
+///   was written is a prefix of the text. The source isn't asked behind the piece that settles a refusal.
 pub fn show<S: Source, K: Sink>(alloc: Global, src: &mut S, out: &mut K) -> Exit
     ensures output { OfKnown (S.left src.old) (λ bytes. Ends (show_text bytes) (message_exit bytes) (K.got out.old)
         (K.got out.new) result) }
     ensures usage { result ≢ Exit.Usage }
     ensures taken { TakesNoMore (S.left src.old) (S.left src.new) }
+    ensures asked { result ≡ Exit.ReadFault → Unsettled (S.left src.old) (S.left src.new) }
     ensures source { SourceCause (S.faults src.old) (S.faults src.new) result }
     ensures sink { SinkCause (K.faults out.old) (K.faults out.new) result }
 {
@@ -59,6 +60,7 @@ pub fn check<S: Source, K: Sink>(alloc: Global, src: &mut S, out: &mut K) -> Exi
         (K.got out.new) result) }
     ensures usage { result ≢ Exit.Usage }
     ensures taken { TakesNoMore (S.left src.old) (S.left src.new) }
+    ensures asked { result ≡ Exit.ReadFault → Unsettled (S.left src.old) (S.left src.new) }
     ensures source { SourceCause (S.faults src.old) (S.faults src.new) result }
     ensures sink { SinkCause (K.faults out.old) (K.faults out.new) result }
 {

@@ -1,8 +1,9 @@
 // One message, taken from a source piece by piece.
-ghost use Rattle.std.specs.Prelude.{◌≡◌, ◌++◌, ℕ, OnOk};
+ghost use Rattle.std.specs.Prelude.{◌≡◌, ◌++◌, ℕ, OnOk, IsErrOf};
+ghost use Rattle.dm_base.specs.declared.outside.Fault.TheVariants as fault;
 ghost use Rattle.dm_base.specs.Outside.{OfKnown};
 ghost use Rattle.syncml_codec.specs.Decoding.{settled, HasDecoded, TellsSettled};
-ghost use Rattle.dm_check.specs.Receiving.{Receives, ReceiveCounts, TakesNoMore};
+ghost use Rattle.dm_check.specs.Receiving.{Receives, ReceiveCounts, TakesNoMore, Unsettled};
 ghost use Rattle.dm_check.specs.Kept.{answer_to};
 
 use dm_base::{Bytes, Failed, Fault, Source};
@@ -64,12 +65,13 @@ fn finish(decoder: Decoder, bytes: Bytes) -> Result<Received, Fault>
     }
 }
 
-/// Takes bytes until they settle a refusal or end, at most 65,537 of them in pieces of at most 4,096. It answers what
-/// all bytes of the source are, those too that it doesn't take; `Failed` after a fault of the source, and `Memory` at
-/// any place.
+/// Takes bytes, at most 65,537 of them in pieces of at most 4,096, until they settle a refusal or end; where they do,
+/// the source isn't asked again. It answers what all bytes of the source are, those too that it doesn't take; `Failed`
+/// after a fault of the source, and `Memory` at any place.
 pub fn receive<S: Source>(alloc: Global, src: &mut S) -> Result<Received, Fault>
     ensures received { OfKnown (S.left src.old) (Receives result) }
     ensures taken { TakesNoMore (S.left src.old) (S.left src.new) }
+    ensures asked { IsErrOf result fault.Failed → Unsettled (S.left src.old) (S.left src.new) }
     ensures count { ReceiveCounts (S.faults src.old) (S.faults src.new) result }
 {
     let mut decoder = Decoder::new(alloc);

@@ -19,8 +19,8 @@ pub fn accounts_stay()
     ensures { AccountsStay }
 {}
 
-/// Law: where State is 60 exactly while an update was started and has no result yet, and no group is open without a
-/// session, so it is after each event.
+/// Law: where the update part is in order, State is 60 exactly while an update was started and has no result yet, and
+/// no group is open without a session, so it is after each event.
 pub fn machines_stay_steady()
     ensures { StaysSteady }
 {}

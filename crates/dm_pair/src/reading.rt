@@ -31,7 +31,7 @@ pub struct Given<'a> {
     pub number: u64,
 }
 
-/// Reads the first line, `dm-pair 1`, and gives what stands behind it.
+/// Reads the first line, `dm-pair 1`, and gives what stands behind it. That is promised of what is written for it.
 #[tactic(auto, using(crate::proofs::Turns::first_read, crate::proofs::Turns::first_refused))]
 pub fn read_first(text: &[u8]) -> Result<&[u8], Halt>
     ensures rest { IfOk result (λ rest. rest_of 1 first text.now ≡ rest_of 2 (starting (opening (Device 1))) rest.now) }
@@ -52,7 +52,8 @@ pub fn read_first(text: &[u8]) -> Result<&[u8], Halt>
     }
 }
 
-/// Reads the client's start section, behind the first line: from `device` to `begin`.
+/// Reads the client's start section, behind the first line: from `device` to `begin`. What is written for what stands
+/// behind it, with the client that it tells, is what is written for the text.
 pub fn read_start(alloc: Global, text: &[u8]) -> Result<Begun<'_>, Halt>
     requires { length text.now < 2 ^ 63 }
     ensures start { IfOk result (λ b. rest_of 2 (starting (opening (Device 1))) text.now
@@ -84,7 +85,8 @@ pub fn read_start(alloc: Global, text: &[u8]) -> Result<Begun<'_>, Halt>
     }
 }
 
-/// Reads the server's job, behind the start section: from `dm-job 1` to its `end`.
+/// Reads the server's job, behind the start section: from `dm-job 1` to its `end`. What is written for what stands
+/// behind it, with the job, is what is written for the text.
 pub fn read_job<'a>(alloc: Global, text: &'a [u8], first: u64) -> Result<Given<'a>, Halt>
     requires { first + length text.now < 2 ^ 64 }
     ensures job { IfOk result (λ g. (told : Setup) → rest_of first (jobbing told reading.First) text.now

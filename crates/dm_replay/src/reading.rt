@@ -1,12 +1,13 @@
 // The lines of a trace, read one by one.
-ghost use Rattle.std.specs.Prelude.{◌≡◌, ◌<◌, ◌≤◌, ◌+◌, ◌^◌, Some, IfOk, IfSome, OnOk, IfErr, length};
+ghost use Rattle.std.specs.Prelude.{◌≡◌, ◌<◌, ◌≤◌, ◌+◌, ◌^◌, [], Some, IfOk, IfSome, OnOk, IfErr, length};
 ghost use Rattle.dm_base.specs.Lines.{room, CountsTaken};
 ghost use Rattle.dm_start.specs.declared.heads.Head.TheVariants.{First};
 ghost use Rattle.dm_start.specs.Start.{opening};
 ghost use Rattle.dm_replay.specs.Events.{IsOf};
 ghost use Rattle.dm_replay.specs.From.{seen, Between, OfInput, OfStop, Leads, stop_at, HaltCounts, halt_after};
 ghost use Rattle.dm_replay.specs.From.{halt_for, HaltsAsking, StartsAs, CanBegin, GoesOn, EndsAs};
-ghost use Rattle.dm_replay.specs.From.{LeadsOver, StartsOver, GoesOver};
+ghost use Rattle.dm_replay.specs.From.{LeadsOver, StartsOver, GoesOver, OfTaken};
+ghost use Rattle.dm_replay.specs.declared.reading.Halt.TheVariants as halt;
 
 use crate::events::{Event, read_event};
 use dm_base::{Bytes, LineOut, LineReason, Lines, List, Source, TakeError};
@@ -110,9 +111,12 @@ pub(crate) fn read_start<S: Source>(
     }
 }
 
-/// Reads that nothing stands behind the `end` line.
+/// Reads that nothing stands behind the `end` line. The source isn't asked behind a line that stands there.
 pub(crate) fn read_end<S: Source>(lines: &mut Lines, src: &mut S, number: u64) -> Result<(), Halt>
     ensures ending { EndsAs (seen lines.old (S.left src.old)) number result }
+    ensures asked { IfErr result (HaltsAsking lines.old.pending) }
+    ensures none { IfErr result (λ h. h ≡ halt.Read
+        → OfTaken lines.old (S.left src.old) (S.left src.new) (λ i. i.lines ≡ [])) }
     ensures room { OnOk result (room lines.new ≡ room lines.old) }
     ensures taken { CountsTaken (S.left src.old) (S.left src.new) lines.old.taken lines.new.taken }
     ensures limit { lines.new.taken ≤ 67108865 }

@@ -6,7 +6,8 @@ use wbxml_tokens::Refusal;
 pub enum Answer {
     /// It was accepted, and the message that `again` gives answers it.
     Sent,
-    /// It is the last accepted one once more, and the message that `again` gives answered it.
+    /// It has the numbers of the last accepted one, whatever else it has, and the message that `again` gives answered
+    /// that.
     Kept,
     /// It is of an earlier session, or its MsgID is below the last accepted one.
     Stale,

@@ -94,19 +94,20 @@ pub fn executes_the_sent()
 {}
 
 /// Law: on every schedule what the server notes in its present session as sent of the job stands so in its messages:
-/// under that MsgID and CmdID the command of that number, whole or in part.
+/// under that MsgID and CmdID the command of that number, or one like it but for its Data, whole or in part.
 pub fn notes_the_sent()
     ensures { NotesTheSent }
 {}
 
 /// Law: on every schedule each code that the server holds for a command of the job is one that the client gave to it:
-/// it executed that command, whole or its last part, and made a Status with this code for it.
+/// it executed that command, or one like it but for its Data, whole or its last part, and made a Status with this code
+/// for it.
 pub fn codes_are_given()
     ensures { CodesAreGiven }
 {}
 
 /// Law: on every schedule each value that the server holds for a command of the job is one that the client found for
-/// that command, with its URI, its Format, its Type and all its bytes.
+/// that command, or one like it but for its Data, with its URI, its Format, its Type and all its bytes.
 pub fn values_are_found_for()
     ensures { ValuesAreFoundFor }
 {}

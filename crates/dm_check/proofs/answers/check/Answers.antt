@@ -1,6 +1,6 @@
 use Rattle.std.proofs.Common.{refl, ◌∙◌}
 use Rattle.dm_check.specs.Answers.{check_text, message_exit}
-use Rattle.dm_check.proofs.Answering.{all_checked, lacking, source_cause}
+use Rattle.dm_check.proofs.Answering.{all_checked, lacking, no_read, source_cause}
 use Rattle.dm_check.proofs.answers.check.Goals as goal
 
 pub returns-in-Ok-check_line-clause-output : goal.returns-in-Ok-check_line-clause-output
@@ -16,3 +16,7 @@ returns-in-Ok-check_line-clause-source g c =
 
 pub returns-in-Ok-clause-output : goal.returns-in-Ok-clause-output
 returns-in-Ok-clause-output g c = lacking _ check_text message_exit _
+
+pub returns-in-Ok-check_line-clause-asked : goal.returns-in-Ok-check_line-clause-asked
+returns-in-Ok-check_line-clause-asked g c = λ is.
+    absurd (no_read c.in-Ok.received c.as_slice.result.now _ _ _ c.put_answer.result refl c.put_answer.ensures.bytes is)

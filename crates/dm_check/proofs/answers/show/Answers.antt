@@ -1,6 +1,6 @@
 use Rattle.std.proofs.Common.{refl, ◌∙◌}
 use Rattle.dm_check.specs.Answers.{show_text, message_exit}
-use Rattle.dm_check.proofs.Answering.{all_shown, lacking, source_cause}
+use Rattle.dm_check.proofs.Answering.{all_shown, lacking, no_read, source_cause}
 use Rattle.dm_check.proofs.answers.show.Goals as goal
 
 pub returns-in-Ok-show_lines-clause-output : goal.returns-in-Ok-show_lines-clause-output
@@ -16,3 +16,7 @@ returns-in-Ok-show_lines-clause-source g c =
 
 pub returns-in-Ok-clause-output : goal.returns-in-Ok-clause-output
 returns-in-Ok-clause-output g c = lacking _ show_text message_exit _
+
+pub returns-in-Ok-show_lines-clause-asked : goal.returns-in-Ok-show_lines-clause-asked
+returns-in-Ok-show_lines-clause-asked g c = λ is.
+    absurd (no_read c.in-Ok.received c.as_slice.result.now _ _ _ c.put_answer.result refl c.put_answer.ensures.bytes is)

@@ -5,7 +5,7 @@ use Rattle.std.specs.Io.KnownBytes.{Consumes}
 use Rattle.syncml_codec.specs.Decoding.{settled, HasDecoded}
 use Rattle.dm_check.specs.Receiving.{ReceiveCounts}
 use Rattle.dm_check.proofs.Taking.{nothing_settled, unsettled_within, none_taken, took_none, took_piece}
-use Rattle.dm_check.proofs.Taking.{stopped_received}
+use Rattle.dm_check.proofs.Taking.{stopped_received, asked_unsettled, no_fault}
 use Rattle.dm_check.proofs.message.receive.Goals as goal
 
 pub pieces-init : goal.pieces-init
@@ -83,3 +83,13 @@ pub returns-in-Err-clause-taken : goal.returns-in-Err-clause-taken
 returns-in-Err-clause-taken g c =
     took_none _ _ _ c.pieces.bytes c.pieces.invariant.taken c.pieces.invariant.unsettled c.in-Err.ensures.bytes
     c.pieces.invariant.within
+
+pub returns-in-Ok-eq0-clause-asked : goal.returns-in-Ok-eq0-clause-asked
+returns-in-Ok-eq0-clause-asked g c = λ is. absurd (no_fault c.finish.result c.finish.ensures.count is)
+
+pub returns-in-Err-keep-clause-asked : goal.returns-in-Err-keep-clause-asked
+returns-in-Err-keep-clause-asked g c = λ is. absurd (no_fault c.stopped.result c.stopped.ensures.count is)
+
+pub returns-in-Err-clause-asked : goal.returns-in-Err-clause-asked
+returns-in-Err-clause-asked g c = λ is.
+    asked_unsettled _ _ _ c.pieces.bytes c.pieces.invariant.taken c.pieces.invariant.unsettled c.in-Err.ensures.bytes

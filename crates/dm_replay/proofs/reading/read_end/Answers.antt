@@ -1,4 +1,5 @@
-use Rattle.dm_replay.proofs.Fronts.{line_behind, bad_behind, error_behind}
+use Rattle.dm_replay.proofs.Fronts.{line_behind, bad_behind, error_behind, asked_halts}
+use Rattle.dm_replay.proofs.Over.{none_whole}
 use Rattle.dm_replay.proofs.reading.read_end.Goals as goal
 
 pub returns-in-Ok-Line-clause-ending : goal.returns-in-Ok-Line-clause-ending
@@ -12,3 +13,12 @@ returns-in-Ok-Bad-clause-ending g c =
 pub returns-clause-ending : goal.returns-clause-ending
 returns-clause-ending g c =
     rw c.halt_of.ensures (error_behind _ _ _ c.args.number c.in-Err.error c.in-Err.ensures.line)
+
+pub returns-clause-asked : goal.returns-clause-asked
+returns-clause-asked g c = rw c.halt_of.ensures (asked_halts _ c.in-Err.error c.in-Err.ensures.asked)
+
+pub returns-clause-none : goal.returns-clause-none
+returns-clause-none g c =
+    rw c.halt_of.ensures (none_whole c.args.lines.now c.next.new.self (g.S.Source.left c.args.src.now)
+    (g.S.Source.left c.next.new.src) c.in-Err.error c.in-Err.ensures.line c.in-Err.ensures.taken
+    c.in-Err.ensures.no_line)
