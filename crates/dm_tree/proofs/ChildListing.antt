@@ -1,10 +1,11 @@
 -- The children of a node: the first one, and what comes behind each.
-use Rattle.std.proofs.Common.{◌≡◌, ℕ, Bool, true, false, List, [], ◌∷◌, ◌++◌, length, Option, None, Some, refl}
-use Rattle.std.proofs.Common.{sym, ◌∙◌, ap, append_assoc}
+use Rattle.std.proofs.Common.{◌≡◌, ℕ, Bool, true, false, List, [], ◌∷◌, ◌++◌, length, Option, None, Some, refl, sym}
+use Rattle.std.proofs.Common.{◌∙◌, ap, append_assoc}
 use Rattle.std.specs.Prelude.{◌==◌, ◌&&◌, not, unwrap_or}
 use Rattle.std.specs.List.{flat_map}
 use Rattle.std.specs.Option.{option_map_or}
-use Rattle.std.proofs.lemmas.Bool.{and_parts}
+use Rattle.std.proofs.lemmas.Bool.{and_parts, and_right}
+use Rattle.std.proofs.lemmas.List.{append-nil}
 use Rattle.dm_uri.specs.Names.{joined}
 use Rattle.dm_tree.specs.declared.rows.Row.{Row}
 use Rattle.dm_tree.specs.Nodes.{Path, Nodes, above, last_name}
@@ -18,10 +19,6 @@ use Rattle.dm_tree.proofs.NextNodes.{Shows, child_is, some_length}
 
 abbrev is_beside : Path → Path → Bool
 is_beside p q = not (length p == 0) && is_child_of (above p) q && is_before p q
-
-last_false : (a b : Bool) → b ≡ false → a && b ≡ false
-last_false true b h = h
-last_false false b h = refl
 
 in_between : (b : Bool) → b ≡ true && b && true
 in_between true = refl
@@ -38,7 +35,7 @@ children-is m p None h = keys_none m (is_child_of p) h
 children-is m p (Some q) h =
     let c = child_parts p q (key_passes m (is_child_of p) q h) in
     keys_from m (is_child_of p) (is_beside q) q h
-    (λ r early. last_false (not (length q == 0) && is_child_of (above q) r) (is_before q r) early)
+    (λ r early. and_right (not (length q == 0) && is_child_of (above q) r) (is_before q r) early)
     (λ r y v late. rw (c.1, c.0, late) (in_between (is_child_of p r)))
 
 behind-is : (m : Nodes) (p : Path) (o : Option Path) → next_sibling m p ≡ o
@@ -50,7 +47,7 @@ behind-is m p (Some q) h =
     let inner = and_parts (not (length p == 0)) (is_child_of (above p) q) outer.0 in
     let c = child_parts (above p) q inner.1 in
     keys_from m (is_beside p) (is_beside q) q h
-    (λ r early. last_false (not (length q == 0) && is_child_of (above q) r) (is_before q r) early)
+    (λ r early. and_right (not (length q == 0) && is_child_of (above q) r) (is_before q r) early)
     (λ r y v late. rw (inner.0, before_before p q r outer.1 late, c.1, c.0, late) refl)
 
 pub shown_children : (rows : List Row) (p : Path) (o : Option ℕ) → Shows rows o (first_child (nodes rows) p)
@@ -70,12 +67,8 @@ shown_beside rows p (Some c) h = behind-is (nodes rows) p (Some (path_of rows c)
 abbrev pub more_names : List Path → List ℕ
 more_names paths = flat_map (λ n. 47 ∷ n) (names_of paths)
 
-append_none : (xs : List ℕ) → xs ++ [] ≡ xs
-append_none [] = refl
-append_none (x ∷ xs) = ap (λ ys. x ∷ ys) (append_none xs)
-
 pub joined_more : (n : List ℕ) (ns : List (List ℕ)) → joined (n ∷ ns) ≡ n ++ flat_map (λ n. 47 ∷ n) ns
-joined_more n [] = sym (append_none n)
+joined_more n [] = sym (append-nil n)
 joined_more n (k ∷ ks) = ap (λ t. n ++ 47 ∷ t) (joined_more k ks)
 
 -- the first name, and those that are yet to come
@@ -100,4 +93,4 @@ next_joined m q r h out mid new f g =
 -- no name is left
 pub all_joined : (m : Nodes) (q : Path) → children_behind m q ≡ [] → (out : List ℕ)
     → out ++ more_names (children_behind m q) ≡ out
-all_joined m q h out = ap (λ ps. out ++ more_names ps) h ∙ append_none out
+all_joined m q h out = ap (λ ps. out ++ more_names ps) h ∙ append-nil out

@@ -1,22 +1,23 @@
 -- What is kept beside the rows, where a free one is filled.
-use Rattle.std.proofs.Common.{◌≡◌, ◌≢◌, ℕ, zero, suc, ◌+◌, ◌<◌, ◌≤◌, Bool, true, false, nat_eq, List, length}
-use Rattle.std.proofs.Common.{get_or, refl, sym, ◌∙◌, ap, subst, arith, ◌⊎◌, inl, inr, not}
+use Rattle.std.proofs.Common.{◌≡◌, ◌≢◌, ℕ, zero, suc, ◌+◌, ◌<◌, ◌≤◌, true, false, nat_eq, List, length, get_or, refl}
+use Rattle.std.proofs.Common.{sym, ◌∙◌, ap, subst, arith, inl, inr, not}
 use Rattle.std.specs.Prelude.{nat_lt, ◌&&◌}
 use Rattle.std.proofs.Math.ListN.{set, length-set}
+use Rattle.std.proofs.lemmas.Bool.{cases_Bool, false_from_ne_true, true_from_ne_false}
 use Rattle.std.proofs.lemmas.Bool.Decides.{nat_tests}
-use Rattle.std.proofs.lemmas.List.{get_or-set_same, get_or-set_other}
+use Rattle.std.proofs.lemmas.List.{get_or-set_same, get_or-set_other, get_or_past}
 use Rattle.dm_tree.specs.declared.rows.Row.{Row}
 use Rattle.dm_tree.specs.Rows.{blank, row_at, path_below, ids_below, IsShaped, IsTree}
-use Rattle.dm_tree.specs.Index.{ChildList, no_children, children_at, is_parked_below, parked_below}
-use Rattle.dm_tree.specs.Index.{IsInOrder, IsChildList, IsIndex, IsSized, IsPut}
+use Rattle.dm_tree.specs.Index.{ChildList, children_at, is_parked_below, parked_below, IsChildList, IsIndex, IsSized}
+use Rattle.dm_tree.specs.Index.{IsPut}
 use Rattle.dm_tree.specs.Edits.{attached_as}
 use Rattle.dm_tree.specs.Reuse.{IsFreeRow}
 use Rattle.dm_tree.proofs.RowAppends.{set_twice}
 use Rattle.dm_tree.proofs.Paths.{same_or_not, below_or_not}
-use Rattle.std.proofs.lemmas.List.{get_or_past}
-use Rattle.dm_tree.proofs.IndexLinks.{parked-same, parked-more, parked-some, is_parked, parked_elsewhere}
+use Rattle.dm_tree.proofs.IndexLinks.{parked-same, parked-more, parked-some, is_parked, parked_elsewhere, index_set}
+use Rattle.dm_tree.proofs.IndexLinks.{order-alike}
 use Rattle.dm_tree.proofs.GivenUpRows.{self_below}
-use Rattle.dm_tree.proofs.RowReuse.{childless, no_way, path_beside}
+use Rattle.dm_tree.proofs.RowReuse.{childless, each_row, no_way, path_beside}
 
 -- a row that was given up and has no list is free
 pub free-bare : (rows : List Row) → IsTree rows → (index : List ChildList) → IsIndex rows index → (k : ℕ) → 0 < k
@@ -25,35 +26,21 @@ pub free-bare : (rows : List Row) → IsTree rows → (index : List ChildList) �
 free-bare rows tree index known k z l given bare none = record {
   below_root = z;
   inside = l;
-  out = not_in _ refl;
+  out = false_from_ne_true (row_at rows k).attached (λ at. (let not_up = (tree.each k l).attached at in cc));
   given_up = given;
-  alone = λ j y p. by_test j y p (row_at rows j).attached refl (row_at rows j).given_up refl;
+  alone = λ j y p. true_from_ne_false (row_at rows j).given_up (λ held.
+      elim (cases_Bool (row_at rows j).attached) [
+        | inl at ↦ omega (arith, (list.all j at p).1, bare)
+        | inr out ↦ elim (below_or_not j (length rows)) [
+          | inl jl ↦
+              omega (arith, parked-some rows k (length rows) j jl (is_parked rows k j y out held p), list.parked, none)
+          | inr past ↦ omega (arith, z, p, ap (λ (s : Row). s.parent) (get_or_past rows j blank past))
+        ]
+      ]);
 }
   where
-    not_in : (b : Bool) → (row_at rows k).attached ≡ b → (row_at rows k).attached ≡ false
-    not_in false e = e
-    not_in true e = let not_up = (tree.each k l).attached e in absurd (cc)
-
     list : IsChildList rows k (children_at index k)
     list = known.each k l
-
-    inside : (j : ℕ) → (row_at rows j).given_up ≡ false → (row_at rows j).attached ≡ false → 0 < j
-        → (row_at rows j).parent ≡ k → j < length rows → ⊥
-    inside j held out y p jl =
-        omega (arith, parked-some rows k (length rows) j jl (is_parked rows k j y out held p), list.parked, none)
-
-    by_test : (j : ℕ) → 0 < j → (row_at rows j).parent ≡ k → (b : Bool) → (row_at rows j).attached ≡ b → (c : Bool)
-        → (row_at rows j).given_up ≡ c → (row_at rows j).given_up ≡ true
-    by_test j y p b at true e = e
-    by_test j y p true at false e = let there = list.all j at p in absurd (omega (arith, there.1, bare))
-    by_test j y p false at false e = elim (below_or_past j) [
-      | inl jl ↦ absurd (inside j e at y p jl)
-      | inr past ↦ absurd (omega (arith, z, sym p ∙ ap (λ (s : Row). s.parent) past))
-    ]
-      where
-        below_or_past : (i : ℕ) → (i < length rows) ⊎ (row_at rows i ≡ blank)
-        below_or_past i =
-            elim (below_or_not i (length rows)) [ inl h ↦ inl h | inr h ↦ inr (get_or_past rows i blank h) ]
 
 module _ (rows : List Row) (tree : IsTree rows) (id : ℕ) (free : IsFreeRow rows id) (r : Row) (out : r.attached ≡ false)
     (held : r.given_up ≡ false) where
@@ -73,30 +60,23 @@ module _ (rows : List Row) (tree : IsTree rows) (id : ℕ) (free : IsFreeRow row
   in_apart j at e =
       absurd (let gone : (row_at rows j).attached ≡ false = ap (λ i. (row_at rows i).attached) e ∙ free.out in cc)
 
-  list_filled : (k : ℕ) (l l' : ChildList) → IsChildList rows k l → l'.ids ≡ l.ids
-      → l'.parked ≡ parked_below filled k (length filled) → length l'.ids + l'.parked ≤ l'.room
-      → IsChildList filled k l'
-  list_filled k l l' h same parked room = record {
-    order = subst (IsInOrder filled) (sym same) (λ i j below jl.
-        let a = other (get_or l.ids i 0) (in_apart _ (h.attached i (omega (arith, below, jl)))) in
-        let b = other (get_or l.ids j 0) (in_apart _ (h.attached j jl)) in
-        rw (a, b) (h.order i j below jl));
-    attached = subst (λ ids. (i : ℕ) → i < length ids → (row_at filled (get_or ids i 0)).attached ≡ true) (sym same)
-        (λ i il. ap (λ (s : Row). s.attached) (other _ (in_apart _ (h.attached i il))) ∙ h.attached i il);
-    parent = subst (λ ids. (i : ℕ) → i < length ids → (row_at filled (get_or ids i 0)).parent ≡ k) (sym same)
-        (λ i il. ap (λ (s : Row). s.parent) (other _ (in_apart _ (h.attached i il))) ∙ h.parent i il);
-    all =
-        subst (λ ids. (j : ℕ) → (row_at filled j).attached ≡ true → (row_at filled j).parent ≡ k
-        → (i : ℕ) × (i < length ids) × (get_or ids i 0 ≡ j)) (sym same)
-        (λ j at p.
-        let apart : j ≢ id = λ e.
-        absurd (let gone : (row_at filled j).attached ≡ false =
-        ap (λ i. (row_at filled i).attached) e ∙ ap (λ (s : Row). s.attached) here ∙ out in cc) in
-        h.all j (ap (λ (s : Row). s.attached) (sym (other j apart)) ∙ at)
-        (ap (λ (s : Row). s.parent) (sym (other j apart)) ∙ p));
-    parked = parked;
-    room = room;
+  list_filled : (k : ℕ) (l : ChildList) → IsChildList rows k l → (parked room : ℕ)
+      → parked ≡ parked_below filled k (length filled) → length l.ids + parked ≤ room
+      → IsChildList filled k (record { ids = l.ids; parked = parked; room = room })
+  list_filled k l h parked room is fits = record {
+    order = order-alike rows filled l.ids (λ i il. ap (λ (s : Row). s.name) (stays i il)) h.order;
+    attached = λ i il. ap (λ (s : Row). s.attached) (stays i il) ∙ h.attached i il;
+    parent = λ i il. ap (λ (s : Row). s.parent) (stays i il) ∙ h.parent i il;
+    all = λ j.
+        each_row rows id r free.below_root free.inside (childless rows tree id free)
+        (λ (s : Row). s.attached ≡ true → s.parent ≡ k → (i : ℕ) × (i < length l.ids) × (get_or l.ids i 0 ≡ j)) j
+        (λ _ at. absurd (cc)) (λ _ at p. h.all j at p);
+    parked = is;
+    room = fits;
   }
+    where
+      stays : (i : ℕ) → i < length l.ids → row_at filled (get_or l.ids i 0) ≡ row_at rows (get_or l.ids i 0)
+      stays i il = other (get_or l.ids i 0) (in_apart (get_or l.ids i 0) (h.attached i il))
 
   was_none : (k : ℕ) → is_parked_below rows k id ≡ false
   was_none k = let z = free.below_root in let pos : nat_lt 0 id ≡ true = grind (arith, nat_tests) in
@@ -126,20 +106,14 @@ module _ (rows : List Row) (tree : IsTree rows) (id : ℕ) (free : IsFreeRow row
   pub filled_index : (index : List ChildList) → IsIndex rows index → r.parent < length rows → (c : ChildList)
       → c.ids ≡ (children_at index r.parent).ids → c.parked ≡ (children_at index r.parent).parked + 1
       → length c.ids + c.parked ≤ c.room → IsIndex filled (set index r.parent c)
-  filled_index index known inside c ids parked room = record {
-    same = omega (arith, length-set index r.parent c, known.same, long);
-    each = λ k l. elim (same_or_not k r.parent) [
-      | inl e ↦ subst (λ i. IsChildList filled i (children_at (set index r.parent c) i)) (sym e)
-          (subst (IsChildList filled r.parent)
-          (sym (get_or-set_same index r.parent c no_children (omega (arith, inside, known.same))))
-          (list_filled r.parent (children_at index r.parent) c (known.each r.parent inside) ids
-          (omega (arith, parked, more, (known.each r.parent inside).parked)) room))
-      | inr d ↦
-          let h = known.each k (omega (arith, l, long)) in
-          subst (IsChildList filled k) (sym (get_or-set_other index r.parent k c no_children d))
-          (list_filled k (children_at index k) (children_at index k) h refl (h.parked ∙ sym (as_many k d)) h.room)
-    ];
-  }
+  filled_index index known inside c ids parked room =
+      let list = known.each r.parent inside in
+      index_set rows filled index r.parent c known long inside
+      (subst (λ l. IsChildList filled r.parent (record { ids = l; parked = c.parked; room = c.room })) (sym ids)
+      (list_filled r.parent (children_at index r.parent) list c.parked c.room
+      (omega (arith, parked, more, list.parked)) (omega (arith, room, ap length ids))))
+      (λ k d h. list_filled k (children_at index k) h (children_at index k).parked (children_at index k).room
+      (h.parked ∙ sym (as_many k d)) h.room)
 
   -- and the sizes stay
   pub filled_sizes : (sizes : List ℕ) → IsSized rows sizes → IsSized filled sizes
@@ -173,9 +147,6 @@ module _ (rows : List Row) (tree : IsTree rows) (id : ℕ) (free : IsFreeRow row
 
 module _ (rows : List Row) (tree : IsTree rows) (id : ℕ) (free : IsFreeRow rows id) (r : Row) (up : r.attached ≡ true)
     (held : r.given_up ≡ false) (after : IsTree (set rows id r)) where
-  aside : Row
-  aside = record r { attached = false }
-
   -- it is the row that was to come
   pub put_filled : (now : List Row) → now ≡ set rows id (record r { attached = false })
       → attached_as now id true ≡ set rows id r

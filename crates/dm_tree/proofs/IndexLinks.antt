@@ -1,19 +1,21 @@
 -- The index of children, when a row is put in, taken out, added, given up or renamed.
-use Rattle.std.proofs.Common.{◌≡◌, ◌≢◌, ℕ, zero, suc, ◌+◌, ◌-◌, ◌<◌, Bool, true, false, nat_eq, List}
-use Rattle.std.proofs.Common.{length, get_or, refl, sym, ◌∙◌, ap, subst, arith, inl, inr}
-use Rattle.std.specs.Prelude.{◌&&◌, not, nat_lt, if◌then◌else◌}
+use Rattle.std.proofs.Common.{◌≡◌, ◌≢◌, ℕ, zero, suc, ◌+◌, ◌-◌, ◌<◌, Bool, true, false, nat_eq, List, length, get_or}
+use Rattle.std.proofs.Common.{refl, sym, ◌∙◌, ap, subst, arith, inl, inr}
+use Rattle.std.specs.Prelude.{◌&&◌, not, nat_lt}
 use Rattle.std.specs.List.{insert}
 use Rattle.std.proofs.Math.ListN.{set, length-set}
+use Rattle.std.proofs.lemmas.Bool.{and_right, cases_Bool, false_from_ne_true}
 use Rattle.std.proofs.lemmas.Bool.Decides.{nat_tests}
 use Rattle.std.proofs.lemmas.List.{get_or-set_same, get_or-set_other, get_or_past, get_or_default}
 use Rattle.std.proofs.lemmas.List.Edits.{length-insert, get_or-insert_below, get_or-insert_at, get_or-insert_above}
 use Rattle.dm_tree.specs.declared.rows.Row.{Row}
 use Rattle.dm_tree.specs.Rows.{blank, row_at}
 use Rattle.dm_tree.specs.Edits.{attached_as}
-use Rattle.dm_tree.specs.Index.{ChildList, no_children, children_at, is_parked_below, parked_below}
-use Rattle.dm_tree.specs.Index.{IsInOrder, IsChildList, IsIndex, IsPlace, IsPut}
+use Rattle.dm_tree.specs.Index.{ChildList, no_children, children_at, is_parked_below, parked_below, IsInOrder}
+use Rattle.dm_tree.specs.Index.{IsChildList, IsIndex, IsPlace, IsPut}
 use Rattle.dm_tree.proofs.Paths.{below_or_not, same_or_not}
 use Rattle.dm_tree.proofs.RowPaths.{same_number}
+use Rattle.dm_tree.proofs.NodeEdits.{of_both}
 use Rattle.dm_tree.proofs.NameOrder.{Stands, stands, insert_order}
 
 -- ---- how many are parked
@@ -39,36 +41,31 @@ parked-more rows rows' k (suc n) m l before after same =
           rw (was, is, parked-same rows rows' k n (λ j h. same j (λ f. omega (arith, h, e, f)))) refl
       | inr d ↦
           let rec = parked-more rows rows' k n m (omega (arith, l, d)) before after same in
-          rw (same n d, rec) (by_test (is_parked_below rows k n) (parked_below rows k n))
+          elim (cases_Bool (is_parked_below rows k n)) [
+            | inl parked ↦ rw (same n d, rec, parked) refl
+            | inr other ↦ rw (same n d, rec, other) refl
+          ]
     ]
-  where
-    by_test : (b : Bool) (c : ℕ) → (if b then suc (suc c) else suc c) ≡ suc (if b then suc c else c)
-    by_test true c = refl
-    by_test false c = refl
 
 -- the root is never parked, so fewer are than there are rows
 pub parked-few : (rows : List Row) (k n : ℕ) → 0 < n → parked_below rows k n < n
 parked-few rows k zero h = absurd (omega (arith, h))
 parked-few rows k (suc zero) h = omega arith
 parked-few rows k (suc (suc n)) h =
-    by_test (is_parked_below rows k (suc n)) (parked_below rows k (suc n)) (parked-few rows k (suc n) (omega arith))
-  where
-    by_test : (b : Bool) (c : ℕ) → c < suc n → (if b then suc c else c) < suc (suc n)
-    by_test true c l = omega (arith, l)
-    by_test false c l = omega (arith, l)
+    let fewer = parked-few rows k (suc n) (omega arith) in
+    elim (cases_Bool (is_parked_below rows k (suc n))) [
+      | inl parked ↦ rw parked (omega (arith, fewer))
+      | inr other ↦ rw other (omega (arith, fewer))
+    ]
 
 pub parked-some : (rows : List Row) (k n m : ℕ) → m < n → is_parked_below rows k m ≡ true → 0 < parked_below rows k n
 parked-some rows k zero m l is = absurd (omega (arith, l))
-parked-some rows k (suc n) m l is =
-    elim (same_or_not n m) [
-      | inl e ↦ let here : is_parked_below rows k n ≡ true = ap (is_parked_below rows k) e ∙ is in rw here (omega arith)
-      | inr d ↦
-          by_test (is_parked_below rows k n) (parked_below rows k n) (parked-some rows k n m (omega (arith, l, d)) is)
-    ]
-  where
-    by_test : (b : Bool) (c : ℕ) → 0 < c → 0 < (if b then suc c else c)
-    by_test true c h = omega arith
-    by_test false c h = h
+parked-some rows k (suc n) m l is = elim (cases_Bool (is_parked_below rows k n)) [
+  | inl parked ↦ rw parked (omega arith)
+  | inr other ↦
+      let apart : n ≢ m = λ e. (let same = ap (is_parked_below rows k) e ∙ is in cc) in
+      rw other (parked-some rows k n m (omega (arith, l, apart)) is)
+]
 
 -- ---- rows that are linked alike
 
@@ -122,26 +119,15 @@ is_parked rows k j z a g p = let t : nat_lt 0 j ≡ true = grind (arith, nat_tes
 
 pub isnt_parked : (rows : List Row) (k j : ℕ) → (row_at rows j).attached ≡ true → is_parked_below rows k j ≡ false
 isnt_parked rows k j a =
-    by_test (nat_lt 0 j) (not (row_at rows j).given_up && nat_eq (row_at rows j).parent k) (row_at rows j).attached a
-  where
-    by_test : (b c d : Bool) → d ≡ true → b && (not d && c) ≡ false
-    by_test true c d e = rw e refl
-    by_test false c d e = refl
+    and_right (nat_lt 0 j)
+    (not (row_at rows j).attached && (not (row_at rows j).given_up && nat_eq (row_at rows j).parent k)) (rw a refl)
 
 pub parked_elsewhere : (rows : List Row) (k j : ℕ) → ((row_at rows j).parent ≡ k → ⊥) → is_parked_below rows k j ≡ false
-parked_elsewhere rows k j other =
-    let t : nat_eq (row_at rows j).parent k ≡ false =
-    elim (nat_eq (row_at rows j).parent k) as (λ b. nat_eq (row_at rows j).parent k ≡ b → b ≡ false) [
-      | true ↦ λ e. absurd (other (same_number (row_at rows j).parent k e))
-      | false ↦ λ _. refl
-    ] refl in
-    rw t (by_test (nat_lt 0 j) (not (row_at rows j).attached) (not (row_at rows j).given_up))
-  where
-    by_test : (b c d : Bool) → b && (c && (d && false)) ≡ false
-    by_test true true true = refl
-    by_test true true false = refl
-    by_test true false d = refl
-    by_test false c d = refl
+parked_elsewhere rows k j other = let t : nat_eq (row_at rows j).parent k ≡ false =
+    false_from_ne_true (nat_eq (row_at rows j).parent k) (λ e. other (same_number (row_at rows j).parent k e)) in
+    rw t (and_right (nat_lt 0 j) (not (row_at rows j).attached && (not (row_at rows j).given_up && false))
+    (and_right (not (row_at rows j).attached) (not (row_at rows j).given_up && false)
+    (and_right (not (row_at rows j).given_up) false refl)))
 
 -- what `attached_as` leaves of a row
 module _ (rows : List Row) (id : ℕ) (b : Bool) (inside : id < length rows) where
@@ -151,22 +137,17 @@ module _ (rows : List Row) (id : ℕ) (b : Bool) (inside : id < length rows) whe
   pub set_there : (j : ℕ) → j ≢ id → row_at (attached_as rows id b) j ≡ row_at rows j
   set_there j d = get_or-set_other rows id j _ blank d
 
-  set_keeps : {X : Type 0} (f : Row → X) → ((r : Row) → f (record r { attached = b }) ≡ f r) → (j : ℕ)
-      → f (row_at (attached_as rows id b) j) ≡ f (row_at rows j)
-  set_keeps f e j = elim (same_or_not j id) [
-    | inl h ↦ ap (λ n. f (row_at (attached_as rows id b) n)) h ∙ ap f set_here ∙ e (row_at rows id)
-        ∙ ap (λ n. f (row_at rows n)) (sym h)
-    | inr h ↦ ap f (set_there j h)
-  ]
+  pub set_apart : (j : ℕ) → j ≢ id → (row_at (attached_as rows id b) j).attached ≡ (row_at rows j).attached
+  set_apart j d = ap (λ (r : Row). r.attached) (set_there j d)
 
   pub set_parent : (j : ℕ) → (row_at (attached_as rows id b) j).parent ≡ (row_at rows j).parent
-  set_parent j = set_keeps (λ r. r.parent) (λ r. refl) j
+  set_parent j = of_both rows id _ (λ r. r.parent) refl j inside
 
   pub set_name : (j : ℕ) → (row_at (attached_as rows id b) j).name ≡ (row_at rows j).name
-  set_name j = set_keeps (λ r. r.name) (λ r. refl) j
+  set_name j = of_both rows id _ (λ r. r.name) refl j inside
 
   pub set_given_up : (j : ℕ) → (row_at (attached_as rows id b) j).given_up ≡ (row_at rows j).given_up
-  set_given_up j = set_keeps (λ r. r.given_up) (λ r. refl) j
+  set_given_up j = of_both rows id _ (λ r. r.given_up) refl j inside
 
   pub set_long : length (attached_as rows id b) ≡ length rows
   set_long = length-set rows id _
@@ -178,12 +159,11 @@ pub other_children : (rows : List Row) (id : ℕ) (b : Bool) → id < length row
 other_children rows id b inside k other c h = record {
   order = order-alike rows (attached_as rows id b) c.ids (λ i l. set_name rows id b inside (get_or c.ids i 0)) h.order;
   attached = λ i l.
-      ap (λ (r : Row). r.attached)
-      (set_there rows id b inside (get_or c.ids i 0)
-      (λ e. other (ap (λ n. (row_at rows n).parent) (sym e) ∙ h.parent i l))) ∙ h.attached i l;
+      set_apart rows id b inside (get_or c.ids i 0)
+      (λ e. other (ap (λ n. (row_at rows n).parent) (sym e) ∙ h.parent i l)) ∙ h.attached i l;
   parent = λ i l. set_parent rows id b inside (get_or c.ids i 0) ∙ h.parent i l;
   all =
-      λ j a p. h.all j (sym (ap (λ (r : Row). r.attached) (set_there rows id b inside j (apart j p))) ∙ a)
+      λ j a p. h.all j (sym (set_apart rows id b inside j (apart j p)) ∙ a)
       (sym (set_parent rows id b inside j) ∙ p);
   parked =
       h.parked ∙ sym (ap (parked_below (attached_as rows id b) k) (set_long rows id b inside)
@@ -199,33 +179,34 @@ other_children rows id b inside k other c h = record {
       | inl e ↦ parked_elsewhere (attached_as rows id b) k j (λ p. apart j p e)
           ∙ sym (parked_elsewhere rows k j (λ p. other (ap (λ n. (row_at rows n).parent) (sym e) ∙ p)))
       | inr d ↦
-          parked_test rows (attached_as rows id b) k j (ap (λ (r : Row). r.attached) (set_there rows id b inside j d))
+          parked_test rows (attached_as rows id b) k j (set_apart rows id b inside j d)
           (set_given_up rows id b inside j) (set_parent rows id b inside j)
     ]
 
--- the index with other children of one row
-abbrev pub with_children : List ChildList → ℕ → ChildList → List ChildList
-with_children index k c = set index k c
+-- one row's children are others, and those of the other rows stay
+pub index_set : (rows rows' : List Row) (index : List ChildList) (p : ℕ) (c : ChildList) → IsIndex rows index
+    → length rows' ≡ length rows → p < length rows → IsChildList rows' p c
+    → ((k : ℕ) → k ≢ p → IsChildList rows k (children_at index k) → IsChildList rows' k (children_at index k))
+    → IsIndex rows' (set index p c)
+index_set rows rows' index p c h long inside here others = record {
+  same = length-set index p c ∙ h.same ∙ sym long;
+  each = λ k l. elim (same_or_not k p) [
+    | inl e ↦
+        subst (λ n. IsChildList rows' n (children_at (set index p c) n)) (sym e)
+        (subst (IsChildList rows' p) (sym (get_or-set_same index p c no_children (omega (arith, inside, h.same)))) here)
+    | inr d ↦ subst (IsChildList rows' k) (sym (get_or-set_other index p k c no_children d))
+        (others k d (h.each k (omega (arith, l, long))))
+  ];
+}
 
 -- one row's children are others, and the rows are attached otherwise
 pub index_with : (rows : List Row) (index : List ChildList) (id : ℕ) (b : Bool) (c : ChildList) → id < length rows
     → (row_at rows id).parent < length rows → IsIndex rows index
     → IsChildList (attached_as rows id b) (row_at rows id).parent c
     → IsIndex (attached_as rows id b) (set index (row_at rows id).parent c)
-index_with rows index id b c inside above h here = record {
-  same = length-set index (row_at rows id).parent c ∙ h.same ∙ sym (set_long rows id b inside);
-  each = λ k l. elim (same_or_not k (row_at rows id).parent) [
-    | inl e ↦ subst (λ n. IsChildList (attached_as rows id b) n (children_at (set index (row_at rows id).parent c) n))
-        (sym e)
-        (subst (IsChildList (attached_as rows id b) (row_at rows id).parent)
-        (sym (get_or-set_same index (row_at rows id).parent c no_children (omega (arith, above, h.same)))) here)
-    | inr d ↦
-        subst (IsChildList (attached_as rows id b) k)
-        (sym (get_or-set_other index (row_at rows id).parent k c no_children d))
-        (other_children rows id b inside k (λ e. d (sym e)) (children_at index k)
-        (h.each k (omega (arith, l, set_long rows id b inside))))
-  ];
-}
+index_with rows index id b c inside above h here =
+    index_set rows (attached_as rows id b) index (row_at rows id).parent c h (set_long rows id b inside) above here
+    (λ k d. other_children rows id b inside k (λ e. d (sym e)) (children_at index k))
 
 pub parent_inside : (rows : List Row) (id : ℕ) → IsPut rows id → (row_at rows id).parent < length rows
 parent_inside rows id put =
@@ -282,8 +263,7 @@ put_children rows id put c h place at = record {
         ap (λ n. (row_at rows n).attached) (sym e) ∙ h.attached i l in let no = put.out in cc
 
     stays : (i : ℕ) → i < length c.ids → (row_at rows' (get_or c.ids i 0)).attached ≡ true
-    stays i l =
-        ap (λ (r : Row). r.attached) (set_there rows id true put.inside (get_or c.ids i 0) (other i l)) ∙ h.attached i l
+    stays i l = set_apart rows id true put.inside (get_or c.ids i 0) (other i l) ∙ h.attached i l
 
     keeps : (i : ℕ) → i < length c.ids → (row_at rows' (get_or c.ids i 0)).parent ≡ p
     keeps i l = set_parent rows id true put.inside (get_or c.ids i 0) ∙ h.parent i l
@@ -324,8 +304,7 @@ put_children rows id put c h place at = record {
           subst Listed (sym e) (place, omega (arith, at.within, long), get_or-insert_at c.ids place id 0 at.within)
       | inr d ↦
           let old =
-          h.all j (sym (ap (λ (r : Row). r.attached) (set_there rows id true put.inside j d)) ∙ a)
-          (sym (set_parent rows id true put.inside j) ∙ q) in
+          h.all j (sym (set_apart rows id true put.inside j d) ∙ a) (sym (set_parent rows id true put.inside j) ∙ q) in
           subst Listed old.2 (moved old.0 old.1)
     ]
 
@@ -334,7 +313,7 @@ put_children rows id put c h place at = record {
         parked-more rows' rows p (length rows) id put.inside
         (isnt_parked rows' p id (ap (λ (r : Row). r.attached) here))
         (is_parked rows p id put.below_root put.out put.held refl)
-        (λ j d. parked_test rows' rows p j (sym (ap (λ (r : Row). r.attached) (set_there rows id true put.inside j d)))
+        (λ j d. parked_test rows' rows p j (sym (set_apart rows id true put.inside j d))
         (sym (set_given_up rows id true put.inside j)) (sym (set_parent rows id true put.inside j)))
 
 pub put_index : (rows : List Row) (index : List ChildList) (id : ℕ) → IsPut rows id → IsIndex rows index → (place : ℕ)
@@ -371,6 +350,13 @@ pub record HasRead (rows : List Row) (index : List ChildList) (id : ℕ) (r : Ro
 -- those children
 abbrev pub siblings : List Row → List ChildList → ℕ → ChildList
 siblings rows index id = children_at index (row_at rows id).parent
+
+-- there is a list of them
+pub read_inside : (rows : List Row) (kept : List ChildList) (id : ℕ) (r : Row) → IsPut rows id → IsIndex rows kept
+    → r ≡ get_or rows id r → r.parent < length kept
+read_inside rows kept id r put h is =
+    subst (λ (s : Row). s.parent < length kept) (sym (read rows id r blank put.inside is))
+    (omega (arith, parent_inside rows id put, h.same))
 
 module _ (rows : List Row) (kept : List ChildList) (id : ℕ) (r : Row) (x : HasRead rows kept id r) where
   pub read_row : r ≡ row_at rows id

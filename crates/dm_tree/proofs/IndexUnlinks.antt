@@ -4,8 +4,9 @@ use Rattle.std.proofs.Common.{◌++◌, length, get_or, refl, sym, ◌∙◌, ap
 use Rattle.std.specs.Prelude.{◌&&◌, not, nat_lt, if◌then◌else◌}
 use Rattle.std.specs.List.{remove}
 use Rattle.std.proofs.Math.ListN.{set, length-set}
+use Rattle.std.proofs.lemmas.Bool.{and_right, cases_order}
 use Rattle.std.proofs.lemmas.Bool.Decides.{nat_tests}
-use Rattle.std.proofs.lemmas.List.{get_or-set_same, get_or-set_other, get_or_past, get_or_append_left, get_or_at}
+use Rattle.std.proofs.lemmas.List.{get_or-set_same, get_or-set_other, get_or_append_left, get_or_at}
 use Rattle.std.proofs.lemmas.List.Edits.{length-remove, get_or-remove_below, get_or-remove_above}
 use Rattle.dm_tree.specs.declared.nodes.Node.{Node}
 use Rattle.dm_tree.specs.declared.rows.Row.{Row}
@@ -14,19 +15,17 @@ use Rattle.dm_tree.specs.declared.rows.Change.TheVariants as change
 use Rattle.dm_tree.specs.Rows.{blank, row_at, node_of, IsShaped, IsParkedTop}
 use Rattle.dm_tree.specs.Edits.{attached_as, with_node, with_name, emptied, without_content}
 use Rattle.dm_tree.specs.Index.{ChildList, no_children, children_at, is_named_before, is_parked_below, parked_below}
-use Rattle.dm_tree.specs.Index.{IsInOrder, IsChildList, IsIndex, IsPlace, IsPut, IsTaken}
-use Rattle.dm_tree.specs.Index.{IsSized}
+use Rattle.dm_tree.specs.Index.{IsInOrder, IsChildList, IsIndex, IsPlace, IsPut, IsTaken, IsSized}
 use Rattle.dm_tree.specs.Undos.{Fits, row_of, flipped}
 use Rattle.dm_tree.proofs.RowCounts.{LieAlike, sized-alike, alike-with_node, alike-with_name}
 use Rattle.dm_tree.proofs.Paths.{below_or_not, same_or_not}
 use Rattle.dm_tree.proofs.NodeEdits.{of_both, node_alike, shaped_alike}
-use Rattle.dm_tree.proofs.RowAppends.{set_twice, at_end_of, before_end}
+use Rattle.dm_tree.proofs.RowAppends.{set_twice, at_end_of, before_end, each_grown}
 use Rattle.dm_tree.proofs.NameOrder.{not_before_itself, Stood, stood, remove_order}
 use Rattle.dm_tree.proofs.IndexLinks.{LinkAlike, index-alike, order-alike, parked-same, parked-more, parked-few}
-use Rattle.dm_tree.proofs.IndexLinks.{parked-some}
-use Rattle.dm_tree.proofs.IndexLinks.{is_parked, isnt_parked, parked_elsewhere, parked_test, set_here, set_there}
-use Rattle.dm_tree.proofs.IndexLinks.{set_parent}
-use Rattle.dm_tree.proofs.IndexLinks.{set_name, set_given_up, set_long, index_with, read}
+use Rattle.dm_tree.proofs.IndexLinks.{parked-some, ids_inside, index_set, is_parked, isnt_parked, parked_elsewhere}
+use Rattle.dm_tree.proofs.IndexLinks.{parked_test, set_here, set_apart, set_parent, set_name, set_given_up, set_long}
+use Rattle.dm_tree.proofs.IndexLinks.{index_with, read}
 
 -- ---- a row is taken out
 
@@ -36,19 +35,15 @@ taken_list c place = record c { ids = remove c.ids place; parked = c.parked + 1 
 -- no row is listed twice
 pub once : (rows : List Row) (ids : List ℕ) → IsInOrder rows ids → (i j : ℕ) → i < length ids → j < length ids
     → get_or ids i 0 ≡ get_or ids j 0 → i ≡ j
-once rows ids order i j l m e =
-    elim (same_or_not i j) [
-      | inl h ↦ h
-      | inr d ↦ elim (below_or_not i j) [
-        | inl h ↦
-            absurd (not_before_itself (row_at rows (get_or ids j 0)).name
-            (subst (λ x. is_named_before rows (row_at rows (get_or ids j 0)).name x ≡ true) e (order i j h m)))
-        | inr h ↦
-            absurd (not_before_itself (row_at rows (get_or ids i 0)).name
-            (subst (λ x. is_named_before rows (row_at rows (get_or ids i 0)).name x ≡ true) (sym e)
-            (order j i (omega (arith, h, d)) l)))
-      ]
-    ]
+once rows ids order i j l m e = elim (cases_order i j) [
+  | inl h ↦ h
+  | inr other ↦ absurd (elim other [ inl h ↦ apart i j h m e | inr h ↦ apart j i h l (sym e) ])
+]
+  where
+    apart : (i j : ℕ) → i < j → j < length ids → get_or ids i 0 ≡ get_or ids j 0 → ⊥
+    apart i j h m e =
+        not_before_itself (row_at rows (get_or ids j 0)).name
+        (subst (λ x. is_named_before rows (row_at rows (get_or ids j 0)).name x ≡ true) e (order i j h m))
 
 -- a child stands at the place of its name
 pub child_place : (rows : List Row) (k : ℕ) (c : ChildList) → IsChildList rows k c → (j : ℕ)
@@ -61,21 +56,19 @@ child_place rows k c h j a p place at =
     listed = h.all j a p
 
     here : listed.0 ≡ place
-    here = elim (same_or_not listed.0 place) [
+    here = elim (cases_order listed.0 place) [
       | inl e ↦ e
-      | inr d ↦ elim (below_or_not listed.0 place) [
+      | inr other ↦ absurd (elim other [
         | inl l ↦
-            absurd (not_before_itself (row_at rows j).name
-            (subst (λ x. is_named_before rows (row_at rows j).name x ≡ true) listed.2 (at.before listed.0 l)))
-        | inr l ↦
-            let m : place < listed.0 = omega (arith, l, d) in
+            not_before_itself (row_at rows j).name
+            (subst (λ x. is_named_before rows (row_at rows j).name x ≡ true) listed.2 (at.before listed.0 l))
+        | inr m ↦
             let yes : is_named_before rows (row_at rows j).name (get_or c.ids place 0) ≡ true =
             subst (λ x. is_named_before rows (row_at rows x).name (get_or c.ids place 0) ≡ true) listed.2
             (h.order place listed.0 m listed.1) in
-            let no : is_named_before rows (row_at rows j).name (get_or c.ids place 0) ≡ false =
-            at.behind place (omega arith) (omega (arith, m, listed.1)) in
-            absurd (cc)
-      ]
+            let no = at.behind place (omega arith) (omega (arith, m, listed.1)) in
+            cc
+      ])
     ]
 
 pub taken_children : (rows : List Row) (id : ℕ) → IsTaken rows id → (c : ChildList)
@@ -88,7 +81,7 @@ taken_children rows id taken c h place within at = record {
       (remove_order rows c.ids place within h.order);
   attached = λ i l.
       ap (λ n. (row_at rows' n).attached) (was i l).3
-      ∙ ap (λ (r : Row). r.attached) (set_there rows id false taken.inside (get_or c.ids (was i l).0 0) (other i l))
+      ∙ set_apart rows id false taken.inside (get_or c.ids (was i l).0 0) (other i l)
       ∙ h.attached (was i l).0 (was i l).1;
   parent =
       λ i l. ap (λ n. (row_at rows' n).parent) (was i l).3
@@ -120,15 +113,13 @@ taken_children rows id taken c h place within at = record {
     Listed j = (i : ℕ) × (i < length (remove c.ids place)) × (get_or (remove c.ids place) i 0 ≡ j)
 
     moved : (i : ℕ) → i < length c.ids → i ≢ place → Listed (get_or c.ids i 0)
-    moved zero l d =
-        (zero, omega (arith, l, d, long, within), get_or-remove_below c.ids place 0 zero (omega (arith, d)) within)
-    moved (suc i) l d = elim (below_or_not (suc i) place) [
-      | inl k ↦ (suc i, omega (arith, within, k, long), get_or-remove_below c.ids place 0 (suc i) k within)
+    moved i l d = elim (below_or_not i place) [
+      | inl k ↦ (i, omega (arith, within, k, long), get_or-remove_below c.ids place 0 i k within)
       | inr k ↦
-          let e : i + 1 ≡ suc i = omega arith in (
-            i,
-            omega (arith, l, long),
-            get_or-remove_above c.ids place 0 i (omega (arith, k, d)) within ∙ ap (λ n. get_or c.ids n 0) e,
+          let e : i - 1 + 1 ≡ i = omega (arith, k, d) in (
+            i - 1,
+            omega (arith, l, k, d, long),
+            get_or-remove_above c.ids place 0 (i - 1) (omega (arith, k, d)) within ∙ ap (λ n. get_or c.ids n 0) e,
           )
     ]
 
@@ -138,7 +129,7 @@ taken_children rows id taken c h place within at = record {
         (let no : (row_at rows' j).attached ≡ false =
         ap (λ n. (row_at rows' n).attached) e ∙ ap (λ (r : Row). r.attached) here in cc) in
         let old =
-        h.all j (sym (ap (λ (r : Row). r.attached) (set_there rows id false taken.inside j away)) ∙ a)
+        h.all j (sym (set_apart rows id false taken.inside j away) ∙ a)
         (sym (set_parent rows id false taken.inside j) ∙ q) in
         subst Listed old.2 (moved old.0 old.1 (λ e. away (sym old.2 ∙ ap (λ n. get_or c.ids n 0) e ∙ at)))
 
@@ -146,7 +137,7 @@ taken_children rows id taken c h place within at = record {
     more = parked-more rows rows' p (length rows) id taken.inside (isnt_parked rows p id taken.attached)
         (is_parked rows' p id taken.below_root (ap (λ (r : Row). r.attached) here)
         (set_given_up rows id false taken.inside id ∙ taken.held) (set_parent rows id false taken.inside id))
-        (λ j d. parked_test rows rows' p j (ap (λ (r : Row). r.attached) (set_there rows id false taken.inside j d))
+        (λ j d. parked_test rows rows' p j (set_apart rows id false taken.inside j d)
         (set_given_up rows id false taken.inside j) (set_parent rows id false taken.inside j))
 
 pub taken_index : (rows : List Row) (index : List ChildList) (id : ℕ) → IsTaken rows id → IsIndex rows index
@@ -177,37 +168,20 @@ grown_children rows r out k c h parked room is fits = record {
   order = order-alike rows (rows ++ r ∷ []) c.ids (λ i l. ap (λ (s : Row). s.name) (same i l)) h.order;
   attached = λ i l. ap (λ (s : Row). s.attached) (same i l) ∙ h.attached i l;
   parent = λ i l. ap (λ (s : Row). s.parent) (same i l) ∙ h.parent i l;
-  all = λ j a p. let e = grown_row rows r out j a in
+  all = λ j a p. let e = grown_row j a in
       h.all j (ap (λ (s : Row). s.attached) (sym e) ∙ a) (ap (λ (s : Row). s.parent) (sym e) ∙ p);
   parked = is;
   room = fits;
 }
   where
-    inside : (i : ℕ) → i < length c.ids → get_or c.ids i 0 < length rows
-    inside i l = elim (below_or_not (get_or c.ids i 0) (length rows)) [
-      | inl g ↦ g
-      | inr g ↦ let no : (row_at rows (get_or c.ids i 0)).attached ≡ false =
-          ap (λ (s : Row). s.attached) (get_or_past rows (get_or c.ids i 0) blank g) in let yes = h.attached i l in
-          absurd (cc)
-    ]
-
     same : (i : ℕ) → i < length c.ids → row_at (rows ++ r ∷ []) (get_or c.ids i 0) ≡ row_at rows (get_or c.ids i 0)
-    same i l = before_end rows r (get_or c.ids i 0) (inside i l)
+    same i l = before_end rows r (get_or c.ids i 0) (ids_inside rows k c h i l)
 
     -- a row that is attached was there before
-    grown_row : (rows : List Row) (r : Row) → r.attached ≡ false → (j : ℕ) → (row_at (rows ++ r ∷ []) j).attached ≡ true
-        → row_at (rows ++ r ∷ []) j ≡ row_at rows j
-    grown_row rows r out j a = elim (below_or_not j (length rows)) [
-      | inl l ↦ before_end rows r j l
-      | inr l ↦ elim (same_or_not j (length rows)) [
-        | inl e ↦ let no : (row_at (rows ++ r ∷ []) j).attached ≡ false =
-            ap (λ n. (row_at (rows ++ r ∷ []) n).attached) e ∙ ap (λ (s : Row). s.attached) (at_end_of rows r) ∙ out in
-            absurd (cc)
-        | inr d ↦ let no : (row_at (rows ++ r ∷ []) j).attached ≡ false =
-            ap (λ (s : Row). s.attached)
-            (get_or_past (rows ++ r ∷ []) j blank (omega (arith, l, d, length-append rows (r ∷ [])))) in absurd (cc)
-      ]
-    ]
+    grown_row : (j : ℕ) → (row_at (rows ++ r ∷ []) j).attached ≡ true → row_at (rows ++ r ∷ []) j ≡ row_at rows j
+    grown_row j =
+        each_grown rows r (λ (s : Row). s.attached ≡ true → s ≡ row_at rows j) j (λ _ _. refl)
+        (λ _ at. absurd (let no = out in cc)) (λ _ at. absurd (cc))
 
 -- a row that isn't attached is parked below its parent
 pub parked-grown : (rows : List Row) (r : Row) (k : ℕ) → 0 < length rows → r.attached ≡ false → r.given_up ≡ false
@@ -282,17 +256,9 @@ added_index rows shape index r out held above h c ids parked room = record {
 
     -- nothing lies below the new row
     above_end : (j : ℕ) → j < suc n → (row_at (rows ++ r ∷ []) j).parent ≡ n → ⊥
-    above_end j l p = elim (below_or_not j n) [
-      | inl m ↦ omega (arith, shape.inside j m, ap (λ (s : Row). s.parent) (before_end rows r j m), p)
-      | inr m ↦ let e : j ≡ n = omega (arith, l, m) in
-          omega (
-            arith,
-            above,
-            p,
-            ap (λ i. (row_at (rows ++ r ∷ []) i).parent) e,
-            ap (λ (s : Row). s.parent) (at_end_of rows r),
-          )
-    ]
+    above_end j l =
+        each_grown rows r (λ (s : Row). s.parent ≡ n → ⊥) j (λ m p. omega (arith, shape.inside j m, p))
+        (λ _ p. omega (arith, above, p)) (λ m _. omega (arith, l, m))
 
     none_parked : (m : ℕ) → m ≤ suc n → parked_below (rows ++ r ∷ []) n m ≡ 0
     none_parked zero l = refl
@@ -304,12 +270,8 @@ added_index rows shape index r out held above h c ids parked room = record {
       order = λ i j l m. absurd (omega (arith, m));
       attached = λ i l. absurd (omega (arith, l));
       parent = λ i l. absurd (omega (arith, l));
-      all = λ j a p. absurd (elim (below_or_not j (suc n)) [
-        | inl l ↦ above_end j l p
-        | inr l ↦ let no : (row_at (rows ++ r ∷ []) j).attached ≡ false =
-            ap (λ (s : Row). s.attached)
-            (get_or_past (rows ++ r ∷ []) j blank (omega (arith, l, length-append rows (r ∷ [])))) in cc
-      ]);
+      all = λ j a p. absurd (each_grown rows r (λ (s : Row). s.attached ≡ true → s.parent ≡ n → ⊥) j
+          (λ m _ q. omega (arith, shape.inside j m, q)) (λ _ at _. (let no = out in cc)) (λ _ at _. cc) a p);
       parked = sym (none_parked (length (rows ++ r ∷ [])) (omega (arith, length-append rows (r ∷ []))));
       room = omega arith;
     }
@@ -334,17 +296,9 @@ pub forgotten_index : (rows : List Row) (index : List ChildList) (id : ℕ) → 
     (record (children_at index (row_at rows id).parent) {
       parked = (children_at index (row_at rows id).parent).parked - 1;
     }))
-forgotten_index rows index id top shape h = record {
-  same = length-set index p _ ∙ h.same ∙ sym long;
-  each = λ k l. elim (same_or_not k p) [
-    | inl e ↦
-        subst (λ m. IsChildList rows' m (children_at (set index p c') m)) (sym e)
-        (subst (IsChildList rows' p) (sym (get_or-set_same index p c' no_children (omega (arith, above, h.same))))
-        at_parent)
-    | inr d ↦ subst (IsChildList rows' k) (sym (get_or-set_other index p k c' no_children d))
-        (elsewhere k (children_at index k) (h.each k (omega (arith, l, long))) (λ e. d (sym e)))
-  ];
-}
+forgotten_index rows index id top shape h =
+    index_set rows rows' index p c' h long above at_parent
+    (λ k d list. elsewhere k (children_at index k) list (λ e. d (sym e)))
   where
     rows' : List Row
     rows' = without_content rows id
@@ -393,13 +347,11 @@ forgotten_index rows index id top shape h = record {
         (is_parked rows p id top.below_root top.out top.held refl)
         (λ j d. parked_test rows' rows p j (sym (attached j)) (sym (given_up j d)) (sym (parent j)))
       where
-        by_test : (b c d : Bool) → b && (c && (false && d)) ≡ false
-        by_test true true d = refl
-        by_test true false d = refl
-        by_test false c d = refl
-
         gone : is_parked_below rows' p id ≡ false
-        gone = rw here (by_test (nat_lt 0 id) (not (row_at rows id).attached) (nat_eq (row_at rows id).parent p))
+        gone =
+            rw here
+            (and_right (nat_lt 0 id) (not (row_at rows id).attached && false)
+            (and_right (not (row_at rows id).attached) false refl))
 
     at_parent : IsChildList rows' p c'
     at_parent =
@@ -431,28 +383,27 @@ forgotten_some rows index id top shape h =
 
 -- ---- other names and nodes
 
-pub link-with_node : (rows : List Row) (k : ℕ) (n : Node) → k < length rows → LinkAlike rows (with_node rows k n)
-link-with_node rows k n l = record {
-  parent = λ j. of_both rows k _ (λ r. r.parent) refl j l;
-  attached = λ j. of_both rows k _ (λ r. r.attached) refl j l;
-  given_up = λ j. of_both rows k _ (λ r. r.given_up) refl j l;
-  name = λ j _. of_both rows k _ (λ r. r.name) refl j l;
-  long = length-set rows k _;
+-- a row is written anew that is linked as it was; one that isn't attached may bear any name
+link-set : (rows : List Row) (k : ℕ) (r : Row) → k < length rows → r.parent ≡ (row_at rows k).parent
+    → r.attached ≡ (row_at rows k).attached → r.given_up ≡ (row_at rows k).given_up
+    → ((row_at rows k).attached ≡ true → r.name ≡ (row_at rows k).name) → LinkAlike rows (set rows k r)
+link-set rows k r l p a g n = record {
+  parent = λ j. of_both rows k r (λ s. s.parent) p j l;
+  attached = λ j. of_both rows k r (λ s. s.attached) a j l;
+  given_up = λ j. of_both rows k r (λ s. s.given_up) g j l;
+  name = λ j at. elim (same_or_not j k) [
+    | inl e ↦ of_both rows k r (λ s. s.name) (n (ap (λ i. (row_at rows i).attached) (sym e) ∙ at)) j l
+    | inr d ↦ ap (λ (s : Row). s.name) (get_or-set_other rows k j r blank d)
+  ];
+  long = length-set rows k r;
 }
 
--- a row that isn't attached may bear any name
+pub link-with_node : (rows : List Row) (k : ℕ) (n : Node) → k < length rows → LinkAlike rows (with_node rows k n)
+link-with_node rows k n l = link-set rows k _ l refl refl refl (λ _. refl)
+
 pub link-with_name : (rows : List Row) (k : ℕ) (name : List ℕ) (n : Node) → k < length rows
     → (row_at rows k).attached ≡ false → LinkAlike rows (with_name rows k name n)
-link-with_name rows k name n l out = record {
-  parent = λ j. of_both rows k _ (λ r. r.parent) refl j l;
-  attached = λ j. of_both rows k _ (λ r. r.attached) refl j l;
-  given_up = λ j. of_both rows k _ (λ r. r.given_up) refl j l;
-  name =
-      λ j a. ap (λ (r : Row). r.name)
-      (get_or-set_other rows k j _ blank
-      (λ e. (let no : (row_at rows j).attached ≡ false = ap (λ m. (row_at rows m).attached) e ∙ out in cc)));
-  long = length-set rows k _;
-}
+link-with_name rows k name n l out = link-set rows k _ l refl refl refl (λ at. absurd (cc))
 
 -- taken out, renamed and put in again
 pub renamed_in : (rows : List Row) (k : ℕ) (name : List ℕ) → k < length rows → (row_at rows k).attached ≡ true
@@ -519,36 +470,33 @@ pub index-set : (rows : List Row) (k : ℕ) (r was : Row) → k < length rows �
     → (kept : List ChildList) → IsIndex rows kept → IsIndex (set rows k r) kept
 index-set rows k r was l e p a g n kept h =
     let here : was ≡ row_at rows k = read rows k was blank l e in
-    index-alike rows (set rows k r) (record {
-      parent = λ j. of_both rows k r (λ s. s.parent) (p ∙ ap (λ (s : Row). s.parent) here) j l;
-      attached = λ j. of_both rows k r (λ s. s.attached) (a ∙ ap (λ (s : Row). s.attached) here) j l;
-      given_up = λ j. of_both rows k r (λ s. s.given_up) (g ∙ ap (λ (s : Row). s.given_up) here) j l;
-      name = λ j _. of_both rows k r (λ s. s.name) (n ∙ ap (λ (s : Row). s.name) here) j l;
-      long = length-set rows k r;
-    }) kept h
+    index-alike rows (set rows k r)
+    (link-set rows k r l (p ∙ ap (λ (s : Row). s.parent) here) (a ∙ ap (λ (s : Row). s.attached) here)
+    (g ∙ ap (λ (s : Row). s.given_up) here) (λ _. n ∙ ap (λ (s : Row). s.name) here))
+    kept h
 
--- its name was written before, and now its node is
+-- its name was written before
+was_named : (rows rows1 : List Row) (k : ℕ) (name : List ℕ) → k < length rows
+    → rows1 ≡ with_name rows k name (node_of rows k)
+    → (was : Row) → was ≡ get_or rows1 k was → was ≡ record (row_at rows k) { name = name; node = node_of rows k }
+was_named rows rows1 k name l e was is =
+    read rows1 k was blank
+    (omega (arith, l, ap length e, length-set rows k (record (row_at rows k) { name = name; node = node_of rows k })))
+    is
+    ∙ ap (λ rs. row_at rs k) e ∙ get_or-set_same rows k _ blank l
+
+-- and now its node is
 pub named_node : (rows rows1 : List Row) (k : ℕ) (name : List ℕ) (n : Node) → k < length rows
     → rows1 ≡ with_name rows k name (node_of rows k)
     → (was : Row) → was ≡ get_or rows1 k was → set rows1 k (record was { node = n }) ≡ with_name rows k name n
 named_node rows rows1 k name n l e was is =
-    let here : was ≡ record (row_at rows k) { name = name; node = node_of rows k } =
-    read rows1 k was blank
-    (omega (arith, l, ap length e, length-set rows k (record (row_at rows k) { name = name; node = node_of rows k })))
-    is
-    ∙ ap (λ rs. row_at rs k) e ∙ get_or-set_same rows k _ blank l in
-    ap (λ (r : Row). set rows1 k (record r { node = n })) here
+    ap (λ (r : Row). set rows1 k (record r { node = n })) (was_named rows rows1 k name l e was is)
     ∙ ap (λ rs. set rs k (record (row_at rows k) { name = name; node = n })) e ∙ set_twice rows k _ _
 
 pub node_named : (rows rows1 : List Row) (k : ℕ) (name : List ℕ) → k < length rows
     → rows1 ≡ with_name rows k name (node_of rows k)
     → (was : Row) → was ≡ get_or rows1 k was → was.node ≡ node_of rows k
-node_named rows rows1 k name l e was is =
-    ap (λ (r : Row). r.node)
-    (read rows1 k was blank
-    (omega (arith, l, ap length e, length-set rows k (record (row_at rows k) { name = name; node = node_of rows k })))
-    is
-    ∙ ap (λ rs. row_at rs k) e ∙ get_or-set_same rows k _ blank l)
+node_named rows rows1 k name l e was is = ap (λ (r : Row). r.node) (was_named rows rows1 k name l e was is)
 
 -- rows are shaped whatever their nodes
 pub shaped-renode : (rows : List Row) (k : ℕ) (name : List ℕ) (n m : Node) → k < length rows
@@ -594,24 +542,22 @@ may_put rows k fits = record {
     here : row_at (attached_as rows k true) k ≡ record (row_at rows k) { attached = true }
     here = set_here rows k true fits.inside
 
+sized-back : {rows rows' : List Row} → LieAlike rows rows' → (sizes : List ℕ) → IsSized rows' sizes → IsSized rows sizes
+sized-back {rows} {rows'} same sizes h = sized-alike rows' rows (alike-back rows rows' same) sizes h
+
 -- the sizes stay where a flip changes a node or a name
 pub sized-flipped : (rows : List Row) (c : Change) → row_of c < length rows → ((k : ℕ) → c ≡ change.TakeOut k → ⊥)
     → ((k : ℕ) → c ≡ change.PutIn k → ⊥)
     → (sizes : List ℕ) → IsSized (flipped rows c) sizes → IsSized rows sizes
 sized-flipped rows (change.Value k value verno stamp) l out into sizes h =
-    sized-alike (flipped rows (change.Value k value verno stamp)) rows
-    (alike-back rows (flipped rows (change.Value k value verno stamp)) (alike-with_node rows k _ l)) sizes h
+    sized-back (alike-with_node rows k _ l) sizes h
 sized-flipped rows (change.Bytes k bytes verno stamp) l out into sizes h =
-    sized-alike (flipped rows (change.Bytes k bytes verno stamp)) rows
-    (alike-back rows (flipped rows (change.Bytes k bytes verno stamp)) (alike-with_node rows k _ l)) sizes h
+    sized-back (alike-with_node rows k _ l) sizes h
 sized-flipped rows (change.Acl k acl verno stamp) l out into sizes h =
-    sized-alike (flipped rows (change.Acl k acl verno stamp)) rows
-    (alike-back rows (flipped rows (change.Acl k acl verno stamp)) (alike-with_node rows k _ l)) sizes h
+    sized-back (alike-with_node rows k _ l) sizes h
 sized-flipped rows (change.Title k title verno stamp) l out into sizes h =
-    sized-alike (flipped rows (change.Title k title verno stamp)) rows
-    (alike-back rows (flipped rows (change.Title k title verno stamp)) (alike-with_node rows k _ l)) sizes h
+    sized-back (alike-with_node rows k _ l) sizes h
 sized-flipped rows (change.Name k name verno stamp) l out into sizes h =
-    sized-alike (flipped rows (change.Name k name verno stamp)) rows
-    (alike-back rows (flipped rows (change.Name k name verno stamp)) (alike-with_name rows k name _ l)) sizes h
+    sized-back (alike-with_name rows k name _ l) sizes h
 sized-flipped rows (change.TakeOut k) l out into sizes h = absurd (out k refl)
 sized-flipped rows (change.PutIn k) l out into sizes h = absurd (into k refl)

@@ -1,7 +1,8 @@
 -- What a map's keys and entries say of what it holds, and the same under other keys.
-use Rattle.std.proofs.Common.{◌≡◌, Bool, true, false, cond, List, [], ◌∷◌, map, Some, refl, sym, ◌∙◌, ap}
+use Rattle.std.proofs.Common.{◌≡◌, Bool, true, false, cond, List, [], ◌∷◌, map, Some, refl, sym, ◌∙◌, ap, subst, ◌⊎◌}
+use Rattle.std.proofs.Common.{inl, inr}
 use Rattle.std.specs.List.{list_all}
-use Rattle.std.proofs.lemmas.Bool.{and_from, and_parts}
+use Rattle.std.proofs.lemmas.Bool.{and_from, and_parts, cases_Bool}
 use Rattle.std.specs.Ordering.{eq_by_cmp, is_eq}
 use Rattle.std.specs.Cmp.{tied_itself}
 use Rattle.std.specs.FinMap.{FinMap, get, find, keys, entries, from_entries, get-from_entries, get-entries}
@@ -13,31 +14,44 @@ tied q p e = ap (eq_by_cmp tree_order q) (sym e) ∙ ap is_eq (tied_itself tree_
 
 -- ---- every key
 
+-- what is found among entries is the first one's, or stands behind it
+pub held : {X : Type 0} (e : Path × X) (es : List (Path × X)) (q : Path) (x : X) → find tree_order q (e ∷ es) ≡ Some x
+    → ((q ≡ e.0) × (e.1 ≡ x)) ⊎ ((eq_by_cmp tree_order q e.0 ≡ false) × (find tree_order q es ≡ Some x))
+held {X} e es q x h =
+    elim (eq_by_cmp tree_order q e.0)
+    as (λ b. eq_by_cmp tree_order q e.0 ≡ b → cond b (Some e.1) (find tree_order q es) ≡ Some x
+    → ((q ≡ e.0) × (e.1 ≡ x)) ⊎ ((eq_by_cmp tree_order q e.0 ≡ false) × (find tree_order q es ≡ Some x))) [
+      | true ↦ λ is g. inl (same_path q e.0 is, cc)
+      | false ↦ λ is g. inr (is, g)
+    ] refl h
+
+-- what holds of each key that is found holds of the first one, and of those found behind it
+pub each_key : {X : Type 0} (P : Path → Type 0) (e : Path × X) (es : List (Path × X))
+    → ((q : Path) (x : X) → find tree_order q (e ∷ es) ≡ Some x → P q)
+    → P e.0 × ((q : Path) (x : X) → find tree_order q es ≡ Some x → P q)
+each_key P e es all = (
+  first,
+  λ q x h. elim (cases_Bool (eq_by_cmp tree_order q e.0)) [
+    | inl is ↦ subst P (sym (same_path q e.0 is)) first
+    | inr is ↦ all q x (rw is h)
+  ],
+)
+  where
+    first : P e.0
+    first = all e.0 e.1 (rw (tied e.0 e.0 refl) refl)
+
 all_of : {X : Type 0} (f : Path → Bool) (es : List (Path × X))
     → ((q : Path) (x : X) → find tree_order q es ≡ Some x → f q ≡ true) → list_all f (map (λ e. e.0) es) ≡ true
 all_of f [] all = refl
-all_of {X} f (e ∷ es) all = and_from (f e.0) (list_all f (map (λ d. d.0) es)) first (all_of f es later)
-  where
-    first : f e.0 ≡ true
-    first = all e.0 e.1 (rw (tied e.0 e.0 refl) refl)
-
-    later : (q : Path) (x : X) → find tree_order q es ≡ Some x → f q ≡ true
-    later q x h =
-        elim (eq_by_cmp tree_order q e.0) as (λ b. eq_by_cmp tree_order q e.0 ≡ b → f q ≡ true) [
-          | true ↦ λ is. ap f (same_path q e.0 is) ∙ first
-          | false ↦ λ is. all q x (rw is h)
-        ] refl
+all_of f (e ∷ es) all = let both = each_key (λ q. f q ≡ true) e es all in
+    and_from (f e.0) (list_all f (map (λ d. d.0) es)) both.0 (all_of f es both.1)
 
 of_all : {X : Type 0} (f : Path → Bool) (es : List (Path × X)) (q : Path) (x : X)
     → list_all f (map (λ e. e.0) es) ≡ true → find tree_order q es ≡ Some x → f q ≡ true
 of_all f [] q x all h = absurd (cc)
 of_all f (e ∷ es) q x all h =
     let both = and_parts (f e.0) (list_all f (map (λ d. d.0) es)) all in
-    elim (eq_by_cmp tree_order q e.0)
-    as (λ b. eq_by_cmp tree_order q e.0 ≡ b → cond b (Some e.1) (find tree_order q es) ≡ Some x → f q ≡ true) [
-      | true ↦ λ is _. ap f (same_path q e.0 is) ∙ both.0
-      | false ↦ λ is g. of_all f es q x both.1 g
-    ] refl h
+    elim (held e es q x h) [ inl at ↦ ap f at.0 ∙ both.0 | inr at ↦ of_all f es q x both.1 at.1 ]
 
 pub all_keys : {X : Type 0} (m : FinMap tree_order X) (f : Path → Bool)
     → ((q : Path) (x : X) → get m q ≡ Some x → f q ≡ true) → list_all f (keys m) ≡ true
@@ -60,47 +74,31 @@ pub record Origin {X : Type 0} (f : Path → Path) (es : List (Path × X)) (q : 
 origin : {X : Type 0} (f : Path → Path) (es : List (Path × X)) (q : Path) (x : X)
     → find tree_order q (moved f es) ≡ Some x → Origin f es q x
 origin f [] q x h = absurd (cc)
-origin {X} f (e ∷ es) q x h =
-    elim (eq_by_cmp tree_order q (f e.0))
-    as (λ b. eq_by_cmp tree_order q (f e.0) ≡ b → cond b (Some e.1) (find tree_order q (moved f es)) ≡ Some x
-    → Origin f (e ∷ es) q x) [
-      | true ↦ λ is g. record { key = e.0; found = rw (tied e.0 e.0 refl) g; becomes = sym (same_path q (f e.0) is) }
-      | false ↦ λ is g. later is (origin f es q x g)
-    ] refl h
+origin f (e ∷ es) q x h = elim (held (f e.0, e.1) (moved f es) q x h) [
+  | inl at ↦
+      record { key = e.0; found = rw (tied e.0 e.0 refl) (ap (λ y. Some y) at.1); becomes = sym at.0 }
+  | inr at ↦ later at.0 (origin f es q x at.1)
+]
   where
     later : eq_by_cmp tree_order q (f e.0) ≡ false → Origin f es q x → Origin f (e ∷ es) q x
-    later is o =
-        elim (eq_by_cmp tree_order o.key e.0) as (λ b. eq_by_cmp tree_order o.key e.0 ≡ b → Origin f (e ∷ es) q x) [
-          | true ↦ λ same. absurd (other_path q (f e.0) is (sym o.becomes ∙ ap f (same_path o.key e.0 same)))
-          | false ↦ λ other. record { key = o.key; found = rw other o.found; becomes = o.becomes }
-        ] refl
+    later is o = elim (cases_Bool (eq_by_cmp tree_order o.key e.0)) [
+      | inl same ↦ absurd (other_path q (f e.0) is (sym o.becomes ∙ ap f (same_path o.key e.0 same)))
+      | inr other ↦ record { key = o.key; found = rw other o.found; becomes = o.becomes }
+    ]
 
 arrives : {X : Type 0} (f : Path → Path) (es : List (Path × X)) (p : Path) (x : X)
     → ((a : Path) (y : X) → find tree_order a es ≡ Some y → f a ≡ f p → a ≡ p)
     → find tree_order p es ≡ Some x → find tree_order (f p) (moved f es) ≡ Some x
 arrives f [] p x apart h = absurd (cc)
-arrives {X} f (e ∷ es) p x apart h =
-    elim (eq_by_cmp tree_order p e.0)
-    as (λ b. eq_by_cmp tree_order p e.0 ≡ b → cond b (Some e.1) (find tree_order p es) ≡ Some x
-    → cond (eq_by_cmp tree_order (f p) (f e.0)) (Some e.1) (find tree_order (f p) (moved f es)) ≡ Some x) [
-      | true ↦ λ is g. rw (tied (f p) (f e.0) (ap f (same_path p e.0 is))) g
-      | false ↦ λ is g.
-          elim (eq_by_cmp tree_order (f p) (f e.0))
-          as (λ b. eq_by_cmp tree_order (f p) (f e.0) ≡ b
-          → cond b (Some e.1) (find tree_order (f p) (moved f es)) ≡ Some x) [
-            | true ↦ λ same.
-                absurd (other_path p e.0 is
-                (sym (apart e.0 e.1 (rw (tied e.0 e.0 refl) refl) (sym (same_path (f p) (f e.0) same)))))
-            | false ↦ λ other. arrives f es p x behind g
-          ] refl
-    ] refl h
-  where
-    behind : (a : Path) (y : X) → find tree_order a es ≡ Some y → f a ≡ f p → a ≡ p
-    behind a y g same =
-        elim (eq_by_cmp tree_order a e.0) as (λ b. eq_by_cmp tree_order a e.0 ≡ b → a ≡ p) [
-          | true ↦ λ is. apart a e.1 (rw is refl) same
-          | false ↦ λ is. apart a y (rw is g) same
-        ] refl
+arrives f (e ∷ es) p x apart h =
+    let both = each_key (λ a. f a ≡ f p → a ≡ p) e es apart in
+    elim (held e es p x h) [
+      | inl at ↦ rw (tied (f p) (f e.0) (ap f at.0)) (ap (λ y. Some y) at.1)
+      | inr at ↦ elim (cases_Bool (eq_by_cmp tree_order (f p) (f e.0))) [
+        | inl same ↦ absurd (other_path p e.0 at.0 (sym (both.0 (sym (same_path (f p) (f e.0) same)))))
+        | inr other ↦ rw other (arrives f es p x both.1 at.1)
+      ]
+    ]
 
 -- what stands under a new key stood under one that became it
 pub moved_from : {X : Type 0} (f : Path → Path) (m : FinMap tree_order X) (q : Path) (x : X)

@@ -1,6 +1,6 @@
 -- A list of rows in the order of their names: one more, and one fewer.
-use Rattle.std.proofs.Common.{◌≡◌, ◌≢◌, ℕ, zero, suc, ◌+◌, ◌<◌, ◌≤◌, true, false, List, length, get_or, refl}
-use Rattle.std.proofs.Common.{sym, ◌∙◌, ap, subst, arith, inl, inr}
+use Rattle.std.proofs.Common.{◌≡◌, ◌≢◌, ℕ, zero, suc, ◌+◌, ◌<◌, ◌≤◌, true, false, List, length, get_or, refl, sym, ◌∙◌}
+use Rattle.std.proofs.Common.{ap, subst, arith, inl, inr}
 use Rattle.std.specs.List.{insert, remove}
 use Rattle.std.specs.Ordering.{is_lt, ordering_reverse}
 use Rattle.std.specs.declared.cmp.Ordering.{Ordering}
@@ -12,25 +12,21 @@ use Rattle.dm_tree.specs.Rows.{row_at}
 use Rattle.dm_tree.specs.Index.{is_named_before, IsInOrder, IsPlace}
 use Rattle.dm_tree.proofs.Paths.{below_or_not, same_or_not}
 use Rattle.dm_tree.proofs.PathOrder.{name_order, name_total, name_exact}
+use Rattle.dm_tree.proofs.LeastChild.{itself_not_less}
 
 -- of two names that differ, one stands before the other
 pub other_side : (a b : List ℕ) → is_lt (name_order a b) ≡ false → (a ≡ b → ⊥) → is_lt (name_order b a) ≡ true
-other_side a b h differ = by_order (name_order a b) refl (name_order b a) (name_total.antisymm b a) h
+other_side a b h differ =
+    ap is_lt (name_total.antisymm b a) ∙ by_order (name_order a b) h (λ e. differ (name_exact a b e))
   where
-    by_order : (o : Ordering) → name_order a b ≡ o → (p : Ordering) → p ≡ ordering_reverse (name_order a b)
-        → is_lt (name_order a b) ≡ false → is_lt p ≡ true
-    by_order Less e p q h = absurd (let yes : is_lt (name_order a b) ≡ true = ap is_lt e in cc)
-    by_order Equal e p q h = absurd (differ (name_exact a b e))
-    by_order Greater e p q h = ap is_lt (q ∙ ap ordering_reverse e)
+    by_order : (o : Ordering) → is_lt o ≡ false → (o ≡ Equal → ⊥) → is_lt (ordering_reverse o) ≡ true
+    by_order Less h d = absurd (cc)
+    by_order Equal h d = absurd (d refl)
+    by_order Greater h d = refl
 
 -- a name doesn't stand before itself
 pub not_before_itself : (a : List ℕ) → is_lt (name_order a a) ≡ true → ⊥
-not_before_itself a h = by_order (name_order a a) refl (name_total.antisymm a a)
-  where
-    by_order : (o : Ordering) → name_order a a ≡ o → name_order a a ≡ ordering_reverse (name_order a a) → ⊥
-    by_order Less e q = let turned : Less ≡ Greater = sym e ∙ q ∙ ap ordering_reverse e in cc
-    by_order Equal e q = let no : is_lt (name_order a a) ≡ false = ap is_lt e in cc
-    by_order Greater e q = let no : is_lt (name_order a a) ≡ false = ap is_lt e in cc
+not_before_itself a h = let no = itself_not_less a in cc
 
 module _ (ids : List ℕ) (place id : ℕ) (within : place ≤ length ids) where
   -- what stands at the i-th place after an insert
@@ -100,19 +96,19 @@ stood ids place within i l =
     elim (below_or_not i place) [
       | inl h ↦ (
         i,
-        omega (arith, l),
-        (λ e. omega (arith, h, e)),
+        omega arith,
+        (λ e. omega arith),
         get_or-remove_below ids place 0 i h within,
         (λ _. refl),
-        (λ p. absurd (omega (arith, h, p))),
+        (λ p. absurd (omega arith)),
       )
       | inr h ↦
           let e : i + 1 ≡ suc i = omega arith in (
             suc i,
             l,
-            (λ f. omega (arith, h, f)),
+            (λ f. omega arith),
             get_or-remove_above ids place 0 i h within ∙ ap (λ n. get_or ids n 0) e,
-            (λ p. absurd (omega (arith, h, p))),
+            (λ p. absurd (omega arith)),
             (λ _. refl),
           )
     ]
@@ -125,14 +121,9 @@ remove_order rows ids place within order i j l m =
     let b = stood ids place within j (omega (arith, m, long)) in
     let apart : a.0 < b.0 =
     elim (below_or_not i place) [
-      | inl h ↦ elim (below_or_not j place) [
-        | inl k ↦ omega (arith, a.4 h, b.4 k, l)
-        | inr k ↦ omega (arith, a.4 h, b.5 k, l, h)
-      ]
-      | inr h ↦ elim (below_or_not j place) [
-        | inl k ↦ absurd (omega (arith, l, h, k))
-        | inr k ↦ omega (arith, a.5 h, b.5 k, l)
-      ]
+      | inl h ↦
+          elim (below_or_not j place) [ inl k ↦ omega (arith, a.4 h, b.4 k) | inr k ↦ omega (arith, a.4 h, b.5 k) ]
+      | inr h ↦ omega (arith, a.5 h, b.5 (omega arith))
     ] in
     subst (λ x. is_named_before rows (row_at rows (get_or (remove ids place) j 0)).name x ≡ true) (sym a.3)
     (subst (λ y. is_named_before rows (row_at rows y).name (get_or ids a.0 0) ≡ true) (sym b.3)

@@ -1,12 +1,12 @@
 -- Where names stand among the children of a row, and what is found there.
 use Rattle.std.proofs.Common.{◌≡◌, ℕ, ◌+◌, ◌-◌, ◌<◌, ◌≤◌, Bool, true, false, nat_eq, List, length, get_or, Option, None}
 use Rattle.std.proofs.Common.{Some, refl, sym, ◌∙◌, ap, subst, arith, inl, inr}
-use Rattle.std.specs.Prelude.{◌&&◌, nat_lt, not, slice_get, bytes_eq}
+use Rattle.std.specs.Prelude.{◌&&◌, nat_lt, slice_get, bytes_eq}
 use Rattle.std.specs.Ordering.{is_lt, ordering_reverse}
 use Rattle.std.specs.declared.cmp.Ordering.{Ordering}
 use Rattle.std.specs.declared.cmp.Ordering.TheVariants.{Less, Equal, Greater}
 use Rattle.std.specs.List.Sorted.{IsPartitionedBy, IsPartitionPoint}
-use Rattle.std.proofs.lemmas.Bool.{and_from, and_parts}
+use Rattle.std.proofs.lemmas.Bool.{and_from, and_parts, false_from_ne_true}
 use Rattle.std.proofs.lemmas.Bool.Decides.{nat_tests}
 use Rattle.std.proofs.lemmas.List.{get_or_default}
 use Rattle.std.proofs.lemmas.Option.{slice_get-get_or, slice_get_past, slice_get_within, get_or_from_slice_get}
@@ -20,7 +20,7 @@ use Rattle.dm_tree.proofs.Paths.{below_or_not, same_or_not}
 use Rattle.dm_tree.proofs.RowPaths.{Child, attached_row, same_number}
 use Rattle.dm_tree.proofs.FoundRows.{position_found, position_none, position_is, child_test, child_tested}
 use Rattle.dm_tree.proofs.PathOrder.{name_order, name_total, name_exact, is_less}
-use Rattle.dm_tree.proofs.NameOrder.{other_side}
+use Rattle.dm_tree.proofs.NameOrder.{other_side, not_before_itself}
 use Rattle.dm_tree.proofs.LeastChild.{HasNoChild, IsLeast, IsLeastChild, least-is, itself_not_less, not_before_less}
 
 -- ---- names
@@ -31,17 +31,6 @@ less_less a b c h k = ap is_lt (name_total.trans a b c (is_less (name_order a b)
 
 not_less_back : (a b : List ℕ) → is_lt (name_order a b) ≡ true → is_lt (name_order b a) ≡ false
 not_less_back a b h = not_before_less b b a (itself_not_less b) h
-
-to_false : (b : Bool) → (b ≡ true → ⊥) → b ≡ false
-to_false true h = absurd (h refl)
-to_false false h = refl
-
-from_not : (b : Bool) → not b ≡ true → b ≡ false
-from_not true e = absurd (cc)
-from_not false e = refl
-
-lt_yes : (a b : ℕ) → a < b → nat_lt a b ≡ true
-lt_yes a b h = grind (arith, nat_tests)
 
 -- behind a child
 pub past_child : (rows : List Row) (ids : List ℕ) → IsInOrder rows ids → (place : ℕ) → place < length ids
@@ -64,7 +53,7 @@ module _ (rows : List Row) (ids : List ℕ) (name : List ℕ) (inside : AreRows 
   at i d l = get_or_default ids i d 0 l
 
   stands : (i : ℕ) → i < length ids → nat_lt (get_or ids i 0) (length rows) ≡ true
-  stands i l = lt_yes _ _ (inside i l)
+  stands i l = let h = inside i l in grind (arith, nat_tests)
 
   abbrev pub before : ℕ → Bool
   before id = nat_lt id (length rows) && is_named_before rows name id
@@ -73,17 +62,20 @@ module _ (rows : List Row) (ids : List ℕ) (name : List ℕ) (inside : AreRows 
       → is_named_before rows name (get_or ids i 0) ≡ b
   before_at i l b e = ap (λ t. t && is_named_before rows name (get_or ids i 0)) (sym (stands i l)) ∙ e
 
+  -- what stands before a row that stands before the name does so too
+  before_too : (i j : ℕ) → i ≤ j → j < length ids → is_named_before rows name (get_or ids j 0) ≡ true
+      → is_named_before rows name (get_or ids i 0) ≡ true
+  before_too i j le l h = elim (same_or_not i j) [
+    | inl same ↦ ap (λ k. is_named_before rows name (get_or ids k 0)) same ∙ h
+    | inr other ↦
+        less_less (row_at rows (get_or ids i 0)).name (row_at rows (get_or ids j 0)).name name
+        (order i j (omega arith) l) h
+  ]
+
   before_first : (i j : ℕ) → i ≤ j → j < length ids → before (get_or ids j 0) ≡ true → before (get_or ids i 0) ≡ true
   before_first i j le l h =
-      elim (same_or_not i j) [
-        | inl same ↦ ap (λ k. before (get_or ids k 0)) same ∙ h
-        | inr other ↦
-            let late = before_at j l true h in
-            and_from (nat_lt (get_or ids i 0) (length rows)) (is_named_before rows name (get_or ids i 0))
-            (stands i (omega arith))
-            (less_less (row_at rows (get_or ids i 0)).name (row_at rows (get_or ids j 0)).name name
-            (order i j (omega arith) l) late)
-      ]
+      and_from (nat_lt (get_or ids i 0) (length rows)) (is_named_before rows name (get_or ids i 0))
+      (stands i (omega arith)) (before_too i j le l (before_at j l true h))
 
   pub before_parted : IsPartitionedBy before ids
   before_parted i j d le l h = ap before (at i d (omega arith)) ∙ before_first i j le l (ap before (sym (at j d l)) ∙ h)
@@ -101,27 +93,12 @@ module _ (rows : List Row) (ids : List ℕ) (name : List ℕ) (inside : AreRows 
       → (0 < place → is_named_before rows name (get_or ids (place - 1) 0) ≡ true)
       → (place < length ids → is_named_before rows name (get_or ids place 0) ≡ false)
       → IsPlace rows ids name place
-  confirmed place within first second = record { within = within; before = before_it; behind = behind_it }
-    where
-      before_it : (i : ℕ) → i < place → is_named_before rows name (get_or ids i 0) ≡ true
-      before_it i l =
-          let last_one : is_named_before rows name (get_or ids (place - 1) 0) ≡ true = first (omega (arith, l)) in
-          elim (same_or_not i (place - 1)) [
-            | inl e ↦ ap (λ k. is_named_before rows name (get_or ids k 0)) e ∙ last_one
-            | inr d ↦ less_less (row_at rows (get_or ids i 0)).name (row_at rows (get_or ids (place - 1) 0)).name name
-                (order i (place - 1) (omega (arith, l, d)) (omega (arith, l, within))) last_one
-          ]
-
-      behind_it : (i : ℕ) → place ≤ i → i < length ids → is_named_before rows name (get_or ids i 0) ≡ false
-      behind_it i g l =
-          let here : is_named_before rows name (get_or ids place 0) ≡ false = second (omega (arith, g, l)) in
-          elim (same_or_not i place) [
-            | inl e ↦ ap (λ k. is_named_before rows name (get_or ids k 0)) e ∙ here
-            | inr d ↦ to_false (is_named_before rows name (get_or ids i 0)) (λ yes.
-                let no =
-                less_less (row_at rows (get_or ids place 0)).name (row_at rows (get_or ids i 0)).name name
-                (order place i (omega (arith, g, d)) l) yes in absurd (cc))
-          ]
+  confirmed place within first second = record {
+    within = within;
+    before = λ i l. before_too i (place - 1) (omega (arith, l)) (omega (arith, l, within)) (first (omega (arith, l)));
+    behind = λ i g l. false_from_ne_true (is_named_before rows name (get_or ids i 0)) (λ yes.
+        let no = second (omega (arith, g, l)) in let too = before_too place i g l yes in cc);
+  }
 
   earlier : (place : ℕ) → IsPlace rows ids name place → (i : ℕ) → i < place
       → is_named_behind rows name (get_or ids i 0) ≡ false
@@ -179,6 +156,18 @@ pub are_rows : (rows : List Row) → IsShaped rows → (id : ℕ) (children : Ch
     → AreRows rows children.ids
 are_rows rows shape id children list i l = (attached_row rows shape (get_or children.ids i 0) (list.attached i l)).1
 
+-- what a later child is
+later_parts : (rows : List Row) (id : ℕ) (after : Option ℕ) (j : ℕ)
+    → is_later_child rows id after (row_at rows j) ≡ true
+    → ((row_at rows j).attached ≡ true) × ((row_at rows j).parent ≡ id)
+    × (comes_after rows after (row_at rows j).name ≡ true)
+later_parts rows id after j h =
+    let outer =
+    and_parts (row_at rows j).attached
+    (nat_eq (row_at rows j).parent id && comes_after rows after (row_at rows j).name) h in
+    let inner = and_parts (nat_eq (row_at rows j).parent id) (comes_after rows after (row_at rows j).name) outer.1 in
+    (outer.0, same_number (row_at rows j).parent id inner.0, inner.1)
+
 module _ (rows : List Row) (shape : IsShaped rows) (id : ℕ) (children : ChildList)
     (list : IsChildList rows id children) where
   pub child_found : (name : List ℕ) (c : ℕ) → Child rows id name c → child_of rows id name ≡ Some c
@@ -188,7 +177,7 @@ module _ (rows : List Row) (shape : IsShaped rows) (id : ℕ) (children : ChildL
       ∙ (let e : 0 + c ≡ c = omega arith in ap (λ n. Some n) e)
     where
       no_other : (j : ℕ) → j < c → is_child id name (row_at rows j) ≡ false
-      no_other j l = to_false (is_child id name (row_at rows j)) (λ is.
+      no_other j l = false_from_ne_true (is_child id name (row_at rows j)) (λ is.
           let t = child_test id name (row_at rows j) is in
           let same : j ≡ c = shape.no_twins j c t.0 child.attached (t.1 ∙ sym child.parent) (t.2 ∙ sym child.named) in
           absurd (omega (arith, l, same)))
@@ -205,32 +194,23 @@ module _ (rows : List Row) (shape : IsShaped rows) (id : ℕ) (children : ChildL
       → child_of rows id name ≡ None
   no_child_there name place is other =
       position_none (is_child id name) 0 rows blank
-      (λ j l. to_false (is_child id name (row_at rows j)) (λ yes. nowhere j (child_test id name (row_at rows j) yes)))
+      (λ j l. false_from_ne_true (is_child id name (row_at rows j))
+      (λ yes. nowhere j (child_test id name (row_at rows j) yes)))
     where
-      elsewhere : (j i : ℕ) → (row_at rows j).name ≡ name → i < length children.ids → get_or children.ids i 0 ≡ j → ⊥
-      elsewhere j i named l there =
-          let same : (row_at rows (get_or children.ids i 0)).name ≡ name =
-          ap (λ k. (row_at rows k).name) there ∙ named in
-          elim (below_or_not i place) [
-            | inl early ↦ let yes = is.before i early in
-                let itself = ap (λ n. is_lt (name_order n name)) same ∙ itself_not_less name in absurd (cc)
-            | inr late ↦ elim (same_or_not i place) [
-              | inl here ↦
-                  other (omega (arith, l, here))
-                  (ap (λ k. (row_at rows (get_or children.ids k 0)).name) (sym here) ∙ same)
-              | inr past ↦
-                  let inside : place < length children.ids = omega (arith, late, l) in
-                  let no_more = is.behind place (omega arith) inside in
-                  let first : is_named_before rows name (get_or children.ids place 0) ≡ true =
-                  ap (λ n. is_named_before rows n (get_or children.ids place 0)) (sym same)
-                  ∙ list.order place i (omega arith) l in
-                  absurd (cc)
-            ]
-          ]
+      past : IsPlacePast rows children.ids name place
+      past = unnamed rows children.ids name (are_rows rows shape id children list) list.order place is other
 
       nowhere : (j : ℕ) → ((row_at rows j).attached ≡ true) × ((row_at rows j).parent ≡ id)
           × ((row_at rows j).name ≡ name) → ⊥
-      nowhere j t = let there = list.all j t.0 t.1 in elsewhere j there.0 t.2 there.1 there.2
+      nowhere j t =
+          let there = list.all j t.0 t.1 in
+          let same : name ≡ (row_at rows (get_or children.ids there.0 0)).name =
+          sym (ap (λ k. (row_at rows k).name) there.2 ∙ t.2) in
+          not_before_itself name
+          (elim (below_or_not there.0 place) [
+            | inl early ↦ ap (λ n. is_lt (name_order n name)) same ∙ is.before there.0 early
+            | inr late ↦ ap (λ n. is_lt (name_order name n)) same ∙ past.behind there.0 late there.1
+          ])
 
   -- ---- the child behind a row
 
@@ -257,16 +237,13 @@ module _ (rows : List Row) (shape : IsShaped rows) (id : ℕ) (children : ChildL
   child_stands : (after : Option ℕ) (place : ℕ) → IsPlaceAfter after place → (j : ℕ)
       → is_later_child rows id after (row_at rows j) ≡ true → StandsThere place j
   child_stands after place is j h =
-      let outer =
-      and_parts (row_at rows j).attached
-      (nat_eq (row_at rows j).parent id && comes_after rows after (row_at rows j).name) h in
-      let inner = and_parts (nat_eq (row_at rows j).parent id) (comes_after rows after (row_at rows j).name) outer.1 in
-      let there = list.all j outer.0 (same_number (row_at rows j).parent id inner.0) in
+      let parts = later_parts rows id after j h in
+      let there = list.all j parts.0 parts.1 in
       record {
         number = there.0;
         behind = elim (below_or_not there.0 place) [
           | inl early ↦ let no_more = ap (λ k. comes_after rows after (row_at rows k).name) (sym there.2)
-              ∙ is.before there.0 early in let yes = inner.1 in absurd (cc)
+              ∙ is.before there.0 early in let yes = parts.2 in absurd (cc)
           | inr late ↦ late
         ];
         inside = there.1;
@@ -275,7 +252,7 @@ module _ (rows : List Row) (shape : IsShaped rows) (id : ℕ) (children : ChildL
 
   pub none_there : (after : Option ℕ) (place : ℕ) → IsPlaceAfter after place → length children.ids ≤ place
       → HasNoChild rows id after (length rows)
-  none_there after place is past j l = to_false (is_later_child rows id after (row_at rows j)) (λ yes.
+  none_there after place is past j l = false_from_ne_true (is_later_child rows id after (row_at rows j)) (λ yes.
       let s = child_stands after place is j yes in omega (arith, s.behind, s.inside, past))
 
   pub least_there : (after : Option ℕ) (place : ℕ) → IsPlaceAfter after place → place < length children.ids
@@ -369,20 +346,11 @@ one_least rows shape id after None None g h = refl
 one_least rows shape id after None (Some c) g h = let no_child = g c h.inside in let child = h.child in absurd (cc)
 one_least rows shape id after (Some c) None g h = let no_child = h c g.inside in let child = g.child in absurd (cc)
 one_least rows shape id after (Some c) (Some d) g h =
+    let of_c = later_parts rows id after c g.child in
+    let of_d = later_parts rows id after d h.child in
     ap (λ n. Some n)
-    (shape.no_twins c d (parts c g.child).0 (parts d h.child).0 ((parts c g.child).1 ∙ sym (parts d h.child).1) same)
+    (shape.no_twins c d of_c.0 of_d.0 (of_c.1 ∙ sym of_d.1) same)
   where
-    parts : (j : ℕ) → is_later_child rows id after (row_at rows j) ≡ true
-        → ((row_at rows j).attached ≡ true) × ((row_at rows j).parent ≡ id)
-    parts j e =
-        let outer =
-        and_parts (row_at rows j).attached
-        (nat_eq (row_at rows j).parent id && comes_after rows after (row_at rows j).name) e in (
-          outer.0,
-          same_number (row_at rows j).parent id
-              (and_parts (nat_eq (row_at rows j).parent id) (comes_after rows after (row_at rows j).name) outer.1).0,
-        )
-
     same : (row_at rows c).name ≡ (row_at rows d).name
     same = name_exact (row_at rows c).name (row_at rows d).name
         (neither (name_order (row_at rows c).name (row_at rows d).name) (h.least c g.inside g.child)

@@ -1,6 +1,6 @@
 -- A new node takes a row that nobody holds.
-use Rattle.std.proofs.Common.{◌≡◌, ◌≢◌, ℕ, ◌+◌, ◌<◌, ◌≤◌, true, false, cond, nat_eq, List, [], ◌∷◌}
-use Rattle.std.proofs.Common.{◌++◌, length, None, Some, refl, sym, ◌∙◌, ap, subst, arith, inl}
+use Rattle.std.proofs.Common.{◌≡◌, ◌≢◌, ℕ, ◌+◌, ◌<◌, ◌≤◌, true, false, cond, nat_eq, List, [], ◌∷◌, ◌++◌, length, None}
+use Rattle.std.proofs.Common.{Some, refl, sym, ◌∙◌, ap, subst, arith, inl}
 use Rattle.std.specs.Prelude.{is_some, nat_lt, unwrap_or}
 use Rattle.std.proofs.Math.ListN.{set, length-set}
 use Rattle.std.proofs.lemmas.Bool.Decides.{nat_tests}
@@ -30,8 +30,7 @@ use Rattle.dm_tree.proofs.UndoFlips.{length-flipped}
 use Rattle.dm_tree.proofs.SpareRows.{parked}
 use Rattle.dm_tree.proofs.FlippedRows.{other_row, kin-flipped}
 use Rattle.dm_tree.proofs.RowReuse.{Childless, childless, walk_beside, no_way, IsNewcomer, shaped_set, tree_set}
-use Rattle.dm_tree.proofs.RowReuse.{ids_out}
-use Rattle.dm_tree.proofs.RowReuse.{nodes_out, ids_in, nodes_in}
+use Rattle.dm_tree.proofs.RowReuse.{ids_out, nodes_out, ids_in, nodes_in}
 use Rattle.dm_tree.proofs.ClearRows.{clear-out, clear-set, clear-new, live-off}
 use Rattle.dm_tree.proofs.FlipsBeside.{IsReason, alike-set, alike-fewer, parked-beside_set}
 
@@ -91,14 +90,17 @@ reason-free k r aside = record {
   clear = λ rows tree ok i j oi oj c. clear-out rows tree k ok.0 r aside.out i j oi oj c;
 }
 
+-- a row that is in use isn't free
+used_apart : (rows : List Row) (k : ℕ) → IsFreeRow rows k → (j : ℕ) → IsUsed rows j → j ≢ k
+used_apart rows k free j used e =
+    absurd (let up : (row_at rows j).given_up ≡ true = ap (λ i. (row_at rows i).given_up) e ∙ free.given_up in
+    let not_up = used.1 (omega (arith, e, free.below_root)) in cc)
+
 -- all Undos of rows that are in use stay usable
 pub alike-aside : (rows : List Row) → IsTree rows → (k : ℕ) → IsFreeRow rows k → (r : Row) → IsAside r
     → r.parent < length rows → GoesAlike (IsUsed rows) rows (set rows k r)
 alike-aside rows tree k free r aside inside =
-    alike-fewer (λ j. j ≡ k → ⊥) (IsUsed rows)
-    (λ j used e.
-    absurd (let up : (row_at rows j).given_up ≡ true = ap (λ i. (row_at rows i).given_up) e ∙ free.given_up in
-    let not_up = used.1 (omega (arith, e, free.below_root)) in cc))
+    alike-fewer (λ j. j ≡ k → ⊥) (IsUsed rows) (used_apart rows k free)
     (alike-set k r (FreeFor k r) (reason-free k r aside) rows tree (free, inside))
 
 -- ---- a new node
@@ -268,11 +270,6 @@ module _ (rows : List Row) (tree : IsTree rows) (id : ℕ) (free : IsFreeRow row
     undo = record { change = refl; fits = fits-reused; nodes = nodes-back; ids = ids-back };
   }
 
-  in_use_apart : (j : ℕ) → IsUsed rows j → j ≢ id
-  in_use_apart j used e =
-      absurd (let up : (row_at rows j).given_up ≡ true = ap (λ i. (row_at rows i).given_up) e ∙ free.given_up in
-      let not_up = used.1 (omega (arith, e, free.below_root)) in cc)
-
   other : (j : ℕ) → j ≢ id → row_at reused j ≡ row_at rows j
   other j d = get_or-set_other rows id j (new_row rows k name node) blank d
 
@@ -301,7 +298,8 @@ module _ (rows : List Row) (tree : IsTree rows) (id : ℕ) (free : IsFreeRow row
     only = λ j p. inl (no_new_top j p);
     used = (omega (arith, free.inside, long), λ z. ap (λ (s : Row). s.given_up) here);
     stays = λ j used.
-        (omega (arith, used.0, long), λ z. ap (λ (s : Row). s.given_up) (other j (in_use_apart j used)) ∙ used.1 z);
+        let apart = used_apart rows id free j used in
+        (omega (arith, used.0, long), λ z. ap (λ (s : Row). s.given_up) (other j apart) ∙ used.1 z);
     apart = λ j p. record {
       other = no_top j p;
       parent =
@@ -310,6 +308,6 @@ module _ (rows : List Row) (tree : IsTree rows) (id : ℕ) (free : IsFreeRow row
           ∙ live-off rows tree.shape j p.below_root p.out d k may.live;
     };
     clear = λ j i p used c. clear-set rows tree id free (new_row rows k name node) j i used c;
-    fresh = λ used. in_use_apart id used refl;
+    fresh = λ used. used_apart rows id free id used refl;
     begins = λ j used. clear-new rows tree id free (new_row rows k name node) j used;
   }

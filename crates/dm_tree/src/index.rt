@@ -221,6 +221,7 @@ pub(crate) fn id_at(ids: &[u32], place: usize) -> Option<u32>
 }
 
 // Puts a row among its parent's children, and tells the place. It takes no memory.
+#[tactic(auto, using(crate::proofs::IndexLinks::read_inside))]
 fn link(rows: &[Row], index: &mut Vec<Children>, id: u32) -> usize
     requires out { IsPut rows.now id }
     requires index { IsIndex rows.now index.old.items }

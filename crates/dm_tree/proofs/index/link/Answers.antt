@@ -1,111 +1,52 @@
-use Rattle.std.proofs.Common.{◌∙◌, true, ap, arith}
+use Rattle.std.proofs.Common.{◌∙◌, true, ap}
 use Rattle.dm_tree.specs.Edits.{attached_as}
 use Rattle.dm_tree.proofs.IndexLinks.{parent_inside, put_list, put_index, one_parked, ids_inside, HasRead, siblings}
-use Rattle.dm_tree.proofs.IndexLinks.{read_above, read_list, read_children, read_place, read_ids, written}
+use Rattle.dm_tree.proofs.IndexLinks.{read_list, read_children, read_place, read_ids, written}
 use Rattle.dm_tree.proofs.index.link.Goals as goal
+use Rattle.dm_tree.proofs.index.link.Goals.{After-as_slice}
 
-pub index-requires : goal.index-requires
-index-requires c =
-    let x : HasRead c.args.rows.now c.args.index.now.items c.args.id c.index-rows-id.result =
-    record {
-      inside = c.requires.out.inside;
-      is = c.index-rows-id.is;
-      above = parent_inside c.args.rows.now c.args.id c.requires.out;
-      known = c.requires.index;
-    } in
-    omega (arith, read_above _ _ _ _ x, c.args.index.now.ok.0)
-
-pub index-requires-2 : goal.index-requires-2
-index-requires-2 c =
-    let x : HasRead c.args.rows.now c.args.index.now.items c.args.id c.index-rows-id.result =
-    record {
-      inside = c.requires.out.inside;
-      is = c.index-rows-id.is;
-      above = parent_inside c.args.rows.now c.args.id c.requires.out;
-      known = c.requires.index;
-    } in
-    omega (arith, read_above _ _ _ _ x, c.args.index.now.ok.0)
+-- the row that the code read
+row : (c : After-as_slice) → HasRead c.args.rows.now c.args.index.now.items c.args.id c.index-rows-id.result
+row c = record {
+  inside = c.requires.out.inside;
+  is = c.index-rows-id.is;
+  above = parent_inside c.args.rows.now c.args.id c.requires.out;
+  known = c.requires.index;
+}
 
 pub place_of-place-requires-clause-inside : goal.place_of-place-requires-clause-inside
 place_of-place-requires-clause-inside c =
-    let x : HasRead c.args.rows.now c.args.index.now.items c.args.id c.index-rows-id.result =
-    record {
-      inside = c.requires.out.inside;
-      is = c.index-rows-id.is;
-      above = parent_inside c.args.rows.now c.args.id c.requires.out;
-      known = c.requires.index;
-    } in
+    let x = row (goal.at.place_of-place-requires-clause-inside c).After-as_slice in
     rw (read_ids _ _ _ _ x c.index.result.now c.index.ensures c.as_slice.result.now c.as_slice.ensures)
     (ids_inside _ _ _ (read_list _ _ _ _ x))
 
 pub place_of-place-requires-clause-order : goal.place_of-place-requires-clause-order
 place_of-place-requires-clause-order c =
-    let x : HasRead c.args.rows.now c.args.index.now.items c.args.id c.index-rows-id.result =
-    record {
-      inside = c.requires.out.inside;
-      is = c.index-rows-id.is;
-      above = parent_inside c.args.rows.now c.args.id c.requires.out;
-      known = c.requires.index;
-    } in
+    let x = row (goal.at.place_of-place-requires-clause-order c).After-as_slice in
     rw (read_ids _ _ _ _ x c.index.result.now c.index.ensures c.as_slice.result.now c.as_slice.ensures)
     (read_list _ _ _ _ x).order
 
-pub index_mut-requires : goal.index_mut-requires
-index_mut-requires c =
-    let x : HasRead c.args.rows.now c.args.index.now.items c.args.id c.index-rows-id.result =
-    record {
-      inside = c.requires.out.inside;
-      is = c.index-rows-id.is;
-      above = parent_inside c.args.rows.now c.args.id c.requires.out;
-      known = c.requires.index;
-    } in
-    omega (arith, read_above _ _ _ _ x, c.args.index.now.ok.0)
-
 pub put_in-requires-clause-place : goal.put_in-requires-clause-place
 put_in-requires-clause-place c =
-    let x : HasRead c.args.rows.now c.args.index.now.items c.args.id c.index-rows-id.result =
-    record {
-      inside = c.requires.out.inside;
-      is = c.index-rows-id.is;
-      above = parent_inside c.args.rows.now c.args.id c.requires.out;
-      known = c.requires.index;
-    } in
+    let x = row (goal.at.put_in-requires-clause-place c).After-as_slice in
     rw (read_children _ _ _ _ x c.index_mut.result.now c.index_mut.ensures.value)
     (read_place _ _ _ _ x c.index.result.now c.index.ensures c.as_slice.result.now c.as_slice.ensures
     c.place_of-place.result c.place_of-place.ensures).within
 
 pub put_in-requires-clause-parked : goal.put_in-requires-clause-parked
 put_in-requires-clause-parked c =
-    let x : HasRead c.args.rows.now c.args.index.now.items c.args.id c.index-rows-id.result =
-    record {
-      inside = c.requires.out.inside;
-      is = c.index-rows-id.is;
-      above = parent_inside c.args.rows.now c.args.id c.requires.out;
-      known = c.requires.index;
-    } in
+    let x = row (goal.at.put_in-requires-clause-parked c).After-as_slice in
     rw (read_children _ _ _ _ x c.index_mut.result.now c.index_mut.ensures.value)
     (one_parked _ _ c.requires.out _ (read_list _ _ _ _ x))
 
 pub put_in-requires-clause-room : goal.put_in-requires-clause-room
 put_in-requires-clause-room c =
-    let x : HasRead c.args.rows.now c.args.index.now.items c.args.id c.index-rows-id.result =
-    record {
-      inside = c.requires.out.inside;
-      is = c.index-rows-id.is;
-      above = parent_inside c.args.rows.now c.args.id c.requires.out;
-      known = c.requires.index;
-    } in
+    let x = row (goal.at.put_in-requires-clause-room c).After-as_slice in
     rw (read_children _ _ _ _ x c.index_mut.result.now c.index_mut.ensures.value) (read_list _ _ _ _ x).room
 
 pub returns : goal.returns
 returns c =
-    let x : HasRead c.args.rows.now c.args.index.now.items c.args.id c.index-rows-id.result =
-    record {
-      inside = c.requires.out.inside;
-      is = c.index-rows-id.is;
-      above = parent_inside c.args.rows.now c.args.id c.requires.out;
-      known = c.requires.index;
-    } in
+    let x = row (goal.at.returns c).After-as_slice in
     let place =
     read_place _ _ _ _ x c.index.result.now c.index.ensures c.as_slice.result.now c.as_slice.ensures
     c.place_of-place.result c.place_of-place.ensures in
