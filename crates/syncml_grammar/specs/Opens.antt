@@ -1,5 +1,5 @@
 -- The open elements as the builder keeps them, and what its calls answer.
-use Rattle.std.specs.Prelude.{◌≡◌, List, [], ◌∷◌, map, reverse, Option, Some, None, Result, Ok, Err, false, ⊤}
+use Rattle.std.specs.Prelude.{◌≡◌, List, [], ◌∷◌, map, reverse, Option, Some, None, Result, Ok, Err, IsOk, false}
 use Rattle.wbxml_tokens.specs.declared.reason.Reason.{Reason}
 use Rattle.syncml_shape.specs.declared.rows.Kind.{Kind}
 use Rattle.syncml_shape.specs.declared.rows.Kind.TheVariants as kinds
@@ -34,9 +34,9 @@ abbrev pub with_leaf : Option OpenLeaf → List Frame → List Frame
 with_leaf None frames = frames
 with_leaf (Some o) frames = leaf_frame o ∷ frames
 
--- what was left is what the definition gives, or why it stopped; after want of memory nothing is said
+-- what was left is what the definition gives, or why it stopped; memory is wanted only where it isn't refused
 abbrev pub Stops : {A : Type 0} → Stop → Result A Reason → Type 0
-Stops stops.Memory x = ⊤
+Stops stops.Memory x = IsOk x
 Stops (stops.Refused reason) x = x ≡ Err reason
 
 abbrev pub GivesFrame : Result Unit Stop → Frame → Result Frame Reason → Type 0

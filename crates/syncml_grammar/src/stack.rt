@@ -1,11 +1,12 @@
 // The open elements, and the tokens that they take.
-ghost use Rattle.std.specs.Prelude.{◌≡◌, ◌+◌, ◌∷◌, [], None, Ok, Err, Bool, true, false, ℕ, length, OnOk, IfOk};
+ghost use Rattle.std.specs.Prelude.{◌≡◌, ◌+◌, ◌∷◌, [], None, Ok, Err, Bool, true, false, ℕ, length, OnOk, IfOk, IsOk};
 ghost use Rattle.std.specs.Prelude.{option_map, List as ListOf};
 ghost use Rattle.wbxml_tokens.specs.declared.token.Token.TheVariants.{Tag, End, Text, Opaque};
+ghost use Rattle.syncml_shape.specs.Rows.{start, is_complete as may_end};
 ghost use Rattle.syncml_grammar.specs.Machine.{Frame, root, step, on_kind, finished};
 ghost use Rattle.syncml_grammar.specs.Values.{holds_leaf};
-ghost use Rattle.syncml_grammar.specs.Opens.{frame_of, frames_of, leaf_frame, with_leaf, GivesFrame, GivesFrames};
-ghost use Rattle.syncml_grammar.specs.Opens.{parts_of};
+ghost use Rattle.syncml_grammar.specs.Opens.{frame_of, frames_of, leaf_frame, with_leaf, Stops, GivesFrame};
+ghost use Rattle.syncml_grammar.specs.Opens.{GivesFrames, parts_of};
 
 use crate::draft::WholeParts;
 use crate::open::{Open, OpenLeaf, has_leaf};
@@ -15,7 +16,7 @@ use dm_base::{List, Memory};
 use std::alloc::Global;
 use std::marker::Model;
 use std::mem;
-use syncml_shape::{Kind, tag_fault};
+use syncml_shape::{Kind, Progress, tag_fault};
 use wbxml_tables::Element;
 use wbxml_tokens::{Reason, Stop};
 
@@ -63,6 +64,8 @@ impl Nest {
         requires { holds_leaf kind ≡ false }
         ensures content { OnOk result (on_kind self.old element true kind ≡ Ok self.new) }
         ensures empty { OnOk result (on_kind self.old element false kind ≡ step self.new End) }
+        ensures taken { IsOk (on_kind self.old element true kind) }
+        ensures bare { may_end (start kind) ≡ true → IsOk (on_kind self.old element false kind) }
     {
         make_room(&mut self.below)?;
         self.below
@@ -70,13 +73,28 @@ impl Nest {
         self.top.begin(&mut self.spares, element, kind)
     }
 
+    // The tag of a bare child with children. It is judged before memory is taken for it.
+    fn bare(&mut self, element: Element, kind: Kind) -> Result<(), Stop>
+        requires { holds_leaf kind ≡ false }
+        ensures { GivesFrames result self.new (on_kind self.old element false kind) }
+    {
+        if !Progress::start(kind).is_complete() {
+            return Err(Stop::Refused(Reason::Misplaced));
+        }
+        self.open(element, kind)?;
+        self.end()
+    }
+
     // The tag of a child with children.
     fn draft(&mut self, element: Element, kind: Kind, content: bool) -> Result<(), Stop>
         requires { holds_leaf kind ≡ false }
         ensures { GivesFrames result self.new (on_kind self.old element content kind) }
     {
+        if !content {
+            return self.bare(element, kind);
+        }
         self.open(element, kind)?;
-        if content { Ok(()) } else { self.end() }
+        Ok(())
     }
 
     // The tag of a child, which stands apart where it has no children of its own.
@@ -251,6 +269,22 @@ impl Stack {
         }
     }
 
+    // What is answered of a piece for which there is no room.
+    fn no_room(&self) -> Stop
+        ensures text { (bytes : ListOf ℕ) → Stops result (step self.now (Text bytes)) }
+        ensures opaque { (bytes : ListOf ℕ) → Stops result (step self.now (Opaque bytes)) }
+    {
+        let takes_text = match &self.leaf {
+            Some(leaf) => leaf.takes_text(),
+            None => self.nest.top.progress.takes_text(),
+        };
+        if takes_text {
+            Stop::Memory
+        } else {
+            Stop::Refused(Reason::Misplaced)
+        }
+    }
+
     /// A piece of text, of at most so many bytes as there is room for.
     pub fn piece(&mut self, room: &mut usize, bytes: &[u8]) -> Result<(), Stop>
         ensures text { GivesFrames result self.new (step self.old (Text bytes.now)) }
@@ -258,7 +292,7 @@ impl Stack {
         ensures room { OnOk result (room.new + length bytes.now ≡ room.old) }
     {
         match room.checked_sub(bytes.len()) {
-            None => Err(Stop::Memory),
+            None => Err(self.no_room()),
             Some(left) => {
                 *room = left;
                 self.take_piece(bytes)
