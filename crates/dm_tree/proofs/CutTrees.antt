@@ -1,8 +1,8 @@
 -- A tree without a subtree.
-use Rattle.std.proofs.Common.{◌≡◌, ℕ, zero, suc, ◌<◌, ◌≤◌, true, false, List, length, Option, None, Some, refl, sym}
+use Rattle.std.proofs.Common.{◌≡◌, ℕ, zero, suc, ◌<◌, ◌≤◌, false, List, length, Option, None, Some, refl, sym}
 use Rattle.std.proofs.Common.{◌∙◌, ap, subst, arith, inl, inr}
-use Rattle.std.proofs.Math.ListN.{set, length-set}
-use Rattle.std.proofs.lemmas.List.{set-get_or, get_or-set_same, get_or-set_other}
+use Rattle.std.proofs.Math.ListN.{length-set}
+use Rattle.std.proofs.lemmas.List.{get_or-set_same, get_or-set_other}
 use Rattle.dm_uri.specs.Names.{is_within_limits}
 use Rattle.dm_tree.specs.declared.rows.Row.{Row}
 use Rattle.dm_tree.specs.declared.rows.Change.TheVariants as change
@@ -14,9 +14,8 @@ use Rattle.dm_tree.specs.Undos.{TakesBack}
 use Rattle.dm_tree.proofs.Paths.{same_or_not}
 use Rattle.dm_tree.proofs.NodeEdits.{of_both, live_row}
 use Rattle.dm_tree.proofs.SubtreeCuts.{still_attached, shaped-detached, cut_walk, depth_cut, live_attached}
-use Rattle.dm_tree.proofs.RowAppends.{set_twice}
 use Rattle.dm_tree.proofs.LiveRows.{len-nodes, live_at}
-use Rattle.dm_tree.proofs.TreeEdits.{takes_back}
+use Rattle.dm_tree.proofs.UndoFlips.{again, parked-taken_out}
 
 -- where fewer rows lie below the root, they are fewer
 pub fewer : (rows rows' : List Row)
@@ -42,8 +41,11 @@ cut_live rows shape k z live j q e =
     (cut_walk rows shape k (path_of rows k) z l live (row_at rows j).depth j q refl
     (ap (λ d. walk (attached_as rows k false) d 0 j) (sym (depth_cut rows k j l)) ∙ e)).0
 
-pub tree-cut : (rows : List Row) → IsTree rows → (k : ℕ) → 0 < k → IsLive rows k → IsTree (attached_as rows k false)
-tree-cut rows tree k z live = record {
+-- what is left is a tree, where nothing lies below the root at another path than before
+pub tree-out : (rows : List Row) → IsTree rows → (k : ℕ) → 0 < k → k < length rows
+    → ((j : ℕ) (q : Path) → path_below (attached_as rows k false) 0 j ≡ Some q → path_below rows 0 j ≡ Some q)
+    → IsTree (attached_as rows k false)
+tree-out rows tree k z l before = record {
   shape = shape;
   each = λ j jl. elim (same_or_not j k) [
     | inl h ↦
@@ -59,62 +61,48 @@ tree-cut rows tree k z live = record {
       subst (λ n. IsChildOf n (node_of (attached_as rows k false) (row_at (attached_as rows k false) j).parent))
       (sym (node j)) (subst (IsChildOf (node_of rows j)) (sym above) (tree.children j still.1));
   within = λ j there.
-      let before =
-      live_at rows j (path_of (attached_as rows k false) j) (cut_live rows tree.shape k z live j _ there) in
-      ap is_within_limits (sym before.1) ∙ tree.within j before.0;
+      let was = live_at rows j (path_of (attached_as rows k false) j) (before j _ there) in
+      ap is_within_limits (sym was.1) ∙ tree.within j was.0;
   size =
       omega (
         arith,
         len-nodes (attached_as rows k false) shape,
         len-nodes rows tree.shape,
-        fewer rows (attached_as rows k false) (cut_live rows tree.shape k z live) (length rows),
+        fewer rows (attached_as rows k false) before (length rows),
         tree.size,
         ap (λ n. length (ids_below (attached_as rows k false) 0 n)) long,
       );
 }
   where
-    l : k < length rows
-    l = live_row rows tree.shape k live
-
     shape : IsShaped (attached_as rows k false)
-    shape = shaped-detached rows tree.shape k z (live_row rows tree.shape k live)
+    shape = shaped-detached rows tree.shape k z l
 
     here : row_at (attached_as rows k false) k ≡ record (row_at rows k) { attached = false }
-    here = get_or-set_same rows k _ blank (live_row rows tree.shape k live)
+    here = get_or-set_same rows k _ blank l
 
     long : length (attached_as rows k false) ≡ length rows
     long = length-set rows k _
 
     node : (j : ℕ) → node_of (attached_as rows k false) j ≡ node_of rows j
-    node j = of_both rows k _ (λ r. r.node) refl j (live_row rows tree.shape k live)
+    node j = of_both rows k _ (λ r. r.node) refl j l
 
     parent : (j : ℕ) → (row_at (attached_as rows k false) j).parent ≡ (row_at rows j).parent
-    parent j = of_both rows k _ (λ r. r.parent) refl j (live_row rows tree.shape k live)
+    parent j = of_both rows k _ (λ r. r.parent) refl j l
+
+pub tree-cut : (rows : List Row) → IsTree rows → (k : ℕ) → 0 < k → IsLive rows k → IsTree (attached_as rows k false)
+tree-cut rows tree k z live =
+    tree-out rows tree k z (live_row rows tree.shape k live) (cut_live rows tree.shape k z live)
 
 pub takes_back-cut : (rows : List Row) → IsTree rows → (k : ℕ) → 0 < k → IsLive rows k
     → TakesBack (change.PutIn k) rows (attached_as rows k false)
-takes_back-cut rows tree k z live =
-    let l = live_row rows tree.shape k live in
-    let here : row_at (attached_as rows k false) k ≡ record (row_at rows k) { attached = false } =
-    get_or-set_same rows k _ blank l in
-    takes_back rows (attached_as rows k false) (change.PutIn k) tree
-    (omega (arith, l, length-set rows k (record (row_at rows k) { attached = false })))
-    (ap (λ (r : Row). r.attached) here)
-    (ap (λ (r : Row). set (attached_as rows k false) k (record r { attached = true })) here
-    ∙ set_twice rows k _ _
-    ∙ ap (λ b. set rows k (record (row_at rows k) { attached = b })) (sym (live_attached rows tree.shape k z live))
-    ∙ set-get_or rows k blank)
+takes_back-cut rows tree k z live = again rows (change.TakeOut k) tree (record {
+  inside = live_row rows tree.shape k live;
+  ready = live_attached rows tree.shape k z live;
+  sound = tree-cut rows tree k z live;
+})
 
 -- the top is parked then
 pub parked-cut : (rows : List Row) → IsTree rows → (k : ℕ) → 0 < k → IsLive rows k
     → IsParkedTop (attached_as rows k false) k
 parked-cut rows tree k z live =
-    let l = live_row rows tree.shape k live in
-    let here : row_at (attached_as rows k false) k ≡ record (row_at rows k) { attached = false } =
-    get_or-set_same rows k _ blank l in
-    record {
-      below_root = z;
-      inside = omega (arith, l, length-set rows k (record (row_at rows k) { attached = false }));
-      out = ap (λ (r : Row). r.attached) here;
-      held = ap (λ (r : Row). r.given_up) here ∙ (tree.each k l).attached (live_attached rows tree.shape k z live);
-    }
+    parked-taken_out rows k tree (live_row rows tree.shape k live) (live_attached rows tree.shape k z live)

@@ -1,74 +1,40 @@
 -- Flips beside a row that is another one.
-use Rattle.std.proofs.Common.{◌≡◌, ℕ, true, false, List, [], ◌∷◌, ◌++◌}
+use Rattle.std.proofs.Common.{◌≡◌, ℕ, List, [], ◌∷◌, ◌++◌}
 use Rattle.std.proofs.Common.{refl, sym, ◌∙◌, ap, subst, arith}
 use Rattle.std.proofs.Math.ListN.{set, length-set}
 use Rattle.std.proofs.lemmas.List.{get_or-set_other}
 use Rattle.dm_tree.specs.declared.rows.Row.{Row}
 use Rattle.dm_tree.specs.declared.rows.Change.{Change}
 use Rattle.dm_tree.specs.declared.rows.Change.TheVariants as change
-use Rattle.dm_tree.specs.Nodes.{counted, with_value, with_bytes, with_acl, with_title}
-use Rattle.dm_tree.specs.Rows.{blank, row_at, nodes, ids, IsTree, IsParkedTop}
+use Rattle.dm_tree.specs.Rows.{blank, node_of, nodes, ids, IsTree, IsParkedTop}
 use Rattle.dm_tree.specs.Undos.{row_of, flipped, turned, Fits, FitAll, all_flipped, IsReadyChange}
 use Rattle.dm_tree.specs.Notes.{AreAt, GoesAlike}
 use Rattle.dm_tree.proofs.FlippedRows.{sets_apart}
+use Rattle.dm_tree.proofs.UndoFlips.{turned-same, parked-same}
 use Rattle.dm_tree.specs.Reuse.{IsUsed, IsClear}
 
 -- ---- one row
 
-one_set : (rows : List Row) (k : ℕ) (r : Row) (j : ℕ) (f : Row → Row) → (j ≡ k → ⊥)
-    → set (set rows k r) j (f (row_at (set rows k r) j)) ≡ set (set rows j (f (row_at rows j))) k r
-one_set rows k r j f d =
-    ap (λ s. set (set rows k r) j (f s)) (get_or-set_other rows k j r blank d)
-    ∙ sets_apart rows k j r _ (λ e. d (sym e))
-
 pub flipped-set : (rows : List Row) (k : ℕ) (r : Row) (u : Change) → (row_of u ≡ k → ⊥)
     → flipped (set rows k r) u ≡ set (flipped rows u) k r
-flipped-set rows k r (change.Value j value verno stamp) d =
-    one_set rows k r j (λ (s : Row). record s { node = counted (with_value s.node value) verno stamp }) d
-flipped-set rows k r (change.Bytes j bytes verno stamp) d =
-    one_set rows k r j (λ (s : Row). record s { node = counted (with_bytes s.node bytes) verno stamp }) d
-flipped-set rows k r (change.Acl j acl verno stamp) d =
-    one_set rows k r j (λ (s : Row). record s { node = counted (with_acl s.node acl) verno stamp }) d
-flipped-set rows k r (change.Title j title verno stamp) d =
-    one_set rows k r j (λ (s : Row). record s { node = counted (with_title s.node title) verno stamp }) d
-flipped-set rows k r (change.Name j name verno stamp) d =
-    one_set rows k r j (λ (s : Row). record s { name = name; node = counted s.node verno stamp }) d
-flipped-set rows k r (change.TakeOut j) d = one_set rows k r j (λ (s : Row). record s { attached = false }) d
-flipped-set rows k r (change.PutIn j) d = one_set rows k r j (λ (s : Row). record s { attached = true }) d
+flipped-set rows k r (change.PutIn j) d = rw get_or-set_other (sets_apart rows k j r _ (λ e. d (sym e)))
+flipped-set rows k r u d = rw (get_or-set_other, node_of) (sets_apart rows k (row_of u) r _ (λ e. d (sym e)))
 
 ready-set : (rows : List Row) (k : ℕ) (r : Row) (u : Change) → (row_of u ≡ k → ⊥) → IsReadyChange rows u
     → IsReadyChange (set rows k r) u
-ready-set rows k r (change.Value j value verno stamp) d e = tt
-ready-set rows k r (change.Bytes j bytes verno stamp) d e = tt
-ready-set rows k r (change.Acl j acl verno stamp) d e = tt
-ready-set rows k r (change.Title j title verno stamp) d e = tt
-ready-set rows k r (change.Name j name verno stamp) d e = tt
-ready-set rows k r (change.TakeOut j) d e = ap (λ (s : Row). s.attached) (get_or-set_other rows k j r blank d) ∙ e
-ready-set rows k r (change.PutIn j) d e = ap (λ (s : Row). s.attached) (get_or-set_other rows k j r blank d) ∙ e
+ready-set rows k r (change.TakeOut j) d e = rw get_or-set_other e
+ready-set rows k r (change.PutIn j) d e = rw get_or-set_other e
+ready-set rows k r u d e = tt
 
 turned-set : (rows : List Row) (k : ℕ) (r : Row) (u : Change) → (row_of u ≡ k → ⊥)
     → turned (set rows k r) u ≡ turned rows u
-turned-set rows k r (change.Value j value verno stamp) d =
-    ap (λ (s : Row). change.Value j s.node.value s.node.verno s.node.stamp) (get_or-set_other rows k j r blank d)
-turned-set rows k r (change.Bytes j bytes verno stamp) d =
-    ap (λ (s : Row). change.Bytes j s.node.value.bytes s.node.verno s.node.stamp) (get_or-set_other rows k j r blank d)
-turned-set rows k r (change.Acl j acl verno stamp) d =
-    ap (λ (s : Row). change.Acl j s.node.acl s.node.verno s.node.stamp) (get_or-set_other rows k j r blank d)
-turned-set rows k r (change.Title j title verno stamp) d =
-    ap (λ (s : Row). change.Title j s.node.title s.node.verno s.node.stamp) (get_or-set_other rows k j r blank d)
-turned-set rows k r (change.Name j name verno stamp) d =
-    ap (λ (s : Row). change.Name j s.name s.node.verno s.node.stamp) (get_or-set_other rows k j r blank d)
-turned-set rows k r (change.TakeOut j) d = refl
-turned-set rows k r (change.PutIn j) d = refl
+turned-set rows k r u d = turned-same rows (set rows k r) u (get_or-set_other rows k (row_of u) r blank d)
 
 pub parked-beside_set : (rows : List Row) (k : ℕ) (r : Row) (j : ℕ) → (j ≡ k → ⊥) → IsParkedTop rows j
     → IsParkedTop (set rows k r) j
-parked-beside_set rows k r j d p = record {
-  below_root = p.below_root;
-  inside = omega (arith, p.inside, length-set rows k r);
-  out = ap (λ (s : Row). s.attached) (get_or-set_other rows k j r blank d) ∙ p.out;
-  held = ap (λ (s : Row). s.given_up) (get_or-set_other rows k j r blank d) ∙ p.held;
-}
+parked-beside_set rows k r j d p =
+    parked-same rows (set rows k r) j (omega (arith, p.inside, length-set rows k r))
+    (get_or-set_other rows k j r blank d) p
 
 -- ---- the same row in place of the row k, whatever is flipped beside it
 

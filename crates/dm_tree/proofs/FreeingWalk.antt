@@ -1,8 +1,9 @@
 -- A subtree is freed: down where a row is left, and up where none is.
-use Rattle.std.proofs.Common.{◌≡◌, ◌≢◌, ℕ, zero, suc, ◌<◌, ◌+◌, ◌-◌, ◌*◌, Bool, true, false, cond, List, [], ◌∷◌}
+use Rattle.std.proofs.Common.{◌≡◌, ◌≢◌, ℕ, zero, suc, ◌<◌, ◌+◌, ◌-◌, ◌*◌, true, false, cond, List, [], ◌∷◌}
 use Rattle.std.proofs.Common.{◌++◌, length, get_or, Option, None, Some, refl, sym, ◌∙◌, ap, subst, arith, ◌⊎◌, inl, inr}
 use Rattle.std.specs.Prelude.{slice_get, sum_by}
 use Rattle.std.proofs.Math.ListN.{set, length-set}
+use Rattle.std.proofs.lemmas.Bool.{false_from_ne_true}
 use Rattle.std.proofs.lemmas.List.{get_or-set_same, get_or-set_other, get_or_past}
 use Rattle.std.proofs.lemmas.List.Sums.{sum_by-set}
 use Rattle.std.proofs.lemmas.Option.{slice_get-get_or, slice_get_within, get_or_from_slice_get}
@@ -88,13 +89,10 @@ to_go rows at = 2 * sum_by weight rows + (row_at rows at).depth
 module _ (old : List Row) (tree : IsTree old) (top : ℕ) (is : IsParkedTop old top) where
   first : row_at (without_content old top) top
       ≡ record (row_at old top) { given_up = true; node = emptied (node_of old top) }
-  first =
-      get_or-set_same old top (record (row_at old top) { given_up = true; node = emptied (node_of old top) }) blank
-      is.inside
+  first = get_or-set_same old top _ blank is.inside
 
   beside : (j : ℕ) → j ≢ top → row_at (without_content old top) j ≡ row_at old j
-  beside j d =
-      get_or-set_other old top j (record (row_at old top) { given_up = true; node = emptied (node_of old top) }) blank d
+  beside j d = get_or-set_other old top j _ blank d
 
   same_parent : (j : ℕ) → (row_at (without_content old top) j).parent ≡ (row_at old j).parent
   same_parent j = of_both old top _ (λ s. s.parent) refl j is.inside
@@ -115,7 +113,7 @@ module _ (old : List Row) (tree : IsTree old) (top : ℕ) (is : IsParkedTop old 
   pub going-begins : IsGoing old top (without_content old top) top
   going-begins = record {
     so = freeing-begins old tree top is;
-    long = length-set old top (record (row_at old top) { given_up = true; node = emptied (node_of old top) });
+    long = length-set old top _;
     depth = λ j. of_both old top _ (λ s. s.depth) refl j is.inside;
     each = λ j p e. elim (same_or_not j top) [
       | inl s ↦ subst (λ i. StillOrSpent (row_at old i) (row_at (without_content old top) i)) (sym s)
@@ -144,19 +142,17 @@ module _ (old : List Row) (tree : IsTree old) (top : ℕ) (is : IsParkedTop old 
   inside : k < length rows
   inside = (attached_row rows go.so.tree.shape k child).1
 
-  above_out : (b : Bool) → (row_at rows at).attached ≡ b → (row_at rows at).attached ≡ false
-  above_out false e = e
-  above_out true e =
+  above_out : (row_at rows at).attached ≡ false
+  above_out = false_from_ne_true _ (λ e.
       let not_up : (row_at rows at).given_up ≡ false =
       (go.so.tree.each at (attached_row rows go.so.tree.shape at e).1).attached e in
-      let is_up = go.given_up in
-      absurd (cc)
+      let is_up = go.given_up in cc)
 
   pub left-below : IsLeftOver rows k
   left-below = record {
     attached = child;
     below_root = omega (arith, below, above_root old tree.shape top at go.found.0 is.below_root go.found.1);
-    out = ap (λ i. (row_at rows i).attached) below ∙ above_out (row_at rows at).attached refl;
+    out = ap (λ i. (row_at rows i).attached) below ∙ above_out;
     given_up = ap (λ i. (row_at rows i).given_up) below ∙ go.given_up;
   }
 
@@ -172,32 +168,13 @@ module _ (old : List Row) (tree : IsTree old) (top : ℕ) (is : IsParkedTop old 
   long_out : length (attached_as rows k false) ≡ length rows
   long_out = length-set rows k (record (row_at rows k) { attached = false })
 
-  emptied_out : Row
-  emptied_out = record (row_at (attached_as rows k false) k) {
-    given_up = true;
-    node = emptied (node_of (attached_as rows k false) k);
-  }
-
   other : (j : ℕ) → j ≢ k → row_at (freed rows k) j ≡ row_at rows j
-  other j d =
-      get_or-set_other (attached_as rows k false) k j
-      (record (row_at (attached_as rows k false) k) {
-        given_up = true;
-        node = emptied (node_of (attached_as rows k false) k);
-      }) blank d
-      ∙ get_or-set_other rows k j (record (row_at rows k) { attached = false }) blank d
-
-  taken : row_at (attached_as rows k false) k ≡ record (row_at rows k) { attached = false }
-  taken = get_or-set_same rows k (record (row_at rows k) { attached = false }) blank inside
+  other j d = get_or-set_other (attached_as rows k false) k j _ blank d ∙ get_or-set_other rows k j _ blank d
 
   here : row_at (freed rows k) k ≡ spent (row_at rows k)
   here =
-      get_or-set_same (attached_as rows k false) k
-      (record (row_at (attached_as rows k false) k) {
-        given_up = true;
-        node = emptied (node_of (attached_as rows k false) k);
-      }) blank (omega (arith, inside, long_out))
-      ∙ ap (λ (s : Row). record s { given_up = true; node = emptied s.node }) taken
+      get_or-set_same (attached_as rows k false) k _ blank (omega (arith, inside, long_out))
+      ∙ ap (λ (s : Row). record s { given_up = true; node = emptied s.node }) (get_or-set_same rows k _ blank inside)
 
   still : row_at rows k ≡ row_at old k
   still = elim (go.each k _ lies) [
@@ -239,12 +216,7 @@ module _ (old : List Row) (tree : IsTree old) (top : ℕ) (is : IsParkedTop old 
   pub going-down : IsGoing old top (freed rows k) k
   going-down = record {
     so = on;
-    long =
-        length-set (attached_as rows k false) k
-        (record (row_at (attached_as rows k false) k) {
-          given_up = true;
-          node = emptied (node_of (attached_as rows k false) k);
-        }) ∙ long_out ∙ go.long;
+    long = length-set (attached_as rows k false) k _ ∙ long_out ∙ go.long;
     depth = λ j. elim (same_or_not j k) [
       | inl e ↦ ap (λ i. (row_at (freed rows k) i).depth) e ∙ ap (λ (s : Row). s.depth) here
           ∙ ap (λ i. (row_at rows i).depth) (sym e) ∙ go.depth j
@@ -281,11 +253,7 @@ module _ (old : List Row) (tree : IsTree old) (top : ℕ) (is : IsParkedTop old 
       sum_by-set weight rows k (record (row_at rows k) { attached = false }) blank inside in
       let up : sum_by weight (freed rows k) + weight (row_at (attached_as rows k false) k)
       ≡ sum_by weight (attached_as rows k false) + weight (row_at (attached_as rows k false) k) =
-      sum_by-set weight (attached_as rows k false) k
-      (record (row_at (attached_as rows k false) k) {
-        given_up = true;
-        node = emptied (node_of (attached_as rows k false) k);
-      }) blank (omega (arith, inside, long_out)) in
+      sum_by-set weight (attached_as rows k false) k _ blank (omega (arith, inside, long_out)) in
       let deep : (row_at (freed rows k) k).depth ≡ suc (row_at rows at).depth =
       ap (λ (s : Row). s.depth) here ∙ attached_falls rows go.so.tree.shape k child
       ∙ ap (λ i. suc (row_at rows i).depth) below in
@@ -445,16 +413,17 @@ going-inside old top rows at go = elim (below_or_not at (length rows)) [
 abbrev pub last_of : List ChildList → ℕ → Option ℕ
 last_of index at = slice_get (children_at index at).ids (length (children_at index at).ids - 1)
 
-pub child-read : (rows : List Row) (at : ℕ) (index index' : List ChildList) → index' ≡ index → IsIndex rows index
-    → at < length rows
-    → (o : Option ℕ) → o ≡ last_of index' at → (k : ℕ) → o ≡ Some k
+pub child-read : {old : List Row} {top : ℕ} {rows : List Row} {at : ℕ} {index index' : List ChildList} {o : Option ℕ}
+    {k : ℕ}
+    → IsGoing old top rows at → IsIndex rows index → index' ≡ index → o ≡ last_of index' at → o ≡ Some k
     → ((row_at rows k).attached ≡ true) × ((row_at rows k).parent ≡ at)
-child-read rows at index index' same known l o is k e =
-    last-child rows at (children_at index at) (known.each at l) k (ap (λ i. last_of i at) (sym same) ∙ sym is ∙ e)
+child-read {old} {top} {rows} {at} {index} {index'} {o} {k} go known same is e =
+    last-child rows at (children_at index at) (known.each at (going-inside old top rows at go)) k
+    (ap (λ i. last_of i at) (sym same) ∙ sym is ∙ e)
 
-pub none-read : (rows : List Row) (at : ℕ) (index index' : List ChildList) → index' ≡ index → IsIndex rows index
-    → at < length rows
-    → (o : Option ℕ) → o ≡ last_of index' at → o ≡ None → (j : ℕ) → (row_at rows j).attached ≡ true
-    → (row_at rows j).parent ≡ at → ⊥
-none-read rows at index index' same known l o is e =
-    no-child rows at (children_at index at) (known.each at l) (ap (λ i. last_of i at) (sym same) ∙ sym is ∙ e)
+pub none-read : {old : List Row} {top : ℕ} {rows : List Row} {at : ℕ} {index index' : List ChildList} {o : Option ℕ}
+    → IsGoing old top rows at → IsIndex rows index → index' ≡ index → o ≡ last_of index' at → o ≡ None
+    → (j : ℕ) → (row_at rows j).attached ≡ true → (row_at rows j).parent ≡ at → ⊥
+none-read {old} {top} {rows} {at} {index} {index'} {o} go known same is e =
+    no-child rows at (children_at index at) (known.each at (going-inside old top rows at go))
+    (ap (λ i. last_of i at) (sym same) ∙ sym is ∙ e)

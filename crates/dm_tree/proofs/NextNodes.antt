@@ -1,15 +1,16 @@
 -- The first child, the next sibling and the next node are the first of the keys that pass.
 use Rattle.std.proofs.Common.{◌≡◌, ℕ, zero, suc, ◌+◌, ◌<◌, Bool, true, false, cond, nat_eq, List, [], ◌∷◌, ◌++◌, length}
-use Rattle.std.proofs.Common.{drop, Option, None, Some, refl, sym, ◌∙◌, ap, subst, arith, length-append}
-use Rattle.std.specs.Prelude.{◌==◌, ◌&&◌, not, IfSome, option_and_then, unwrap_or}
+use Rattle.std.proofs.Common.{drop, Option, None, Some, refl, sym, ◌∙◌, ap, subst, arith, length-append, append_assoc}
+use Rattle.std.specs.Prelude.{find, ◌==◌, ◌&&◌, not, IfSome, option_and_then, unwrap_or}
 use Rattle.std.specs.Option.{option_or}
 use Rattle.std.specs.Ordering.{is_lt, ordering_then}
 use Rattle.std.specs.declared.cmp.Ordering.{Ordering}
 use Rattle.std.specs.declared.cmp.Ordering.TheVariants.{Less, Equal, Greater}
 use Rattle.std.specs.Cmp.{both_ways}
-use Rattle.std.specs.FinMap.{get}
-use Rattle.std.proofs.lemmas.Bool.{and_from, and_parts}
+use Rattle.std.specs.FinMap.{get, keys}
+use Rattle.std.proofs.lemmas.Bool.{and_from, and_parts, false_from_ne_true, true_from_ne_false}
 use Rattle.std.proofs.lemmas.Bool.Decides.{nat_tests}
+use Rattle.std.proofs.lemmas.List.{append-nil}
 use Rattle.dm_tree.specs.declared.nodes.Node.{Node}
 use Rattle.dm_tree.specs.declared.rows.Row.{Row}
 use Rattle.dm_tree.specs.Nodes.{Path, tree_order, above, is_below}
@@ -17,7 +18,7 @@ use Rattle.dm_tree.specs.Order.{is_child_of, is_before, first_child, next_siblin
 use Rattle.dm_tree.specs.Rows.{row_at, node_of, walk, path_below, ids, nodes, IsShaped, IsLive, path_of}
 use Rattle.dm_tree.specs.Walks.{comes_after, is_later_child, least_child, next_past, next_row}
 use Rattle.dm_tree.proofs.Paths.{below_last, below_none, below_longer}
-use Rattle.dm_tree.proofs.RowPaths.{Child, Above, child_below, attached_row, one_row, some_path, not_zero}
+use Rattle.dm_tree.proofs.RowPaths.{Child, child_below, attached_row, one_row, not_zero}
 use Rattle.dm_tree.proofs.RowPaths as climbs
 use Rattle.dm_tree.proofs.RowMaps.{id_of}
 use Rattle.dm_tree.proofs.LiveRows.{HasParent, has_parent, above-append, live_at, node_there, row_there}
@@ -27,10 +28,6 @@ use Rattle.dm_tree.proofs.FirstKeys.{first_key, no_key, same_key, key_passes}
 use Rattle.dm_tree.proofs.LeastChild.{HasNoChild, IsLeast, IsLeastChild, least-is}
 
 -- ---- tests of paths
-
-to_false : (b : Bool) → (b ≡ true → ⊥) → b ≡ false
-to_false true h = absurd (h refl)
-to_false false h = refl
 
 then_equal : (o : Ordering) → is_lt (ordering_then o Equal) ≡ is_lt o
 then_equal Less = refl
@@ -51,10 +48,6 @@ fork_not_before a x y xs h = ap is_lt (fork a x y xs []) ∙ by_order (name_orde
     by_order Equal h (n ∷ ns) = refl
     by_order Greater h xs = refl
 
-append-cons : (a : Path) (x : List ℕ) (ys : Path) → (a ++ x ∷ []) ++ ys ≡ a ++ x ∷ ys
-append-cons [] x ys = refl
-append-cons (n ∷ ns) x ys = ap (λ q. n ∷ q) (append-cons ns x ys)
-
 -- what is behind a name and doesn't go through it goes through a later name
 fork_behind : (a : Path) (x y : List ℕ) (ys : Path) → is_before (a ++ x ∷ []) (a ++ y ∷ ys) ≡ true
     → is_below (a ++ x ∷ []) (a ++ y ∷ ys) ≡ false → is_lt (name_order x y) ≡ true
@@ -65,7 +58,7 @@ fork_behind a x y ys h f = by_order (name_order x y) refl (sym (ap is_lt (fork a
     by_order Less e g = ap is_lt e
     by_order Equal e g =
         let same : x ≡ y = name_exact x y e in
-        let whole : (a ++ x ∷ []) ++ ys ≡ a ++ y ∷ ys = append-cons a x ys ∙ ap (λ n. a ++ n ∷ ys) same in
+        let whole : (a ++ x ∷ []) ++ ys ≡ a ++ y ∷ ys = append_assoc a (x ∷ []) ys ∙ ap (λ n. a ++ n ∷ ys) same in
         let yes : is_below (a ++ x ∷ []) (a ++ y ∷ ys) ≡ true =
         ap (is_below (a ++ x ∷ [])) (sym whole) ∙ below_append (a ++ x ∷ []) ys in
         absurd (cc)
@@ -95,12 +88,8 @@ child_is a q h =
 on_below : (p r : Path) → is_below p r ≡ true → is_before p r ≡ true → (m : List ℕ) × (ms : Path) × (r ≡ p ++ m ∷ ms)
 on_below p r b h = by_rest (drop (length p) r) (rest_below p r b)
   where
-    append-none : (q : Path) → q ++ [] ≡ q
-    append-none [] = refl
-    append-none (n ∷ ns) = ap (λ s. n ∷ s) (append-none ns)
-
     by_rest : (s : Path) → r ≡ p ++ s → (m : List ℕ) × (ms : Path) × (r ≡ p ++ m ∷ ms)
-    by_rest [] e = let same : r ≡ p = e ∙ append-none p in let no_more = ap (is_before p) same ∙ not_before_itself p in
+    by_rest [] e = let same : r ≡ p = e ∙ append-nil p in let no_more = ap (is_before p) same ∙ not_before_itself p in
         absurd (cc)
     by_rest (m ∷ ms) e = (m, ms, e)
 
@@ -251,40 +240,56 @@ module _ (rows : List Row) (shape : IsShaped rows) where
         behind = inner.1;
       }
 
-  -- a child of u behind `after` is not before the least of them
-  not_before_least : (u : ℕ) (after : Option ℕ) (c : ℕ) → IsLeast rows u after (length rows) c → (m : List ℕ)
-      → ChildRow rows u m → comes_after rows after m ≡ true
-      → is_lt (name_order m (row_at rows c).name) ≡ false
-  not_before_least u after c l m r h =
-      ap (λ n. is_lt (name_order n (row_at rows c).name)) (sym r.child.named)
-      ∙ l.least r.row r.inside (later_yes u after m r h)
+  -- a node below u that goes on with a name behind `after` is not before the least child behind `after`
+  not_before_least : (u : ℕ) (a : Path) → path_below rows 0 u ≡ Some a → (after : Option ℕ) (c : ℕ)
+      → IsLeast rows u after (length rows) c
+      → (q : Path) (x : Node) → get (nodes rows) q ≡ Some x → (m : List ℕ) (ms : Path) → q ≡ a ++ m ∷ ms
+      → comes_after rows after m ≡ true → is_before q (a ++ (row_at rows c).name ∷ []) ≡ false
+  not_before_least u a at after c l q x there m ms e h =
+      let r = child_row u a at m ms x (ap (get (nodes rows)) (sym e) ∙ there) in
+      ap (λ p. is_before p (a ++ (row_at rows c).name ∷ [])) e
+      ∙ fork_not_before a m (row_at rows c).name ms
+      (ap (λ n. is_lt (name_order n (row_at rows c).name)) (sym r.child.named)
+      ∙ l.least r.row r.inside (later_yes u after m r h))
 
-  no_later : (u : ℕ) (after : Option ℕ) → HasNoChild rows u after (length rows) → (m : List ℕ) → ChildRow rows u m
+  -- and there is none if no child is behind `after`
+  no_later : (u : ℕ) (a : Path) → path_below rows 0 u ≡ Some a → (after : Option ℕ)
+      → HasNoChild rows u after (length rows)
+      → (q : Path) (x : Node) → get (nodes rows) q ≡ Some x → (m : List ℕ) (ms : Path) → q ≡ a ++ m ∷ ms
       → comes_after rows after m ≡ true → ⊥
-  no_later u after none m r h = let no_child = none r.row r.inside in let yes = later_yes u after m r h in absurd (cc)
+  no_later u a at after none q x there m ms e h =
+      let r = child_row u a at m ms x (ap (get (nodes rows)) (sym e) ∙ there) in
+      let no_child = none r.row r.inside in let yes = later_yes u after m r h in absurd (cc)
+
+  -- the least child is the first node that passes a test, if it passes and no node before it does
+  found : (u : ℕ) (a : Path) → path_below rows 0 u ≡ Some a → (after : Option ℕ) (c : ℕ)
+      → IsLeast rows u after (length rows) c
+      → (test : Path → Bool)
+      → (comes_after rows after (row_at rows c).name ≡ true → test (a ++ (row_at rows c).name ∷ []) ≡ true)
+      → ((q : Path) (x : Node) → get (nodes rows) q ≡ Some x → test q ≡ true
+      → is_before q (a ++ (row_at rows c).name ∷ []) ≡ false)
+      → IsLive rows c × (find test (keys (nodes rows)) ≡ Some (path_of rows c))
+  found u a at after c h test passes least =
+      let later = later_parts u after a at c h.child in
+      let live = live_at rows c _ later.lies in (
+        live.0,
+        first_key (nodes rows) test (path_of rows c) (record {
+          value = node_of rows c;
+          there = node_there rows shape c live.0;
+          passes = ap test live.1 ∙ passes later.behind;
+          least = λ q x e is. ap (is_before q) live.1 ∙ least q x e is;
+        }),
+      )
 
   -- ---- the first child
 
   shows_first : (u : ℕ) (a : Path) → path_below rows 0 u ≡ Some a → (o : Option ℕ)
       → IsLeastChild rows u None (length rows) o → Shows rows o (first_child (nodes rows) a)
-  shows_first u a at None h = no_key (nodes rows) (is_child_of a) (λ q x e. to_false (is_child_of a q) (λ is.
-      let c = child_is a q is in
-      no_later u None h c.0 (child_row u a at c.0 [] x (ap (get (nodes rows)) (sym c.1) ∙ e)) refl))
+  shows_first u a at None h = no_key (nodes rows) (is_child_of a) (λ q x e. false_from_ne_true (is_child_of a q) (λ is.
+      let m = child_is a q is in no_later u a at None h q x e m.0 [] m.1 refl))
   shows_first u a at (Some c) h =
-      let later = later_parts u None a at c h.child in
-      let live = live_at rows c _ later.lies in (
-        live.0,
-        ap (λ q. first_child (nodes rows) a) live.1 ∙ first_key (nodes rows) (is_child_of a) (path_of rows c) (record {
-          value = node_of rows c;
-          there = node_there rows shape c live.0;
-          passes = ap (is_child_of a) live.1 ∙ child_passes a (row_at rows c).name;
-          least = λ q x e is.
-              let m = child_is a q is in
-              rw (live.1, m.1)
-              (fork_not_before a m.0 (row_at rows c).name []
-              (not_before_least u None c h m.0 (child_row u a at m.0 [] x (ap (get (nodes rows)) (sym m.1) ∙ e)) refl));
-        }),
-      )
+      found u a at None c h (is_child_of a) (λ _. child_passes a (row_at rows c).name) (λ q x e is.
+      let m = child_is a q is in not_before_least u a at None c h q x e m.0 [] m.1 refl)
 
   pub first-is : (u : ℕ) → IsLive rows u
       → Shows rows (least_child rows u None (length rows)) (first_child (nodes rows) (path_of rows u))
@@ -298,27 +303,12 @@ module _ (rows : List Row) (shape : IsShaped rows) where
       → Shows rows o (next_sibling (nodes rows) (a ++ (row_at rows k).name ∷ []))
   shows_next k u a at None h =
       no_key (nodes rows) (is_sibling a (row_at rows k).name)
-      (λ q x e. to_false (is_sibling a (row_at rows k).name q) (λ is.
-      let s = sibling_is a (row_at rows k).name q is in
-      no_later u (Some k) h s.0 (child_row u a at s.0 [] x (ap (get (nodes rows)) (sym s.1) ∙ e)) s.2))
+      (λ q x e. false_from_ne_true (is_sibling a (row_at rows k).name q) (λ is.
+      let s = sibling_is a (row_at rows k).name q is in no_later u a at (Some k) h q x e s.0 [] s.1 s.2))
   shows_next k u a at (Some c) h =
-      let later = later_parts u (Some k) a at c h.child in
-      let live = live_at rows c _ later.lies in (
-        live.0,
-        first_key (nodes rows) (is_sibling a (row_at rows k).name) (path_of rows c) (record {
-          value = node_of rows c;
-          there = node_there rows shape c live.0;
-          passes =
-              ap (is_sibling a (row_at rows k).name) live.1
-              ∙ sibling_passes a (row_at rows k).name (row_at rows c).name later.behind;
-          least = λ q x e is.
-              let s = sibling_is a (row_at rows k).name q is in
-              rw (live.1, s.1)
-              (fork_not_before a s.0 (row_at rows c).name []
-              (not_before_least u (Some k) c h s.0 (child_row u a at s.0 [] x (ap (get (nodes rows)) (sym s.1) ∙ e))
-              s.2));
-        }),
-      )
+      found u a at (Some k) c h (is_sibling a (row_at rows k).name)
+      (sibling_passes a (row_at rows k).name (row_at rows c).name) (λ q x e is.
+      let s = sibling_is a (row_at rows k).name q is in not_before_least u a at (Some k) c h q x e s.0 [] s.1 s.2)
 
   pub next-is : (k : ℕ) → IsLive rows k → nat_eq k 0 ≡ false
       → Shows rows (least_child rows (row_at rows k).parent (Some k) (length rows))
@@ -336,47 +326,29 @@ module _ (rows : List Row) (shape : IsShaped rows) where
       → IsLeast rows u (Some k) (length rows) c
       → IsLive rows c × (next_below (nodes rows) t (a ++ (row_at rows k).name ∷ []) true ≡ Some (path_of rows c))
   past_sibling t a k u at tb c h =
-      let n = (row_at rows k).name in
-      let later = later_parts u (Some k) a at c h.child in
-      let live = live_at rows c _ later.lies in
-      let m = (row_at rows c).name in
-      let first : is_before (a ++ (row_at rows k).name ∷ []) (a ++ (row_at rows c).name ∷ []) ≡ true =
-      fork_before a n m ∙ later.behind in (
-        live.0,
-        first_key (nodes rows) (is_behind t (a ++ (row_at rows k).name ∷ [])) (path_of rows c) (record {
-          value = node_of rows c;
-          there = node_there rows shape c live.0;
-          passes =
-              ap (is_behind t (a ++ (row_at rows k).name ∷ [])) live.1
-              ∙ behind_from t (a ++ n ∷ []) (a ++ m ∷ [])
-              (record {
-                below = below_longer t a m tb;
-                behind = first;
-                apart =
-                    to_false _ (λ is.
-                    other first (below_last (a ++ (row_at rows k).name ∷ []) a (row_at rows c).name is
-                    (not_below_shorter a (row_at rows k).name)));
-              });
-          least = λ q x e is.
-              ap (is_before q) live.1
-              ∙ not_first q x e (behind_parts t (a ++ (row_at rows k).name ∷ []) q is) (is_below a q) refl;
-        }),
-      )
+      found u a at (Some k) c h (is_behind t (a ++ (row_at rows k).name ∷ []))
+      (λ late. passes (fork_before a (row_at rows k).name (row_at rows c).name ∙ late))
+      (λ q x e is. not_first q x e (behind_parts t (a ++ (row_at rows k).name ∷ []) q is) (is_below a q) refl)
     where
-      other : is_before (a ++ (row_at rows k).name ∷ []) (a ++ (row_at rows c).name ∷ []) ≡ true
-          → a ++ (row_at rows k).name ∷ [] ≡ a ++ (row_at rows c).name ∷ [] → ⊥
-      other first same =
-          let no_more =
-          ap (is_before (a ++ (row_at rows k).name ∷ [])) (sym same)
-          ∙ not_before_itself (a ++ (row_at rows k).name ∷ []) in absurd (cc)
+      passes : is_before (a ++ (row_at rows k).name ∷ []) (a ++ (row_at rows c).name ∷ []) ≡ true
+          → is_behind t (a ++ (row_at rows k).name ∷ []) (a ++ (row_at rows c).name ∷ []) ≡ true
+      passes first = behind_from t (a ++ (row_at rows k).name ∷ []) (a ++ (row_at rows c).name ∷ []) (record {
+        below = below_longer t a (row_at rows c).name tb;
+        behind = first;
+        apart = false_from_ne_true _ (λ is.
+            let same =
+            below_last (a ++ (row_at rows k).name ∷ []) a (row_at rows c).name is
+            (not_below_shorter a (row_at rows k).name) in
+            let no_more =
+            ap (is_before (a ++ (row_at rows k).name ∷ [])) (sym same)
+            ∙ not_before_itself (a ++ (row_at rows k).name ∷ []) in absurd (cc));
+      })
 
       not_first : (q : Path) (x : Node) → get (nodes rows) q ≡ Some x → Behind t (a ++ (row_at rows k).name ∷ []) q
           → (b : Bool) → is_below a q ≡ b → is_before q (a ++ (row_at rows c).name ∷ []) ≡ false
       not_first q x e b true through =
           let l = later_name a (row_at rows k).name q b.behind b.apart through in
-          ap (λ p. is_before p (a ++ (row_at rows c).name ∷ [])) l.2
-          ∙ fork_not_before a l.0 (row_at rows c).name l.1
-          (not_before_least u (Some k) c h l.0 (child_row u a at l.0 l.1 x (ap (get (nodes rows)) (sym l.2) ∙ e)) l.3)
+          not_before_least u a at (Some k) c h q x e l.0 l.1 l.2 l.3
       not_first q x e b false through =
           not_back (a ++ (row_at rows c).name ∷ []) q
           (behind_all a q ((row_at rows c).name ∷ [])
@@ -390,15 +362,15 @@ module _ (rows : List Row) (shape : IsShaped rows) where
         below = b.below;
         behind = before_before a (a ++ n ∷ []) q (before_longer a n []) b.behind;
         apart =
-            to_false (is_below a q)
+            false_from_ne_true (is_below a q)
             (λ through. let l = later_name a n q b.behind b.apart through in
-            no_later u (Some k) h l.0 (child_row u a at l.0 l.1 x (ap (get (nodes rows)) (sym l.2) ∙ e)) l.3);
+            no_later u a at (Some k) h q x e l.0 l.1 l.2 l.3);
       }))
       (λ is. let b = behind_parts t a q is in behind_from t (a ++ n ∷ []) q (record {
         below = b.below;
         behind = behind_all a q (n ∷ []) b.behind b.apart;
         apart =
-            to_false (is_below (a ++ n ∷ []) q)
+            false_from_ne_true (is_below (a ++ n ∷ []) q)
             (λ through. let yes = below_below a (a ++ n ∷ []) q (below_append a (n ∷ [])) through in
             let apart = b.apart in absurd (cc));
       })))
@@ -409,7 +381,7 @@ module _ (rows : List Row) (shape : IsShaped rows) where
   past_top : (t : Path) → next_below (nodes rows) t t true ≡ None
   past_top t =
       no_key (nodes rows) (is_behind t t)
-      (λ q x e. to_false (is_behind t t q)
+      (λ q x e. false_from_ne_true (is_behind t t q)
       (λ is. let b = behind_parts t t q is in let below = b.below in let apart = b.apart in absurd (cc)))
 
   pub past-is : (top : ℕ) → IsLive rows top → (d k : ℕ) → IsLive rows k → (row_at rows k).depth ≡ d
@@ -456,18 +428,13 @@ module _ (rows : List Row) (shape : IsShaped rows) where
     where
       top_above : nat_eq k top ≡ false → HasParent rows k
           → is_below (path_of rows top) (path_of rows (row_at rows k).parent) ≡ true
-      top_above is up =
-          elim (is_below (path_of rows top) (path_of rows (row_at rows k).parent))
-          as (λ t. is_below (path_of rows top) (path_of rows (row_at rows k).parent) ≡ t → t ≡ true) [
-            | true ↦ λ _. refl
-            | false ↦ λ no_more.
-                let same =
-                below_last (path_of rows top) (path_of rows (row_at rows k).parent) (row_at rows k).name
-                (ap (is_below (path_of rows top)) (sym up.path) ∙ b) no_more in
-                let one : k ≡ top =
-                one_row rows shape _ _ 0 k top (path_of rows top) (live ∙ ap (λ p. Some p) (up.path ∙ sym same)) tl in
-                let yes : nat_eq k top ≡ true = grind (arith, nat_tests, one) in absurd (cc)
-          ] refl
+      top_above is up = true_from_ne_false _ (λ no_more.
+          let same =
+          below_last (path_of rows top) (path_of rows (row_at rows k).parent) (row_at rows k).name
+          (ap (is_below (path_of rows top)) (sym up.path) ∙ b) no_more in
+          let one : k ≡ top =
+          one_row rows shape _ _ 0 k top (path_of rows top) (live ∙ ap (λ p. Some p) (up.path ∙ sym same)) tl in
+          let yes : nat_eq k top ≡ true = grind (arith, nat_tests, one) in cc)
 
       by_least : (k : ℕ) → (up : HasParent rows k)
           → is_below (path_of rows top) (path_of rows (row_at rows k).parent) ≡ true → (o : Option ℕ)
@@ -491,22 +458,12 @@ module _ (rows : List Row) (shape : IsShaped rows) where
       → IsLeast rows k None (length rows) c
       → IsLive rows c × (next_below (nodes rows) t (path_of rows k) false ≡ Some (path_of rows c))
   into_child t k kl tb c h =
-      let later = later_parts k None (path_of rows k) kl c h.child in
-      let live = live_at rows c _ later.lies in (
-        live.0,
-        first_key (nodes rows) (is_next_in t (path_of rows k)) (path_of rows c) (record {
-          value = node_of rows c;
-          there = node_there rows shape c live.0;
-          passes =
-              ap (is_next_in t (path_of rows k)) live.1
-              ∙ rw (
-                below_longer t (path_of rows k) (row_at rows c).name tb,
-                before_longer (path_of rows k) (row_at rows c).name [],
-              ) refl;
-          least = λ q x e is.
-              ap (is_before q) live.1 ∙ not_first q x e (next_parts q is) (is_below (path_of rows k) q) refl;
-        }),
-      )
+      found k (path_of rows k) kl None c h (is_next_in t (path_of rows k))
+      (λ _. rw (
+        below_longer t (path_of rows k) (row_at rows c).name tb,
+        before_longer (path_of rows k) (row_at rows c).name [],
+      ) refl)
+      (λ q x e is. not_first q x e (next_parts q is) (is_below (path_of rows k) q) refl)
     where
       next_parts : (q : Path) → is_next_in t (path_of rows k) q ≡ true → is_before (path_of rows k) q ≡ true
       next_parts q h =
@@ -517,10 +474,7 @@ module _ (rows : List Row) (shape : IsShaped rows) where
           → is_below (path_of rows k) q ≡ b → is_before q (path_of rows k ++ (row_at rows c).name ∷ []) ≡ false
       not_first q x e b true through =
           let on = on_below (path_of rows k) q through b in
-          ap (λ p. is_before p (path_of rows k ++ (row_at rows c).name ∷ [])) on.2
-          ∙ fork_not_before (path_of rows k) on.0 (row_at rows c).name on.1
-          (not_before_least k None c h on.0
-          (child_row k (path_of rows k) kl on.0 on.1 x (ap (get (nodes rows)) (sym on.2) ∙ e)) refl)
+          not_before_least k (path_of rows k) kl None c h q x e on.0 on.1 on.2 refl
       not_first q x e b false through =
           not_back (path_of rows k ++ (row_at rows c).name ∷ []) q
           (behind_all (path_of rows k) q ((row_at rows c).name ∷ []) b through)
@@ -536,10 +490,9 @@ module _ (rows : List Row) (shape : IsShaped rows) where
           ≡ (a && b && not (true && is_below (path_of rows k) q))
       by_place q x e true true is =
           ap
-          not (sym (to_false (is_below (path_of rows k) q)
+          not (sym (false_from_ne_true (is_below (path_of rows k) q)
           (λ through. let on = on_below (path_of rows k) q through is in
-          no_later k None h on.0 (child_row k (path_of rows k) kl on.0 on.1 x (ap (get (nodes rows)) (sym on.2) ∙ e))
-          refl)))
+          no_later k (path_of rows k) kl None h q x e on.0 on.1 on.2 refl)))
       by_place q x e true false is = refl
       by_place q x e false b is = refl
 

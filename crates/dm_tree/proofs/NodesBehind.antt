@@ -4,7 +4,8 @@ use Rattle.std.proofs.Common.{◌∙◌, ap}
 use Rattle.std.specs.Prelude.{◌&&◌, not, IsSome}
 use Rattle.std.specs.Option.{option_map_or}
 use Rattle.std.specs.FinMap.{get}
-use Rattle.std.proofs.lemmas.Bool.{and_parts}
+use Rattle.std.proofs.lemmas.Bool.{and_parts, false_from_ne_true}
+use Rattle.std.proofs.lemmas.List.{append-nil}
 use Rattle.dm_tree.specs.declared.nodes.Node.{Node}
 use Rattle.dm_tree.specs.declared.rows.Row.{Row}
 use Rattle.dm_tree.specs.Nodes.{Path, Nodes, is_below}
@@ -33,27 +34,19 @@ same_rest t p q past h r late =
   where
     by_past : (past : Bool) → not (past && is_below p q) ≡ true → not (past && is_below p r) ≡ true
     by_past false g = refl
-    by_past true g =
-        elim (is_below p r) as (λ b. is_below p r ≡ b → not b ≡ true) [
-          | true ↦ λ through.
-              absurd (let first =
-              (and_parts (is_below t q) (is_before p q)
-              (and_parts (is_below t q && is_before p q) (not (past && is_below p q)) h).0).1 in
-              too_early first g through)
-          | false ↦ λ _. refl
-        ] refl
+    by_past true g = ap not (false_from_ne_true (is_below p r) (λ through.
+        let first =
+        (and_parts (is_below t q) (is_before p q)
+        (and_parts (is_below t q && is_before p q) (not (past && is_below p q)) h).0).1 in
+        let early : is_before r q ≡ true =
+        ap (λ s. is_before s q) (rest_below p r through)
+        ∙ behind_all p q (drop (length p) r) first (apart (is_below p q) g) in
+        let no_more = not_back r q early in
+        cc))
       where
         apart : (b : Bool) → not b ≡ true → b ≡ false
         apart true e = absurd (cc)
         apart false e = refl
-
-        too_early : is_before p q ≡ true → not (is_below p q) ≡ true → is_below p r ≡ true → ⊥
-        too_early first g through =
-            let early : is_before r q ≡ true =
-            ap (λ s. is_before s q) (rest_below p r through)
-            ∙ behind_all p q (drop (length p) r) first (apart (is_below p q) g) in
-            let no_more = not_back r q early in
-            cc
 
 pub behind-is : (m : Nodes) (t p : Path) (past : Bool) (o : Option Path) → next_below m t p past ≡ o
     → behind m t p past ≡ option_map_or (λ q. q ∷ behind m t q false) o []
@@ -82,12 +75,8 @@ below-is m t x there =
     })) (λ r early. and_false (is_below t r) (is_before t r) early (not (false && is_below t r)))
     (λ r y v late. rw late (itself (is_below t r)))
   where
-    append-none : (q : Path) → q ++ [] ≡ q
-    append-none [] = refl
-    append-none (n ∷ ns) = ap (λ s. n ∷ s) (append-none ns)
-
     not_before_top : (s : Path) → is_before (t ++ s) t ≡ false
-    not_before_top [] = ap (λ p. is_before p t) (append-none t) ∙ not_before_itself t
+    not_before_top [] = ap (λ p. is_before p t) (append-nil t) ∙ not_before_itself t
     not_before_top (n ∷ ns) = not_back t (t ++ n ∷ ns) (before_longer t n ns)
 
     itself : (b : Bool) → b ≡ b && true && not (false && is_below t t)

@@ -1,5 +1,5 @@
 -- How many rows lie at and below each row, and how that changes where a row is put in or taken out.
-use Rattle.std.proofs.Common.{◌≡◌, ◌≢◌, ℕ, zero, suc, ◌+◌, ◌-◌, ◌<◌, ◌≤◌, Bool, true, false, cond, nat_eq, List, []}
+use Rattle.std.proofs.Common.{◌≡◌, ◌≢◌, ℕ, zero, suc, ◌+◌, ◌<◌, ◌≤◌, Bool, true, false, cond, nat_eq, List, []}
 use Rattle.std.proofs.Common.{◌∷◌, ◌++◌, length, Option, None, Some, refl, sym, ◌∙◌, ap, subst, arith, inl, inr, get_or}
 use Rattle.std.proofs.Common.{length-append}
 use Rattle.std.specs.Prelude.{is_some}
@@ -201,13 +201,24 @@ more_lies off on id put top up (suc d) j deep =
 
 -- ---- so many more
 
+-- where the same rows lie below, they are as many
+same_count : (a b : List Row) (top n : ℕ) → ((k : ℕ) → k < n → lies_below a top k ≡ lies_below b top k)
+    → length (ids_below a top n) ≡ length (ids_below b top n)
+same_count a b top zero same = refl
+same_count a b top (suc n) same =
+    omega (
+      arith,
+      next_size a top n,
+      next_size b top n,
+      ap bit (same n (omega arith)),
+      same_count a b top n (λ k l. same k (omega (arith, l))),
+    )
+
 same_sizes : (off on : List Row) (id : ℕ) → IsPutIn off on id → (top : ℕ) → is_above on id top ≡ false
     → (n : ℕ) → length (ids_below on top n) ≡ length (ids_below off top n)
-same_sizes off on id put top up zero = refl
-same_sizes off on id put top up (suc n) =
-    let one : lies_below on top n ≡ lies_below off top n =
-    same_lies off on id put top up _ n refl ∙ ap (λ d. lies off d top n) (sym (put.depth n)) in
-    omega (arith, next_size on top n, next_size off top n, ap bit one, same_sizes off on id put top up n)
+same_sizes off on id put top up n =
+    same_count on off top n
+    (λ k l. same_lies off on id put top up _ k refl ∙ ap (λ d. lies off d top k) (sym (put.depth k)))
 
 more_sizes : (off on : List Row) (id : ℕ) → IsPutIn off on id → (top : ℕ) → is_above on id top ≡ true
     → (n : ℕ) → length (ids_below on top n) ≡ length (ids_below off top n) + length (ids_below off id n)
@@ -281,134 +292,71 @@ lies_past : (rows : List Row) → Fall rows → (at : ℕ) → (row_at rows at).
     → lies_below rows at (row_at rows at).parent ≡ false
 lies_past rows fall at is = not_deeper rows fall _ at (row_at rows at).parent refl (omega (arith, fall at is))
 
--- ---- a row is put in: those above it lack as many as it has
+-- ---- a row is put in or taken out: the numbers of those above it are off by as many as it has
 
--- the row `at` and each row above it lack as many
-pub record Lack (rows : List Row) (size : ℕ) (sizes : List ℕ) (at : ℕ) : Type 0 where
+-- those of the row `at` and of each row above it are too small by `more`, and too large by `fewer`
+pub record IsOff (rows : List Row) (more fewer : ℕ) (sizes : List ℕ) (at : ℕ) : Type 0 where
   pub same : length sizes ≡ length rows
   pub each : (k : ℕ) → k < length rows
-      → get_or sizes k 0 + share (lies_below rows k at) size ≡ length (ids_below rows k (length rows))
+      → get_or sizes k 0 + share (lies_below rows k at) more
+      ≡ length (ids_below rows k (length rows)) + share (lies_below rows k at) fewer
 
-lacks_here : (rows : List Row) (size : ℕ) (sizes : List ℕ) (at : ℕ) → at < length rows → Lack rows size sizes at
-    → get_or sizes at 0 + size ≡ length (ids_below rows at (length rows))
-lacks_here rows size sizes at inside lack =
-    let all : share (lies_below rows at at) size ≡ size = ap (λ b. share b size) (lies_here rows _ at) in
-    omega (arith, lack.each at inside, all)
+off_here : (rows : List Row) (more fewer : ℕ) (sizes : List ℕ) (at : ℕ) → at < length rows
+    → IsOff rows more fewer sizes at
+    → get_or sizes at 0 + more ≡ length (ids_below rows at (length rows)) + fewer
+off_here rows more fewer sizes at inside off =
+    rw (lies_here rows (row_at rows at).depth at) at (off.each at inside)
 
-pub lack-few : (rows : List Row) (size : ℕ) (sizes : List ℕ) (at : ℕ) → at < length rows → Lack rows size sizes at
-    → get_or sizes at 0 + size ≤ length rows
-lack-few rows size sizes at inside lack =
-    omega (arith, lacks_here rows size sizes at inside lack, length-ids_below rows at (length rows))
+pub off_few : (rows : List Row) (more : ℕ) (sizes : List ℕ) (at : ℕ) → at < length rows → IsOff rows more 0 sizes at
+    → get_or sizes at 0 + more ≤ length rows
+off_few rows more sizes at inside off =
+    omega (arith, off_here rows more 0 sizes at inside off, length-ids_below rows at (length rows))
 
-pub lack-up : (rows : List Row) → Fall rows → (size : ℕ) (sizes : List ℕ) (at : ℕ) → at < length rows
-    → (row_at rows at).attached ≡ true
-    → Lack rows size sizes at → Lack rows size (set sizes at (get_or sizes at 0 + size)) (row_at rows at).parent
-lack-up rows fall size sizes at inside is lack = record {
-  same = length-set sizes at _ ∙ lack.same;
-  each = λ k l. elim (same_or_not k at) [
-    | inl h ↦
-        subst (λ i. get_or (set sizes at (get_or sizes at 0 + size)) i 0
-        + share (lies_below rows i (row_at rows at).parent) size ≡ length (ids_below rows i (length rows))) (sym h) here
-    | inr h ↦
-        let same : share (lies_below rows k at) size ≡ share (lies_below rows k (row_at rows at).parent) size =
-        ap (λ b. share b size) (lies_on rows fall k at h is) in
-        omega (arith, get_or-set_other sizes at k (get_or sizes at 0 + size) 0 h, lack.each k l, same)
-  ];
-}
-  where
-    here : get_or (set sizes at (get_or sizes at 0 + size)) at 0
-        + share (lies_below rows at (row_at rows at).parent) size ≡ length (ids_below rows at (length rows))
-    here =
-        let none : share (lies_below rows at (row_at rows at).parent) size ≡ 0 =
-        ap (λ b. share b size) (lies_past rows fall at is) in
-        omega (
-          arith,
-          get_or-set_same sizes at (get_or sizes at 0 + size) 0 (omega (arith, lack.same, inside)),
-          lacks_here rows size sizes at inside lack,
-          none,
-        )
+pub off_enough : (rows : List Row) (fewer : ℕ) (sizes : List ℕ) (at : ℕ) → at < length rows
+    → IsOff rows 0 fewer sizes at → fewer ≤ get_or sizes at 0
+off_enough rows fewer sizes at inside off = omega (arith, off_here rows 0 fewer sizes at inside off)
 
-pub lack-last : (rows : List Row) (size : ℕ) (sizes : List ℕ) (at : ℕ) → at < length rows
-    → (row_at rows at).attached ≡ false
-    → Lack rows size sizes at → IsSized rows (set sizes at (get_or sizes at 0 + size))
-lack-last rows size sizes at inside out lack = record {
-  same = length-set sizes at _ ∙ lack.same;
-  each = λ k l. elim (same_or_not k at) [
-    | inl h ↦
-        subst (λ i. get_or (set sizes at (get_or sizes at 0 + size)) i 0 ≡ length (ids_below rows i (length rows)))
-        (sym h)
-        (get_or-set_same sizes at (get_or sizes at 0 + size) 0 (omega (arith, lack.same, inside))
-        ∙ lacks_here rows size sizes at inside lack)
-    | inr h ↦
-        let none : share (lies_below rows k at) size ≡ 0 = ap (λ b. share b size) (lies_no_more rows _ k at h out) in
-        omega (arith, get_or-set_other sizes at k (get_or sizes at 0 + size) 0 h, lack.each k l, none)
-  ];
+-- the number of the row `at` is put right, and with it all from there upwards are but for those of which the test says so
+put_right : (rows : List Row) (more fewer : ℕ) (sizes : List ℕ) (at : ℕ) → at < length rows
+    → IsOff rows more fewer sizes at
+    → (v : ℕ) → v + fewer ≡ get_or sizes at 0 + more → (still : ℕ → Bool) → still at ≡ false
+    → ((k : ℕ) → k ≢ at → lies_below rows k at ≡ still k) → (k : ℕ) → k < length rows
+    → get_or (set sizes at v) k 0 + share (still k) more
+    ≡ length (ids_below rows k (length rows)) + share (still k) fewer
+put_right rows more fewer sizes at inside off v e still none others k l = elim (same_or_not k at) [
+  | inl h ↦
+      subst (λ i. get_or (set sizes at v) i 0 + share (still i) more
+      ≡ length (ids_below rows i (length rows)) + share (still i) fewer) (sym h)
+      (rw none (omega (
+        arith,
+        get_or-set_same sizes at v 0 (omega (arith, off.same, inside)),
+        off_here rows more fewer sizes at inside off,
+        e,
+      )))
+  | inr h ↦ rw (get_or-set_other sizes at k v 0 h, ← others k h) (off.each k l)
+]
+
+pub off_up : (rows : List Row) → Fall rows → (more fewer : ℕ) (sizes : List ℕ) (at : ℕ) → at < length rows
+    → (row_at rows at).attached ≡ true → IsOff rows more fewer sizes at
+    → (v : ℕ) → v + fewer ≡ get_or sizes at 0 + more → IsOff rows more fewer (set sizes at v) (row_at rows at).parent
+off_up rows fall more fewer sizes at inside is off v e = record {
+  same = length-set sizes at v ∙ off.same;
+  each =
+      put_right rows more fewer sizes at inside off v e (λ k. lies_below rows k (row_at rows at).parent)
+      (lies_past rows fall at is) (λ k h. lies_on rows fall k at h is);
 }
 
--- ---- a row is taken out: those above it have too many
-
--- the row `at` and each row above it have as many too many
-pub record Exceed (rows : List Row) (size : ℕ) (sizes : List ℕ) (at : ℕ) : Type 0 where
-  pub same : length sizes ≡ length rows
-  pub each : (k : ℕ) → k < length rows
-      → get_or sizes k 0 ≡ length (ids_below rows k (length rows)) + share (lies_below rows k at) size
-
-exceeds_here : (rows : List Row) (size : ℕ) (sizes : List ℕ) (at : ℕ) → at < length rows → Exceed rows size sizes at
-    → get_or sizes at 0 ≡ length (ids_below rows at (length rows)) + size
-exceeds_here rows size sizes at inside exceed =
-    let all : share (lies_below rows at at) size ≡ size = ap (λ b. share b size) (lies_here rows _ at) in
-    omega (arith, exceed.each at inside, all)
-
-pub exceed-enough : (rows : List Row) (size : ℕ) (sizes : List ℕ) (at : ℕ) → at < length rows
-    → Exceed rows size sizes at → size ≤ get_or sizes at 0
-exceed-enough rows size sizes at inside exceed = omega (arith, exceeds_here rows size sizes at inside exceed)
-
-pub exceed-up : (rows : List Row) → Fall rows → (size : ℕ) (sizes : List ℕ) (at : ℕ) → at < length rows
-    → (row_at rows at).attached ≡ true
-    → Exceed rows size sizes at → Exceed rows size (set sizes at (get_or sizes at 0 - size)) (row_at rows at).parent
-exceed-up rows fall size sizes at inside is exceed = record {
-  same = length-set sizes at _ ∙ exceed.same;
-  each = λ k l. elim (same_or_not k at) [
-    | inl h ↦
-        subst (λ i. get_or (set sizes at (get_or sizes at 0 - size)) i 0 ≡ length (ids_below rows i (length rows))
-        + share (lies_below rows i (row_at rows at).parent) size) (sym h) here
-    | inr h ↦
-        let same : share (lies_below rows k at) size ≡ share (lies_below rows k (row_at rows at).parent) size =
-        ap (λ b. share b size) (lies_on rows fall k at h is) in
-        omega (arith, get_or-set_other sizes at k (get_or sizes at 0 - size) 0 h, exceed.each k l, same)
-  ];
-}
-  where
-    here : get_or (set sizes at (get_or sizes at 0 - size)) at 0 ≡ length (ids_below rows at (length rows))
-        + share (lies_below rows at (row_at rows at).parent) size
-    here =
-        let none : share (lies_below rows at (row_at rows at).parent) size ≡ 0 =
-        ap (λ b. share b size) (lies_past rows fall at is) in
-        omega (
-          arith,
-          get_or-set_same sizes at (get_or sizes at 0 - size) 0 (omega (arith, exceed.same, inside)),
-          exceeds_here rows size sizes at inside exceed,
-          none,
-        )
-
-pub exceed-last : (rows : List Row) (size : ℕ) (sizes : List ℕ) (at : ℕ) → at < length rows
-    → (row_at rows at).attached ≡ false
-    → Exceed rows size sizes at → IsSized rows (set sizes at (get_or sizes at 0 - size))
-exceed-last rows size sizes at inside out exceed = record {
-  same = length-set sizes at _ ∙ exceed.same;
-  each = λ k l. elim (same_or_not k at) [
-    | inl h ↦
-        subst (λ i. get_or (set sizes at (get_or sizes at 0 - size)) i 0 ≡ length (ids_below rows i (length rows)))
-        (sym h)
-        (omega (
-          arith,
-          get_or-set_same sizes at (get_or sizes at 0 - size) 0 (omega (arith, exceed.same, inside)),
-          exceeds_here rows size sizes at inside exceed,
-        ))
-    | inr h ↦
-        let none : share (lies_below rows k at) size ≡ 0 = ap (λ b. share b size) (lies_no_more rows _ k at h out) in
-        omega (arith, get_or-set_other sizes at k (get_or sizes at 0 - size) 0 h, exceed.each k l, none)
-  ];
+pub off_last : (rows : List Row) (more fewer : ℕ) (sizes : List ℕ) (at : ℕ) → at < length rows
+    → (row_at rows at).attached ≡ false → IsOff rows more fewer sizes at
+    → (v : ℕ) → v + fewer ≡ get_or sizes at 0 + more → IsSized rows (set sizes at v)
+off_last rows more fewer sizes at inside out off v e = record {
+  same = length-set sizes at v ∙ off.same;
+  each = λ k l.
+      omega (
+        arith,
+        put_right rows more fewer sizes at inside off v e (λ i. false) refl
+            (λ i h. lies_no_more rows _ i at h out) k l,
+      );
 }
 
 -- ---- where they begin
@@ -424,23 +372,33 @@ put_in rows shape id l is = record {
   fall = attached_falls rows shape;
 }
 
-pub lack-first : (rows : List Row) → IsShaped rows → (id : ℕ) → id < length rows → (row_at rows id).attached ≡ true
+-- what the numbers of rows of another state say
+counted_before : (rows old : List Row) → length old ≡ length rows → (sizes : List ℕ) → IsSized old sizes
+    → (k : ℕ) → k < length rows → get_or sizes k 0 ≡ length (ids_below old k (length rows))
+counted_before rows old long sizes sized k l =
+    sized.each k (omega (arith, long, l)) ∙ ap (λ n. length (ids_below old k n)) long
+
+share_none : (b : Bool) → share b 0 ≡ 0
+share_none true = refl
+share_none false = refl
+
+pub off_put_in : (rows : List Row) → IsShaped rows → (id : ℕ) → id < length rows → (row_at rows id).attached ≡ true
     → (sizes : List ℕ) → IsSized (attached_as rows id false) sizes
-    → Lack rows (get_or sizes id 0) sizes (row_at rows id).parent
-lack-first rows shape id l is sizes sized = record {
-  same = sized.same ∙ long;
+    → IsOff rows (get_or sizes id 0) 0 sizes (row_at rows id).parent
+off_put_in rows shape id l is sizes sized = record {
+  same = sized.same ∙ length-set rows id _;
   each = λ k kl.
-      let size = ap (λ n. length (ids_below (attached_as rows id false) id n)) (sym long)
-      ∙ sym (sized.each id (omega (arith, long, l))) in
-      ap (λ n. n + share (is_above rows id k) (get_or sizes id 0))
-      (sized.each k (omega (arith, long, kl)) ∙ ap (λ n. length (ids_below (attached_as rows id false) k n)) long)
-      ∙ ap (λ n. length (ids_below (attached_as rows id false) k (length rows)) + share (is_above rows id k) n)
-      (sym size)
-      ∙ sym (sizes_in (attached_as rows id false) rows id (put_in rows shape id l is) k (length rows));
+      rw (before k kl, before id l)
+      (omega (
+        arith,
+        sizes_in (attached_as rows id false) rows id (put_in rows shape id l is) k (length rows),
+        share_none (is_above rows id k),
+      ));
 }
   where
-    long : length (attached_as rows id false) ≡ length rows
-    long = length-set rows id _
+    before : (k : ℕ) → k < length rows
+        → get_or sizes k 0 ≡ length (ids_below (attached_as rows id false) k (length rows))
+    before = counted_before rows (attached_as rows id false) (length-set rows id _) sizes sized
 
 taken_out : (rows : List Row) → (id : ℕ) → id < length rows → (row_at rows id).attached ≡ false
     → IsShaped (attached_as rows id true) → IsPutIn rows (attached_as rows id true) id
@@ -453,29 +411,26 @@ taken_out rows id l out before = record {
   fall = attached_falls (attached_as rows id true) before;
 }
 
-pub exceed-first : (rows : List Row) → (id : ℕ) → id < length rows → (row_at rows id).attached ≡ false
+pub off_taken_out : (rows : List Row) (id : ℕ) → id < length rows → (row_at rows id).attached ≡ false
     → IsShaped (attached_as rows id true)
     → (sizes : List ℕ) → IsSized (attached_as rows id true) sizes
-    → Exceed rows (get_or sizes id 0) sizes (row_at rows id).parent
-exceed-first rows id l out before sizes sized = record {
-  same = sized.same ∙ long;
+    → IsOff rows 0 (get_or sizes id 0) sizes (row_at rows id).parent
+off_taken_out rows id l out shape sizes sized = record {
+  same = sized.same ∙ length-set rows id _;
   each = λ k kl.
-      let size : length (ids_below rows id (length rows)) ≡ get_or sizes id 0 =
-      sym (same_size rows (attached_as rows id true) id put (length rows))
-      ∙ ap (λ n. length (ids_below (attached_as rows id true) id n)) (sym long)
-      ∙ sym (sized.each id (omega (arith, long, l))) in
-      sized.each k (omega (arith, long, kl)) ∙ ap (λ n. length (ids_below (attached_as rows id true) k n)) long
-      ∙ sizes_in rows (attached_as rows id true) id put k (length rows)
-      ∙ ap (λ b. length (ids_below rows k (length rows)) + share b (length (ids_below rows id (length rows))))
-      (sym (same_above rows (attached_as rows id true) id put k))
-      ∙ ap (λ n. length (ids_below rows k (length rows)) + share (is_above rows id k) n) size;
+      rw (before k kl, before id l, same_size rows on id put (length rows), same_above rows on id put k)
+      (omega (arith, sizes_in rows on id put k (length rows), share_none (is_above on id k)));
 }
   where
-    long : length (attached_as rows id true) ≡ length rows
-    long = length-set rows id _
+    on : List Row
+    on = attached_as rows id true
 
     put : IsPutIn rows (attached_as rows id true) id
-    put = taken_out rows id l out before
+    put = taken_out rows id l out shape
+
+    before : (k : ℕ) → k < length rows
+        → get_or sizes k 0 ≡ length (ids_below (attached_as rows id true) k (length rows))
+    before = counted_before rows (attached_as rows id true) (length-set rows id _) sizes sized
 
 -- ---- names and nodes don't matter
 
@@ -490,47 +445,34 @@ lies_alike rows rows' same zero top j = refl
 lies_alike rows rows' same (suc d) top j =
     rw (same.parent j, same.attached j, lies_alike rows rows' same d top (row_at rows j).parent) refl
 
-sizes_alike : (rows rows' : List Row) → LieAlike rows rows' → (top n : ℕ)
-    → length (ids_below rows' top n) ≡ length (ids_below rows top n)
-sizes_alike rows rows' same top zero = refl
-sizes_alike rows rows' same top (suc n) =
-    let one : lies_below rows' top n ≡ lies_below rows top n =
-    lies_alike rows rows' same _ top n ∙ ap (λ d. lies rows d top n) (same.depth n) in
-    omega (arith, next_size rows' top n, next_size rows top n, ap bit one, sizes_alike rows rows' same top n)
-
 pub sized-alike : (rows rows' : List Row) → LieAlike rows rows' → (sizes : List ℕ) → IsSized rows sizes
     → IsSized rows' sizes
 sized-alike rows rows' same sizes sized = record {
   same = sized.same ∙ sym same.long;
   each =
-      λ k l. sized.each k (omega (arith, same.long, l)) ∙ sym (sizes_alike rows rows' same k (length rows))
-      ∙ ap (λ n. length (ids_below rows' k n)) (sym same.long);
+      λ k l. counted_before rows' rows (sym same.long) sizes sized k l
+      ∙ same_count rows rows' k (length rows')
+      (λ j m. ap (λ d. lies rows d k j) (sym (same.depth j)) ∙ sym (lies_alike rows rows' same _ k j));
+}
+
+alike-set : (rows : List Row) (k : ℕ) (r : Row) → r.parent ≡ (row_at rows k).parent → r.depth ≡ (row_at rows k).depth
+    → r.attached ≡ (row_at rows k).attached → k < length rows → LieAlike rows (set rows k r)
+alike-set rows k r parent depth attached l = record {
+  parent = λ j. of_both rows k r (λ s. s.parent) parent j l;
+  depth = λ j. of_both rows k r (λ s. s.depth) depth j l;
+  attached = λ j. of_both rows k r (λ s. s.attached) attached j l;
+  long = length-set rows k r;
 }
 
 pub alike-with_node : (rows : List Row) (k : ℕ) (n : Node) → k < length rows → LieAlike rows (with_node rows k n)
-alike-with_node rows k n l = record {
-  parent = λ j. of_both rows k _ (λ r. r.parent) refl j l;
-  depth = λ j. of_both rows k _ (λ r. r.depth) refl j l;
-  attached = λ j. of_both rows k _ (λ r. r.attached) refl j l;
-  long = length-set rows k _;
-}
+alike-with_node rows k n = alike-set rows k _ refl refl refl
 
 pub alike-with_name : (rows : List Row) (k : ℕ) (name : List ℕ) (n : Node) → k < length rows
     → LieAlike rows (with_name rows k name n)
-alike-with_name rows k name n l = record {
-  parent = λ j. of_both rows k _ (λ r. r.parent) refl j l;
-  depth = λ j. of_both rows k _ (λ r. r.depth) refl j l;
-  attached = λ j. of_both rows k _ (λ r. r.attached) refl j l;
-  long = length-set rows k _;
-}
+alike-with_name rows k name n = alike-set rows k _ refl refl refl
 
 pub alike-without_content : (rows : List Row) (k : ℕ) → k < length rows → LieAlike rows (without_content rows k)
-alike-without_content rows k l = record {
-  parent = λ j. of_both rows k _ (λ r. r.parent) refl j l;
-  depth = λ j. of_both rows k _ (λ r. r.depth) refl j l;
-  attached = λ j. of_both rows k _ (λ r. r.attached) refl j l;
-  long = length-set rows k _;
-}
+alike-without_content rows k = alike-set rows k _ refl refl refl
 
 -- ---- a row is added that isn't attached
 
@@ -544,18 +486,6 @@ below_grown : (rows : List Row) → IsShaped rows → (r : Row) (top k : ℕ) �
     → lies_below (rows ++ r ∷ []) top k ≡ lies_below rows top k
 below_grown rows shape r top k l =
     ap (λ (s : Row). lies (rows ++ r ∷ []) s.depth top k) (before_end rows r k l) ∙ lies_grown rows shape r _ top k l
-
-sizes_grown : (rows : List Row) → IsShaped rows → (r : Row) (top n : ℕ) → n ≤ length rows
-    → length (ids_below (rows ++ r ∷ []) top n) ≡ length (ids_below rows top n)
-sizes_grown rows shape r top zero l = refl
-sizes_grown rows shape r top (suc n) l =
-    omega (
-      arith,
-      next_size (rows ++ r ∷ []) top n,
-      next_size rows top n,
-      ap bit (below_grown rows shape r top n (omega arith)),
-      sizes_grown rows shape r top n (omega arith),
-    )
 
 -- nothing lies below it
 lies_inside : (rows : List Row) → IsShaped rows → (d top k : ℕ) → k < length rows → length rows ≤ top
@@ -603,7 +533,7 @@ sized-parked rows shape r out inside deep sizes sized = record {
     grown k =
         ap (λ n. length (ids_below (rows ++ r ∷ []) k n)) long ∙ next_size (rows ++ r ∷ []) k (length rows)
         ∙ ap (λ n. n + bit (lies_below (rows ++ r ∷ []) k (length rows)))
-        (sizes_grown rows shape r k (length rows) (omega arith))
+        (same_count (rows ++ r ∷ []) rows k (length rows) (below_grown rows shape r k))
 
     before : (k : ℕ) → k < length rows
         → get_or (sizes ++ 1 ∷ []) k 0 ≡ length (ids_below (rows ++ r ∷ []) k (length (rows ++ r ∷ [])))
@@ -632,7 +562,7 @@ sized-parked rows shape r out inside deep sizes sized = record {
           ap bit (lies_here (rows ++ r ∷ []) (row_at (rows ++ r ∷ []) (length rows)).depth (length rows)),
         )
 
--- ---- the root alone, and what is read
+-- ---- the root alone
 
 pub sized-root : (r : Row) → IsSized (r ∷ []) (1 ∷ [])
 sized-root r = record { same = refl; each = λ k l. one k l }
@@ -640,7 +570,3 @@ sized-root r = record { same = refl; each = λ k l. one k l }
     one : (k : ℕ) → k < 1 → get_or (1 ∷ []) k 0 ≡ length (ids_below (r ∷ []) k 1)
     one zero l = omega (arith, next_size (r ∷ []) 0 0, ap bit (lies_here (r ∷ []) r.depth 0))
     one (suc k) l = absurd (omega (arith, l))
-
-pub count-is : (rows : List Row) → IsShaped rows → (sizes : List ℕ) → IsSized rows sizes
-    → get_or sizes 0 0 ≡ length (ids_below rows 0 (length rows))
-count-is rows shape sizes sized = sized.each 0 shape.rooted

@@ -1,14 +1,13 @@
 -- A row below one that was given up is freed.
-use Rattle.std.proofs.Common.{◌≡◌, ◌≢◌, ℕ, zero, suc, ◌<◌, Bool, true, false, nat_eq, List, length}
+use Rattle.std.proofs.Common.{◌≡◌, ◌≢◌, ℕ, zero, suc, ◌<◌, true, false, nat_eq, List, length}
 use Rattle.std.proofs.Common.{None, refl, sym, ◌∙◌, ap, subst, arith, inl, inr}
 use Rattle.std.proofs.Math.ListN.{set, length-set}
+use Rattle.std.proofs.lemmas.Bool.{false_from_ne_true}
 use Rattle.std.proofs.lemmas.List.{get_or-set_same, get_or-set_other}
-use Rattle.std.specs.FinMap.{len}
-use Rattle.dm_uri.specs.Names.{is_within_limits}
+use Rattle.std.proofs.lemmas.Bool.Decides.{nat_tests}
 use Rattle.dm_tree.specs.declared.rows.Row.{Row}
 use Rattle.dm_tree.specs.declared.rows.Change.{Change}
-use Rattle.dm_tree.specs.Nodes.{IsRoot, IsChildOf}
-use Rattle.dm_tree.specs.Rows.{blank, row_at, node_of, walk, path_below, path_of, ids, nodes, IsRow, IsTree}
+use Rattle.dm_tree.specs.Rows.{blank, row_at, walk, path_below, ids, nodes, IsTree}
 use Rattle.dm_tree.specs.Rows.{IsParkedTop}
 use Rattle.dm_tree.specs.Edits.{attached_as}
 use Rattle.dm_tree.specs.Undos.{row_of, flipped, Fits}
@@ -17,21 +16,18 @@ use Rattle.dm_tree.specs.Reuse.{IsLeftOver, IsClear, freed}
 use Rattle.dm_tree.proofs.Paths.{same_or_not}
 use Rattle.dm_tree.proofs.RowPaths.{attached_row}
 use Rattle.dm_tree.proofs.NodeEdits.{of_both}
-use Rattle.dm_tree.proofs.LiveRows.{live_at}
-use Rattle.dm_tree.proofs.SubtreeCuts.{still_attached, shaped-detached}
-use Rattle.dm_tree.proofs.GivenUpRows.{tree-given_up, nodes-given_up, ids-given_up}
+use Rattle.dm_tree.proofs.SubtreeCuts.{still_attached}
+use Rattle.dm_tree.proofs.GivenUpRows.{tree-given_up}
 use Rattle.dm_tree.proofs.FlippedRows.{other_row, kin-flipped}
 use Rattle.dm_tree.proofs.UndoPromises.{alike-given_up}
 use Rattle.dm_tree.proofs.RowReuse.{no_way, ids_by, nodes_by}
 use Rattle.dm_tree.proofs.ClearRows.{clear-less}
+use Rattle.dm_tree.proofs.UndoFlips.{parked-taken_out}
+use Rattle.dm_tree.proofs.CutTrees.{tree-out}
 use Rattle.dm_tree.proofs.FlipsBeside.{IsReason, alike-set, alike-then}
 
 pub not_same : (m n : ℕ) → m ≢ n → nat_eq m n ≡ false
-not_same m n h =
-    elim (nat_eq m n) as (λ b. nat_eq m n ≡ b → b ≡ false) [
-      | true ↦ λ is. absurd (h (grind arith))
-      | false ↦ λ is. refl
-    ] refl
+not_same m n h = grind (arith, nat_tests)
 
 module _ (rows : List Row) (k : ℕ) (left : IsLeftOver rows k) where
   up : ℕ
@@ -91,52 +87,13 @@ module _ (rows : List Row) (k : ℕ) (left : IsLeftOver rows k) where
   pub tree-left : IsTree rows → IsTree (attached_as rows k false)
   tree-left tree =
       let place = attached_row rows tree.shape k left.attached in
-      let there = tree.each k place.1 in
-      record {
-        shape = shaped-detached rows tree.shape k place.0 place.1;
-        each = λ j l. elim (same_or_not j k) [
-          | inl e ↦ subst (λ i. IsRow (row_at (attached_as rows k false) i)) (sym e)
-              (subst IsRow (sym (get_or-set_same rows k (record (row_at rows k) { attached = false }) blank place.1))
-              (record { name = there.name; node = there.node; attached = λ at. absurd (cc) }))
-          | inr h ↦ subst IsRow (sym (get_or-set_other rows k j (record (row_at rows k) { attached = false }) blank h))
-              (tree.each j (omega (arith, l, length-set rows k (record (row_at rows k) { attached = false }))))
-        ];
-        root = subst IsRoot (sym (node_stays tree 0)) tree.root;
-        children = λ j at.
-            let was = still_attached rows k j place.1 at in
-            let above : (row_at (attached_as rows k false) j).parent ≡ (row_at rows j).parent =
-            of_both rows k (record (row_at rows k) { attached = false }) (λ s. s.parent) refl j place.1 in
-            subst (λ n. IsChildOf n (node_of (attached_as rows k false) (row_at (attached_as rows k false) j).parent))
-            (sym (node_stays tree j))
-            (subst (IsChildOf (node_of rows j)) (sym (node_stays tree _))
-            (subst (λ i. IsChildOf (node_of rows j) (node_of rows i)) (sym above) (tree.children j was.1)));
-        within = λ j live.
-            let was =
-            live_at rows j (path_of (attached_as rows k false) j)
-            (sym (path-out tree 0 j (no_root tree) no_root_above) ∙ live) in
-            ap is_within_limits (sym was.1) ∙ tree.within j was.0;
-        size = omega (arith, tree.size, ap len (nodes-left tree));
-      }
+      tree-out rows tree k place.0 place.1 (λ j q e. sym (path-out tree 0 j (no_root tree) no_root_above) ∙ e)
 
   pub parked-left : IsTree rows → IsParkedTop (attached_as rows k false) k
-  parked-left tree =
-      let place = attached_row rows tree.shape k left.attached in
-      let here = get_or-set_same rows k (record (row_at rows k) { attached = false }) blank place.1 in
-      record {
-        below_root = place.0;
-        inside = omega (arith, place.1, length-set rows k (record (row_at rows k) { attached = false }));
-        out = ap (λ (s : Row). s.attached) here;
-        held = ap (λ (s : Row). s.given_up) here ∙ (tree.each k place.1).attached left.attached;
-      }
+  parked-left tree = parked-taken_out rows k tree (attached_row rows tree.shape k left.attached).1 left.attached
 
   pub tree-freed : IsTree rows → IsTree (freed rows k)
   tree-freed tree = tree-given_up (attached_as rows k false) (tree-left tree) k (parked-left tree)
-
-  pub nodes-freed : IsTree rows → nodes (freed rows k) ≡ nodes rows
-  nodes-freed tree = nodes-given_up (attached_as rows k false) k (parked-left tree) ∙ nodes-left tree
-
-  pub ids-freed : IsTree rows → ids (freed rows k) ≡ ids rows
-  ids-freed tree = ids-given_up (attached_as rows k false) k (parked-left tree) ∙ ids-left tree
 
 -- ---- Undos of other rows
 
@@ -146,7 +103,7 @@ pub left-flipped : (rows : List Row) (u : Change) (k : ℕ) → (row_of u ≡ k 
 left-flipped rows u k d f left = record {
   attached = ap (λ (s : Row). s.attached) here ∙ left.attached;
   below_root = omega (arith, left.below_root, ap (λ (s : Row). s.parent) here);
-  out = not_in _ refl;
+  out = out;
   given_up = given;
 }
   where
@@ -158,14 +115,11 @@ left-flipped rows u k d f left = record {
         ap (λ (s : Row). (row_at (flipped rows u) s.parent).given_up) here
         ∙ kin-flipped (λ s. s.given_up) (λ s a name n. refl) rows u f.inside (row_at rows k).parent ∙ left.given_up
 
-    not_in : (b : Bool) → (row_at (flipped rows u) (row_at (flipped rows u) k).parent).attached ≡ b
-        → (row_at (flipped rows u) (row_at (flipped rows u) k).parent).attached ≡ false
-    not_in false e = e
-    not_in true e =
+    out : (row_at (flipped rows u) (row_at (flipped rows u) k).parent).attached ≡ false
+    out = false_from_ne_true _ (λ e.
         let place = attached_row (flipped rows u) f.sound.shape _ e in
         let not_up = (f.sound.each _ place.1).attached e in
-        let up = given in
-        absurd (cc)
+        let up = given in cc)
 
 abbrev LeftAs : ℕ → Row → List Row → Type 0
 LeftAs k r rows = IsLeftOver rows k × (row_at rows k ≡ r)

@@ -1,18 +1,20 @@
 -- A subtree is taken out.
 use Rattle.std.proofs.Common.{◌≡◌, ◌≢◌, ℕ, zero, suc, ◌<◌, Bool, true, false, cond, nat_eq, List, [], ◌∷◌, ◌++◌, length}
-use Rattle.std.proofs.Common.{Option, None, Some, refl, sym, ◌∙◌, ap, subst, arith, inl, inr, not}
+use Rattle.std.proofs.Common.{Option, None, Some, refl, sym, ◌∙◌, ap, arith, inl, inr, not}
 use Rattle.dm_tree.specs.declared.rows.Row.{Row}
 use Rattle.dm_tree.specs.Nodes.{Path, tree_order, is_below}
 use Rattle.dm_tree.specs.Rows.{blank, row_at, walk, path_below, ids, nodes, IsShaped, IsLive, path_of}
 use Rattle.dm_tree.specs.Edits.{attached_as, pruned}
 use Rattle.std.specs.FinMap.{get-retain_keys, FinMap, get, same_map}
+use Rattle.std.proofs.lemmas.Bool.{false_from_ne_true, true_from_ne_false}
 use Rattle.std.proofs.lemmas.List.{get_or-set_same, get_or-set_other}
 use Rattle.std.proofs.Math.ListN.{length-set}
 use Rattle.std.specs.Option.{option_map}
-use Rattle.std.specs.Prelude.{unwrap_or}
+use Rattle.std.specs.Prelude.{unwrap_or, is_some}
 use Rattle.dm_tree.proofs.Paths.{below_last, below_longer, below_none, below_self, same_or_not, tree_exact, tree_total}
 use Rattle.dm_tree.proofs.RowPaths.{at_bottom, at_top, attached_falls, depth_is, not_zero, one_row, same_number}
 use Rattle.dm_tree.proofs.RowPaths.{some_path, walk_up}
+use Rattle.dm_tree.proofs.UpwardSearch.{not_in}
 use Rattle.dm_tree.proofs.RowMaps.{get_nodes, id_is, id_of}
 use Rattle.dm_tree.proofs.NodeEdits.{live_row, of_both}
 
@@ -86,25 +88,15 @@ kept_walk rows shape k p l at (suc d) i q deep e f =
         cc
 
     not_longer : (r : Path) (n : List ℕ) → q ≡ r ++ n ∷ [] → is_below p r ≡ false
-    not_longer r n e = elim (is_below p r) as (λ b. is_below p r ≡ b → is_below p r ≡ false) [
-      | true ↦ λ is. let yes : is_below p q ≡ true = ap (is_below p) e ∙ below_longer p r n is in absurd (cc)
-      | false ↦ λ is. is
-    ] refl
+    not_longer r n e =
+        false_from_ne_true _ (λ is. let yes : is_below p q ≡ true = ap (is_below p) e ∙ below_longer p r n is in cc)
 
 -- a live row that is no root is attached
 pub live_attached : (rows : List Row) → IsShaped rows → (k : ℕ) → 0 < k → IsLive rows k
     → (row_at rows k).attached ≡ true
-live_attached rows shape k z live = by_depth (row_at rows k).depth refl
-  where
-    by_depth : (d : ℕ) → (row_at rows k).depth ≡ d → (row_at rows k).attached ≡ true
-    by_depth zero deep =
-        let is : nat_eq k 0 ≡ true =
-        at_bottom rows 0 k (path_of rows k) (subst (λ e. walk rows e 0 k ≡ Some (path_of rows k)) deep live) in
-        let other : nat_eq k 0 ≡ false = not_zero k (omega arith) in
-        absurd (cc)
-    by_depth (suc d) deep =
-        (walk_up rows d 0 k (path_of rows k) (not_zero k (omega arith))
-        (subst (λ e. walk rows e 0 k ≡ Some (path_of rows k)) deep live)).attached
+live_attached rows shape k z live = true_from_ne_false _ (λ out.
+    let gone : is_some (path_below rows 0 k) ≡ false = not_in rows _ k (not_zero k (omega arith)) out in
+    let there : is_some (path_below rows 0 k) ≡ true = ap is_some live in cc)
 
 -- going up in the rows after, one goes as before, and not through the subtree
 pub cut_walk : (rows : List Row) → IsShaped rows → (k : ℕ) (p : Path) → 0 < k → k < length rows
@@ -145,11 +137,7 @@ cut_walk rows shape k p z l at (suc d) i q deep e =
     ] refl
   where
     not_here : (r : Path) (n : List ℕ) → is_below p r ≡ false → (p ≡ r ++ n ∷ [] → ⊥) → is_below p (r ++ n ∷ []) ≡ false
-    not_here r n f other =
-        elim (is_below p (r ++ n ∷ [])) as (λ b. is_below p (r ++ n ∷ []) ≡ b → is_below p (r ++ n ∷ []) ≡ false) [
-          | true ↦ λ is. absurd (other (below_last p r n is f))
-          | false ↦ λ is. is
-        ] refl
+    not_here r n f other = false_from_ne_true _ (λ is. other (below_last p r n is f))
 
 pub depth_cut : (rows : List Row) (k j : ℕ) → k < length rows
     → (row_at (attached_as rows k false) j).depth ≡ (row_at rows j).depth

@@ -2,7 +2,7 @@
 use Rattle.std.proofs.Common.{◌≡◌, ◌≢◌, ℕ, ◌<◌, true, false, List, [], ◌∷◌, ◌++◌, length}
 use Rattle.std.proofs.Common.{None, Some, refl, sym, ◌∙◌, ap, arith}
 use Rattle.std.proofs.Math.ListN.{length-set}
-use Rattle.std.proofs.lemmas.List.{get_or-set_same, get_or-set_other}
+use Rattle.std.proofs.lemmas.List.{get_or-set_other}
 use Rattle.dm_tree.specs.declared.rows.Row.{Row}
 use Rattle.dm_tree.specs.Nodes.{Path}
 use Rattle.dm_tree.specs.Rows.{blank, row_at, walk, path_below, path_of, IsTree, IsLive, IsParked, IsParkedTop}
@@ -34,27 +34,25 @@ pub freeing-begins : (old : List Row) → IsTree old → (top : ℕ) → IsParke
     → IsFreeing old top (without_content old top)
 freeing-begins old tree top is = record {
   tree = tree-given_up old tree top is;
-  alike = alike-fewer (λ j. j ≡ top → ⊥) (λ j. path_below old top j ≡ None)
-      (λ j none e.
-      absurd (let some : path_below old top j ≡ Some [] =
-      ap (path_below old top) e ∙ self_below old (row_at old top).depth top in cc))
-      (alike-given_up old top tree is);
+  alike = alike-fewer (λ j. j ≡ top → ⊥) (λ j. path_below old top j ≡ None) apart (alike-given_up old top tree is);
   given = given_up old tree top is;
   parents = λ j. of_both old top _ (λ s. s.parent) refl j is.inside;
   out = λ j at. sym (of_both old top _ (λ s. s.attached) refl j is.inside) ∙ at;
   parked = λ j p. let was = parked-given_up old top is j p in (was.0, no_way old _ top j was.1 was.0.out);
-  used = λ j used none.
-      let apart : j ≢ top = λ e.
-      absurd (let some : path_below old top j ≡ Some [] =
-      ap (path_below old top) e ∙ self_below old (row_at old top).depth top in cc) in (
-        omega (
-          arith,
-          used.0,
-          length-set old top (record (row_at old top) { given_up = true; node = emptied (row_at old top).node }),
-        ),
-        λ z. ap (λ (s : Row). s.given_up) (get_or-set_other old top j _ blank apart) ∙ used.1 z,
-      );
+  used = λ j used none. (
+    omega (
+      arith,
+      used.0,
+      length-set old top (record (row_at old top) { given_up = true; node = emptied (row_at old top).node }),
+    ),
+    λ z. ap (λ (s : Row). s.given_up) (get_or-set_other old top j _ blank (apart j none)) ∙ used.1 z,
+  );
 }
+  where
+    apart : (j : ℕ) → path_below old top j ≡ None → j ≢ top
+    apart j none e =
+        let some : path_below old top j ≡ Some [] =
+        ap (path_below old top) e ∙ self_below old (row_at old top).depth top in cc
 
 module _ (old : List Row) (tree : IsTree old) (top : ℕ) (is : IsParkedTop old top) (rows : List Row)
     (so : IsFreeing old top rows) (k : ℕ) (left : IsLeftOver rows k)
@@ -157,11 +155,6 @@ module _ (old : List Row) (tree : IsTree old) (top : ℕ) (is : IsParkedTop old 
         );
   }
 
-  -- it is given up too, and lay below the top: so do its children
-  pub freed-given_up : (row_at (freed rows k) k).given_up ≡ true
-  freed-given_up =
-      ap (λ (s : Row). s.given_up)
-      (get_or-set_same (attached_as rows k false) k _ blank (parked-left rows k left so.tree).inside)
-
+  -- it lay below the top too
   pub freed-found : path_below old top k ≡ Some (above ++ (row_at old k).name ∷ [])
   freed-found = lies

@@ -5,94 +5,39 @@ use Rattle.std.proofs.lemmas.List.{set-get_or, get_or-set_same}
 use Rattle.dm_tree.specs.declared.rows.Row.{Row}
 use Rattle.dm_tree.specs.declared.rows.Change.{Change}
 use Rattle.dm_tree.specs.declared.rows.Change.TheVariants as change
-use Rattle.dm_tree.specs.Nodes.{counted, with_value, with_bytes, with_acl, with_title}
 use Rattle.dm_tree.specs.Rows.{blank, row_at, node_of, IsTree, IsParkedTop}
 use Rattle.dm_tree.specs.Undos.{row_of, flipped, turned, IsReadyChange, Fits, IsHeld, TakesBack}
+use Rattle.dm_tree.specs.Edits.{attached_as}
 use Rattle.dm_tree.proofs.RowAppends.{set_twice}
-use Rattle.dm_tree.proofs.TreeEdits.{takes_back, back-node}
-
--- two writes into one row
-set_back : (rows : List Row) (k : ℕ) (r : Row) (f : Row → Row) → k < length rows → f r ≡ row_at rows k
-    → set (set rows k r) k (f (row_at (set rows k r) k)) ≡ rows
-set_back rows k r f l e =
-    ap (λ s. set (set rows k r) k (f s)) (get_or-set_same rows k r blank l) ∙ set_twice rows k r (f r)
-    ∙ ap (set rows k) e ∙ set-get_or rows k blank
+use Rattle.dm_tree.proofs.TreeEdits.{takes_back}
 
 pub flipped_twice : (rows : List Row) (u : Change) → row_of u < length rows → IsReadyChange rows u
     → flipped (flipped rows u) (turned rows u) ≡ rows
-flipped_twice rows (change.Value k value verno stamp) l r =
-    back-node rows k _ l
-    (λ n. counted (with_value n (node_of rows k).value) (node_of rows k).verno (node_of rows k).stamp) refl
-flipped_twice rows (change.Bytes k bytes verno stamp) l r =
-    back-node rows k _ l
-    (λ n. counted (with_bytes n (node_of rows k).value.bytes) (node_of rows k).verno (node_of rows k).stamp) refl
-flipped_twice rows (change.Acl k acl verno stamp) l r =
-    back-node rows k _ l (λ n. counted (with_acl n (node_of rows k).acl) (node_of rows k).verno (node_of rows k).stamp)
-    refl
-flipped_twice rows (change.Title k title verno stamp) l r =
-    back-node rows k _ l
-    (λ n. counted (with_title n (node_of rows k).title) (node_of rows k).verno (node_of rows k).stamp) refl
-flipped_twice rows (change.Name k name verno stamp) l r =
-    set_back rows k _
-    (λ s. record s { name = (row_at rows k).name; node = counted s.node (node_of rows k).verno (node_of rows k).stamp })
-    l refl
 flipped_twice rows (change.TakeOut k) l r =
-    set_back rows k _ (λ s. record s { attached = true }) l (ap (λ b. record (row_at rows k) { attached = b }) (sym r))
+    rw (get_or-set_same, set_twice) (ap (λ b. set rows k (record (row_at rows k) { attached = b })) (sym r)
+    ∙ set-get_or rows k blank)
 flipped_twice rows (change.PutIn k) l r =
-    set_back rows k _ (λ s. record s { attached = false }) l (ap (λ b. record (row_at rows k) { attached = b }) (sym r))
+    rw (get_or-set_same, set_twice) (ap (λ b. set rows k (record (row_at rows k) { attached = b })) (sym r)
+    ∙ set-get_or rows k blank)
+flipped_twice rows u l r = rw (get_or-set_same, set_twice, node_of) (set-get_or rows (row_of u) blank)
 
 pub turned_twice : (rows : List Row) (u : Change) → row_of u < length rows → turned (flipped rows u) (turned rows u) ≡ u
-turned_twice rows (change.Value k value verno stamp) l =
-    ap (λ (r : Row). change.Value k r.node.value r.node.verno r.node.stamp)
-    (get_or-set_same rows k (record (row_at rows k) { node = counted (with_value (node_of rows k) value) verno stamp })
-    blank l)
-turned_twice rows (change.Bytes k bytes verno stamp) l =
-    ap (λ (r : Row). change.Bytes k r.node.value.bytes r.node.verno r.node.stamp)
-    (get_or-set_same rows k (record (row_at rows k) { node = counted (with_bytes (node_of rows k) bytes) verno stamp })
-    blank l)
-turned_twice rows (change.Acl k acl verno stamp) l =
-    ap (λ (r : Row). change.Acl k r.node.acl r.node.verno r.node.stamp)
-    (get_or-set_same rows k (record (row_at rows k) { node = counted (with_acl (node_of rows k) acl) verno stamp })
-    blank l)
-turned_twice rows (change.Title k title verno stamp) l =
-    ap (λ (r : Row). change.Title k r.node.title r.node.verno r.node.stamp)
-    (get_or-set_same rows k (record (row_at rows k) { node = counted (with_title (node_of rows k) title) verno stamp })
-    blank l)
-turned_twice rows (change.Name k name verno stamp) l =
-    ap (λ (r : Row). change.Name k r.name r.node.verno r.node.stamp)
-    (get_or-set_same rows k (record (row_at rows k) { name = name; node = counted (node_of rows k) verno stamp }) blank
-    l)
 turned_twice rows (change.TakeOut k) l = refl
 turned_twice rows (change.PutIn k) l = refl
+turned_twice rows u l = simp (get_or-set_same, node_of)
 
 row_turned : (rows : List Row) (u : Change) → row_of (turned rows u) ≡ row_of u
-row_turned rows (change.Value k value verno stamp) = refl
-row_turned rows (change.Bytes k bytes verno stamp) = refl
-row_turned rows (change.Acl k acl verno stamp) = refl
-row_turned rows (change.Title k title verno stamp) = refl
-row_turned rows (change.Name k name verno stamp) = refl
-row_turned rows (change.TakeOut k) = refl
 row_turned rows (change.PutIn k) = refl
+row_turned rows u = refl
 
 pub length-flipped : (rows : List Row) (u : Change) → length (flipped rows u) ≡ length rows
-length-flipped rows (change.Value k value verno stamp) = length-set rows k _
-length-flipped rows (change.Bytes k bytes verno stamp) = length-set rows k _
-length-flipped rows (change.Acl k acl verno stamp) = length-set rows k _
-length-flipped rows (change.Title k title verno stamp) = length-set rows k _
-length-flipped rows (change.Name k name verno stamp) = length-set rows k _
-length-flipped rows (change.TakeOut k) = length-set rows k _
 length-flipped rows (change.PutIn k) = length-set rows k _
+length-flipped rows u = length-set rows (row_of u) _
 
 ready_again : (rows : List Row) (u : Change) → row_of u < length rows → IsReadyChange (flipped rows u) (turned rows u)
-ready_again rows (change.Value k value verno stamp) l = tt
-ready_again rows (change.Bytes k bytes verno stamp) l = tt
-ready_again rows (change.Acl k acl verno stamp) l = tt
-ready_again rows (change.Title k title verno stamp) l = tt
-ready_again rows (change.Name k name verno stamp) l = tt
-ready_again rows (change.TakeOut k) l =
-    ap (λ (r : Row). r.attached) (get_or-set_same rows k (record (row_at rows k) { attached = false }) blank l)
-ready_again rows (change.PutIn k) l =
-    ap (λ (r : Row). r.attached) (get_or-set_same rows k (record (row_at rows k) { attached = true }) blank l)
+ready_again rows (change.TakeOut k) l = rw get_or-set_same refl
+ready_again rows (change.PutIn k) l = rw get_or-set_same refl
+ready_again rows u l = tt
 
 -- what a flip turned the Undo into takes the flip back
 pub again : (rows : List Row) (u : Change) → IsTree rows → Fits rows u → TakesBack (turned rows u) rows (flipped rows u)
@@ -107,23 +52,43 @@ no_root : (rows : List Row) → IsTree rows → (k : ℕ) → (row_at rows k).at
 no_root rows tree zero at = absurd (let out = tree.shape.fixed in cc)
 no_root rows tree (suc k) at = omega arith
 
-parked_out : (rows : List Row) (k : ℕ) → IsTree rows → Fits rows (change.TakeOut k)
-    → IsParkedTop (flipped rows (change.TakeOut k)) k
-parked_out rows k tree fits =
-    let here = get_or-set_same rows k (record (row_at rows k) { attached = false }) blank fits.inside in
+-- the top of what is taken out is parked then
+pub parked-taken_out : (rows : List Row) (k : ℕ) → IsTree rows → k < length rows → (row_at rows k).attached ≡ true
+    → IsParkedTop (attached_as rows k false) k
+parked-taken_out rows k tree l at =
+    let here = get_or-set_same rows k (record (row_at rows k) { attached = false }) blank l in
     record {
-      below_root = no_root rows tree k fits.ready;
-      inside = omega (arith, fits.inside, length-set rows k (record (row_at rows k) { attached = false }));
+      below_root = no_root rows tree k at;
+      inside = omega (arith, l, length-set rows k (record (row_at rows k) { attached = false }));
       out = ap (λ (r : Row). r.attached) here;
-      held = ap (λ (r : Row). r.given_up) here ∙ (tree.each k fits.inside).attached fits.ready;
+      held = ap (λ (r : Row). r.given_up) here ∙ (tree.each k l).attached at;
     }
 
 -- what a flip has turned an Undo into holds what was taken out
 pub held_then : (rows : List Row) (u : Change) → IsTree rows → Fits rows u → IsHeld (flipped rows u) (turned rows u)
-held_then rows (change.Value k value verno stamp) tree fits = tt
-held_then rows (change.Bytes k bytes verno stamp) tree fits = tt
-held_then rows (change.Acl k acl verno stamp) tree fits = tt
-held_then rows (change.Title k title verno stamp) tree fits = tt
-held_then rows (change.Name k name verno stamp) tree fits = tt
-held_then rows (change.TakeOut k) tree fits = parked_out rows k tree fits
-held_then rows (change.PutIn k) tree fits = tt
+held_then rows (change.TakeOut k) tree fits = parked-taken_out rows k tree fits.inside fits.ready
+held_then rows u tree fits = tt
+
+-- ---- another row of the same contents
+
+-- an Undo turns alike in rows that are alike where it speaks of them
+pub turned-same : (a b : List Row) (u : Change) → row_at b (row_of u) ≡ row_at a (row_of u) → turned b u ≡ turned a u
+turned-same a b (change.TakeOut k) e = refl
+turned-same a b (change.PutIn k) e = refl
+turned-same a b u e = rw (e, node_of) refl
+
+-- a top stays parked where its row stays as it is in what matters for that
+pub parked-by : (a b : List Row) (j : ℕ) → j < length b → (row_at b j).attached ≡ (row_at a j).attached
+    → (row_at b j).given_up ≡ (row_at a j).given_up
+    → IsParkedTop a j → IsParkedTop b j
+parked-by a b j inside out held p = record {
+  below_root = p.below_root;
+  inside = inside;
+  out = out ∙ p.out;
+  held = held ∙ p.held;
+}
+
+pub parked-same : (a b : List Row) (j : ℕ) → j < length b → row_at b j ≡ row_at a j → IsParkedTop a j
+    → IsParkedTop b j
+parked-same a b j inside same =
+    parked-by a b j inside (ap (λ (r : Row). r.attached) same) (ap (λ (r : Row). r.given_up) same)

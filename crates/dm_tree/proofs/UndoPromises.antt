@@ -1,5 +1,5 @@
 -- What an edit promises of its Undo, and what a discard leaves to the others.
-use Rattle.std.proofs.Common.{◌≡◌, ◌≢◌, ℕ, ◌<◌, true, false, List, [], ◌∷◌, ◌++◌, length, None, refl, sym}
+use Rattle.std.proofs.Common.{◌≡◌, ℕ, ◌<◌, true, false, List, [], ◌∷◌, ◌++◌, length, refl, sym}
 use Rattle.std.proofs.Common.{◌∙◌, ap, subst, arith, length-append}
 use Rattle.std.proofs.Math.ListN.{set, length-set}
 use Rattle.std.proofs.lemmas.List.{get_or-set_same, get_or-set_other}
@@ -10,18 +10,18 @@ use Rattle.dm_tree.specs.declared.nodes.Node.{Node}
 use Rattle.dm_tree.specs.declared.rows.Row.{Row}
 use Rattle.dm_tree.specs.declared.rows.Change.{Change}
 use Rattle.dm_tree.specs.declared.rows.Change.TheVariants as change
-use Rattle.dm_tree.specs.Nodes.{counted, with_value, with_bytes, with_acl, with_title}
 use Rattle.dm_tree.specs.Rows.{blank, row_at, walk, nodes, ids, IsTree, IsLive, IsParkedTop}
-use Rattle.dm_tree.specs.Edits.{with_node, with_name, attached_as, new_row, without_content}
-use Rattle.dm_tree.specs.Undos.{row_of, flipped, turned, Fits, FitAll, all_flipped, IsReadyChange, IsHeld, TakesBack}
-use Rattle.dm_tree.specs.Notes.{AreAt, GoesAlike, IsFresh, Begins, TakesEditBack, held_by}
+use Rattle.dm_tree.specs.Edits.{emptied, with_node, with_name, attached_as, new_row, without_content}
+use Rattle.dm_tree.specs.Undos.{row_of, flipped, turned, all_flipped, IsHeld, TakesBack}
+use Rattle.dm_tree.specs.Notes.{GoesAlike, IsFresh, Begins, TakesEditBack, held_by}
 use Rattle.dm_tree.specs.Reuse.{IsUsed, IsClear}
 use Rattle.dm_tree.proofs.SubtreeCuts.{live_attached, still_attached}
-use Rattle.dm_tree.proofs.FlippedRows.{other_row, sets_apart}
+use Rattle.dm_tree.proofs.FlippedRows.{other_row}
 use Rattle.dm_tree.proofs.ClearRows.{clear-less, live-clear, live-off, off-end, walk-spare, clear-spare}
 use Rattle.dm_tree.proofs.NodeEdits.{of_both, live_row}
 use Rattle.dm_tree.proofs.RowAppends.{at_end_of, before_end, nodes-parked, ids-parked}
-use Rattle.dm_tree.proofs.UndoFlips.{length-flipped}
+use Rattle.dm_tree.proofs.UndoFlips.{length-flipped, turned-same, parked-by, parked-same}
+use Rattle.dm_tree.proofs.FlipsBeside.{IsReason, parked-beside_set, alike-set}
 use Rattle.dm_tree.proofs.TreeEdits.{MayCome, IsSpare, tree-append, tree-spare}
 use Rattle.dm_tree.proofs.GivenUpRows.{tree-given_up, nodes-given_up, ids-given_up}
 use Rattle.dm_tree.proofs.SpareRows.{parked, spare-parked, unparked, all_fit, all_flipped-spare, tree-flipped}
@@ -32,170 +32,51 @@ use Rattle.dm_tree.proofs.SpareRows.{takes_out}
 -- a flip leaves parked what it doesn't speak of
 pub parked-flipped : (rows : List Row) (u : Change) (k : ℕ) → (row_of u ≡ k → ⊥) → IsParkedTop rows k
     → IsParkedTop (flipped rows u) k
-parked-flipped rows u k d p = record {
-  below_root = p.below_root;
-  inside = omega (arith, p.inside, length-flipped rows u);
-  out = ap (λ (r : Row). r.attached) (other_row rows u k d) ∙ p.out;
-  held = ap (λ (r : Row). r.given_up) (other_row rows u k d) ∙ p.held;
-}
-
-both_rows : (rows : List Row) (i j : ℕ) (f g : Row → Row) → (i ≡ j → ⊥)
-    → set (set rows i (f (row_at rows i))) j (g (row_at (set rows i (f (row_at rows i))) j))
-    ≡ set (set rows j (g (row_at rows j))) i (f (row_at (set rows j (g (row_at rows j))) i))
-both_rows rows i j f g d =
-    ap (λ r. set (set rows i (f (row_at rows i))) j (g r)) (get_or-set_other rows i j _ blank (λ e. d (sym e)))
-    ∙ sets_apart rows i j _ _ d
-    ∙ ap (λ r. set (set rows j (g (row_at rows j))) i (f r)) (sym (get_or-set_other rows j i _ blank d))
+parked-flipped rows u k d p =
+    parked-same rows (flipped rows u) k (omega (arith, p.inside, length-flipped rows u)) (other_row rows u k d) p
 
 abbrev emptied_row : Row → Row
-emptied_row r = record r {
-  given_up = true;
-  node = record r.node { value = record r.node.value { media = []; bytes = [] }; acl = None; title = [] };
+emptied_row r = record r { given_up = true; node = emptied r.node }
+
+abbrev ParkedAs : ℕ → Row → List Row → Type 0
+ParkedAs k r rows = IsParkedTop rows k × (row_at rows k ≡ r)
+
+reason-given_up : (k : ℕ) (r : Row) → IsReason k (emptied_row r) (ParkedAs k r)
+reason-given_up k r = record {
+  lasts = λ rows u d tree f ok. (parked-flipped rows u k d ok.0, other_row rows u k d ∙ ok.1);
+  tree = λ rows tree ok.
+      subst (λ (s : Row). IsTree (set rows k (emptied_row s))) ok.1 (tree-given_up rows tree k ok.0);
+  nodes = λ rows tree ok.
+      subst (λ (s : Row). nodes (set rows k (emptied_row s)) ≡ nodes rows) ok.1 (nodes-given_up rows k ok.0);
+  ids = λ rows tree ok.
+      subst (λ (s : Row). ids (set rows k (emptied_row s)) ≡ ids rows) ok.1 (ids-given_up rows k ok.0);
+  clear = λ rows tree ok i j oi oj c. subst (λ (s : Row). IsClear (set rows k (emptied_row s)) i j) ok.1
+      (clear-less rows (without_content rows k) (λ m. of_both rows k _ (λ s. s.parent) refl m ok.0.inside)
+      (λ m at. sym (of_both rows k _ (λ s. s.attached) refl m ok.0.inside) ∙ at) i j c);
 }
-
--- a flip beside a row that is given up
-flipped-beside : (rows : List Row) (u : Change) (k : ℕ) → (row_of u ≡ k → ⊥)
-    → flipped (without_content rows k) u ≡ without_content (flipped rows u) k
-flipped-beside rows (change.Value j value verno stamp) k d =
-    both_rows rows k j emptied_row (λ (s : Row). record s { node = counted (with_value s.node value) verno stamp })
-    (λ e. d (sym e))
-flipped-beside rows (change.Bytes j bytes verno stamp) k d =
-    both_rows rows k j emptied_row (λ (s : Row). record s { node = counted (with_bytes s.node bytes) verno stamp })
-    (λ e. d (sym e))
-flipped-beside rows (change.Acl j acl verno stamp) k d =
-    both_rows rows k j emptied_row (λ (s : Row). record s { node = counted (with_acl s.node acl) verno stamp })
-    (λ e. d (sym e))
-flipped-beside rows (change.Title j title verno stamp) k d =
-    both_rows rows k j emptied_row (λ (s : Row). record s { node = counted (with_title s.node title) verno stamp })
-    (λ e. d (sym e))
-flipped-beside rows (change.Name j name verno stamp) k d =
-    both_rows rows k j emptied_row (λ (s : Row). record s { name = name; node = counted s.node verno stamp })
-    (λ e. d (sym e))
-flipped-beside rows (change.TakeOut j) k d =
-    both_rows rows k j emptied_row (λ (s : Row). record s { attached = false }) (λ e. d (sym e))
-flipped-beside rows (change.PutIn j) k d =
-    both_rows rows k j emptied_row (λ (s : Row). record s { attached = true }) (λ e. d (sym e))
-
-given_row : (rows : List Row) (k j : ℕ) → (j ≡ k → ⊥) → row_at (without_content rows k) j ≡ row_at rows j
-given_row rows k j d = get_or-set_other rows k j _ blank d
-
-ready-beside : (rows : List Row) (u : Change) (k : ℕ) → (row_of u ≡ k → ⊥) → IsReadyChange rows u
-    → IsReadyChange (without_content rows k) u
-ready-beside rows (change.Value j value verno stamp) k d r = tt
-ready-beside rows (change.Bytes j bytes verno stamp) k d r = tt
-ready-beside rows (change.Acl j acl verno stamp) k d r = tt
-ready-beside rows (change.Title j title verno stamp) k d r = tt
-ready-beside rows (change.Name j name verno stamp) k d r = tt
-ready-beside rows (change.TakeOut j) k d r = ap (λ (s : Row). s.attached) (given_row rows k j d) ∙ r
-ready-beside rows (change.PutIn j) k d r = ap (λ (s : Row). s.attached) (given_row rows k j d) ∙ r
-
-turned-beside : (rows : List Row) (u : Change) (k : ℕ) → (row_of u ≡ k → ⊥)
-    → turned (without_content rows k) u ≡ turned rows u
-turned-beside rows (change.Value j value verno stamp) k d =
-    ap (λ (s : Row). change.Value j s.node.value s.node.verno s.node.stamp) (given_row rows k j d)
-turned-beside rows (change.Bytes j bytes verno stamp) k d =
-    ap (λ (s : Row). change.Bytes j s.node.value.bytes s.node.verno s.node.stamp) (given_row rows k j d)
-turned-beside rows (change.Acl j acl verno stamp) k d =
-    ap (λ (s : Row). change.Acl j s.node.acl s.node.verno s.node.stamp) (given_row rows k j d)
-turned-beside rows (change.Title j title verno stamp) k d =
-    ap (λ (s : Row). change.Title j s.node.title s.node.verno s.node.stamp) (given_row rows k j d)
-turned-beside rows (change.Name j name verno stamp) k d =
-    ap (λ (s : Row). change.Name j s.name s.node.verno s.node.stamp) (given_row rows k j d)
-turned-beside rows (change.TakeOut j) k d = refl
-turned-beside rows (change.PutIn j) k d = refl
-
-fits-beside : (rows : List Row) (u : Change) (k : ℕ) → (row_of u ≡ k → ⊥) → IsParkedTop rows k → Fits rows u
-    → Fits (without_content rows k) u
-fits-beside rows u k d top f = record {
-  inside = omega (arith, f.inside, length-set rows k (emptied_row (row_at rows k)));
-  ready = ready-beside rows u k d f.ready;
-  sound =
-      subst IsTree (sym (flipped-beside rows u k d))
-      (tree-given_up (flipped rows u) f.sound k (parked-flipped rows u k d top));
-}
-
-parked-beside : (rows : List Row) (k j : ℕ) → (j ≡ k → ⊥) → IsParkedTop rows j → IsParkedTop (without_content rows k) j
-parked-beside rows k j d p = record {
-  below_root = p.below_root;
-  inside = omega (arith, p.inside, length-set rows k (emptied_row (row_at rows k)));
-  out = ap (λ (s : Row). s.attached) (given_row rows k j d) ∙ p.out;
-  held = ap (λ (s : Row). s.given_up) (given_row rows k j d) ∙ p.held;
-}
-
--- ---- many flips beside it
-
-abbrev Not : ℕ → ℕ → Type 0
-Not k j = j ≡ k → ⊥
-
-all-parked : (rows : List Row) (us : List Change) (k : ℕ) → AreAt (Not k) us → IsParkedTop rows k
-    → IsParkedTop (all_flipped rows us) k
-all-parked rows [] k o p = p
-all-parked rows (u ∷ us) k o p = all-parked (flipped rows u) us k o.1 (parked-flipped rows u k o.0 p)
-
-all_flipped-beside : (rows : List Row) (us : List Change) (k : ℕ) → AreAt (Not k) us
-    → all_flipped (without_content rows k) us ≡ without_content (all_flipped rows us) k
-all_flipped-beside rows [] k o = refl
-all_flipped-beside rows (u ∷ us) k o =
-    ap (λ r. all_flipped r us) (flipped-beside rows u k o.0) ∙ all_flipped-beside (flipped rows u) us k o.1
-
-all_fit-beside : (rows : List Row) (us : List Change) (k : ℕ) → AreAt (Not k) us → IsParkedTop rows k → FitAll rows us
-    → FitAll (without_content rows k) us
-all_fit-beside rows [] k o p f = tt
-all_fit-beside rows (u ∷ us) k o p f = (
-  fits-beside rows u k o.0 p f.0,
-  subst (λ r. FitAll r us) (sym (flipped-beside rows u k o.0))
-      (all_fit-beside (flipped rows u) us k o.1 (parked-flipped rows u k o.0 p) f.1),
-)
 
 -- a discard leaves all other Undos usable
 pub alike-given_up : (rows : List Row) (k : ℕ) → IsTree rows → IsParkedTop rows k
-    → GoesAlike (Not k) rows (without_content rows k)
-alike-given_up rows k tree top = record {
-  tree = tree-given_up rows tree k top;
-  fit = λ us o f. all_fit-beside rows us k o top f;
-  nodes = λ us o f.
-      ap nodes (all_flipped-beside rows us k o) ∙ nodes-given_up (all_flipped rows us) k (all-parked rows us k o top);
-  ids =
-      λ us o f. ap ids (all_flipped-beside rows us k o)
-      ∙ ids-given_up (all_flipped rows us) k (all-parked rows us k o top);
-  turned = λ us u o f ou fu.
-      ap (λ r. turned r u) (all_flipped-beside rows us k o) ∙ turned-beside (all_flipped rows us) u k ou;
-  parked = λ us j o f oj p.
-      subst (λ r. IsParkedTop r j) (sym (all_flipped-beside rows us k o))
-      (parked-beside (all_flipped rows us) k j oj p);
-  used = λ us j o f oj used. subst (λ r. IsUsed r j) (sym (all_flipped-beside rows us k o)) (
-    omega (arith, used.0, length-set (all_flipped rows us) k (emptied_row (row_at (all_flipped rows us) k))),
-    λ z. ap (λ (s : Row). s.given_up) (given_row (all_flipped rows us) k j oj) ∙ used.1 z,
-  );
-  clear = λ us i j o f oi oj c.
-      let was = all_flipped rows us in
-      let in_ = (all-parked rows us k o top).inside in
-      subst (λ r. IsClear r i j) (sym (all_flipped-beside rows us k o))
-      (clear-less was (without_content was k)
-      (λ m. of_both was k (emptied_row (row_at was k)) (λ s. s.parent) refl m in_)
-      (λ m at. sym (of_both was k (emptied_row (row_at was k)) (λ s. s.attached) refl m in_) ∙ at) i j c);
-}
+    → GoesAlike (λ j. j ≡ k → ⊥) rows (without_content rows k)
+alike-given_up rows k tree top =
+    alike-set k (emptied_row (row_at rows k)) (ParkedAs k (row_at rows k)) (reason-given_up k (row_at rows k)) rows tree
+    (top, refl)
 
 -- what is parked then was before, but for its top
 pub parked-given_up : (rows : List Row) (k : ℕ) → IsParkedTop rows k → (j : ℕ) → IsParkedTop (without_content rows k) j
-    → IsParkedTop rows j × Not k j
+    → IsParkedTop rows j × (j ≡ k → ⊥)
 parked-given_up rows k top j p = (
-  record {
-    below_root = p.below_root;
-    inside = omega (arith, p.inside, length-set rows k (emptied_row (row_at rows k)));
-    out = sym (of_both rows k (emptied_row (row_at rows k)) (λ s. s.attached) refl j top.inside) ∙ p.out;
-    held =
-        elim (same_or_not j k) [
-          | inl e ↦ ap (λ i. (row_at rows i).given_up) e ∙ top.held
-          | inr d ↦ ap (λ (s : Row). s.given_up) (sym (given_row rows k j d)) ∙ p.held
-        ];
-  },
-  λ e.
-      absurd (let up : (row_at (without_content rows k) j).given_up ≡ true =
-      ap (λ i. (row_at (without_content rows k) i).given_up) e
-      ∙ ap (λ (s : Row). s.given_up) (get_or-set_same rows k (emptied_row (row_at rows k)) blank top.inside) in
-      let not_up = p.held in cc),
+  parked-same (without_content rows k) rows j (omega (arith, p.inside, length-set rows k (emptied_row (row_at rows k))))
+      (sym (get_or-set_other rows k j _ blank apart)) p,
+  apart,
 )
+  where
+    apart : j ≡ k → ⊥
+    apart e =
+        let up : (row_at (without_content rows k) j).given_up ≡ true =
+        ap (λ i. (row_at (without_content rows k) i).given_up) e
+        ∙ ap (λ (s : Row). s.given_up) (get_or-set_same rows k (emptied_row (row_at rows k)) blank top.inside) in
+        let not_up = p.held in cc
 
 -- ---- nothing changed
 
@@ -246,84 +127,56 @@ edit-row rows new k u tree after live back row held fresh begins long parent giv
     stay : (j : ℕ) → IsUsed rows j → IsUsed new j
     stay j used = (omega (arith, long, used.0), λ z. given j ∙ used.1 z)
 
--- another row in place of one leaves parked what was
-pub parked-set : (rows : List Row) (k : ℕ) (r : Row) → k < length rows → r.attached ≡ (row_at rows k).attached
-    → r.given_up ≡ (row_at rows k).given_up
-    → (j : ℕ) → IsParkedTop rows j → IsParkedTop (set rows k r) j
-parked-set rows k r l a g j p = record {
-  below_root = p.below_root;
-  inside = omega (arith, p.inside, length-set rows k r);
-  out = of_both rows k r (λ s. s.attached) a j l ∙ p.out;
-  held = of_both rows k r (λ s. s.given_up) g j l ∙ p.held;
-}
-
-pub parked-unset : (rows : List Row) (k : ℕ) (r : Row) → k < length rows → r.attached ≡ (row_at rows k).attached
-    → r.given_up ≡ (row_at rows k).given_up
-    → (j : ℕ) → IsParkedTop (set rows k r) j → IsParkedTop rows j
-parked-unset rows k r l a g j p = record {
-  below_root = p.below_root;
-  inside = omega (arith, p.inside, length-set rows k r);
-  out = sym (of_both rows k r (λ s. s.attached) a j l) ∙ p.out;
-  held = sym (of_both rows k r (λ s. s.given_up) g j l) ∙ p.held;
-}
-
 -- so does a row that is taken out
-pub parked-out : (rows : List Row) (k : ℕ) → k < length rows → (row_at rows k).attached ≡ true → (j : ℕ)
-    → IsParkedTop rows j → IsParkedTop (attached_as rows k false) j
-parked-out rows k l at j p =
-    let other : j ≢ k = λ e.
-    absurd (let out : (row_at rows k).attached ≡ false = ap (λ i. (row_at rows i).attached) (sym e) ∙ p.out in cc) in
-    let here = get_or-set_other rows k j (record (row_at rows k) { attached = false }) blank other in
-    record {
-      below_root = p.below_root;
-      inside = omega (arith, p.inside, length-set rows k (record (row_at rows k) { attached = false }));
-      out = ap (λ (r : Row). r.attached) here ∙ p.out;
-      held = ap (λ (r : Row). r.given_up) here ∙ p.held;
-    }
+parked-out : (rows : List Row) (k : ℕ) → (row_at rows k).attached ≡ true → (j : ℕ) → IsParkedTop rows j
+    → IsParkedTop (attached_as rows k false) j
+parked-out rows k at j p =
+    parked-beside_set rows k _ j
+    (λ e. let out : (row_at rows k).attached ≡ false = ap (λ i. (row_at rows i).attached) (sym e) ∙ p.out in cc) p
 
-pub parked-in : (rows : List Row) (k : ℕ) (j : ℕ) → IsParkedTop (attached_as rows k false) j
+parked-in : (rows : List Row) (k : ℕ) (j : ℕ) → IsParkedTop (attached_as rows k false) j
     → IsParkedTop rows j ⊎ (held_by (change.PutIn k) ≡ Some j)
 parked-in rows k j p = elim (same_or_not j k) [
   | inl e ↦ inr (ap (λ i. Some i) (sym e))
   | inr d ↦
-      let here = get_or-set_other rows k j (record (row_at rows k) { attached = false }) blank d in
-      inl (record {
-        below_root = p.below_root;
-        inside = omega (arith, p.inside, length-set rows k (record (row_at rows k) { attached = false }));
-        out = ap (λ (r : Row). r.attached) (sym here) ∙ p.out;
-        held = ap (λ (r : Row). r.given_up) (sym here) ∙ p.held;
-      })
+      inl (parked-same (attached_as rows k false) rows j
+      (omega (arith, p.inside, length-set rows k (record (row_at rows k) { attached = false })))
+      (sym (get_or-set_other rows k j _ blank d)) p)
 ]
-
-pub edit-node : (rows : List Row) (k : ℕ) (n : Node) (u : Change) → IsTree rows → IsTree (with_node rows k n)
-    → IsLive rows k → TakesBack u rows (with_node rows k n) → row_of u ≡ k
-    → IsHeld (with_node rows k n) u → IsFresh rows u → Begins rows (with_node rows k n) u
-    → TakesEditBack u rows (with_node rows k n)
-edit-node rows k n u tree after live back row held fresh begins =
-    let l = live_row rows tree.shape k live in
-    let r : Row = record (row_at rows k) { node = n } in
-    edit-row rows _ k u tree after live back row held fresh begins (length-set rows k r)
-    (λ j. of_both rows k r (λ s. s.parent) refl j l) (λ j. of_both rows k r (λ s. s.given_up) refl j l)
-    (λ j at. sym (of_both rows k r (λ s. s.attached) refl j l) ∙ at)
-    (λ j p. parked-set rows k (record (row_at rows k) { node = n }) (live_row rows tree.shape k live) refl refl j p)
-    (λ j p.
-    inl (parked-unset rows k (record (row_at rows k) { node = n }) (live_row rows tree.shape k live) refl refl j p))
 
 pub edit-name : (rows : List Row) (k : ℕ) (name : List ℕ) (n : Node) (u : Change) → IsTree rows
     → IsTree (with_name rows k name n) → IsLive rows k → TakesBack u rows (with_name rows k name n) → row_of u ≡ k
     → IsHeld (with_name rows k name n) u → IsFresh rows u → Begins rows (with_name rows k name n) u
     → TakesEditBack u rows (with_name rows k name n)
 edit-name rows k name n u tree after live back row held fresh begins =
-    let l = live_row rows tree.shape k live in
-    let r : Row = record (row_at rows k) { name = name; node = n } in
-    edit-row rows _ k u tree after live back row held fresh begins (length-set rows k r)
-    (λ j. of_both rows k r (λ s. s.parent) refl j l) (λ j. of_both rows k r (λ s. s.given_up) refl j l)
-    (λ j at. sym (of_both rows k r (λ s. s.attached) refl j l) ∙ at)
-    (λ j p. parked-set rows k (record (row_at rows k) { name = name; node = n }) (live_row rows tree.shape k live) refl
-    refl j p)
-    (λ j p.
-    inl (parked-unset rows k (record (row_at rows k) { name = name; node = n }) (live_row rows tree.shape k live) refl
-    refl j p))
+    edit-row rows new k u tree after live back row held fresh begins long
+    (λ j. of_both rows k r (λ s. s.parent) refl j l) up (λ j on. sym (at j) ∙ on)
+    (λ j p. parked-by rows new j (omega (arith, p.inside, long)) (at j) (up j) p)
+    (λ j p. inl (parked-by new rows j (omega (arith, p.inside, long)) (sym (at j)) (sym (up j)) p))
+  where
+    l : k < length rows
+    l = live_row rows tree.shape k live
+
+    r : Row
+    r = record (row_at rows k) { name = name; node = n }
+
+    new : List Row
+    new = with_name rows k name n
+
+    long : length (with_name rows k name n) ≡ length rows
+    long = length-set rows k r
+
+    at : (j : ℕ) → (row_at (with_name rows k name n) j).attached ≡ (row_at rows j).attached
+    at j = of_both rows k r (λ s. s.attached) refl j l
+
+    up : (j : ℕ) → (row_at (with_name rows k name n) j).given_up ≡ (row_at rows j).given_up
+    up j = of_both rows k r (λ s. s.given_up) refl j l
+
+pub edit-node : (rows : List Row) (k : ℕ) (n : Node) (u : Change) → IsTree rows → IsTree (with_node rows k n)
+    → IsLive rows k → TakesBack u rows (with_node rows k n) → row_of u ≡ k
+    → IsHeld (with_node rows k n) u → IsFresh rows u → Begins rows (with_node rows k n) u
+    → TakesEditBack u rows (with_node rows k n)
+edit-node rows k = edit-name rows k (row_at rows k).name
 
 pub edit-cut : (rows : List Row) (k : ℕ) → IsTree rows → IsTree (attached_as rows k false) → IsLive rows k
     → (row_at rows k).attached ≡ true → TakesBack (change.PutIn k) rows (attached_as rows k false)
@@ -333,18 +186,15 @@ edit-cut rows k tree after live at back held =
     let r : Row = record (row_at rows k) { attached = false } in
     edit-row rows _ k (change.PutIn k) tree after live back refl held tt tt (length-set rows k r)
     (λ j. of_both rows k r (λ s. s.parent) refl j l) (λ j. of_both rows k r (λ s. s.given_up) refl j l)
-    (λ j up. (still_attached rows k j l up).1) (parked-out rows k (live_row rows tree.shape k live) at)
+    (λ j up. (still_attached rows k j l up).1) (parked-out rows k at)
     (parked-in rows k)
 
 -- ---- a new row
 
 parked-spare : (rows : List Row) (r : Row) (j : ℕ) → IsParkedTop rows j → IsParkedTop (rows ++ r ∷ []) j
-parked-spare rows r j p = record {
-  below_root = p.below_root;
-  inside = omega (arith, p.inside, length-append rows (r ∷ []));
-  out = ap (λ (s : Row). s.attached) (before_end rows r j p.inside) ∙ p.out;
-  held = ap (λ (s : Row). s.given_up) (before_end rows r j p.inside) ∙ p.held;
-}
+parked-spare rows r j p =
+    parked-same rows (rows ++ r ∷ []) j (omega (arith, p.inside, length-append rows (r ∷ [])))
+    (before_end rows r j p.inside) p
 
 parked-unspare : (rows : List Row) (r : Row) (j : ℕ) → r.attached ≡ true → IsParkedTop (rows ++ r ∷ []) j
     → IsParkedTop rows j
@@ -353,30 +203,9 @@ parked-unspare rows r j at p = elim (same_or_not j (length rows)) [
       absurd (let out : r.attached ≡ false =
       ap (λ (s : Row). s.attached) (sym (at_end_of rows r)) ∙ ap (λ i. (row_at (rows ++ r ∷ []) i).attached) (sym e)
       ∙ p.out in cc)
-  | inr d ↦
-      let l : j < length rows = omega (arith, d, p.inside, length-append rows (r ∷ [])) in
-      record {
-        below_root = p.below_root;
-        inside = l;
-        out = ap (λ (s : Row). s.attached) (sym (before_end rows r j l)) ∙ p.out;
-        held = ap (λ (s : Row). s.given_up) (sym (before_end rows r j l)) ∙ p.held;
-      }
+  | inr d ↦ let l : j < length rows = omega (arith, d, p.inside, length-append rows (r ∷ [])) in
+      parked-same (rows ++ r ∷ []) rows j l (sym (before_end rows r j l)) p
 ]
-
-turned-spare : (rows : List Row) (r : Row) (u : Change) → row_of u < length rows
-    → turned (rows ++ r ∷ []) u ≡ turned rows u
-turned-spare rows r (change.Value j value verno stamp) l =
-    ap (λ (s : Row). change.Value j s.node.value s.node.verno s.node.stamp) (before_end rows r j l)
-turned-spare rows r (change.Bytes j bytes verno stamp) l =
-    ap (λ (s : Row). change.Bytes j s.node.value.bytes s.node.verno s.node.stamp) (before_end rows r j l)
-turned-spare rows r (change.Acl j acl verno stamp) l =
-    ap (λ (s : Row). change.Acl j s.node.acl s.node.verno s.node.stamp) (before_end rows r j l)
-turned-spare rows r (change.Title j title verno stamp) l =
-    ap (λ (s : Row). change.Title j s.node.title s.node.verno s.node.stamp) (before_end rows r j l)
-turned-spare rows r (change.Name j name verno stamp) l =
-    ap (λ (s : Row). change.Name j s.name s.node.verno s.node.stamp) (before_end rows r j l)
-turned-spare rows r (change.TakeOut j) l = refl
-turned-spare rows r (change.PutIn j) l = refl
 
 length-all : (rows : List Row) (us : List Change) → length (all_flipped rows us) ≡ length rows
 length-all rows [] = refl
@@ -394,7 +223,8 @@ alike-spare rows tree r spare = record {
       λ us o f. ap ids (all_flipped-spare rows r us f)
       ∙ ids-parked (all_flipped rows us) (tree-flipped rows tree us f).shape r spare.out;
   turned = λ us u o f ou fu.
-      ap (λ t. turned t u) (all_flipped-spare rows r us f) ∙ turned-spare (all_flipped rows us) r u fu.inside;
+      ap (λ t. turned t u) (all_flipped-spare rows r us f)
+      ∙ turned-same (all_flipped rows us) _ u (before_end (all_flipped rows us) r (row_of u) fu.inside);
   parked = λ us j o f oj p.
       subst (λ t. IsParkedTop t j) (sym (all_flipped-spare rows r us f)) (parked-spare (all_flipped rows us) r j p);
   used = λ us j o f oj u. subst (λ t. IsUsed t j) (sym (all_flipped-spare rows r us f)) (

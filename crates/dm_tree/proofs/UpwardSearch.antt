@@ -1,7 +1,7 @@
 -- What the searches upwards find, one row further up.
-use Rattle.std.proofs.Common.{◌≡◌, ℕ, zero, suc, ◌+◌, ◌-◌, ◌<◌, ◌≤◌, ◌++◌, ◌∷◌, [], Bool, true, false, cond, nat_eq}
-use Rattle.std.proofs.Common.{List, length, length-append, Option, Some, None, arith, refl}
-use Rattle.std.specs.Prelude.{is_some, if◌then◌else◌}
+use Rattle.std.proofs.Common.{◌≡◌, ℕ, zero, suc, ◌-◌, ◌<◌, ◌≤◌, ◌++◌, ◌∷◌, Bool, true, false, cond, nat_eq}
+use Rattle.std.proofs.Common.{List, [], length, length-append, Option, Some, None, arith, refl}
+use Rattle.std.specs.Prelude.{is_some}
 use Rattle.std.specs.Option.{option_map}
 use Rattle.dm_acl.specs.declared.values.Right.{Right}
 use Rattle.dm_tree.specs.declared.rows.Row.{Row}
@@ -74,11 +74,6 @@ in_at_end rows (suc d) k z = absurd (omega (arith, z))
 
 -- ---- how many rows lie there
 
-pub length-placed : (o : Option Path) (k : ℕ) (es : List (Path × ℕ))
-    → length (placed o k es) ≡ (if is_some o then length es + 1 else length es)
-length-placed None k es = refl
-length-placed (Some p) k es = omega arith
-
 pub length-ids_below : (rows : List Row) (top n : ℕ) → length (ids_below rows top n) ≤ n
 length-ids_below rows top zero = omega arith
 length-ids_below rows top (suc n) = by_test (path_below rows top n) (length-ids_below rows top n)
@@ -86,9 +81,3 @@ length-ids_below rows top (suc n) = by_test (path_below rows top n) (length-ids_
     by_test : (o : Option Path) → length (ids_below rows top n) ≤ n → length (placed o n (ids_below rows top n)) ≤ suc n
     by_test None h = omega arith
     by_test (Some p) h = omega arith
-
-pub one_more : (rows : List Row) (n : ℕ)
-    → length (ids_below rows 0 (n + 1))
-    ≡ (if is_some (path_below rows 0 n) then length (ids_below rows 0 n) + 1 else length (ids_below rows 0 n))
-one_more rows n = let e : n + 1 ≡ suc n = omega arith in
-    rw e (length-placed (path_below rows 0 n) n (ids_below rows 0 n))

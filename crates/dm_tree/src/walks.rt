@@ -50,6 +50,7 @@ pub(crate) fn found_row(rows: &[Row], index: &[Children], path: &[Name]) -> Opti
 }
 
 // Whether a row lies below the root.
+#[tactic(auto, using(crate::proofs::UpwardSearch::in_up, crate::proofs::UpwardSearch::in_at_end, crate::proofs::UpwardSearch::in_at_root, crate::proofs::UpwardSearch::not_in))]
 pub(crate) fn is_in(rows: &[Row], id: u32) -> bool
     requires shaped { IsShaped rows.now }
     requires inside { id < length rows.now }
@@ -105,6 +106,7 @@ fn row_names(row: &Row, right: Right) -> bool
 }
 
 // The nearest row upwards whose access list names the right.
+#[tactic(auto, using(crate::proofs::UpwardSearch::decides_up, crate::proofs::UpwardSearch::decides_here, crate::proofs::UpwardSearch::decides_none))]
 pub(crate) fn deciding_row(rows: &[Row], id: u32, right: Right) -> Option<u32>
     requires shaped { IsShaped rows.now }
     requires inside { id < length rows.now }

@@ -27,49 +27,38 @@ loop-child-init c =
 pub free_child-requires-clause-left : goal.free_child-requires-clause-left
 free_child-requires-clause-left c =
     let below =
-    child-read c.loop-child.rows.items c.loop-child.at c.loop-child.index.items c.deref.result.now c.deref.ensures.value
-    c.loop-child.invariant.kept.index
-    (going-inside _ _ _ _ c.loop-child.invariant.going) c.last_child.result c.last_child.ensures c.in-Some.child
-    c.in-Some.is in
-    left-below c.args.rows.now.items c.requires.kept.tree c.args.top c.requires.parked c.loop-child.rows.items
-    c.loop-child.at c.loop-child.invariant.going
-    c.in-Some.child below.0 below.1
+    child-read c.loop-child.invariant.going c.loop-child.invariant.kept.index c.deref.ensures.value
+    c.last_child.ensures c.in-Some.is in
+    left-below _ c.requires.kept.tree _ c.requires.parked _ _ c.loop-child.invariant.going c.in-Some.child below.0
+    below.1
 
 pub loop-child-smaller-in-Some : goal.loop-child-smaller-in-Some
 loop-child-smaller-in-Some c =
     let below =
-    child-read c.loop-child.rows.items c.loop-child.at c.loop-child.index.items c.deref.result.now c.deref.ensures.value
-    c.loop-child.invariant.kept.index
-    (going-inside _ _ _ _ c.loop-child.invariant.going) c.last_child.result c.last_child.ensures c.in-Some.child
-    c.in-Some.is in
+    child-read c.loop-child.invariant.going c.loop-child.invariant.kept.index c.deref.ensures.value
+    c.last_child.ensures c.in-Some.is in
     subst (λ r. to_go r c.in-Some.child < to_go c.loop-child.rows.items c.loop-child.at) (sym c.free_child.ensures.rows)
-    (fewer-down c.args.rows.now.items c.requires.kept.tree c.args.top c.requires.parked c.loop-child.rows.items
-    c.loop-child.at c.loop-child.invariant.going
-    c.in-Some.child below.0 below.1)
+    (fewer-down _ c.requires.kept.tree _ c.requires.parked _ _ c.loop-child.invariant.going c.in-Some.child below.0
+    below.1)
 
 pub loop-child-preserved-in-Some : goal.loop-child-preserved-in-Some
 loop-child-preserved-in-Some c =
     let below =
-    child-read c.loop-child.rows.items c.loop-child.at c.loop-child.index.items c.deref.result.now c.deref.ensures.value
-    c.loop-child.invariant.kept.index
-    (going-inside _ _ _ _ c.loop-child.invariant.going) c.last_child.result c.last_child.ensures c.in-Some.child
-    c.in-Some.is in
+    child-read c.loop-child.invariant.going c.loop-child.invariant.kept.index c.deref.ensures.value
+    c.last_child.ensures c.in-Some.is in
     record {
       going = subst (λ r. IsGoing c.args.rows.now.items c.args.top r c.in-Some.child) (sym c.free_child.ensures.rows)
-          (going-down c.args.rows.now.items c.requires.kept.tree c.args.top c.requires.parked c.loop-child.rows.items
-          c.loop-child.at c.loop-child.invariant.going
-          c.in-Some.child below.0 below.1);
+          (going-down _ c.requires.kept.tree _ c.requires.parked _ _ c.loop-child.invariant.going c.in-Some.child below.0
+          below.1);
       kept = c.free_child.ensures.kept;
     }
 
 -- nothing is left below it
 pub returns-then-at-top-clause-freed : goal.returns-then-at-top-clause-freed
 returns-then-at-top-clause-freed c =
-    going-ends c.args.rows.now.items c.requires.kept.tree c.args.top c.requires.parked c.loop-child.rows.items
-    c.loop-child.at c.loop-child.invariant.going
-    (none-read c.loop-child.rows.items c.loop-child.at c.loop-child.index.items c.deref.result.now c.deref.ensures.value
-    c.loop-child.invariant.kept.index
-    (going-inside _ _ _ _ c.loop-child.invariant.going) c.last_child.result c.last_child.ensures c.in-None.is)
+    going-ends _ c.requires.kept.tree _ c.requires.parked _ _ c.loop-child.invariant.going
+    (none-read c.loop-child.invariant.going c.loop-child.invariant.kept.index c.deref.ensures.value
+    c.last_child.ensures c.in-None.is)
     (omega (arith, c.if-at-top.true))
 
 above : (c : goal.After-index) → c.index.result.now.parent ≡ (row_at c.loop-child.rows.items c.loop-child.at).parent
@@ -82,21 +71,17 @@ above c =
 pub loop-child-smaller : goal.loop-child-smaller
 loop-child-smaller c =
     subst (λ i. to_go c.loop-child.rows.items i < to_go c.loop-child.rows.items c.loop-child.at) (sym (above c))
-    (fewer-up c.args.rows.now.items c.requires.kept.tree c.args.top c.requires.parked c.loop-child.rows.items
-    c.loop-child.at c.loop-child.invariant.going
-    (none-read c.loop-child.rows.items c.loop-child.at c.loop-child.index.items c.deref.result.now c.deref.ensures.value
-    c.loop-child.invariant.kept.index
-    (going-inside _ _ _ _ c.loop-child.invariant.going) c.last_child.result c.last_child.ensures c.in-None.is)
+    (fewer-up _ c.requires.kept.tree _ c.requires.parked _ _ c.loop-child.invariant.going
+    (none-read c.loop-child.invariant.going c.loop-child.invariant.kept.index c.deref.ensures.value
+    c.last_child.ensures c.in-None.is)
     (λ e. omega (arith, e, c.if-at-top.false)))
 
 pub loop-child-preserved : goal.loop-child-preserved
 loop-child-preserved c = record {
   going = subst (IsGoing c.args.rows.now.items c.args.top c.loop-child.rows.items) (sym (above c))
-      (going-up c.args.rows.now.items c.requires.kept.tree c.args.top c.requires.parked c.loop-child.rows.items
-      c.loop-child.at c.loop-child.invariant.going
-      (none-read c.loop-child.rows.items c.loop-child.at c.loop-child.index.items c.deref.result.now
-      c.deref.ensures.value c.loop-child.invariant.kept.index
-      (going-inside _ _ _ _ c.loop-child.invariant.going) c.last_child.result c.last_child.ensures c.in-None.is)
+      (going-up _ c.requires.kept.tree _ c.requires.parked _ _ c.loop-child.invariant.going
+      (none-read c.loop-child.invariant.going c.loop-child.invariant.kept.index c.deref.ensures.value
+      c.last_child.ensures c.in-None.is)
       (λ e. omega (arith, e, c.if-at-top.false)));
   kept = record {
     tree = c.loop-child.invariant.kept.tree;

@@ -1,12 +1,12 @@
 use Rattle.std.proofs.Common.{◌<◌, length}
 use Rattle.dm_tree.specs.Rows.{row_at}
-use Rattle.dm_tree.proofs.RowCounts.{Lack}
+use Rattle.dm_tree.proofs.RowCounts.{IsOff}
 use Rattle.dm_tree.proofs.sizes.count_in.Given as goal
 
 abbrev pub invariant-loop-at : goal.invariant-loop-at
 invariant-loop-at l = record {
   inside : l.at < length l.rows;
-  lack : Lack l.rows l.more l.sizes.items l.at;
+  off : IsOff l.rows l.more 0 l.sizes.items l.at;
 }
 
 abbrev pub decreases-loop-at : goal.decreases-loop-at

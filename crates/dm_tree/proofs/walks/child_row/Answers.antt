@@ -7,57 +7,38 @@ use Rattle.dm_tree.proofs.walks.child_row.Goals as goal
 
 pub place_of-requires-clause-inside : goal.place_of-requires-clause-inside
 place_of-requires-clause-inside c =
-    let list =
-    list_read c.args.rows.now c.args.index.now c.requires.index c.args.id c.requires.inside c.index-index-id.result
-    c.index-index-id.is in
-    inside_read c.args.rows.now c.requires.shaped c.args.id c.index-index-id.result list c.as_slice-ids.result.now
-    c.as_slice-ids.ensures
+    let list = list_read _ _ c.requires.index _ c.requires.inside _ c.index-index-id.is in
+    inside_read _ c.requires.shaped _ _ list _ c.as_slice-ids.ensures
 
 pub place_of-requires-clause-order : goal.place_of-requires-clause-order
 place_of-requires-clause-order c =
-    let list =
-    list_read c.args.rows.now c.args.index.now c.requires.index c.args.id c.requires.inside c.index-index-id.result
-    c.index-index-id.is in
-    order_read c.args.rows.now c.args.id c.index-index-id.result list c.as_slice-ids.result.now c.as_slice-ids.ensures
+    let list = list_read _ _ c.requires.index _ c.requires.inside _ c.index-index-id.is in
+    order_read _ _ _ list _ c.as_slice-ids.ensures
 
 pub is_named-requires : goal.is_named-requires
 is_named-requires c =
-    let list =
-    list_read c.args.rows.now c.args.index.now c.requires.index c.args.id c.requires.inside c.index-index-id.result
-    c.index-index-id.is in
-    let inside =
-    inside_read c.args.rows.now c.requires.shaped c.args.id c.index-index-id.result list c.as_slice-ids.result.now
-    c.as_slice-ids.ensures in
-    found_inside c.args.rows.now c.as_slice-ids.result.now inside c.place_of.result c.in-Some.child
-    (sym c.in-Some.ensures)
+    let list = list_read _ _ c.requires.index _ c.requires.inside _ c.index-index-id.is in
+    let inside = inside_read _ c.requires.shaped _ _ list _ c.as_slice-ids.ensures in
+    found_inside _ _ inside c.place_of.result _ (sym c.in-Some.ensures)
 
 pub returns-in-Some : goal.returns-in-Some
 returns-in-Some c =
-    let list =
-    list_read c.args.rows.now c.args.index.now c.requires.index c.args.id c.requires.inside c.index-index-id.result
-    c.index-index-id.is in
-    child_read c.args.rows.now c.requires.shaped c.args.id c.index-index-id.result list c.place_of.result
-    c.in-Some.child
-    (ap (λ l. slice_get l c.place_of.result) (sym c.as_slice-ids.ensures) ∙ sym c.in-Some.ensures) c.args.name.now
+    let list = list_read _ _ c.requires.index _ c.requires.inside _ c.index-index-id.is in
+    child_read _ c.requires.shaped _ _ list c.place_of.result _
+    (ap (λ l. slice_get l c.place_of.result) (sym c.as_slice-ids.ensures) ∙ sym c.in-Some.ensures) _
     (sym c.if-is_named.ensures)
 
 pub returns-in_default : goal.returns-in_default
 returns-in_default c =
-    let list =
-    list_read c.args.rows.now c.args.index.now c.requires.index c.args.id c.requires.inside c.index-index-id.result
-    c.index-index-id.is in
-    other_read c.args.rows.now c.requires.shaped c.args.id c.index-index-id.result list c.args.name.now
-    c.place_of.result
+    let list = list_read _ _ c.requires.index _ c.requires.inside _ c.index-index-id.is in
+    other_read _ c.requires.shaped _ _ list c.args.name.now c.place_of.result
     (subst (λ l. IsPlace c.args.rows.now l c.args.name.now c.place_of.result) c.as_slice-ids.ensures c.place_of.ensures)
-    c.in-Some.child
-    (ap (λ l. slice_get l c.place_of.result) (sym c.as_slice-ids.ensures) ∙ sym c.in-Some.ensures)
+    _ (ap (λ l. slice_get l c.place_of.result) (sym c.as_slice-ids.ensures) ∙ sym c.in-Some.ensures)
     (sym c.if-is_named.ensures)
 
 pub returns-in_default-2 : goal.returns-in_default-2
 returns-in_default-2 c =
-    let list =
-    list_read c.args.rows.now c.args.index.now c.requires.index c.args.id c.requires.inside c.index-index-id.result
-    c.index-index-id.is in
-    none_read c.args.rows.now c.requires.shaped c.args.id c.index-index-id.result list c.args.name.now c.place_of.result
+    let list = list_read _ _ c.requires.index _ c.requires.inside _ c.index-index-id.is in
+    none_read _ c.requires.shaped _ _ list c.args.name.now c.place_of.result
     (subst (λ l. IsPlace c.args.rows.now l c.args.name.now c.place_of.result) c.as_slice-ids.ensures c.place_of.ensures)
     (ap (λ l. slice_get l c.place_of.result) (sym c.as_slice-ids.ensures) ∙ sym c.in_default.ensures)
