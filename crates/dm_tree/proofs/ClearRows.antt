@@ -11,19 +11,12 @@ use Rattle.dm_tree.specs.Rows.{blank, row_at, walk, path_below, IsShaped, IsTree
 use Rattle.dm_tree.specs.Undos.{row_of, flipped}
 use Rattle.dm_tree.specs.Reuse.{IsFreeRow, IsUsed, IsOff, IsClear}
 use Rattle.dm_tree.proofs.Paths.{same_or_not}
-use Rattle.dm_tree.proofs.RowPaths.{not_zero}
+use Rattle.dm_tree.proofs.RowPaths.{not_same, not_zero}
 use Rattle.dm_tree.proofs.SubtreeCuts.{live_attached}
 use Rattle.dm_tree.proofs.LiveRows.{has_parent}
 use Rattle.dm_tree.proofs.FlippedRows.{other_row, kin-flipped}
 use Rattle.dm_tree.proofs.RowAppends.{before_end}
 use Rattle.dm_tree.proofs.RowReuse.{Childless, childless, no_way, walk_beside}
-
-not_same : (m n : ℕ) → m ≢ n → nat_eq m n ≡ false
-not_same m n h =
-    elim (nat_eq m n) as (λ b. nat_eq m n ≡ b → b ≡ false) [
-      | true ↦ λ is. absurd (h (grind arith))
-      | false ↦ λ is. refl
-    ] refl
 
 none_up : (b : Bool) (n : List ℕ) → cond b (option_map (λ (p : Path). p ++ n ∷ []) None) None ≡ None
 none_up true n = refl
@@ -81,48 +74,55 @@ clear-flipped rows k u z shape shape' l clear j c = record {
 
 -- ---- edits
 
+-- a row of the tree isn't the top of a subtree that is out
+not_out : (rows : List Row) → IsShaped rows → (k : ℕ) → 0 < k → (row_at rows k).attached ≡ false → (j : ℕ)
+    → IsLive rows j → j ≢ k
+not_out rows shape k z out j live e =
+    absurd (let at = live_attached rows shape k z (subst (IsLive rows) e live) in cc)
+
 -- from a row of the tree one doesn't come up to a subtree that is parked
 pub live-off : (rows : List Row) → IsShaped rows → (k : ℕ) → 0 < k → (row_at rows k).attached ≡ false → (d i : ℕ)
     → IsLive rows i → walk rows d k i ≡ None
-live-off rows shape k z out zero i live = rw (not_same i k (other i live)) refl
-  where
-    other : (j : ℕ) → IsLive rows j → j ≢ k
-    other j there e = absurd (let at = live_attached rows shape k z (subst (IsLive rows) e there) in cc)
+live-off rows shape k z out zero i live = rw (not_same i k (not_out rows shape k z out i live)) refl
 live-off rows shape k z out (suc d) i live = elim (same_or_not i 0) [
   | inl e ↦ ap (walk rows (suc d) k) e ∙ no_way rows (suc d) k 0 (λ o. omega (arith, o, z)) shape.fixed
   | inr h ↦
       let up = has_parent rows shape i live (not_zero i h) in
-      rw (not_same i k (other i live), up.attached, live-off rows shape k z out d (row_at rows i).parent up.live) refl
+      rw (
+        not_same i k (not_out rows shape k z out i live),
+        up.attached,
+        live-off rows shape k z out d (row_at rows i).parent up.live,
+      ) refl
 ]
-  where
-    other : (j : ℕ) → IsLive rows j → j ≢ k
-    other j there e = absurd (let at = live_attached rows shape k z (subst (IsLive rows) e there) in cc)
 
 pub live-clear : (rows : List Row) → IsShaped rows → (k : ℕ) → IsParkedTop rows k → (i : ℕ) → IsLive rows i
     → IsClear rows k i
 live-clear rows shape k top i live = record {
-  other =
-      λ e. absurd (let at = live_attached rows shape k top.below_root (subst (IsLive rows) e live) in
-      let out = top.out in cc);
+  other = not_out rows shape k top.below_root top.out i live;
   parent =
       λ y d. live-off rows shape k top.below_root top.out d (row_at rows i).parent
       (has_parent rows shape i live (not_zero i (λ o. omega (arith, o, y)))).live;
 }
 
+-- a row in use isn't a free one, nor right below it
+used_apart : (rows : List Row) (id : ℕ) → IsFreeRow rows id → (i : ℕ) → IsUsed rows i
+    → (i ≢ id) × (0 < i → (row_at rows i).parent ≢ id)
+used_apart rows id free i used = (
+  λ e. absurd (let given : (row_at rows i).given_up ≡ true = ap (λ j. (row_at rows j).given_up) e ∙ free.given_up in
+      let not_given = used.1 (omega (arith, e, free.below_root)) in cc),
+  λ y e. absurd (let given = free.alone i y e in let not_given = used.1 y in cc),
+)
+
 -- a row in place of a free one: rows in use are as clear as before
 pub clear-set : (rows : List Row) → IsTree rows → (id : ℕ) → IsFreeRow rows id → (r : Row) → (k i : ℕ) → IsUsed rows i
     → IsClear rows k i → IsClear (set rows id r) k i
 clear-set rows tree id free r k i used c =
-    let apart : i ≢ id = λ e.
-    absurd (let given : (row_at rows i).given_up ≡ true = ap (λ j. (row_at rows j).given_up) e ∙ free.given_up in
-    let not_given = used.1 (omega (arith, e, free.below_root)) in cc) in
+    let apart = used_apart rows id free i used in
     record {
       other = c.other;
-      parent = λ y d.
-          let away : (row_at rows i).parent ≢ id =
-          λ e. absurd (let given = free.alone i y e in let not_given = used.1 y in cc) in
-          ap (λ (s : Row). walk (set rows id r) d k s.parent) (get_or-set_other rows id i r blank apart)
-          ∙ walk_beside rows id r (childless rows tree id free) d k (row_at rows i).parent away ∙ c.parent y d;
+      parent =
+          λ y d. ap (λ (s : Row). walk (set rows id r) d k s.parent) (get_or-set_other rows id i r blank apart.0)
+          ∙ walk_beside rows id r (childless rows tree id free) d k (row_at rows i).parent (apart.1 y) ∙ c.parent y d;
     }
 
 -- out of the tree, it makes no other row less clear
@@ -156,19 +156,11 @@ off-childless rows k alone (suc d) j other =
 pub clear-new : (rows : List Row) → IsTree rows → (id : ℕ) → IsFreeRow rows id → (r : Row) → (i : ℕ) → IsUsed rows i
     → IsClear (set rows id r) id i
 clear-new rows tree id free r i used =
-    let apart : i ≢ id = λ e.
-    absurd (let given : (row_at rows i).given_up ≡ true = ap (λ j. (row_at rows j).given_up) e ∙ free.given_up in
-    let not_given = used.1 (omega (arith, e, free.below_root)) in cc) in
-    let alone = childless rows tree id free in
-    record {
-      other = apart;
-      parent = λ y d.
-          let away : (row_at rows i).parent ≢ id =
-          λ e. absurd (let given = free.alone i y e in let not_given = used.1 y in cc) in
-          ap (λ (s : Row). walk (set rows id r) d id s.parent) (get_or-set_other rows id i r blank apart)
-          ∙ walk_beside rows id r alone d id (row_at rows i).parent away
-          ∙ off-childless rows id alone d (row_at rows i).parent away;
-    }
+    let apart = used_apart rows id free i used in
+    clear-set rows tree id free r id i used (record {
+      other = apart.0;
+      parent = λ y d. off-childless rows id (childless rows tree id free) d (row_at rows i).parent (apart.1 y);
+    })
 
 -- ---- rows taken out
 

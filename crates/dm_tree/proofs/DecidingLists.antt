@@ -1,5 +1,5 @@
 -- Which access list decides, as the rows and as the map have it.
-use Rattle.std.proofs.Common.{◌≡◌, ℕ, zero, suc, ◌≤◌, Bool, true, false, nat_eq, List, [], ◌∷◌, ◌++◌, length, take}
+use Rattle.std.proofs.Common.{◌≡◌, ℕ, zero, suc, ◌≤◌, Bool, true, false, List, [], ◌∷◌, ◌++◌, length, take}
 use Rattle.std.proofs.Common.{Option, None, Some, refl, sym, ◌∙◌, ap, subst, arith, length-append}
 use Rattle.std.specs.Prelude.{if◌then◌else◌, IfSome}
 use Rattle.std.specs.Option.{option_map, option_and_then, option_map_or}
@@ -15,7 +15,7 @@ use Rattle.dm_tree.specs.Nodes.{Path, Nodes}
 use Rattle.dm_tree.specs.Rows.{row_at, walk, path_below, path_of, IsLive, IsShaped, nodes, ids}
 use Rattle.dm_tree.specs.Rights.{acl_at, names, effective_upto, effective_path, allows}
 use Rattle.dm_tree.specs.Walks.{row_names, row_allows, deciding_row}
-use Rattle.dm_tree.proofs.RowPaths.{walk_up, at_bottom, at_top, attached_falls, same_number}
+use Rattle.dm_tree.proofs.RowPaths.{up_from, at_bottom, at_top}
 use Rattle.dm_tree.proofs.RowMaps.{id_of}
 use Rattle.dm_tree.proofs.LiveRows.{node_there, live_at}
 
@@ -68,27 +68,17 @@ decides rows shape right zero k p deep e =
     by_test true same = ap (λ q. Some q) same
     by_test false same = refl
 decides rows shape right (suc d) k p deep e =
-    elim (nat_eq k 0)
-    as (λ b. nat_eq k 0 ≡ b
-    → effective_path (nodes rows) p right ≡ option_map (path_of rows) (deciding_row rows right (suc d) k)) [
-      | true ↦ λ is.
-          absurd (let z : (row_at rows k).depth ≡ 0 = ap (λ j. (row_at rows j).depth) (same_number k 0 is)
-          ∙ shape.at_root in omega (arith, z, deep))
-      | false ↦ λ is.
-          let u = walk_up rows d 0 k p is e in
-          let parents : (row_at rows (row_at rows k).parent).depth ≡ d =
-          omega (arith, attached_falls rows shape k u.attached, deep) in
-          let found : path_below rows 0 k ≡ Some p = rw deep e in
-          let live = live_at rows k p found in
-          ap (λ q. effective_path (nodes rows) q right) u.named
-          ∙ one_down (nodes rows) u.above (row_at rows k).name right
-          ∙ ap (λ q. if names (nodes rows) q right then Some q else effective_path (nodes rows) u.above right)
-          (sym u.named ∙ sym live.1)
-          ∙ ap (λ b. if b then Some (path_of rows k) else effective_path (nodes rows) u.above right)
-          (names-row rows shape right k live.0)
-          ∙ by_test (row_names (row_at rows k) right) u.above
-          (decides rows shape right d (row_at rows k).parent u.above parents u.found)
-    ] refl
+    let u = up_from rows shape d k p deep e in
+    let found : path_below rows 0 k ≡ Some p = rw deep e in
+    let live = live_at rows k p found in
+    ap (λ q. effective_path (nodes rows) q right) u.0.named
+    ∙ one_down (nodes rows) u.0.above (row_at rows k).name right
+    ∙ ap (λ q. if names (nodes rows) q right then Some q else effective_path (nodes rows) u.0.above right)
+    (sym u.0.named ∙ sym live.1)
+    ∙ ap (λ b. if b then Some (path_of rows k) else effective_path (nodes rows) u.0.above right)
+    (names-row rows shape right k live.0)
+    ∙ by_test (row_names (row_at rows k) right) u.0.above
+    (decides rows shape right d (row_at rows k).parent u.0.above u.1 u.0.found)
   where
     by_test : (b : Bool) (q : Path)
         → effective_path (nodes rows) q right
@@ -118,17 +108,9 @@ decided rows shape right zero k p deep e j is = by_test (row_names (row_at rows 
         subst (Deciding rows right) (same_row k j h) (record { live = (live_at rows k p found).0; names_it = n })
     by_test false n h = absurd (cc)
 decided rows shape right (suc d) k p deep e j is =
-    elim (nat_eq k 0) as (λ b. nat_eq k 0 ≡ b → Deciding rows right j) [
-      | true ↦ λ at.
-          absurd (let z : (row_at rows k).depth ≡ 0 = ap (λ i. (row_at rows i).depth) (same_number k 0 at)
-          ∙ shape.at_root in omega (arith, z, deep))
-      | false ↦ λ at.
-          let u = walk_up rows d 0 k p at e in
-          let parents : (row_at rows (row_at rows k).parent).depth ≡ d =
-          omega (arith, attached_falls rows shape k u.attached, deep) in
-          by_test (λ h. decided rows shape right d (row_at rows k).parent u.above parents u.found j h)
-          (row_names (row_at rows k) right) refl is
-    ] refl
+    let u = up_from rows shape d k p deep e in
+    by_test (λ h. decided rows shape right d (row_at rows k).parent u.0.above u.1 u.0.found j h)
+    (row_names (row_at rows k) right) refl is
   where
     by_test : (deciding_row rows right d (row_at rows k).parent ≡ Some j → Deciding rows right j) → (b : Bool)
         → row_names (row_at rows k) right ≡ b

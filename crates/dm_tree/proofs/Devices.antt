@@ -1,21 +1,22 @@
 -- Where the update node of a tree is, PkgData and State.
 use Rattle.std.proofs.Common.{◌≡◌, ℕ, Bool, true, false, cond, List, [], ◌∷◌, ◌++◌, Option, None, Some, refl}
 use Rattle.std.proofs.Common.{sym, ◌∙◌, ap, inl, inr, append_assoc}
-use Rattle.std.specs.Prelude.{◌&&◌, ◌⊎◌, codes, option_and_then}
+use Rattle.std.specs.Prelude.{◌&&◌, codes, option_and_then}
 use Rattle.std.specs.List.{find, filter}
-use Rattle.std.specs.Option.{option_map, option_map_or}
+use Rattle.std.specs.Option.{option_map_or}
 use Rattle.std.specs.FinMap.{get, entries, keys}
-use Rattle.std.proofs.lemmas.Bool.{and_from, and_parts}
+use Rattle.std.proofs.lemmas.Bool.{and_from, and_parts, cases_Bool}
 use Rattle.dm_tree.specs.declared.nodes.Node.{Node}
 use Rattle.dm_tree.specs.declared.nodes.Role.{Role}
 use Rattle.dm_tree.specs.declared.nodes.Role.TheVariants as role
 use Rattle.dm_tree.specs.Nodes.{Path, Nodes, above}
 use Rattle.dm_tree.specs.Order.{is_child_of, is_before}
 use Rattle.dm_tree.specs.Devices.{is_role, is_update_node, is_of_update, has_role, child_of_role, update_node, pkg_data}
-use Rattle.dm_tree.specs.Devices.{state_node, Stands, HasUpdate}
+use Rattle.dm_tree.specs.Devices.{state_node, HasUpdate}
 use Rattle.dm_tree.specs.Laws.{UpdateIsFound}
 use Rattle.dm_tree.proofs.FirstKeys.{entry_there, no_entry, first_key}
 use Rattle.dm_tree.proofs.PathOrder.{not_before_itself}
+use Rattle.dm_tree.proofs.RowMaps.{some_of, none_of}
 use Rattle.dm_tree.proofs.LiveRows.{above-append}
 use Rattle.dm_tree.proofs.NextNodes.{child_passes}
 
@@ -23,10 +24,7 @@ use Rattle.dm_tree.proofs.NextNodes.{child_passes}
 
 pub role_is : (r : Role) → is_update_node r ≡ true → r ≡ role.UpdateNode
 role_is role.UpdateNode h = refl
-role_is role.Plain h = absurd (cc)
-role_is role.ReadOnly h = absurd (cc)
-role_is role.PkgData h = absurd (cc)
-role_is role.State h = absurd (cc)
+role_is r h = absurd (cc)
 
 same_role : (a b : Role) → is_role a b ≡ true → a ≡ b
 same_role role.Plain role.Plain h = refl
@@ -34,26 +32,7 @@ same_role role.ReadOnly role.ReadOnly h = refl
 same_role role.UpdateNode role.UpdateNode h = refl
 same_role role.PkgData role.PkgData h = refl
 same_role role.State role.State h = refl
-same_role role.Plain role.ReadOnly h = absurd (cc)
-same_role role.Plain role.UpdateNode h = absurd (cc)
-same_role role.Plain role.PkgData h = absurd (cc)
-same_role role.Plain role.State h = absurd (cc)
-same_role role.ReadOnly role.Plain h = absurd (cc)
-same_role role.ReadOnly role.UpdateNode h = absurd (cc)
-same_role role.ReadOnly role.PkgData h = absurd (cc)
-same_role role.ReadOnly role.State h = absurd (cc)
-same_role role.UpdateNode role.Plain h = absurd (cc)
-same_role role.UpdateNode role.ReadOnly h = absurd (cc)
-same_role role.UpdateNode role.PkgData h = absurd (cc)
-same_role role.UpdateNode role.State h = absurd (cc)
-same_role role.PkgData role.Plain h = absurd (cc)
-same_role role.PkgData role.ReadOnly h = absurd (cc)
-same_role role.PkgData role.UpdateNode h = absurd (cc)
-same_role role.PkgData role.State h = absurd (cc)
-same_role role.State role.Plain h = absurd (cc)
-same_role role.State role.ReadOnly h = absurd (cc)
-same_role role.State role.UpdateNode h = absurd (cc)
-same_role role.State role.PkgData h = absurd (cc)
+same_role a b h = absurd (cc)
 
 -- ---- the map
 
@@ -64,77 +43,46 @@ record HasRole (m : Nodes) (r : Role) (q : Path) : Type 0 where
   role : node.role ≡ r
 
 role_there : (m : Nodes) (q : Path) → update_node m ≡ Some q → HasRole m role.UpdateNode q
-role_there m q h = by_entry (find (λ e. is_update_node e.1.role) (entries m)) refl h
-  where
-    by_entry : (o : Option (Path × Node)) → find (λ e. is_update_node e.1.role) (entries m) ≡ o
-        → option_map (λ e. e.0) o ≡ Some q → HasRole m role.UpdateNode q
-    by_entry None is e = absurd (cc)
-    by_entry (Some d) is e =
-        let there = entry_there m (λ e. is_update_node e.1.role) d is in
-        let same : d.0 ≡ q = cc in
-        record { node = d.1; there = ap (get m) (sym same) ∙ there.0; role = role_is d.1.role there.1 }
+role_there m q h =
+    let found = some_of (λ (e : Path × Node). e.0) (find (λ e. is_update_node e.1.role) (entries m)) q h in
+    let there = entry_there m (λ e. is_update_node e.1.role) found.0 found.1 in
+    record { node = found.0.1; there = ap (get m) (sym found.2) ∙ there.0; role = role_is found.0.1.role there.1 }
 
 none_there : (m : Nodes) → update_node m ≡ None → (q : Path) → HasRole m role.UpdateNode q → ⊥
-none_there m h q r = by_entry (find (λ e. is_update_node e.1.role) (entries m)) refl h
-  where
-    by_entry : (o : Option (Path × Node)) → find (λ e. is_update_node e.1.role) (entries m) ≡ o
-        → option_map (λ e. e.0) o ≡ None → ⊥
-    by_entry None is e =
-        let no_role = no_entry m (λ e. is_update_node e.1.role) is q r.node r.there in
-        let yes : is_update_node r.node.role ≡ true = ap is_update_node r.role in
-        cc
-    by_entry (Some d) is e = cc
-
-some_node : (a b : Node) → Some a ≡ Some b → a ≡ b
-some_node a b e = cc
+none_there m h q r =
+    let none = none_of (λ (e : Path × Node). e.0) (find (λ e. is_update_node e.1.role) (entries m)) h in
+    let other : is_update_node r.node.role ≡ false =
+    no_entry m (λ e. is_update_node e.1.role) none q r.node r.there in
+    let is : is_update_node r.node.role ≡ true = ap is_update_node r.role in
+    cc
 
 -- in an update part that is in order, there is one place for each role
 module _ (m : Nodes) (p : Path) (has : HasUpdate m p) where
-  same_as : (q : Path) (r k : Role) {interior : Bool} {place : Path} (n : Node) → HasRole m r q
-      → Stands m place interior k n → q ≡ place → r ≡ k
-  same_as q r k n h s e =
-      let same : h.node ≡ n = some_node h.node n (sym h.there ∙ ap (get m) e ∙ s.there) in
-      sym h.role ∙ ap (λ (x : Node). x.role) same ∙ s.role_is
-
-  places : (q : Path) (r : Role) → HasRole m r q → is_of_update r ≡ true
-      → ((q ≡ p ++ codes "Update" ∷ []) × (r ≡ role.UpdateNode))
-      ⊎ (((q ≡ p ++ codes "Update" ∷ codes "PkgData" ∷ []) × (r ≡ role.PkgData))
-      ⊎ ((q ≡ p ++ codes "State" ∷ []) × (r ≡ role.State)))
-  places q r h of = elim (has.alone q h.node h.there (ap is_of_update h.role ∙ of)) [
-    | inl e ↦ inl (e, same_as q r role.UpdateNode has.update h has.update_stands e)
-    | inr e ↦ inr (elim e [
-      | inl f ↦ inl (f, same_as q r role.PkgData has.data_node h has.data_stands f)
-      | inr f ↦ inr (f, same_as q r role.State has.state h has.state_stands f)
-    ])
-  ]
-
   update_place : (q : Path) → HasRole m role.UpdateNode q → q ≡ p ++ codes "Update" ∷ []
-  update_place q h = elim (places q role.UpdateNode h refl) [
-    | inl e ↦ e.0
-    | inr e ↦ elim e [ inl f ↦ absurd (let no = f.1 in cc) | inr f ↦ absurd (let no = f.1 in cc) ]
+  update_place q h = elim (has.alone q h.node h.there (ap is_of_update h.role)) [
+    | inl e ↦ e
+    | inr e ↦ elim e [ inl f ↦ absurd (cc) | inr f ↦ absurd (cc) ]
   ]
 
   data_place : (q : Path) → HasRole m role.PkgData q → q ≡ p ++ codes "Update" ∷ codes "PkgData" ∷ []
-  data_place q h = elim (places q role.PkgData h refl) [
-    | inl e ↦ absurd (let no = e.1 in cc)
-    | inr e ↦ elim e [ inl f ↦ f.0 | inr f ↦ absurd (let no = f.1 in cc) ]
+  data_place q h = elim (has.alone q h.node h.there (ap is_of_update h.role)) [
+    | inl e ↦ absurd (cc)
+    | inr e ↦ elim e [ inl f ↦ f | inr f ↦ absurd (cc) ]
   ]
 
   state_place : (q : Path) → HasRole m role.State q → q ≡ p ++ codes "State" ∷ []
-  state_place q h = elim (places q role.State h refl) [
-    | inl e ↦ absurd (let no = e.1 in cc)
-    | inr e ↦ elim e [ inl f ↦ absurd (let no = f.1 in cc) | inr f ↦ f.0 ]
+  state_place q h = elim (has.alone q h.node h.there (ap is_of_update h.role)) [
+    | inl e ↦ absurd (cc)
+    | inr e ↦ elim e [ inl f ↦ absurd (cc) | inr f ↦ f ]
   ]
 
 -- the first of what is left of a list is the first that passes both
 find_filter : (f g : Path → Bool) (qs : List Path) → find f (filter g qs) ≡ find (λ q. g q && f q) qs
 find_filter f g [] = refl
-find_filter f g (q ∷ qs) =
-    elim (g q) as (λ b. g q ≡ b
-    → find f (cond b (q ∷ filter g qs) (filter g qs)) ≡ cond (b && f q) (Some q) (find (λ q. g q && f q) qs)) [
-      | true ↦ λ is. ap (λ o. cond (f q) (Some q) o) (find_filter f g qs)
-      | false ↦ λ is. find_filter f g qs
-    ] refl
+find_filter f g (q ∷ qs) = elim (cases_Bool (g q)) [
+  | inl is ↦ rw is (ap (λ o. cond (f q) (Some q) o) (find_filter f g qs))
+  | inr is ↦ rw is (find_filter f g qs)
+]
 
 has_one : (m : Nodes) (r : Role) (q : Path) (x : Node) → get m q ≡ Some x → has_role m r q ≡ true → HasRole m r q
 has_one m r q x there h = record {

@@ -50,9 +50,7 @@ held_field n p (field.Title title) held may =
 
 kin_field : (n : Node) (f : Field) → IsKin n (with_field n f)
 kin_field n (field.Value value) = record { interior = refl; permanent = refl }
-kin_field n (field.Bytes bytes) = record { interior = refl; permanent = refl }
-kin_field n (field.Acl acl) = record { interior = refl; permanent = refl }
-kin_field n (field.Title title) = record { interior = refl; permanent = refl }
+kin_field n f = record { interior = refl; permanent = refl }
 
 root_field : (n : Node) (f : Field) → IsField n [] f → IsRoot n → IsRoot (with_field n f)
 root_field n (field.Value value) may top =
@@ -130,9 +128,7 @@ alone : (rows new : List Row) (k : ℕ) (f : Field)
     → (row_of (change_of rows k f) ≡ k) × IsHeld new (change_of rows k f) × IsFresh rows (change_of rows k f)
     × Begins rows new (change_of rows k f)
 alone rows new k (field.Value value) = (refl, tt, tt, tt)
-alone rows new k (field.Bytes bytes) = (refl, tt, tt, tt)
-alone rows new k (field.Acl acl) = (refl, tt, tt, tt)
-alone rows new k (field.Title title) = (refl, tt, tt, tt)
+alone rows new k f = (refl, tt, tt, tt)
 
 pub edit-set : (rows : List Row) → IsTree rows → (k : ℕ) → IsLive rows k → (f : Field)
     → IsField (node_of rows k) (path_of rows k) f → (clock : Stamp) → IsStamp clock

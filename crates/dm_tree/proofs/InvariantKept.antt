@@ -15,6 +15,7 @@ use Rattle.dm_tree.proofs.SubtreeCuts.{live_attached}
 use Rattle.dm_acl.specs.declared.values.Entries.{Entries}
 use Rattle.dm_tree.proofs.RootTree.{root_row}
 use Rattle.dm_tree.proofs.NodeEdits.{live_row}
+use Rattle.dm_tree.proofs.TreeEdits.{isnt_root}
 use Rattle.dm_tree.proofs.IndexLinks.{index-alike}
 use Rattle.dm_tree.proofs.IndexUnlinks.{link-with_node}
 use Rattle.dm_tree.proofs.RowCounts.{sized-alike, alike-with_node, alike-with_name, alike-without_content, sized-parked}
@@ -65,9 +66,6 @@ kept-given_up inner rows new k e top f tree kept kept' sizes h index =
 
 module _ (rows : List Row) (r : Row) (attached : r.attached ≡ true) (held : r.given_up ≡ false)
     (after : IsTree (rows ++ r ∷ [])) (rooted : 0 < length rows) where
-  out_row : Row
-  out_row = record r { attached = false }
-
   long : length (rows ++ r ∷ []) ≡ suc (length rows)
   long = omega (arith, length-append rows (r ∷ []))
 
@@ -173,14 +171,6 @@ root-index name acl = record { same = refl; each = one }
     one (suc k) l = absurd (omega (arith, l))
 
 -- ---- which row may be taken out
-
-pub isnt_root : (rows : List Row) → IsTree rows → (k : ℕ) → (node_of rows k).permanent ≡ false → 0 < k
-isnt_root rows tree k removable = elim (same_or_not k 0) [
-  | inl e ↦
-      absurd (let top : (node_of rows 0).permanent ≡ true = tree.root.permanent in
-      let here : (node_of rows 0).permanent ≡ false = ap (λ n. (node_of rows n).permanent) (sym e) ∙ removable in cc)
-  | inr d ↦ omega (arith, d)
-]
 
 pub may_take : (rows : List Row) → IsTree rows → (k : ℕ) → IsLive rows k → (node_of rows k).permanent ≡ false
     → IsTaken rows k

@@ -1,7 +1,6 @@
 -- What is read of a row of the tree.
 use Rattle.std.proofs.Common.{◌≡◌, ℕ, zero, suc, ◌+◌, ◌<◌, Bool, true, false, cond, nat_eq, List, [], ◌∷◌, ◌++◌, length}
-use Rattle.std.proofs.Common.{Option, None, Some, refl, sym, ◌∙◌, ap, subst, arith}
-use Rattle.std.proofs.Common.{get_or}
+use Rattle.std.proofs.Common.{Option, None, Some, refl, sym, ◌∙◌, ap, subst, arith, get_or}
 use Rattle.std.proofs.lemmas.List.{get_or_default}
 use Rattle.std.proofs.lemmas.Bool.{and_from, and_parts}
 use Rattle.std.specs.Prelude.{unwrap_or, is_some, IfSome}
@@ -18,10 +17,9 @@ use Rattle.dm_tree.specs.Rows.{blank, row_at, node_of, walk, path_below, placed,
 use Rattle.dm_tree.specs.Rows.{IsShaped, IsTree, IsLive, StayLive, path_of}
 use Rattle.dm_tree.specs.Walks.{path_up}
 use Rattle.dm_tree.proofs.Paths.{same_path, tree_total, same_ends, not_empty}
-use Rattle.dm_tree.proofs.RowPaths.{attached_row, walk_up, at_bottom, at_top, one_row, attached_falls, depth_is}
-use Rattle.dm_tree.proofs.RowPaths.{not_zero}
-use Rattle.dm_tree.proofs.RowPaths.{same_number}
-use Rattle.dm_tree.proofs.RowMaps.{found_live, get_nodes, id_is, id_of, find_id, found_in, find-with_nodes, root_live}
+use Rattle.dm_tree.proofs.RowPaths.{attached_row, up_from, at_bottom, at_top, one_row, depth_is, not_zero, same_number}
+use Rattle.dm_tree.proofs.RowMaps.{found_live, get_nodes, id_is, id_of, find_id, found_in, find-with_nodes}
+use Rattle.dm_tree.proofs.RowMaps.{node_of_path, root_live, some_of}
 use Rattle.dm_tree.proofs.NodeEdits.{live_row}
 
 -- ---- ends of paths
@@ -54,16 +52,15 @@ has_parent rows shape k live other = by_depth (row_at rows k).depth refl
         absurd (cc)
     by_depth (suc d) deep =
         let u =
-        walk_up rows d 0 k (path_of rows k) other (subst (λ e. walk rows e 0 k ≡ Some (path_of rows k)) deep live) in
-        let falls = attached_falls rows shape k u.attached in
-        let parents : (row_at rows (row_at rows k).parent).depth ≡ d = omega (arith, falls, deep) in
-        let found : path_below rows 0 (row_at rows k).parent ≡ Some u.above = rw parents u.found in
-        let is : path_of rows (row_at rows k).parent ≡ u.above = ap (λ o. unwrap_or o []) found in
+        up_from rows shape d k (path_of rows k) deep
+        (subst (λ e. walk rows e 0 k ≡ Some (path_of rows k)) deep live) in
+        let found : path_below rows 0 (row_at rows k).parent ≡ Some u.0.above = rw u.1 u.0.found in
+        let is : path_of rows (row_at rows k).parent ≡ u.0.above = ap (λ o. unwrap_or o []) found in
         record {
-          attached = u.attached;
-          deep = falls;
+          attached = u.0.attached;
+          deep = shape.falls k u.0.attached;
           live = found ∙ ap (λ p. Some p) (sym is);
-          path = u.named ∙ ap (λ p. p ++ (row_at rows k).name ∷ []) (sym is);
+          path = u.0.named ∙ ap (λ p. p ++ (row_at rows k).name ∷ []) (sym is);
         }
 
 pub root_path : (rows : List Row) → IsShaped rows → (k : ℕ) → nat_eq k 0 ≡ true → path_of rows k ≡ []
@@ -74,25 +71,15 @@ pub path_up-is : (rows : List Row) → IsShaped rows → (d k : ℕ) (p : Path) 
     → walk rows d 0 k ≡ Some p → path_up rows d k ≡ p
 path_up-is rows shape zero k p deep e = sym (at_top rows zero 0 k p (at_bottom rows 0 k p e) e)
 path_up-is rows shape (suc d) k p deep e =
-    elim (nat_eq k 0) as (λ b. nat_eq k 0 ≡ b → path_up rows (suc d) k ≡ p) [
-      | true ↦ λ is.
-          absurd (let z : (row_at rows k).depth ≡ 0 = ap (λ j. (row_at rows j).depth) (same_number k 0 is)
-          ∙ shape.at_root in omega (arith, z, deep))
-      | false ↦ λ is.
-          let u = walk_up rows d 0 k p is e in
-          let parents : (row_at rows (row_at rows k).parent).depth ≡ d =
-          omega (arith, attached_falls rows shape k u.attached, deep) in
-          ap (λ q. q ++ (row_at rows k).name ∷ [])
-          (path_up-is rows shape d (row_at rows k).parent u.above parents u.found) ∙ sym u.named
-    ] refl
+    let u = up_from rows shape d k p deep e in
+    ap (λ q. q ++ (row_at rows k).name ∷ [])
+    (path_up-is rows shape d (row_at rows k).parent u.0.above u.1 u.0.found) ∙ sym u.0.named
 
 -- ---- the node at the path of a row
 
 pub node_there : (rows : List Row) → IsShaped rows → (k : ℕ) → IsLive rows k
     → get (nodes rows) (path_of rows k) ≡ Some (node_of rows k)
-node_there rows shape k live =
-    get_nodes rows (path_of rows k)
-    ∙ ap (option_map (λ j. (row_at rows j).node)) (id_of rows shape k (path_of rows k) live)
+node_there rows shape k live = node_of_path rows shape k (path_of rows k) live
 
 -- ---- how many nodes there are
 
@@ -145,22 +132,11 @@ pub all_named : (rows : List Row) → IsShaped rows → ((j : ℕ) → j < lengt
     → (d k : ℕ) (p : Path) → (row_at rows k).depth ≡ d → walk rows d 0 k ≡ Some p → list_all is_name p ≡ true
 all_named rows shape names zero k p deep e = ap (list_all is_name) (at_top rows zero 0 k p (at_bottom rows 0 k p e) e)
 all_named rows shape names (suc d) k p deep e =
-    elim (nat_eq k 0) as (λ b. nat_eq k 0 ≡ b → list_all is_name p ≡ true) [
-      | true ↦ λ is. ap (list_all is_name) (at_top rows (suc d) 0 k p is e)
-      | false ↦ λ is.
-          let u = walk_up rows d 0 k p is e in
-          let parents : (row_at rows (row_at rows k).parent).depth ≡ d =
-          omega (arith, attached_falls rows shape k u.attached, deep) in
-          ap (list_all is_name) u.named
-          ∙ named_last u.above (row_at rows k).name
-          (all_named rows shape names d (row_at rows k).parent u.above parents u.found)
-          (names k (attached_row rows shape k u.attached).1)
-    ] refl
-
-pub some_of : {X Y : Type 0} (f : X → Y) (o : Option X) (y : Y) → option_map f o ≡ Some y
-    → (x : X) × (o ≡ Some x) × (f x ≡ y)
-some_of f None y e = absurd (cc)
-some_of f (Some x) y e = (x, refl, cc)
+    let u = up_from rows shape d k p deep e in
+    ap (list_all is_name) u.0.named
+    ∙ named_last u.0.above (row_at rows k).name
+    (all_named rows shape names d (row_at rows k).parent u.0.above u.1 u.0.found)
+    (names k (attached_row rows shape k u.0.attached).1)
 
 -- what the map shows at a path stands in a row
 pub record StandsInRow (rows : List Row) (p : Path) (node : Node) : Type 0 where
@@ -208,12 +184,7 @@ path_there rows tree p node r =
 
 pub well_formed : (rows : List Row) → IsTree rows → IsWellFormed (nodes rows)
 well_formed rows tree = record {
-  root = (
-    node_of rows 0,
-    get_nodes rows []
-        ∙ ap (option_map (λ j. (row_at rows j).node)) (id_of rows tree.shape 0 [] (root_live rows tree.shape)),
-    tree.root,
-  );
+  root = (node_of rows 0, node_of_path rows tree.shape 0 [] (root_live rows tree.shape), tree.root);
   parents = λ p name child e. parent_there rows tree p name child (row_there rows (p ++ name ∷ []) child e);
   each = λ p node e. let r = row_there rows p node e in subst IsNode r.node_is (tree.each r.row r.inside).node;
   paths = λ p node e. path_there rows tree p node (row_there rows p node e);

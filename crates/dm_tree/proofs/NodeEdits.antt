@@ -1,6 +1,6 @@
 -- One node is changed, and every row stays where it lies.
 use Rattle.std.proofs.Common.{◌≡◌, ◌≢◌, ℕ, zero, suc, ◌<◌, true, false, cond, List, length, None, Some, refl, sym, ◌∙◌}
-use Rattle.std.proofs.Common.{ap, arith, inl, inr}
+use Rattle.std.proofs.Common.{ap, subst, arith, inl, inr}
 use Rattle.dm_tree.specs.declared.nodes.Node.{Node}
 use Rattle.dm_tree.specs.declared.rows.Row.{Row}
 use Rattle.dm_tree.specs.Nodes.{Path, tree_order}
@@ -39,14 +39,23 @@ pub same_ids : (rows rows' : List Row) → IsAlike rows rows' → (ids rows') �
 unfolding ids nodes
 same_ids rows rows' same = rw same.long (ap from_entries (ids_alike rows rows' same (length rows)))
 
+-- what holds of the new row, and of the others, holds of each
+pub each_set : (rows : List Row) (k : ℕ) (r : Row) → k < length rows → (P : Row → Type 0) (j : ℕ) → (j ≡ k → P r)
+    → (j ≢ k → P (row_at rows j)) → P (row_at (set rows k r) j)
+each_set rows k r l P j new old = elim (same_or_not j k) [
+  | inl e ↦ subst P (sym (ap (row_at (set rows k r)) e ∙ get_or-set_same rows k r blank l)) (new e)
+  | inr d ↦ subst P (sym (get_or-set_other rows k j r blank d)) (old d)
+]
+
 pub of_both : {X : Type 0} (rows : List Row) (k : ℕ) (r : Row) (f : Row → X) → f r ≡ f (row_at rows k) → (j : ℕ)
     → k < length rows → f (row_at (set rows k r) j) ≡ f (row_at rows j)
 of_both rows k r f e j l =
-    elim (same_or_not j k) [
-      | inl h ↦ ap (λ n. f (row_at (set rows k r) n)) h ∙ ap f (get_or-set_same rows k r blank l) ∙ e
-          ∙ ap (λ n. f (row_at rows n)) (sym h)
-      | inr h ↦ ap f (get_or-set_other rows k j r blank h)
-    ]
+    each_set rows k r l (λ s. f s ≡ f (row_at rows j)) j (λ h. e ∙ ap (λ n. f (row_at rows n)) (sym h)) (λ _. refl)
+
+-- the rows i and j are one where these two, which stand in them, have one parent and one name
+abbrev pub AreOne : ℕ → ℕ → Row → Row → Type 0
+AreOne i j r s =
+    r.attached ≡ true → s.attached ≡ true → r.parent ≡ s.parent → r.name ≡ s.name → i ≡ j
 
 -- one node is changed
 pub nodes_changed : (rows rows' : List Row) → IsShaped rows → IsAlike rows rows' → (k : ℕ) (p : Path)

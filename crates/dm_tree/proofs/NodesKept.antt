@@ -1,8 +1,9 @@
 -- What edits keep of nodes that stay, whatever it is that makes a node stay alike.
 use Rattle.std.proofs.Common.{◌≡◌, ℕ, Bool, true, false, cond, zero, suc, List, [], ◌∷◌, ◌++◌, length, drop}
-use Rattle.std.proofs.Common.{None, Some, refl, sym, ◌∙◌, ap, subst, arith, inl, inr, append_assoc}
+use Rattle.std.proofs.Common.{None, Some, refl, sym, ◌∙◌, ap, subst, arith, inl, inr, append_assoc, append-nil}
 use Rattle.std.proofs.Common.{length-append}
 use Rattle.std.specs.Prelude.{not, ◌⊎◌}
+use Rattle.std.proofs.lemmas.Bool.{cases_Bool, false_from_ne_true}
 use Rattle.std.specs.Ordering.{eq_by_cmp}
 use Rattle.std.specs.FinMap.{get, insert, get-insert}
 use Rattle.dm_tree.specs.declared.nodes.Node.{Node}
@@ -55,12 +56,10 @@ here_insert m p new = get-insert tree_total m p new p ∙ rw (tied p p refl) ref
 -- and a node of the old map is there, unless the new one stands there
 pub still_insert : (m : Nodes) (p q : Path) (new x : Node) → get m q ≡ Some x
     → ((q ≡ p) × (get (insert m p new) p ≡ Some new)) ⊎ (get (insert m p new) q ≡ Some x)
-still_insert m p q new x there = by_test (eq_by_cmp tree_order q p) refl
-  where
-    by_test : (b : Bool) → eq_by_cmp tree_order q p ≡ b → ((q ≡ p) × (get (insert m p new) p ≡ Some new))
-        ⊎ (get (insert m p new) q ≡ Some x)
-    by_test true is = inl (same_path q p is, here_insert m p new)
-    by_test false is = inr (get-insert tree_total m p new q ∙ rw is there)
+still_insert m p q new x there = elim (cases_Bool (eq_by_cmp tree_order q p)) [
+  | inl is ↦ inl (same_path q p is, here_insert m p new)
+  | inr is ↦ inr (get-insert tree_total m p new q ∙ rw is there)
+]
 
 module _ (alike : Node → Node → Type 0) (itself : (x : Node) → alike x x) where
   pub keeps_changed : (m : Nodes) (p : Path) (old new : Node) → get m p ≡ Some old → alike old new → new.role ≡ old.role
@@ -68,7 +67,7 @@ module _ (alike : Node → Node → Type 0) (itself : (x : Node) → alike x x) 
   keeps_changed m p old new there stays role_is = record {
     still = λ q x e permanent. elim (still_insert m p q new x e) [
       | inl h ↦
-          let same : old ≡ x = some_node old x (sym there ∙ ap (get m) (sym h.0) ∙ e) in
+          let same : old ≡ x = cc in
           record { new = new; there = ap (get (insert m p new)) h.0 ∙ h.1; alike = subst (λ o. alike o new) same stays }
       | inr h ↦ record { new = x; there = h; alike = itself x }
     ];
@@ -100,17 +99,13 @@ module _ (alike : Node → Node → Type 0) (itself : (x : Node) → alike x x) 
 
 -- ---- a subtree
 
-append_none : (q : Path) → q ++ [] ≡ q
-append_none [] = refl
-append_none (n ∷ ns) = ap (λ s. n ∷ s) (append_none ns)
-
 module _ (m : Nodes) (formed : IsWellFormed m) (p : Path) where
   -- above a node nodes stand
   upwards : (s : Path) → Ends s → (x : Node) → get m (p ++ s) ≡ Some x
       → (get m p ≡ Some x)
       ⊎ ((front : Path) × (y : Node) × (length s ≡ suc (length front)) × (get m (p ++ front) ≡ Some y)
       × (x.permanent ≡ true → y.permanent ≡ true))
-  upwards [] none x e = inl (ap (get m) (sym (append_none p)) ∙ e)
+  upwards [] none x e = inl (ap (get m) (sym (append-nil p)) ∙ e)
   upwards s (last front n) x e =
       let up = formed.parents (p ++ front) n x (ap (get m) (append_assoc p front (n ∷ [])) ∙ e) in
       inr (front, up.0, omega (arith, length-append front (n ∷ [])), up.1, up.2.permanent)
@@ -130,17 +125,12 @@ module _ (m : Nodes) (formed : IsWellFormed m) (p : Path) where
   -- below a node that isn't permanent none is
   pub apart : (node : Node) → get m p ≡ Some node → node.permanent ≡ false → (q : Path) (x : Node) → get m q ≡ Some x
       → x.permanent ≡ true → is_below p q ≡ false
-  apart node there other q x e mark = by_test (is_below p q) refl
-    where
-      by_test : (b : Bool) → is_below p q ≡ b → b ≡ false
-      by_test false is = refl
-      by_test true is =
-          let top =
-          top_there (length (drop (length p) q)) (drop (length p) q) refl x
-          (ap (get m) (sym (rest_below p q is)) ∙ e) in
-          let same : top.0 ≡ node = some_node top.0 node (sym top.1 ∙ there) in
-          let yes : node.permanent ≡ true = ap (λ (n : Node). n.permanent) (sym same) ∙ top.2 mark in
-          absurd (cc)
+  apart node there other q x e mark = false_from_ne_true _ (λ is.
+      let rest = drop (length p) q in
+      let top = top_there (length rest) rest refl x (ap (get m) (sym (rest_below p q is)) ∙ e) in
+      let same : top.0 ≡ node = some_node top.0 node (sym top.1 ∙ there) in
+      let marked : top.0.permanent ≡ true = top.2 mark in
+      cc)
 
 -- what is there after a subtree is taken out was there before
 pub was_there : (m : Nodes) (p q : Path) (y : Node) → get (pruned m p) q ≡ Some y → get m q ≡ Some y
@@ -174,7 +164,7 @@ module _ (m : Nodes) (p : Path) (name : List ℕ) (old new : Node) (formed : IsW
   not_root e =
       let root = formed.root in
       let same : root.0 ≡ old = some_node root.0 old (sym root.1 ∙ ap (get m) (sym e) ∙ there) in
-      let yes : old.permanent ≡ true = ap (λ (n : Node). n.permanent) (sym same) ∙ root.2.permanent in
+      let marked = root.2.permanent in
       cc
 
   -- permanent nodes keep their paths
@@ -200,13 +190,7 @@ module _ (m : Nodes) (p : Path) (name : List ℕ) (old new : Node) (formed : IsW
           ]
 
   not_there : (q : Path) (x : Node) → get m q ≡ Some x → x.permanent ≡ true → q ≡ t → ⊥
-  not_there q x e mark same = elim free [
-    | inl empty ↦ let some : get m t ≡ Some x = ap (get m) (sym same) ∙ e in cc
-    | inr back ↦
-        let one : x ≡ old = some_node x old (sym e ∙ ap (get m) (same ∙ back) ∙ there) in
-        let no : x.permanent ≡ false = ap (λ (n : Node). n.permanent) one ∙ other in
-        cc
-  ]
+  not_there q x e mark same = elim free [ inl empty ↦ cc | inr back ↦ cc ]
 
   pub keeps_renamed : (alike : Node → Node → Type 0) → ((x : Node) → alike x x) → new.role ≡ old.role
       → Keeps alike m (insert (renamed m p name) t new)

@@ -7,6 +7,7 @@ use Rattle.std.specs.declared.cmp.Ordering.TheVariants.{Less, Equal, Greater}
 use Rattle.std.specs.Cmp.{IsTotalOrder, nat_cmp_total, tied_itself}
 use Rattle.std.specs.Cmp.Lexicographic.{slice_cmp, lists_total}
 use Rattle.std.specs.FinMap.{IsAntisymmetric, nat_cmp-IsAntisymmetric, slice_cmp-IsAntisymmetric}
+use Rattle.std.proofs.lemmas.Bool.{false_from_ne_true}
 use Rattle.std.proofs.lemmas.List.{take-append-le, take-append-drop, length-take}
 use Rattle.std.proofs.Math.Seq.{take-length}
 use Rattle.dm_tree.specs.Nodes.{Path, tree_order, is_below}
@@ -45,16 +46,13 @@ below_below p q r a b =
     ap (is_below p) e ∙ below_append p (drop (length p) q ++ drop (length q) r)
 
 pub not_below_shorter : (a : Path) (n : List ℕ) → is_below (a ++ n ∷ []) a ≡ false
-not_below_shorter a n = elim (is_below (a ++ n ∷ []) a) as (λ b. is_below (a ++ n ∷ []) a ≡ b → b ≡ false) [
-  | true ↦ λ yes.
-      absurd (omega (
-        arith,
-        ap length (equal_below (a ++ n ∷ []) a yes),
-        length-take (length (a ++ n ∷ [])) a,
-        length-append a (n ∷ []),
-      ))
-  | false ↦ λ _. refl
-] refl
+not_below_shorter a n = false_from_ne_true _ (λ below.
+    omega (
+      arith,
+      ap length (equal_below (a ++ n ∷ []) a below),
+      length-take (length (a ++ n ∷ [])) a,
+      length-append a (n ∷ []),
+    ))
 
 -- ---- before
 

@@ -3,6 +3,7 @@ use Rattle.std.proofs.Common.{◌≡◌, ◌≢◌, ℕ, ◌<◌, ◌≤◌, tru
 use Rattle.std.proofs.Common.{ap, arith, ◌⊎◌, inl, inr, length-append, take}
 use Rattle.dm_tree.specs.Nodes.{Path, tree_order, is_below}
 use Rattle.std.specs.Prelude.{nat_lt}
+use Rattle.std.proofs.lemmas.Bool.{cases_Bool, false_from_ne_true}
 use Rattle.std.proofs.lemmas.Bool.Decides.{nat_tests}
 use Rattle.std.specs.declared.cmp.Ordering.{Ordering}
 use Rattle.std.specs.declared.cmp.Ordering.TheVariants.{Less, Equal, Greater}
@@ -61,6 +62,12 @@ pub other_path : (q p : Path) → eq_by_cmp tree_order q p ≡ false → q ≡ p
 other_path q p is e = let yes : eq_by_cmp tree_order q p ≡ true =
     ap (λ r. eq_by_cmp tree_order q r) (sym e) ∙ ap is_eq (tied_itself tree_total q) in cc
 
+pub path_or_not : (p q : Path) → (p ≡ q) ⊎ (p ≢ q)
+path_or_not p q = elim (cases_Bool (eq_by_cmp tree_order p q)) [
+  | inl is ↦ inl (same_path p q is)
+  | inr is ↦ inr (other_path p q is)
+]
+
 -- a list that isn't empty has a last member
 pub data Ends : Path → Type 0 where
   none : Ends []
@@ -104,7 +111,4 @@ below_last p r n e f =
 
 pub below_none : (p : Path) → (p ≡ [] → ⊥) → is_below p [] ≡ false
 below_none p some =
-    elim (is_below p []) as (λ b. is_below p [] ≡ b → is_below p [] ≡ false) [
-      | true ↦ λ is. absurd (some (sym (equal_below p [] is) ∙ take_all (length p) [] (omega arith)))
-      | false ↦ λ is. is
-    ] refl
+    false_from_ne_true _ (λ is. some (sym (equal_below p [] is) ∙ take_all (length p) [] (omega arith)))

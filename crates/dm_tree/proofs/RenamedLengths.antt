@@ -1,12 +1,12 @@
 -- How long the paths of rows are, once one of them bears another name.
-use Rattle.std.proofs.Common.{◌≡◌, ◌≢◌, ℕ, zero, suc, ◌+◌, ◌-◌, ◌<◌, ◌≤◌, Bool, true, false, cond, nat_eq, List, []}
+use Rattle.std.proofs.Common.{◌≡◌, ◌≢◌, ℕ, zero, suc, ◌+◌, ◌-◌, ◌<◌, ◌≤◌, Bool, true, false, nat_eq, List, []}
 use Rattle.std.proofs.Common.{◌∷◌, ◌++◌, length, Option, Some, refl, sym, ◌∙◌, ap, arith, inl, inr, length-append}
 use Rattle.std.specs.Prelude.{◌&&◌, ◌||◌, not, filter, nat_le, nat_lt, if◌then◌else◌}
 use Rattle.std.specs.Cmp.{both_ways}
 use Rattle.std.specs.List.{list_all}
 use Rattle.std.specs.Option.{option_map_or}
 use Rattle.std.specs.FinMap.{get, keys}
-use Rattle.std.proofs.lemmas.Bool.{and_parts, and_left, or_right}
+use Rattle.std.proofs.lemmas.Bool.{and_parts, and_left, cases_Bool, or_right}
 use Rattle.std.proofs.lemmas.Bool.Decides.{nat_tests}
 use Rattle.dm_uri.specs.Names.{is_short_name, printed_path, joined}
 use Rattle.dm_tree.specs.declared.nodes.Node.{Node}
@@ -22,6 +22,7 @@ use Rattle.dm_tree.proofs.RowPaths.{at_top, at_bottom, attached_falls, walk_up, 
 use Rattle.dm_tree.proofs.LiveRows.{node_there, well_formed}
 use Rattle.dm_tree.proofs.NodesBehind.{below-is}
 use Rattle.dm_tree.proofs.RenamedRows.{parent_then, depth_then, attached_then, here_then, other_then, lies_then}
+use Rattle.dm_tree.proofs.RenamedRows.{rekeyed-apart}
 
 -- ---- paths in print
 
@@ -130,20 +131,13 @@ module _ (rows : List Row) (shape : IsShaped rows) (k : ℕ) (live : IsLive rows
 
 all_filtered : (f g : Path → Bool) (qs : List Path) → list_all f (filter g qs) ≡ list_all (λ q. not (g q) || f q) qs
 all_filtered f g [] = refl
-all_filtered f g (q ∷ qs) =
-    elim (g q) as (λ b. g q ≡ b
-    → list_all f (cond b (q ∷ filter g qs) (filter g qs)) ≡ (not b || f q) && list_all (λ r. not (g r) || f r) qs) [
-      | true ↦ λ is. ap (λ b. f q && b) (all_filtered f g qs)
-      | false ↦ λ is. all_filtered f g qs
-    ] refl
+all_filtered f g (q ∷ qs) = elim (cases_Bool (g q)) [
+  | inl is ↦ rw is (ap (λ b. f q && b) (all_filtered f g qs))
+  | inr is ↦ rw is (all_filtered f g qs)
+]
 
 abbrev pub then_fits : Path → List ℕ → Path → Bool
 then_fits p name q = nat_le (length (printed_path (rekeyed p name q))) 255
-
--- a path that doesn't go through the node stays as it is
-unmoved : (p : Path) (name : List ℕ) (q : Path) → is_below p q ≡ false → rekeyed p name q ≡ q
-unmoved [] name q apart = refl
-unmoved (n ∷ ns) name q apart = rw apart refl
 
 -- the other paths keep to the limit as it is
 pub below_decides : (rows : List Row) → IsTree rows → (p : Path) (name : List ℕ)
@@ -154,7 +148,7 @@ below_decides rows tree p name =
     apart_fits : (q : Path) (x : Node) → get (nodes rows) q ≡ Some x → is_below p q ≡ false → then_fits p name q ≡ true
     apart_fits q x e apart =
         let limits = (well_formed rows tree).paths q x e in
-        ap (λ r. nat_le (length (printed_path r)) 255) (unmoved p name q apart)
+        ap (λ r. nat_le (length (printed_path r)) 255) (rekeyed-apart p name q apart)
         ∙ (and_parts (list_all is_short_name q && nat_le (length q) 16)
         (nat_le (length (printed_path q)) 255) limits.1).1
 

@@ -1,6 +1,6 @@
 -- A tree in which a node bears another name.
 use Rattle.std.proofs.Common.{◌≡◌, ◌≢◌, ℕ, zero, suc, ◌+◌, ◌%◌, ◌^◌, ◌<◌, ◌≤◌, true, false, List, [], ◌∷◌, ◌++◌, length}
-use Rattle.std.proofs.Common.{Option, None, Some, refl, sym, ◌∙◌, ap, subst, arith, inl, inr}
+use Rattle.std.proofs.Common.{Option, None, Some, refl, sym, ◌∙◌, ap, subst, arith}
 use Rattle.std.specs.Prelude.{◌&&◌, nat_le, IfSome}
 use Rattle.std.specs.List.{list_all}
 use Rattle.std.specs.Option.{option_map}
@@ -17,16 +17,15 @@ use Rattle.dm_tree.specs.Rows.{row_at, node_of, path_below, placed, ids_below, i
 use Rattle.dm_tree.specs.Rows.{IsLive, path_of}
 use Rattle.dm_tree.specs.Edits.{with_name, rekeyed, fits}
 use Rattle.dm_tree.specs.Undos.{TakesBack}
-use Rattle.dm_tree.proofs.Paths.{below_or_not, same_or_not}
 use Rattle.dm_tree.proofs.MapKeys.{keys_all}
 use Rattle.dm_tree.proofs.RowPaths.{child_below, depth_is, not_zero}
 use Rattle.dm_tree.proofs.RowMaps.{id_of}
-use Rattle.dm_tree.proofs.NodeEdits.{of_both, live_row}
+use Rattle.dm_tree.proofs.NodeEdits.{AreOne, each_set, of_both, live_row}
 use Rattle.dm_tree.proofs.LiveRows.{HasParent, has_parent, above-append, live_at, len-nodes, all_named, node_there}
+use Rattle.dm_tree.proofs.TreeEdits.{isnt_root}
 use Rattle.dm_tree.proofs.NodeContents.{held_changed}
 use Rattle.dm_tree.proofs.UndoFlips.{again}
-use Rattle.dm_tree.proofs.RenamedRows.{parent_then, depth_then, attached_then, here_then, other_then, path_then}
-use Rattle.dm_tree.proofs.RenamedRows.{lies_then}
+use Rattle.dm_tree.proofs.RenamedRows.{parent_then, depth_then, attached_then, other_then, path_then, lies_then}
 
 -- what a rename asks for
 pub record MayRename (rows : List Row) (k : ℕ) (name : List ℕ) (clock : Stamp) : Type 0 where
@@ -57,15 +56,7 @@ module _ (rows : List Row) (tree : IsTree rows) (k : ℕ) (name : List ℕ) (clo
 
   -- the root is permanent
   pub no_root : 0 < k
-  no_root =
-      elim (below_or_not 0 k) [
-        | inl h ↦ h
-        | inr h ↦
-            let z : k ≡ 0 = omega (arith, h) in
-            absurd (let top : (node_of rows 0).permanent ≡ true = tree.root.permanent in
-            let here : (node_of rows 0).permanent ≡ false = ap (λ j. (node_of rows j).permanent) (sym z)
-            ∙ may.removable in cc)
-      ]
+  no_root = isnt_root rows tree k may.removable
 
   up : HasParent rows k
   up = has_parent rows tree.shape k may.live (not_zero k (omega (arith, no_root)))
@@ -95,36 +86,19 @@ module _ (rows : List Row) (tree : IsTree rows) (k : ℕ) (name : List ℕ) (clo
   attached : (j : ℕ) → (row_at now j).attached ≡ (row_at rows j).attached
   attached j = attached_then rows tree.shape k may.live name (changed clock (node_of rows k)) j
 
-  here : row_at now k ≡ record (row_at rows k) { name = name; node = changed clock (node_of rows k) }
-  here = here_then rows tree.shape k may.live name (changed clock (node_of rows k))
+  abbrev new : Row
+  new = record (row_at rows k) { name = name; node = changed clock (node_of rows k) }
 
   other : (j : ℕ) → j ≢ k → row_at now j ≡ row_at rows j
   other j h = other_then rows tree.shape k may.live name (changed clock (node_of rows k)) j h
 
-  named_here : (j : ℕ) → j ≡ k → (row_at now j).name ≡ name
-  named_here j h = ap (λ i. (row_at now i).name) h ∙ ap (λ (r : Row). r.name) here
-
-  twins : (i j : ℕ) → (row_at rows i).attached ≡ true → (row_at rows j).attached ≡ true
-      → (row_at rows i).parent ≡ (row_at rows j).parent
-      → (row_at now i).name ≡ (row_at now j).name → i ≡ j
-  twins i j a b p n =
-      elim (same_or_not i k) [
-        | inl h ↦ elim (same_or_not j k) [
-          | inl g ↦ h ∙ sym g
-          | inr g ↦
-              h
-              ∙ sym (alone j b (sym p ∙ ap (λ m. (row_at rows m).parent) h)
-              (ap (λ (r : Row). r.name) (sym (other j g)) ∙ sym n ∙ named_here i h))
-        ]
-        | inr h ↦ elim (same_or_not j k) [
-          | inl g ↦
-              alone i a (p ∙ ap (λ m. (row_at rows m).parent) g)
-              (ap (λ (r : Row). r.name) (sym (other i h)) ∙ n ∙ named_here j g) ∙ sym g
-          | inr g ↦
-              tree.shape.no_twins i j a b p
-              (ap (λ (r : Row). r.name) (sym (other i h)) ∙ n ∙ ap (λ (r : Row). r.name) (other j g))
-        ]
-      ]
+  twins : (i j : ℕ) → AreOne i j (row_at now i) (row_at now j)
+  twins i j =
+      each_set rows k _ l (λ s. AreOne i j s (row_at now j)) i
+      (λ e. each_set rows k _ l (AreOne i j new) j (λ f _ _ _ _. e ∙ sym f)
+      (λ _ a b p n. e ∙ sym (alone j b (sym p) (sym n))))
+      (λ _. each_set rows k _ l (AreOne i j (row_at rows i)) j (λ f a b p n. alone i a p n ∙ sym f)
+      (λ _. tree.shape.no_twins i j))
 
   pub shaped-renamed : IsShaped now
   shaped-renamed = record {
@@ -137,19 +111,17 @@ module _ (rows : List Row) (tree : IsTree rows) (k : ℕ) (name : List ℕ) (clo
         λ j a. depth j ∙ tree.shape.falls j (sym (attached j) ∙ a)
         ∙ ap suc (ap (λ i. (row_at rows i).depth) (sym (parent j)) ∙ sym (depth _));
     shallow = λ j. omega (arith, depth j, tree.shape.shallow j);
-    no_twins = λ i j a b p n. twins i j (sym (attached i) ∙ a) (sym (attached j) ∙ b) (sym (parent i) ∙ p ∙ parent j) n;
+    no_twins = twins;
   }
 
   row_is : (j : ℕ) → j < length rows → IsRow (row_at now j)
-  row_is j jl = elim (same_or_not j k) [
-    | inl h ↦ subst (λ i. IsRow (row_at now i)) (sym h) (subst IsRow (sym here) (record {
-      name = may.named;
-      node = let held = (tree.each k l).node in
-          held_changed clock (node_of rows k) may.stamp held.value held.acl held.title;
-      attached = (tree.each k l).attached;
-    }))
-    | inr h ↦ subst IsRow (sym (other j h)) (tree.each j jl)
-  ]
+  row_is j jl =
+      each_set rows k _ l IsRow j (λ _. record {
+        name = may.named;
+        node = let held = (tree.each k l).node in
+            held_changed clock (node_of rows k) may.stamp held.value held.acl held.title;
+        attached = (tree.each k l).attached;
+      }) (λ _. tree.each j jl)
 
   as_many : (n : ℕ) → length (ids_below now 0 n) ≡ length (ids_below rows 0 n)
   as_many zero = refl

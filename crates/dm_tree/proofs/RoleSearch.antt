@@ -22,8 +22,7 @@ use Rattle.dm_tree.proofs.MapKeys.{tied}
 use Rattle.dm_tree.proofs.RenamedLengths.{still_to_come}
 use Rattle.dm_tree.proofs.RowMaps.{get_nodes}
 use Rattle.dm_tree.proofs.Paths.{Ends, ends, none, last, below_or_not, same_or_not}
-use Rattle.dm_tree.proofs.LiveRows.{above-append, last_name-append, node_there, row_there}
-use Rattle.dm_tree.proofs.LiveRows.{live_at, well_formed}
+use Rattle.dm_tree.proofs.LiveRows.{above-append, last_name-append, node_there, row_there, live_at, well_formed}
 use Rattle.dm_tree.proofs.PathOrder.{not_before_itself}
 use Rattle.dm_tree.proofs.NextNodes.{Shows}
 
@@ -131,10 +130,7 @@ lone_update rows shape k live is before later = (
 
 pub is_update : (r : Role) → is_role r role.UpdateNode ≡ is_update_node r
 is_update role.Plain = refl
-is_update role.ReadOnly = refl
-is_update role.UpdateNode = refl
-is_update role.PkgData = refl
-is_update role.State = refl
+is_update r = refl
 
 -- ---- a child of a role
 
@@ -174,14 +170,11 @@ pub no_parent : (rows : List Row) → IsTree rows → (k : ℕ) → IsLive rows 
 no_parent rows tree k live role_is found =
     by_end (path_of rows k) (ends (path_of rows k)) (node_there rows tree.shape k live) found
   where
-    some_node : (a b : Node) → Some a ≡ Some b → a ≡ b
-    some_node a b e = cc
-
     by_end : (p : Path) → Ends p → get (nodes rows) p ≡ Some (node_of rows k)
         → None ≡ option_and_then (λ (n : List ℕ). get (ids rows) (above p)) (last_name p) → ⊥
     by_end [] none there f =
         let root = (well_formed rows tree).root in
-        let same : root.0 ≡ node_of rows k = some_node root.0 (node_of rows k) (sym root.1 ∙ there) in
+        let same : root.0 ≡ node_of rows k = cc in
         let plain : role.Plain ≡ role.UpdateNode = sym root.2.role ∙ ap (λ (n : Node). n.role) same ∙ role_is in
         cc
     by_end p (last front n) there f =

@@ -1,17 +1,20 @@
 -- What the rows say of the two maps.
-use Rattle.std.proofs.Common.{◌≡◌, ℕ, zero, suc, ◌<◌, true, false, cond, nat_eq, List, [], ◌∷◌, length, Option, None}
-use Rattle.std.proofs.Common.{Some, refl, sym, ◌∙◌, ap, subst, arith, ◌⊎◌, inl, inr}
+use Rattle.std.proofs.Common.{◌≡◌, ◌≢◌, ℕ, zero, suc, ◌<◌, true, false, cond, nat_eq, List, [], ◌∷◌, length, Option}
+use Rattle.std.proofs.Common.{None, Some, refl, sym, ◌∙◌, ap, subst, arith, ◌⊎◌, inl, inr}
+use Rattle.dm_tree.specs.declared.nodes.Node.{Node}
 use Rattle.dm_tree.specs.declared.rows.Row.{Row}
 use Rattle.dm_tree.specs.Nodes.{Path, tree_order}
 use Rattle.dm_tree.specs.Rows.{blank, row_at, walk, path_below, placed, ids_below, with_nodes, ids, nodes, IsShaped}
 use Rattle.dm_tree.specs.Rows.{IsLive, path_of}
+use Rattle.std.proofs.lemmas.Bool.{false_from_ne_true}
 use Rattle.std.proofs.lemmas.List.{get_or_past}
 use Rattle.std.specs.Prelude.{unwrap_or}
 use Rattle.std.specs.Ordering.{eq_by_cmp, is_eq}
 use Rattle.std.specs.Cmp.{tied_itself}
-use Rattle.std.specs.FinMap.{get, find, get-from_entries}
+use Rattle.std.specs.FinMap.{FinMap, get, find, get-from_entries, insert, get-insert, same_map}
 use Rattle.std.specs.Option.{option_map}
-use Rattle.dm_tree.proofs.Paths.{below_or_not, same_or_not, same_path, tree_total}
+use Rattle.dm_tree.proofs.MapKeys.{tied}
+use Rattle.dm_tree.proofs.Paths.{below_or_not, same_or_not, same_path, tree_exact, tree_total}
 use Rattle.dm_tree.proofs.RowPaths.{at_bottom, one_row, same_number}
 
 -- the maps, read at a path
@@ -36,6 +39,15 @@ unfolding ids nodes
 get_nodes rows q =
     get-from_entries tree_total _ q ∙ find-with_nodes rows q _
     ∙ ap (option_map (λ k. (row_at rows k).node)) (sym (get-from_entries tree_total _ q))
+
+pub some_of : {X Y : Type 0} (f : X → Y) (o : Option X) (y : Y) → option_map f o ≡ Some y
+    → (x : X) × (o ≡ Some x) × (f x ≡ y)
+some_of f None y e = absurd (cc)
+some_of f (Some x) y e = (x, refl, cc)
+
+pub none_of : {X Y : Type 0} (f : X → Y) (o : Option X) → option_map f o ≡ None → o ≡ None
+none_of f None e = refl
+none_of f (Some x) e = absurd (cc)
 
 abbrev pub find_id : Path → List (Path × ℕ) → Option ℕ
 find_id q es = find tree_order q es
@@ -113,3 +125,42 @@ found_live rows q i e =
     let at = (id_is rows q i e).0 in
     let same : path_of rows i ≡ q = ap (λ o. unwrap_or o []) at in
     (at ∙ ap (λ r. Some r) (sym same), same)
+
+-- ---- when a map says what the rows do
+
+pub insert_here : {X : Type 0} (m : FinMap tree_order X) (p q : Path) (x : X) → q ≡ p → get (insert m p x) q ≡ Some x
+insert_here m p q x e = get-insert tree_total m p x q ∙ rw (tied q p e) refl
+
+pub insert_beside : {X : Type 0} (m : FinMap tree_order X) (p q : Path) (x : X) → q ≢ p → get (insert m p x) q ≡ get m q
+insert_beside m p q x other =
+    get-insert tree_total m p x q ∙ rw (false_from_ne_true _ (λ is. other (same_path q p is))) refl
+
+same_answer : {X : Type 0} (a b : Option X) → ((x : X) → a ≡ Some x → b ≡ Some x)
+    → ((x : X) → b ≡ Some x → a ≡ Some x) → a ≡ b
+same_answer None None f g = refl
+same_answer None (Some x) f g = g x refl
+same_answer (Some x) b f g = sym (f x refl)
+
+-- each row of the tree is in it under its path, and no other number
+pub ids_are : (rows : List Row) → IsShaped rows → (m : FinMap tree_order ℕ)
+    → ((i : ℕ) (q : Path) → path_below rows 0 i ≡ Some q → get m q ≡ Some i)
+    → ((i : ℕ) (q : Path) → get m q ≡ Some i → path_below rows 0 i ≡ Some q) → ids rows ≡ m
+ids_are rows shape m to from = same_map tree_total tree_exact _ _ (λ q.
+    same_answer _ _ (λ i e. to i q (id_is rows q i e).0) (λ i e. id_of rows shape i q (from i q e)))
+
+pub node_of_path : (rows : List Row) → IsShaped rows → (i : ℕ) (q : Path) → path_below rows 0 i ≡ Some q
+    → get (nodes rows) q ≡ Some (row_at rows i).node
+node_of_path rows shape i q e =
+    get_nodes rows q ∙ ap (option_map (λ j. (row_at rows j).node)) (id_of rows shape i q e)
+
+-- the node of each row of the tree is in it under the row's path, and no other path
+pub nodes_are : (rows : List Row) → IsShaped rows → (m : FinMap tree_order Node)
+    → ((i : ℕ) (q : Path) → path_below rows 0 i ≡ Some q → get m q ≡ Some (row_at rows i).node)
+    → ((q : Path) (n : Node) → get m q ≡ Some n → (i : ℕ) × (path_below rows 0 i ≡ Some q)) → nodes rows ≡ m
+nodes_are rows shape m to from = same_map tree_total tree_exact _ _ (λ q. same_answer _ _ (there q) (λ n e.
+    let s = from q n e in node_of_path rows shape s.0 q s.1 ∙ sym (to s.0 q s.1) ∙ e))
+  where
+    there : (q : Path) (n : Node) → get (nodes rows) q ≡ Some n → get m q ≡ Some n
+    there q n e =
+        let found = some_of (λ j. (row_at rows j).node) (get (ids rows) q) n (sym (get_nodes rows q) ∙ e) in
+        to found.0 q (id_is rows q found.0 found.1).0 ∙ ap (λ x. Some x) found.2

@@ -1,21 +1,22 @@
 -- A row is put in place of one right below which nothing stands.
-use Rattle.std.proofs.Common.{◌≡◌, ◌≢◌, ℕ, zero, suc, ◌<◌, ◌≤◌, Bool, true, false, cond, nat_eq, List}
+use Rattle.std.proofs.Common.{◌≡◌, ◌≢◌, ℕ, zero, suc, ◌<◌, ◌≤◌, true, false, List}
 use Rattle.std.proofs.Common.{length, Option, None, Some, refl, sym, ◌∙◌, ap, subst, arith, inl, inr}
 use Rattle.std.proofs.Math.ListN.{set, length-set}
 use Rattle.std.proofs.lemmas.List.{get_or-set_same, get_or-set_other}
 use Rattle.std.specs.Option.{option_map}
-use Rattle.std.specs.Ordering.{eq_by_cmp}
-use Rattle.std.specs.FinMap.{get, insert, len, from_entries, get-insert, same_map}
+use Rattle.std.specs.FinMap.{get, insert, len, from_entries, same_map}
 use Rattle.dm_uri.specs.Names.{is_within_limits}
 use Rattle.dm_tree.specs.declared.rows.Row.{Row}
-use Rattle.dm_tree.specs.Nodes.{Path, tree_order, IsRoot, IsChildOf}
+use Rattle.dm_tree.specs.Nodes.{Path, IsRoot, IsChildOf}
 use Rattle.dm_tree.specs.Rows.{blank, row_at, node_of, walk, path_below, ids_below, ids, nodes, path_of, IsShaped}
 use Rattle.dm_tree.specs.Rows.{IsRow, IsTree}
 use Rattle.dm_tree.specs.Reuse.{IsFreeRow}
-use Rattle.dm_tree.proofs.Paths.{other_path, same_or_not, same_path, tree_exact, tree_total}
-use Rattle.dm_tree.proofs.RowPaths.{attached_row, some_path}
-use Rattle.dm_tree.proofs.RowMaps.{get_nodes, id_is, id_of}
-use Rattle.dm_tree.proofs.LiveRows.{live_at}
+use Rattle.dm_tree.proofs.Paths.{same_or_not, path_or_not, tree_exact, tree_total}
+use Rattle.dm_tree.proofs.RowPaths.{attached_row, not_same, one_row, some_path}
+use Rattle.dm_tree.proofs.RowMaps.{get_nodes, id_is, id_of, insert_here, insert_beside, ids_are, node_of_path}
+use Rattle.dm_tree.proofs.RowMaps.{nodes_are}
+use Rattle.dm_tree.proofs.NodeEdits.{AreOne, each_set}
+use Rattle.dm_tree.proofs.LiveRows.{live_at, row_there}
 
 -- no row that is attached lies right below the row k
 abbrev pub Childless : List Row → ℕ → Type 0
@@ -48,22 +49,8 @@ path_beside rows k r alone top j other =
     ∙ walk_beside rows k r alone (row_at rows j).depth top j other
 
 pub no_way : (rows : List Row) (d top k : ℕ) → k ≢ top → (row_at rows k).attached ≡ false → walk rows d top k ≡ None
-no_way rows zero top k other out = let is : nat_eq k top ≡ false = not_same k top other in rw is refl
-  where
-    not_same : (m n : ℕ) → m ≢ n → nat_eq m n ≡ false
-    not_same m n h =
-        elim (nat_eq m n) as (λ b. nat_eq m n ≡ b → b ≡ false) [
-          | true ↦ λ is. absurd (h (grind arith))
-          | false ↦ λ is. refl
-        ] refl
-no_way rows (suc d) top k other out = let is : nat_eq k top ≡ false = not_same k top other in rw (is, out) refl
-  where
-    not_same : (m n : ℕ) → m ≢ n → nat_eq m n ≡ false
-    not_same m n h =
-        elim (nat_eq m n) as (λ b. nat_eq m n ≡ b → b ≡ false) [
-          | true ↦ λ is. absurd (h (grind arith))
-          | false ↦ λ is. refl
-        ] refl
+no_way rows zero top k other out = rw (not_same k top other) refl
+no_way rows (suc d) top k other out = rw (not_same k top other, out) refl
 
 -- ---- the maps
 
@@ -114,17 +101,8 @@ module _ (rows : List Row) (k : ℕ) (r : Row) (below_root : 0 < k) (inside : k 
   pub here : row_at now k ≡ r
   here = get_or-set_same rows k r blank inside
 
-  pub here_at : (j : ℕ) → j ≡ k → row_at now j ≡ r
-  here_at j e = ap (row_at now) e ∙ here
-
   pub other : (j : ℕ) → j ≢ k → row_at now j ≡ row_at rows j
   other j d = get_or-set_other rows k j r blank d
-
-  pub each_row : (P : Row → Type 0) (j : ℕ) → (j ≡ k → P r) → (j ≢ k → P (row_at rows j)) → P (row_at now j)
-  each_row P j new old = elim (same_or_not j k) [
-    | inl e ↦ subst P (sym (here_at j e)) (new e)
-    | inr d ↦ subst P (sym (other j d)) (old d)
-  ]
 
   root_apart : 0 ≢ k
   root_apart = λ z. omega (arith, z, below_root)
@@ -136,67 +114,32 @@ module _ (rows : List Row) (k : ℕ) (r : Row) (below_root : 0 < k) (inside : k 
     at_root = ap (λ (s : Row). s.depth) (other 0 root_apart) ∙ shape.at_root;
     fixed = ap (λ (s : Row). s.attached) (other 0 root_apart) ∙ shape.fixed;
     inside =
-        λ j l. each_row (λ (s : Row). s.parent < length now) j (λ _. omega (arith, long, new.inside))
+        λ j l. each_set rows k r inside (λ s. s.parent < length now) j (λ _. omega (arith, long, new.inside))
         (λ _. omega (arith, long, shape.inside j (omega (arith, long, l))));
-    falls = λ j at. elim (same_or_not j k) [
-      | inl e ↦
-          let is = here_at j e in
-          let up : r.attached ≡ true = ap (λ (s : Row). s.attached) (sym is) ∙ at in
-          subst (λ (s : Row). s.depth ≡ suc (row_at now s.parent).depth) (sym is)
-          (new.deep up ∙ ap (λ (s : Row). suc s.depth) (sym (other r.parent (new.away up))))
-      | inr d ↦
-          let is = other j d in
-          let up : (row_at rows j).attached ≡ true = ap (λ (s : Row). s.attached) (sym is) ∙ at in
-          subst (λ (s : Row). s.depth ≡ suc (row_at now s.parent).depth) (sym is)
-          (shape.falls j up ∙ ap (λ (s : Row). suc s.depth) (sym (other (row_at rows j).parent (alone j up))))
-    ];
-    shallow = λ j. each_row (λ (s : Row). s.depth ≤ 16) j (λ _. new.shallow) (λ _. shape.shallow j);
-    no_twins = λ i j a b p n. elim (same_or_not i k) [
-      | inl e ↦ elim (same_or_not j k) [
-        | inl f ↦ e ∙ sym f
-        | inr f ↦ absurd (
-            let is = here_at i e in
-            let is' = other j f in
-            new.named (ap (λ (s : Row). s.attached) (sym is) ∙ a) j (ap (λ (s : Row). s.attached) (sym is') ∙ b)
-            (ap (λ (s : Row). s.parent) (sym is') ∙ sym p ∙ ap (λ (s : Row). s.parent) is)
-            (ap (λ (s : Row). s.name) (sym is') ∙ sym n ∙ ap (λ (s : Row). s.name) is))
-      ]
-      | inr e ↦ elim (same_or_not j k) [
-        | inl f ↦ absurd (
-            let is = other i e in
-            let is' = here_at j f in
-            new.named (ap (λ (s : Row). s.attached) (sym is') ∙ b) i (ap (λ (s : Row). s.attached) (sym is) ∙ a)
-            (ap (λ (s : Row). s.parent) (sym is) ∙ p ∙ ap (λ (s : Row). s.parent) is')
-            (ap (λ (s : Row). s.name) (sym is) ∙ n ∙ ap (λ (s : Row). s.name) is'))
-        | inr f ↦
-            let is = other i e in
-            let is' = other j f in
-            shape.no_twins i j (ap (λ (s : Row). s.attached) (sym is) ∙ a) (ap (λ (s : Row). s.attached) (sym is') ∙ b)
-            (ap (λ (s : Row). s.parent) (sym is) ∙ p ∙ ap (λ (s : Row). s.parent) is')
-            (ap (λ (s : Row). s.name) (sym is) ∙ n ∙ ap (λ (s : Row). s.name) is')
-      ]
-    ];
+    falls = λ j.
+        each_set rows k r inside (λ s. s.attached ≡ true → s.depth ≡ suc (row_at now s.parent).depth) j
+        (λ _ up. new.deep up ∙ ap (λ (s : Row). suc s.depth) (sym (other r.parent (new.away up))))
+        (λ _ up. shape.falls j up ∙ ap (λ (s : Row). suc s.depth) (sym (other (row_at rows j).parent (alone j up))));
+    shallow = λ j. each_set rows k r inside (λ s. s.depth ≤ 16) j (λ _. new.shallow) (λ _. shape.shallow j);
+    no_twins = λ i j.
+        each_set rows k r inside (λ s. AreOne i j s (row_at now j)) i
+        (λ e. each_set rows k r inside (AreOne i j r) j (λ f _ _ _ _. e ∙ sym f)
+        (λ _ a b p n. absurd (new.named a j b (sym p) (sym n))))
+        (λ _. each_set rows k r inside (AreOne i j (row_at rows i)) j (λ _ a b p n. absurd (new.named b i a p n))
+        (λ _. shape.no_twins i j));
   }
 
   pub tree_set : IsTree rows → IsNewcomer rows k r
       → ((p : Path) → path_below now 0 k ≡ Some p → is_within_limits p ≡ true) → len (nodes now) ≤ 65536 → IsTree now
   tree_set tree new within size = record {
     shape = shaped_set tree.shape new;
-    each = λ j l. each_row IsRow j (λ _. new.row) (λ _. tree.each j (omega (arith, long, l)));
+    each = λ j l. each_set rows k r inside IsRow j (λ _. new.row) (λ _. tree.each j (omega (arith, long, l)));
     root = subst (λ (s : Row). IsRoot s.node) (sym (other 0 root_apart)) tree.root;
-    children = λ j at. elim (same_or_not j k) [
-      | inl e ↦
-          let is = here_at j e in
-          let up : r.attached ≡ true = ap (λ (s : Row). s.attached) (sym is) ∙ at in
-          subst (λ (s : Row). IsChildOf s.node (node_of now s.parent)) (sym is)
-          (subst (λ (s : Row). IsChildOf r.node s.node) (sym (other r.parent (new.away up))) (new.child up))
-      | inr d ↦
-          let is = other j d in
-          let up : (row_at rows j).attached ≡ true = ap (λ (s : Row). s.attached) (sym is) ∙ at in
-          subst (λ (s : Row). IsChildOf s.node (node_of now s.parent)) (sym is)
-          (subst (λ (s : Row). IsChildOf (node_of rows j) s.node) (sym (other (row_at rows j).parent (alone j up)))
-          (tree.children j up))
-    ];
+    children = λ j.
+        each_set rows k r inside (λ s. s.attached ≡ true → IsChildOf s.node (node_of now s.parent)) j
+        (λ _ up. subst (λ (s : Row). IsChildOf r.node s.node) (sym (other r.parent (new.away up))) (new.child up))
+        (λ _ up. subst (λ (s : Row). IsChildOf (node_of rows j) s.node)
+        (sym (other (row_at rows j).parent (alone j up))) (tree.children j up));
     within = λ j live. elim (same_or_not j k) [
       | inl e ↦ within (path_of now j) (ap (path_below now 0) (sym e) ∙ live)
       | inr d ↦
@@ -226,50 +169,44 @@ module _ (rows : List Row) (k : ℕ) (r : Row) (below_root : 0 < k) (inside : k 
       nodes_by now rows (ids_out was is) (λ j q e. ap (λ (s : Row). s.node) (other j (not_there was j q e)))
 
   -- in the tree, it comes into both
+  lone : IsShaped now → (p : Path) → path_below now 0 k ≡ Some p → (i : ℕ) (q : Path) → path_below now 0 i ≡ Some q
+      → i ≢ k → q ≢ p
+  lone shape' p at i q e d same = d (one_row now shape' _ _ 0 i k q e (at ∙ ap (λ s. Some s) (sym same)))
+
   pub ids_in : IsShaped rows → IsShaped now → (row_at rows k).attached ≡ false → (p : Path)
       → path_below now 0 k ≡ Some p → ids now ≡ insert (ids rows) p k
   ids_in shape shape' was p at =
-      same_map tree_total tree_exact _ _
-      (λ q. by_test q (eq_by_cmp tree_order q p) refl ∙ sym (get-insert tree_total (ids rows) p k q))
-    where
-      by_test : (q : Path) (b : Bool) → eq_by_cmp tree_order q p ≡ b
-          → get (ids now) q ≡ cond b (Some k) (get (ids rows) q)
-      by_test q true is = ap (get (ids now)) (same_path q p is) ∙ id_of now shape' k p at
-      by_test q false is = by_old (get (ids rows) q) refl
-        where
-          none_new : get (ids rows) q ≡ None → (o : Option ℕ) → get (ids now) q ≡ o → o ≡ None
-          none_new e None f = refl
-          none_new e (Some j) f = elim (same_or_not j k) [
-            | inl h ↦
-                absurd (other_path q p is (some_path q p (sym (id_is now q j f).0 ∙ ap (path_below now 0) h ∙ at)))
-            | inr d ↦
-                absurd (let there : get (ids rows) q ≡ Some j =
-                id_of rows shape j q (sym (path_beside rows k r alone 0 j d) ∙ (id_is now q j f).0) in cc)
-          ]
-
-          by_old : (o : Option ℕ) → get (ids rows) q ≡ o → get (ids now) q ≡ get (ids rows) q
-          by_old None e = none_new e (get (ids now) q) refl ∙ sym e
-          by_old (Some j) e =
-              let there = (id_is rows q j e).0 in
-              id_of now shape' j q (path_beside rows k r alone 0 j (not_there was j q there) ∙ there) ∙ sym e
+      ids_are now shape' (insert (ids rows) p k) (λ i q e. elim (same_or_not i k) [
+        | inl h ↦
+            insert_here (ids rows) p q k (some_path q p (sym e ∙ ap (path_below now 0) h ∙ at))
+            ∙ ap (λ j. Some j) (sym h)
+        | inr d ↦
+            insert_beside (ids rows) p q k (lone shape' p at i q e d)
+            ∙ id_of rows shape i q (sym (path_beside rows k r alone 0 i d) ∙ e)
+      ]) (λ i q e. elim (path_or_not q p) [
+        | inl h ↦
+            let found = insert_here (ids rows) p q k h in
+            let is : k ≡ i = cc in
+            ap (path_below now 0) (sym is) ∙ at ∙ ap (λ s. Some s) (sym h)
+        | inr d ↦
+            let there = (id_is rows q i (sym (insert_beside (ids rows) p q k d) ∙ e)).0 in
+            path_beside rows k r alone 0 i (not_there was i q there) ∙ there
+      ])
 
   pub nodes_in : IsShaped rows → IsShaped now → (row_at rows k).attached ≡ false → (p : Path)
       → path_below now 0 k ≡ Some p → nodes now ≡ insert (nodes rows) p r.node
-  nodes_in shape shape' was p at = same_map tree_total tree_exact _ _ (λ q.
-      get_nodes now q ∙ ap (option_map (λ j. (row_at now j).node))
-      (ap (λ m. get m q) (ids_in shape shape' was p at) ∙ get-insert tree_total (ids rows) p k q)
-      ∙ by_test q (eq_by_cmp tree_order q p) ∙ sym (get-insert tree_total (nodes rows) p r.node q))
-    where
-      by_old : (q : Path) (o : Option ℕ) → get (ids rows) q ≡ o
-          → option_map (λ j. (row_at now j).node) (get (ids rows) q) ≡ get (nodes rows) q
-      by_old q None e = rw e (sym (get_nodes rows q ∙ ap (option_map (λ j. (row_at rows j).node)) e))
-      by_old q (Some j) e =
-          ap (option_map (λ j. (row_at now j).node)) e
-          ∙ ap (λ (s : Row). Some s.node) (other j (not_there was j q (id_is rows q j e).0))
-          ∙ sym (get_nodes rows q ∙ ap (option_map (λ j. (row_at rows j).node)) e)
-
-      by_test : (q : Path) (b : Bool)
-          → option_map (λ j. (row_at now j).node) (cond b (Some k) (get (ids rows) q))
-          ≡ cond b (Some r.node) (get (nodes rows) q)
-      by_test q true = ap (λ (s : Row). Some s.node) here
-      by_test q false = by_old q (get (ids rows) q) refl
+  nodes_in shape shape' was p at =
+      nodes_are now shape' (insert (nodes rows) p r.node) (λ i q e. elim (same_or_not i k) [
+        | inl h ↦
+            insert_here (nodes rows) p q r.node (some_path q p (sym e ∙ ap (path_below now 0) h ∙ at))
+            ∙ ap (λ (s : Row). Some s.node) (sym (ap (row_at now) h ∙ here))
+        | inr d ↦
+            insert_beside (nodes rows) p q r.node (lone shape' p at i q e d)
+            ∙ node_of_path rows shape i q (sym (path_beside rows k r alone 0 i d) ∙ e)
+            ∙ ap (λ (s : Row). Some s.node) (sym (other i d))
+      ]) (λ q n e. elim (path_or_not q p) [
+        | inl h ↦ (k, at ∙ ap (λ s. Some s) (sym h))
+        | inr d ↦
+            let s = row_there rows q n (sym (insert_beside (nodes rows) p q r.node d) ∙ e) in
+            (s.row, path_beside rows k r alone 0 s.row (not_there was s.row q s.lies) ∙ s.lies)
+      ])

@@ -11,7 +11,8 @@ use Rattle.dm_tree.specs.Nodes.{counted, with_value, with_bytes, with_acl, with_
 use Rattle.dm_tree.specs.Rows.{row_at, ids, nodes, IsTree, path_of}
 use Rattle.dm_tree.specs.Edits.{attached_as, new_row}
 use Rattle.dm_tree.specs.Undos.{TakesOut, IsInserted, Fits, IsReadyChange, FitAll, row_of, flipped, all_flipped}
-use Rattle.dm_tree.proofs.NodeEdits.{of_both, live_row}
+use Rattle.dm_tree.proofs.NodeEdits.{live_row}
+use Rattle.dm_tree.proofs.FlippedRows.{kin-flipped}
 use Rattle.dm_tree.proofs.RowAppends.{at_end_of, before_end, nodes-append, ids-append, with_row-end, nodes-parked}
 use Rattle.dm_tree.proofs.RowAppends.{ids-parked, set_last}
 use Rattle.dm_tree.proofs.LiveRows.{stay_live-insert}
@@ -41,25 +42,11 @@ flipped-spare rows r (change.Name k name verno stamp) l =
 flipped-spare rows r (change.TakeOut k) l = one_row_set rows r k (λ (s : Row). record s { attached = false }) l
 flipped-spare rows r (change.PutIn k) l = one_row_set rows r k (λ (s : Row). record s { attached = true }) l
 
-depth-flipped : (rows : List Row) (u : Change) → row_of u < length rows → (j : ℕ)
-    → (row_at (flipped rows u) j).depth ≡ (row_at rows j).depth
-depth-flipped rows (change.Value k value verno stamp) l j = of_both rows k _ (λ s. s.depth) refl j l
-depth-flipped rows (change.Bytes k bytes verno stamp) l j = of_both rows k _ (λ s. s.depth) refl j l
-depth-flipped rows (change.Acl k acl verno stamp) l j = of_both rows k _ (λ s. s.depth) refl j l
-depth-flipped rows (change.Title k title verno stamp) l j = of_both rows k _ (λ s. s.depth) refl j l
-depth-flipped rows (change.Name k name verno stamp) l j = of_both rows k _ (λ s. s.depth) refl j l
-depth-flipped rows (change.TakeOut k) l j = of_both rows k _ (λ s. s.depth) refl j l
-depth-flipped rows (change.PutIn k) l j = of_both rows k _ (λ s. s.depth) refl j l
-
 ready-spare : (rows : List Row) (r : Row) (u : Change) → row_of u < length rows → IsReadyChange rows u
     → IsReadyChange (rows ++ r ∷ []) u
-ready-spare rows r (change.Value k value verno stamp) l e = tt
-ready-spare rows r (change.Bytes k bytes verno stamp) l e = tt
-ready-spare rows r (change.Acl k acl verno stamp) l e = tt
-ready-spare rows r (change.Title k title verno stamp) l e = tt
-ready-spare rows r (change.Name k name verno stamp) l e = tt
 ready-spare rows r (change.TakeOut k) l e = ap (λ (s : Row). s.attached) (before_end rows r k l) ∙ e
 ready-spare rows r (change.PutIn k) l e = ap (λ (s : Row). s.attached) (before_end rows r k l) ∙ e
+ready-spare rows r u l e = tt
 
 still_spare : (rows : List Row) (r : Row) (u : Change) → row_of u < length rows → IsSpare rows r
     → IsSpare (flipped rows u) r
@@ -67,7 +54,7 @@ still_spare rows r u l spare = record {
   out = spare.out;
   row = spare.row;
   inside = omega (arith, spare.inside, length-flipped rows u);
-  deep = spare.deep ∙ ap suc (sym (depth-flipped rows u l r.parent));
+  deep = spare.deep ∙ ap suc (sym (kin-flipped (λ s. s.depth) (λ s a name n. refl) rows u l r.parent));
   shallow = spare.shallow;
   room = omega (arith, spare.room, length-flipped rows u);
 }

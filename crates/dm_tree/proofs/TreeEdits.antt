@@ -20,10 +20,10 @@ use Rattle.dm_tree.specs.Undos.{TakesBack, row_of, IsReadyChange, flipped}
 use Rattle.dm_tree.proofs.Paths.{below_or_not, same_or_not, tree_total}
 use Rattle.dm_tree.proofs.RowPaths.{depth_is, not_zero, attached_row, same_number, at_bottom}
 use Rattle.dm_tree.proofs.RowMaps.{get_nodes}
-use Rattle.dm_tree.proofs.NodeEdits.{IsAlike, walk_alike, ids_alike, of_both, node_alike, shaped_alike, live_row}
+use Rattle.dm_tree.proofs.NodeEdits.{IsAlike, walk_alike, ids_alike, each_set, of_both, node_alike, shaped_alike}
+use Rattle.dm_tree.proofs.NodeEdits.{live_row}
 use Rattle.dm_tree.proofs.RowAppends.{at_end_of, before_end, walk_grown, new_path, nodes-append, shaped-append}
-use Rattle.dm_tree.proofs.RowAppends.{nodes-parked}
-use Rattle.dm_tree.proofs.RowAppends.{shaped-parked, no_place, set_twice}
+use Rattle.dm_tree.proofs.RowAppends.{nodes-parked, shaped-parked, no_place, set_twice}
 use Rattle.dm_tree.proofs.LiveRows.{len-nodes, live_at}
 
 -- ---- another node in a row
@@ -65,93 +65,64 @@ pub record IsKin (a b : Node) : Type 0 where
   pub interior : b.interior ≡ a.interior
   pub permanent : b.permanent ≡ a.permanent
 
-pub still-node : (rows : List Row) → IsTree rows → (k : ℕ) → k < length rows → (n : Node) → IsNode n
-    → IsKin (node_of rows k) n → (k ≡ 0 → IsRoot n) → IsStill rows (with_node rows k n)
-still-node rows tree k l n held kin root = record {
+-- another node in a row of the tree, where each child may stand below its parent then
+still-node : (rows : List Row) → IsTree rows → (k : ℕ) → k < length rows → (n : Node) → IsNode n → (k ≡ 0 → IsRoot n)
+    → ((j : ℕ) → (row_at rows j).attached ≡ true
+    → IsChildOf (node_of (with_node rows k n) j) (node_of (with_node rows k n) (row_at rows j).parent))
+    → IsTree (with_node rows k n)
+still-node rows tree k l n held root children = tree-still rows (with_node rows k n) tree (record {
   same = node_alike rows k n l;
-  each = λ j jl. elim (same_or_not j k) [
-    | inl h ↦
-        subst (λ i. IsRow (row_at (with_node rows k n) i)) (sym h)
-        (subst IsRow (sym here)
-        (record { name = (tree.each k l).name; node = held; attached = (tree.each k l).attached }))
-    | inr h ↦ subst IsRow (sym (get_or-set_other rows k j _ blank h)) (tree.each j jl)
-  ];
-  root = elim (same_or_not 0 k) [
-    | inl h ↦
-        subst (λ i. IsRoot (node_of (with_node rows k n) i)) (sym h)
-        (subst (λ (r : Row). IsRoot r.node) (sym here) (root (sym h)))
-    | inr h ↦ subst (λ (r : Row). IsRoot r.node) (sym (get_or-set_other rows k 0 _ blank h)) tree.root
-  ];
-  children = λ j at. record {
-    interior = interior (row_at rows j).parent ∙ (tree.children j at).interior;
-    permanent = λ p. permanent (row_at rows j).parent ∙ (tree.children j at).permanent (sym (permanent j) ∙ p);
-  };
-}
-  where
-    here : row_at (with_node rows k n) k ≡ record (row_at rows k) { node = n }
-    here = get_or-set_same rows k _ blank l
+  each = λ j jl.
+      each_set rows k _ l IsRow j
+      (λ _. record { name = (tree.each k l).name; node = held; attached = (tree.each k l).attached })
+      (λ _. tree.each j jl);
+  root = each_set rows k _ l (λ (r : Row). IsRoot r.node) 0 (λ z. root (sym z)) (λ _. tree.root);
+  children = children;
+})
 
+-- one of the same kind
+pub tree-with_node : (rows : List Row) → IsTree rows → (k : ℕ) → k < length rows → (n : Node) → IsNode n
+    → IsKin (node_of rows k) n → (k ≡ 0 → IsRoot n) → IsTree (with_node rows k n)
+tree-with_node rows tree k l n held kin root = still-node rows tree k l n held root (λ j at. record {
+  interior = interior (row_at rows j).parent ∙ (tree.children j at).interior;
+  permanent = λ p. permanent (row_at rows j).parent ∙ (tree.children j at).permanent (sym (permanent j) ∙ p);
+})
+  where
     interior : (j : ℕ) → (node_of (with_node rows k n) j).interior ≡ (node_of rows j).interior
     interior j = of_both rows k _ (λ r. r.node.interior) kin.interior j l
 
     permanent : (j : ℕ) → (node_of (with_node rows k n) j).permanent ≡ (node_of rows j).permanent
     permanent j = of_both rows k _ (λ r. r.node.permanent) kin.permanent j l
 
--- another node in a row of the tree
-pub tree-with_node : (rows : List Row) → IsTree rows → (k : ℕ) → k < length rows → (n : Node) → IsNode n
-    → IsKin (node_of rows k) n → (k ≡ 0 → IsRoot n) → IsTree (with_node rows k n)
-tree-with_node rows tree k l n held kin root = tree-still rows _ tree (still-node rows tree k l n held kin root)
-
 -- a row of the tree made permanent, whose parent is
 pub tree-with_mark : (rows : List Row) → IsTree rows → (k : ℕ) → k < length rows
     → (nat_eq k 0 ≡ false → (node_of rows (row_at rows k).parent).permanent ≡ true)
     → IsTree (with_node rows k (with_mark (node_of rows k)))
-tree-with_mark rows tree k l above = tree-still rows _ tree (record {
-  same = node_alike rows k n l;
-  each = λ j jl. elim (same_or_not j k) [
-    | inl h ↦ subst (λ i. IsRow (row_at (with_node rows k n) i)) (sym h) (subst IsRow (sym here) (record {
-      name = (tree.each k l).name;
-      node = record {
-        value = (tree.each k l).node.value;
-        acl = (tree.each k l).node.acl;
-        title = (tree.each k l).node.title;
-        verno = (tree.each k l).node.verno;
-        stamp = (tree.each k l).node.stamp;
-      };
-      attached = (tree.each k l).attached;
-    }))
-    | inr h ↦ subst IsRow (sym (get_or-set_other rows k j _ blank h)) (tree.each j jl)
-  ];
-  root = elim (same_or_not 0 k) [
-    | inl h ↦
-        let top = subst (λ i. IsRoot (node_of rows i)) h tree.root in
-        subst (λ i. IsRoot (node_of (with_node rows k n) i)) (sym h)
-        (subst (λ (r : Row). IsRoot r.node) (sym here)
-        (record { interior = top.interior; permanent = refl; acl = top.acl; media = top.media; role = top.role }))
-    | inr h ↦ subst (λ (r : Row). IsRoot r.node) (sym (get_or-set_other rows k 0 _ blank h)) tree.root
-  ];
-  children = λ j at. record {
-    interior = of_both rows k _ (λ r. r.node.interior) refl (row_at rows j).parent l ∙ (tree.children j at).interior;
-    permanent = λ p. elim (same_or_not (row_at rows j).parent k) [
-      | inl h ↦ ap (λ i. (node_of (with_node rows k n) i).permanent) h ∙ ap (λ (r : Row). r.node.permanent) here
-      | inr h ↦ ap (λ (r : Row). r.node.permanent) (get_or-set_other rows k (row_at rows j).parent _ blank h)
-          ∙ elim (same_or_not j k) [
+tree-with_mark rows tree k l above =
+    let held = (tree.each k l).node in
+    still-node rows tree k l (with_mark (node_of rows k))
+    (record { value = held.value; acl = held.acl; title = held.title; verno = held.verno; stamp = held.stamp })
+    (λ z. let top = subst (λ i. IsRoot (node_of rows i)) (sym z) tree.root in
+    record { interior = top.interior; permanent = refl; acl = top.acl; media = top.media; role = top.role })
+    (λ j at. record {
+      interior = of_both rows k _ (λ r. r.node.interior) refl (row_at rows j).parent l ∙ (tree.children j at).interior;
+      permanent = λ p.
+          each_set rows k _ l (λ (r : Row). r.node.permanent ≡ true) (row_at rows j).parent (λ _. refl)
+          (λ _. elim (same_or_not j k) [
             | inl g ↦ ap (λ i. (node_of rows (row_at rows i).parent).permanent) g
                 ∙ above (not_zero k (λ z. omega (arith, z, g, (attached_row rows tree.shape j at).0)))
             | inr g ↦
                 (tree.children j at).permanent
                 (ap (λ (r : Row). r.node.permanent) (sym (get_or-set_other rows k j _ blank g)) ∙ p)
-          ]
-    ];
-  };
-})
-  where
-    n : Node
-    n = with_mark (node_of rows k)
+          ]);
+    })
 
-    here : row_at (with_node rows k (with_mark (node_of rows k))) k
-        ≡ record (row_at rows k) { node = with_mark (node_of rows k) }
-    here = get_or-set_same rows k _ blank l
+-- what isn't permanent isn't the root
+pub isnt_root : (rows : List Row) → IsTree rows → (k : ℕ) → (node_of rows k).permanent ≡ false → 0 < k
+isnt_root rows tree k removable = elim (same_or_not k 0) [
+  | inl e ↦ let top = tree.root.permanent in absurd (cc)
+  | inr d ↦ omega (arith, d)
+]
 
 -- ---- Undos
 
@@ -192,17 +163,31 @@ live_before rows shape r j h =
     ap (λ (s : Row). walk (rows ++ r ∷ []) s.depth 0 j) (before_end rows r j h)
     ∙ walk_grown rows shape r (row_at rows j).depth j h
 
-children_before : (rows : List Row) → IsTree rows → (r : Row) (j : ℕ) → j < length rows
-    → (row_at rows j).attached ≡ true
-    → IsChildOf (node_of (rows ++ r ∷ []) j) (node_of (rows ++ r ∷ []) (row_at (rows ++ r ∷ []) j).parent)
-children_before rows tree r j h at =
-    let here = before_end rows r j h in
-    let inside = tree.shape.inside j h in
-    let above : node_of (rows ++ r ∷ []) (row_at (rows ++ r ∷ []) j).parent ≡ node_of rows (row_at rows j).parent =
-    ap (λ (s : Row). node_of (rows ++ r ∷ []) s.parent) here
-    ∙ ap (λ (s : Row). s.node) (before_end rows r (row_at rows j).parent inside) in
-    subst (λ n. IsChildOf (node_of (rows ++ r ∷ []) j) n) (sym above)
-    (subst (λ (s : Row). IsChildOf s.node (node_of rows (row_at rows j).parent)) (sym here) (tree.children j at))
+-- and the longer list is a tree, where the new row may stand there
+tree-longer : (rows : List Row) → IsTree rows → (r : Row) → IsShaped (rows ++ r ∷ []) → r.parent < length rows
+    → IsRow r → (r.attached ≡ true → IsChildOf r.node (node_of rows r.parent))
+    → (IsLive (rows ++ r ∷ []) (length rows) → is_within_limits (path_of (rows ++ r ∷ []) (length rows)) ≡ true)
+    → len (nodes (rows ++ r ∷ [])) ≤ 65536 → IsTree (rows ++ r ∷ [])
+tree-longer rows tree r shape inside row child limits size =
+    let now = rows ++ r ∷ [] in
+    record {
+      shape = shape;
+      each = each_of rows r IsRow tree.each row;
+      root = subst (λ (s : Row). IsRoot s.node) (sym (before_end rows r 0 tree.shape.rooted)) tree.root;
+      children = λ j at.
+          each_of rows r (λ s. s.attached ≡ true → IsChildOf s.node (node_of now s.parent))
+          (λ i l up. subst (λ (s : Row). IsChildOf (node_of rows i) s.node)
+          (sym (before_end rows r (row_at rows i).parent (tree.shape.inside i l))) (tree.children i up))
+          (λ up. subst (λ (s : Row). IsChildOf r.node s.node) (sym (before_end rows r r.parent inside)) (child up))
+          j (attached_row now shape j at).1 at;
+      within = λ j live. elim (end_or_before rows r j (live_row now shape j live)) [
+        | inl h ↦
+            let there = live_at rows j (path_of now j) (sym (live_before rows tree.shape r j h) ∙ live) in
+            ap is_within_limits (sym there.1) ∙ tree.within j there.0
+        | inr h ↦ ap (λ i. is_within_limits (path_of now i)) h ∙ limits (subst (IsLive now) h live)
+      ];
+      size = size;
+    }
 
 -- what an insert asks for
 pub record MayCome (rows : List Row) (k : ℕ) (n : List ℕ) (new : Node) : Type 0 where
@@ -240,31 +225,14 @@ parent_is_shallow rows shape k live name within =
 pub tree-append : (rows : List Row) → IsTree rows → (k : ℕ) (name : List ℕ) (node : Node) → MayCome rows k name node
     → IsTree (rows ++ new_row rows k name node ∷ [])
 tree-append rows tree k name node may =
-    let r = new_row rows k name node in
-    let shape = shaped-append rows tree.shape k may.live name node may.free (shallow _ _ may.within) may.room in
-    record {
-      shape = shape;
-      each = each_of rows r IsRow tree.each (record { name = may.name; node = may.node; attached = λ _. refl });
-      root = subst (λ (s : Row). IsRoot s.node) (sym (before_end rows r 0 tree.shape.rooted)) tree.root;
-      children = λ j at. elim (end_or_before rows r j (attached_row (rows ++ r ∷ []) shape j at).1) [
-        | inl h ↦ children_before rows tree r j h (ap (λ (s : Row). s.attached) (sym (before_end rows r j h)) ∙ at)
-        | inr h ↦ new_child j h
-      ];
-      within = λ j live. elim (end_or_before rows r j (live_row (rows ++ r ∷ []) shape j live)) [
-        | inl h ↦
-            let there = live_at rows j (path_of (rows ++ r ∷ []) j) (sym (live_before rows tree.shape r j h) ∙ live) in
-            ap is_within_limits (sym there.1) ∙ tree.within j there.0
-        | inr h ↦
-            ap is_within_limits
-            (ap (path_of (rows ++ r ∷ [])) h ∙ ap (λ o. unwrap_or o []) (new_path rows tree.shape k may.live name node))
-            ∙ may.within
-      ];
-      size = omega (arith, may.size, one_more_node);
-    }
+    tree-longer rows tree (new_row rows k name node)
+    (shaped-append rows tree.shape k may.live name node may.free (shallow _ _ may.within) may.room)
+    (live_row rows tree.shape k may.live) (record { name = may.name; node = may.node; attached = λ _. refl })
+    (λ _. record { interior = may.interior; permanent = may.permanent })
+    (λ _.
+    ap is_within_limits (ap (λ o. unwrap_or o []) (new_path rows tree.shape k may.live name node)) ∙ may.within)
+    (omega (arith, may.size, one_more_node))
   where
-    r : Row
-    r = new_row rows k name node
-
     not_there : contains_key (nodes rows) (path_of rows k ++ name ∷ []) ≡ false
     not_there =
         ap is_some (get_nodes rows (path_of rows k ++ name ∷ []) ∙ ap (option_map (λ j. (row_at rows j).node)) may.free)
@@ -274,21 +242,6 @@ tree-append rows tree k name node may =
         ap len (nodes-append rows tree.shape k may.live name node)
         ∙ len-insert tree_total (nodes rows) (path_of rows k ++ name ∷ []) node
         ∙ ap (λ b. cond b (len (nodes rows)) (len (nodes rows) + 1)) not_there
-
-    new_child : (j : ℕ) → j ≡ length rows
-        → IsChildOf (node_of (rows ++ new_row rows k name node ∷ []) j)
-        (node_of (rows ++ new_row rows k name node ∷ []) (row_at (rows ++ new_row rows k name node ∷ []) j).parent)
-    new_child j h =
-        let here : row_at (rows ++ new_row rows k name node ∷ []) j ≡ new_row rows k name node =
-        ap (row_at (rows ++ new_row rows k name node ∷ [])) h ∙ at_end_of rows (new_row rows k name node) in
-        let above : node_of (rows ++ new_row rows k name node ∷ [])
-        (row_at (rows ++ new_row rows k name node ∷ []) j).parent ≡ node_of rows k =
-        ap (λ (s : Row). node_of (rows ++ new_row rows k name node ∷ []) s.parent) here
-        ∙ ap (λ (s : Row). s.node)
-        (before_end rows (new_row rows k name node) k (live_row rows tree.shape k may.live)) in
-        subst (λ n. IsChildOf (node_of (rows ++ new_row rows k name node ∷ []) j) n) (sym above)
-        (subst (λ (s : Row). IsChildOf s.node (node_of rows k)) (sym here)
-        (record { interior = may.interior; permanent = may.permanent }))
 
 -- a row that may stand behind the others and is in no tree
 pub record IsSpare (rows : List Row) (r : Row) : Type 0 where
@@ -301,28 +254,12 @@ pub record IsSpare (rows : List Row) (r : Row) : Type 0 where
 
 pub tree-spare : (rows : List Row) → IsTree rows → (r : Row) → IsSpare rows r → IsTree (rows ++ r ∷ [])
 tree-spare rows tree r spare =
-    let shape : IsShaped (rows ++ r ∷ []) =
-    shaped-parked rows tree.shape r spare.out spare.inside spare.deep spare.shallow spare.room in
-    record {
-      shape = shape;
-      each = each_of rows r IsRow tree.each spare.row;
-      root = subst (λ (s : Row). IsRoot s.node) (sym (before_end rows r 0 tree.shape.rooted)) tree.root;
-      children = λ j at. elim (end_or_before rows r j (attached_row (rows ++ r ∷ []) shape j at).1) [
-        | inl h ↦ children_before rows tree r j h (ap (λ (s : Row). s.attached) (sym (before_end rows r j h)) ∙ at)
-        | inr h ↦
-            absurd (let out : (row_at (rows ++ r ∷ []) j).attached ≡ false =
-            ap (λ (s : Row). s.attached) (ap (row_at (rows ++ r ∷ [])) h ∙ at_end_of rows r) ∙ spare.out in cc)
-      ];
-      within = λ j live. elim (end_or_before rows r j (live_row (rows ++ r ∷ []) shape j live)) [
-        | inl h ↦
-            let there = live_at rows j (path_of (rows ++ r ∷ []) j) (sym (live_before rows tree.shape r j h) ∙ live) in
-            ap is_within_limits (sym there.1) ∙ tree.within j there.0
-        | inr h ↦
-            absurd (let out : path_below (rows ++ r ∷ []) 0 j ≡ None =
-            ap (path_below (rows ++ r ∷ []) 0) h ∙ no_place rows r _ tree.shape.rooted spare.out in cc)
-      ];
-      size = omega (arith, tree.size, ap len (nodes-parked rows tree.shape r spare.out));
-    }
+    tree-longer rows tree r
+    (shaped-parked rows tree.shape r spare.out spare.inside spare.deep spare.shallow spare.room) spare.inside spare.row
+    (λ up. absurd (let out = spare.out in cc))
+    (λ live. absurd (let none : path_below (rows ++ r ∷ []) 0 (length rows) ≡ None =
+    no_place rows r _ tree.shape.rooted spare.out in cc))
+    (omega (arith, tree.size, ap len (nodes-parked rows tree.shape r spare.out)))
 
 -- a row behind the last lies nowhere
 past_end : (rows : List Row) (top k : ℕ) (p : Path) → length rows ≤ k → path_below rows top k ≡ Some p → k ≡ top

@@ -1,5 +1,6 @@
 -- What keeps its permanent nodes alike keeps the update part.
 use Rattle.std.proofs.Common.{◌≡◌, Bool, true, false, refl, sym, ◌∙◌, ap, inl, inr}
+use Rattle.std.proofs.lemmas.Bool.{false_from_ne_true}
 use Rattle.std.specs.FinMap.{get, insert}
 use Rattle.dm_tree.specs.declared.nodes.Node.{Node}
 use Rattle.dm_tree.specs.declared.nodes.Value.{Value}
@@ -9,8 +10,7 @@ use Rattle.dm_tree.specs.Nodes.{Path, Nodes}
 use Rattle.dm_tree.specs.Devices.{is_of_update, is_update_state, Stands, HasUpdate, HasNoUpdate, IsUpdateInOrder}
 use Rattle.dm_tree.specs.Devices.{StaysForUpdate, KeepsUpdate}
 use Rattle.dm_tree.specs.Laws.{ChangedKeepsUpdate, AddedKeepsUpdate, PrunedKeepsUpdate, RenamedKeepsUpdate}
-use Rattle.dm_tree.proofs.NodesKept.{Was, Keeps, some_node, keeps_changed, keeps_added, keeps_pruned}
-use Rattle.dm_tree.proofs.NodesKept.{keeps_renamed}
+use Rattle.dm_tree.proofs.NodesKept.{Was, Keeps, some_node, keeps_changed, keeps_added, keeps_pruned, keeps_renamed}
 
 module _ (alike : Node → Node → Type 0) (stays : (x y : Node) → alike x y → StaysForUpdate x y) (m n : Nodes)
     (keeps : Keeps alike m n) where
@@ -67,15 +67,11 @@ module _ (alike : Node → Node → Type 0) (stays : (x y : Node) → alike x y 
       }
 
   pub has_no_update : HasNoUpdate m → HasNoUpdate n
-  has_no_update without q y there = by_role (is_of_update y.role) refl
-    where
-      by_role : (b : Bool) → is_of_update y.role ≡ b → b ≡ false
-      by_role false e = refl
-      by_role true e =
-          let w = keeps.was q y there e in
-          let no_role : is_of_update w.old.role ≡ false = without w.at w.old w.there in
-          let yes : is_of_update w.old.role ≡ true = ap is_of_update (sym w.role) ∙ e in
-          absurd (cc)
+  has_no_update without q y there = false_from_ne_true _ (λ e.
+      let w = keeps.was q y there e in
+      let other : is_of_update w.old.role ≡ false = without w.at w.old w.there in
+      let role : y.role ≡ w.old.role = w.role in
+      cc)
 
   pub in_order : IsUpdateInOrder m → IsUpdateInOrder n
   in_order (inl without) = inl (has_no_update without)

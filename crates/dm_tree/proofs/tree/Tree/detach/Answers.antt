@@ -9,7 +9,8 @@ use Rattle.std.proofs.Common.{inl, inr}
 use Rattle.dm_tree.proofs.SubtreeCuts.{nodes-detached, ids-detached}
 use Rattle.dm_tree.proofs.CutTrees.{tree-cut, takes_back-cut, parked-cut}
 use Rattle.dm_tree.specs.Index.{IsSized, IsTaken}
-use Rattle.dm_tree.proofs.InvariantKept.{back_again, isnt_root, may_take}
+use Rattle.dm_tree.proofs.InvariantKept.{back_again, may_take}
+use Rattle.dm_tree.proofs.TreeEdits.{isnt_root}
 use Rattle.dm_tree.specs.Notes.{TakesEditBack}
 use Rattle.dm_tree.proofs.SubtreeCuts.{live_attached}
 use Rattle.dm_tree.proofs.UndoPromises.{edit-cut}

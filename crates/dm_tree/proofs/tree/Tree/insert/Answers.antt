@@ -1,7 +1,5 @@
-use Rattle.std.proofs.Common.{◌≡◌, ◌∙◌, sym, subst, ap, refl, arith, ◌<◌, ℕ, ◌∷◌, ◌++◌, [], length, cond}
-use Rattle.std.proofs.Common.{refl, None, Option, Some}
+use Rattle.std.proofs.Common.{◌≡◌, ◌∙◌, sym, subst, ap, refl, arith, ◌<◌, ◌∷◌, ◌++◌, [], length, cond, refl, Some}
 use Rattle.std.proofs.Math.ListN.{set}
-use Rattle.std.specs.Option.{option_map}
 use Rattle.dm_tree.specs.declared.nodes.Node.{Node}
 use Rattle.dm_tree.specs.declared.rows.Change.TheVariants as change
 use Rattle.dm_tree.specs.Nodes.{made, IsStamp}
@@ -14,16 +12,12 @@ use Rattle.dm_tree.specs.Reuse.{IsFreeRow, IsPlaced}
 use Rattle.dm_tree.proofs.EqualTrees.{tree_kept}
 use Rattle.dm_tree.proofs.MapKeys.{tied}
 use Rattle.dm_tree.proofs.Paths.{tree_total}
-use Rattle.dm_tree.proofs.RowMaps.{get_nodes, found_live}
+use Rattle.dm_tree.proofs.RowMaps.{get_nodes, found_live, none_of}
 use Rattle.dm_tree.proofs.TreeEdits.{parent_is_shallow}
 use Rattle.dm_tree.proofs.RowInserts.{IsWelcome}
 use Rattle.dm_tree.proofs.NodeContents.{held_made}
 use Rattle.dm_tree.proofs.NewRowPlace.{tree-behind, tree-within, placed}
 use Rattle.dm_tree.proofs.tree.Tree.insert.Goals as goal
-
-no_number : {X : Type 0} (f : ℕ → X) (o : Option ℕ) → option_map f o ≡ None → o ≡ None
-no_number f None e = refl
-no_number f (Some k) e = absurd (cc)
 
 pub new_row-row-requires-clause-shallow : goal.new_row-row-requires-clause-shallow
 new_row-row-requires-clause-shallow c =
@@ -56,7 +50,7 @@ may c = record {
   live = c.requires.live;
   interior = c.requires.interior;
   free =
-      no_number _ _
+      none_of _ _
       (sym (get_nodes c.args.self.now.rows (path_of c.args.self.now.rows c.args.parent ++ c.args.name ∷ []))
       ∙ c.requires.free);
   within = c.requires.within;
@@ -104,7 +98,7 @@ both c =
       live = c.requires.live;
       interior = c.requires.interior;
       free =
-          no_number _ _ (sym (get_nodes now.rows (path_of now.rows c.args.parent ++ c.args.name ∷ []))
+          none_of _ _ (sym (get_nodes now.rows (path_of now.rows c.args.parent ++ c.args.name ∷ []))
           ∙ c.requires.free);
       within = c.requires.within;
       permanent = c.requires.permanent;

@@ -25,18 +25,14 @@ shows c =
     (below-is c.args.self.now.rows (tree c).shape c.args.top c.args.id c.requires.top c.requires.live c.requires.below
     c.args.past)
 
-pub returns-clause-found : goal.returns-clause-found
-returns-clause-found c = shown_ids c.args.self.now.rows (tree c).shape c.of_row.result _ (shows c)
-
-pub returns-clause-live : goal.returns-clause-live
-returns-clause-live c = shown_live c.args.self.now.rows c.of_row.result _ (shows c)
-
-pub returns-clause-within : goal.returns-clause-within
-returns-clause-within c =
-    shown_within c.args.self.now.rows (path_of c.args.self.now.rows c.args.top) (path_of c.args.self.now.rows c.args.id)
-    c.args.past c.of_row.result (shows c)
-
-pub returns-clause-behind : goal.returns-clause-behind
-returns-clause-behind c =
-    shown_behind c.args.self.now.rows (path_of c.args.self.now.rows c.args.top) (path_of c.args.self.now.rows c.args.id)
-    c.args.past c.of_row.result (shows c)
+pub returns : goal.returns
+returns c =
+    let rows = c.args.self.now.rows in
+    let top = path_of rows c.args.top in
+    let here = path_of rows c.args.id in
+    record {
+      found = shown_ids rows (tree c).shape c.of_row.result _ (shows c);
+      live = shown_live rows c.of_row.result _ (shows c);
+      within = shown_within rows top here c.args.past c.of_row.result (shows c);
+      behind = shown_behind rows top here c.args.past c.of_row.result (shows c);
+    }
