@@ -15,7 +15,7 @@ use Rattle.dm_tree.specs.Notes.{TakesEditBack}
 use Rattle.dm_undo.specs.declared.entries.Entry.TheVariants.{Record}
 use Rattle.dm_undo.specs.Journals.{Journal}
 use Rattle.dm_undo.specs.Notes.{Notes}
-use Rattle.dm_undo.proofs.Noted.{notes-one, notes-then}
+use Rattle.dm_undo.proofs.Noted.{notes-none, notes-one, notes-then}
 use Rattle.dm_commands.specs.declared.outcome.Outcome.{Outcome}
 use Rattle.dm_commands.specs.Outcomes.{Done, refused, changed_to, first_refusal, first_of, node_at}
 use Rattle.dm_commands.specs.Promises.{Ends, KeepIdsBut, none_moved}
@@ -25,7 +25,7 @@ use Rattle.dm_commands.proofs.Tables.{none-refused, one-refused}
 
 -- an edit behind which room was made before
 pub noted-one : (old made new : Journal) (before now : List Row) (u : Change) → made.entries ≡ old.entries
-    → (old.room - length old.entries) + 1 ≤ made.room - length made.entries
+    → made.room - length made.entries ≡ (old.room - length old.entries) + 1
     → new ≡ record made { entries = Record u ∷ made.entries } → TakesEditBack u before now → Notes old before new now
 noted-one old made new before now u e r f t =
     let is : new.entries ≡ Record u ∷ old.entries = ap (λ (j : Journal). j.entries) f ∙ ap (λ es. Record u ∷ es) e in
@@ -34,7 +34,7 @@ noted-one old made new before now u e r f t =
 
 -- two such edits
 pub noted-two : (old made new : Journal) (x y z : List Row) (u v : Change) → made.entries ≡ old.entries
-    → (old.room - length old.entries) + 2 ≤ made.room - length made.entries
+    → made.room - length made.entries ≡ (old.room - length old.entries) + 2
     → new ≡ record made { entries = Record v ∷ Record u ∷ made.entries }
     → TakesEditBack u x y → TakesEditBack v y z → Notes old x new z
 noted-two old made new x y z u v e r f t s =
@@ -49,6 +49,21 @@ noted-two old made new x y z u v e r f t s =
     (omega (arith, r, ap (λ (j : Journal). j.room) f, ap length is, ap length e)) s)
 
 -- ---- how steps end
+
+pub ends-refused : (moved : Path → Bool) (journal : Journal) (tree : Tree) (code : ℕ) (outcome : Outcome)
+    → outcome ≡ record { code = code; results = []; started = false }
+    → Ends (refused (nodes tree.rows) code) moved journal tree journal tree outcome
+ends-refused moved journal tree code outcome e = record {
+  does = record {
+    tree = refl;
+    code = ap (λ (o : Outcome). o.code) e;
+    found = ap (λ (o : Outcome). o.results) e;
+    started = ap (λ (o : Outcome). o.started) e;
+  };
+  ids = λ p id is apart. is;
+  notes = notes-none journal journal tree.rows tree.rows refl (omega arith) refl;
+  clock = refl;
+}
 
 pub ends-changed : (m : Nodes) (moved : Path → Bool) (old : Journal) (before : Tree) (new : Journal) (now : Tree)
     (outcome : Outcome)

@@ -17,7 +17,8 @@ use Rattle.dm_tree.proofs.Paths.{same_or_not, below_or_not}
 use Rattle.dm_tree.proofs.IndexLinks.{parked-same, parked-more, parked-some, is_parked, parked_elsewhere, index_set}
 use Rattle.dm_tree.proofs.IndexLinks.{order-alike}
 use Rattle.dm_tree.proofs.GivenUpRows.{self_below}
-use Rattle.dm_tree.proofs.RowReuse.{childless, each_row, no_way, path_beside}
+use Rattle.dm_tree.proofs.NodeEdits.{each_set}
+use Rattle.dm_tree.proofs.RowReuse.{childless, no_way, path_beside}
 
 -- a row that was given up and has no list is free
 pub free-bare : (rows : List Row) → IsTree rows → (index : List ChildList) → IsIndex rows index → (k : ℕ) → 0 < k
@@ -68,7 +69,7 @@ module _ (rows : List Row) (tree : IsTree rows) (id : ℕ) (free : IsFreeRow row
     attached = λ i il. ap (λ (s : Row). s.attached) (stays i il) ∙ h.attached i il;
     parent = λ i il. ap (λ (s : Row). s.parent) (stays i il) ∙ h.parent i il;
     all = λ j.
-        each_row rows id r free.below_root free.inside (childless rows tree id free)
+        each_set rows id r free.inside
         (λ (s : Row). s.attached ≡ true → s.parent ≡ k → (i : ℕ) × (i < length l.ids) × (get_or l.ids i 0 ≡ j)) j
         (λ _ at. absurd (cc)) (λ _ at p. h.all j at p);
     parked = is;
