@@ -53,7 +53,7 @@ fn added_node(alloc: Global, step: &mut Step) -> Result<NewNode, Memory>
     ensures node { IfOk result (λ node. (node.permanent ≡ false)
         × ((clock : Time) → made clock node ≡ node_for clock step.old)) }
     ensures step { step.new ≡ record step.old { value = step.new.value } }
-    ensures taken { OnOk result (step.new.value ≡ []) }
+    ensures value_gone { OnOk result (step.new.value ≡ []) }
 {
     let interior = is_node_format(added_format(step));
     let format = Bytes::of_slice(alloc, added_format(step))?;

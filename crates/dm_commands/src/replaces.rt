@@ -95,7 +95,7 @@ fn replaced_value(alloc: Global, tree: &Tree, id: NodeId, step: &mut Step) -> Re
     requires { IsLive tree.now.rows id }
     ensures value { IfOk result (λ value. value ≡ value_with (node_of tree.now.rows id) step.old) }
     ensures step { step.new ≡ record step.old { value = step.new.value } }
-    ensures taken { OnOk result (step.new.value ≡ []) }
+    ensures value_gone { OnOk result (step.new.value ≡ []) }
 {
     let kept = tree.view(id).value;
     let format = Bytes::of_slice(alloc, given_or(&step.format, kept.format.as_slice()))?;
@@ -164,7 +164,7 @@ fn put_given(
     ensures notes { OnOk result (Notes journal.old tree.old.rows journal.new tree.new.rows) }
     ensures err { OnErr result (StaysAsBefore journal.old tree.old journal.new tree.new) }
     ensures step { step.new ≡ record step.old { value = step.new.value } }
-    ensures taken { OnOk result (step.new.value ≡ []) }
+    ensures value_gone { OnOk result (step.new.value ≡ []) }
 {
     match (&step.format, &step.media) {
         (None, None) => put_bytes(tree, journal, id, take_value(alloc, step)),

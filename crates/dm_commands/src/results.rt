@@ -31,8 +31,8 @@ fn emptied(alloc: Global, tree: &Tree, id: NodeId) -> Result<Value, Memory>
 }
 
 /// The end of the update that runs: State is 100 and the package is empty where it succeeded, else State is 70. Each
-/// edit is noted, and no less is spare in the journal than before. `Memory` is the only error; the tree and
-/// the journal's entries are then as before.
+/// edit is noted, and no less is spare in the journal than before. `Memory` is the only error; the tree and the
+/// journal's entries are then as before.
 pub fn end_update(
     alloc: Global,
     tree: &mut Tree,

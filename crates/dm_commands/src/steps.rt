@@ -110,8 +110,8 @@ fn by_verb(
 ///
 /// A path is looked up once. A list and a rename go through the subtree of the node, a Get of an interior node through
 /// the names of its children, and a step of the update through the nodes beside State. The value that a step gives is
-/// moved into the tree, and not copied; all else of the step stays. `Memory` is the only error; the tree and
-/// the journal's entries are then as before, and the step's value may be gone.
+/// moved into the tree, and not copied; all else of the step stays. `Memory` is the only error; the tree and the
+/// journal's entries are then as before, and the step's value may be gone.
 #[tactic(auto, unfolding(crate::specs::Table::act))]
 pub fn act(
     alloc: Global,

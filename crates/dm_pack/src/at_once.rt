@@ -170,8 +170,8 @@ fn with_front(front: Option<Command>, entries: List<Command>) -> Result<List<Com
 }
 
 /// The message that `fill` would give where an entry, if there is one, and others behind it were put into a queue in
-/// which nothing waits; what doesn't go out waits then. After `Memory` nothing waits. Where all of them fit they needn't
-/// go through the queue.
+/// which nothing waits; what doesn't go out waits then. After `Memory` nothing waits. Where all of them fit they
+/// needn't go through the queue.
 #[tactic(auto, using(crate::proofs::Listed::put_around))]
 pub fn fill_at_once(
     queue: &mut Queue,

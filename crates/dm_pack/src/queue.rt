@@ -5,7 +5,7 @@ ghost use Rattle.dm_pack.specs.Entries.{whole_entry};
 ghost use Rattle.dm_pack.specs.Filling.{next_rest, left_after, HasMore, CanBeTaken};
 
 use crate::filled::Filled;
-use crate::waiting::{Waiting, take_apart};
+use crate::waiting::{Waiting, set_apart};
 use dm_base::{List, Memory};
 use std::alloc::Global;
 use std::collections::VecDeque;
@@ -57,7 +57,7 @@ impl Queue {
         ensures err { OnErr result (self.new ≡ self.old) }
     {
         let mut command = entry;
-        let apart = take_apart(self.alloc, &mut command)?;
+        let apart = set_apart(self.alloc, &mut command)?;
         self.entries.push_back(Waiting::new(command, apart))?;
         Ok(())
     }
@@ -78,7 +78,7 @@ impl Queue {
         ensures err { OnErr result (self.new ≡ self.old) }
     {
         let mut command = entry;
-        let apart = take_apart(self.alloc, &mut command)?;
+        let apart = set_apart(self.alloc, &mut command)?;
         self.entries.push_front(Waiting::new(command, apart))?;
         Ok(())
     }

@@ -59,10 +59,10 @@ fn take_data(alloc: Global, command: &mut Command) -> Bytes
     }
 }
 
-/// Takes the Data out that may be cut, of which nothing has gone out, into memory of its own. After `Memory` it is
-/// lost.
+/// Takes the Data out that may be cut, of which nothing has gone out, into memory of its own. After `Memory` the
+/// Data is lost.
 #[tactic(auto, using(crate::proofs::Apart::taken_apart, crate::proofs::Apart::fresh_apart))]
-pub(crate) fn take_apart(
+pub(crate) fn set_apart(
     alloc: Global,
     command: &mut Command,
 ) -> Result<Option<Boxed<Apart>>, Memory>

@@ -31,7 +31,7 @@ pub struct Given<'a> {
     pub number: u64,
 }
 
-/// Reads the first line, `dm-pair 1`, and gives what stands behind it. That is promised of what is written for it.
+/// Reads the first line, `dm-pair 1`. What is written for what stands behind it is what is written for the text.
 #[tactic(auto, using(crate::proofs::Turns::first_read, crate::proofs::Turns::first_refused))]
 pub fn read_first(text: &[u8]) -> Result<&[u8], Halt>
     ensures rest { IfOk result (λ rest. rest_of 1 first text.now ≡ rest_of 2 (starting (opening (Device 1))) rest.now) }

@@ -19,7 +19,8 @@ use std::alloc::Global;
 pub enum Halt {
     /// This line is refused.
     Bad { number: u64, reason: LineReason },
-    /// No whole line is left in the bytes that a run looks at, and another byte comes.
+    /// No whole line is left in the bytes that a run looks at, at most 8,400,000 bytes of the next stand there, and
+    /// another byte comes.
     TooLong,
     Read,
     Memory,

@@ -147,11 +147,11 @@ fn answer_all<S: Source, K: Sink>(
 }
 
 /// Replays a trace: reads its lines one by one, answers each event, and writes the tree and `done` behind the last.
-/// Where the source failed, all answers to the lines that it took were put. It answers
+/// Where the source failed, exactly the answers to the events in the whole lines that were taken were put. It answers
 /// - `Done` where the trace is whole,
 /// - `BadInput` at the first line that is refused, which is told behind the answers before it,
-/// - `TooLong` where no whole line is left in the first 67,108,864 bytes, nor more of the next than a line may have, and
-///   another byte comes,
+/// - `TooLong` where no whole line is left in the first 67,108,864 bytes, nor more of the next than a line may have,
+///   and another byte comes,
 /// - `ReadFault` and `WriteFault` after a fault of the source and of the sink, and `NoMemory` at any place; then what
 ///   was written is a prefix of the text.
 ///

@@ -95,7 +95,7 @@ impl Journal {
         ensures ok { OnOk result (length self.new.entries + count ≤ self.new.room) }
         ensures entries { self.new.entries ≡ self.old.entries }
         ensures room { self.old.room ≤ self.new.room }
-        ensures asked { OnOk result (self.new.room ≡ max self.old.room (length self.old.entries + count)) }
+        ensures exact { OnOk result (self.new.room ≡ max self.old.room (length self.old.entries + count)) }
         ensures err { OnErr result (self.new ≡ self.old) }
     {
         self.entries.reserve(count)?;

@@ -126,7 +126,7 @@ IsWholeDeed d = AllByRecursion (λ a. is_whole a ≡ true) (doing_acts d.doing)
 abbrev pub outlines : Command → List Act
 outlines c = map outline (command_acts c)
 
--- the command of the job with this number
+-- the command of the job with this number, or one like it: a step but for its Data, a container but for its members
 pub record IsJobAct (packages : List (List JobEntry)) (number : ℕ) (a : Act) : Type 0 where
   pub entry : JobEntry
   pub within : Contains (all_entries packages) entry
@@ -134,8 +134,8 @@ pub record IsJobAct (packages : List (List JobEntry)) (number : ℕ) (a : Act) :
   pub number_is : number ≡ entry.number + at
   pub act_is : slice_get (outlines entry.command) at ≡ Some a
 
--- A message of the server of this session and MsgID has the command of the job with this number under this CmdID, whole
--- or in part; where it is noted to count, none of it comes later.
+-- A message of the server of this session and MsgID has the command of the job with this number, or one like it, under
+-- this CmdID, whole or in part; where it is noted to count, none of it comes later.
 pub record StandsAs (packages : List (List JobEntry)) (downs : List Reply) (session : ℕ) (x : Sent) : Type 0 where
   pub at : ℕ
   pub reply : Reply

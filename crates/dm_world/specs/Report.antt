@@ -57,8 +57,8 @@ pub record ReportsWhatWasSaid (max : ℕ) (w : World) : Type 0 where
 
 -- ---- the report is true
 
--- the client executed the command of the job at this place, whole or its last part, and made a Status with this code
--- for it
+-- the client executed the command of the job at this place, or one like it, whole or its last part, and made a Status
+-- with this code for it
 pub record IsGiven (packages : List (List JobEntry)) (w : World) (place code : ℕ) : Type 0 where
   pub session : ℕ
   pub deed : Deed
@@ -90,8 +90,8 @@ as_kept found = record {
 }
 
 -- A value that the server holds for the command of the job at a place is one that the client found for it: a message of
--- the server of some session has that command under a MsgID and a CmdID, and for these two the client found this value
--- in that session, with its URI, its Format, its Type and all its bytes.
+-- the server of some session has that command, or one like it, under a MsgID and a CmdID, and for these two the client
+-- found this value in that session, with its URI, its Format, its Type and all its bytes.
 pub record IsFoundFor (packages : List (List JobEntry)) (w : World) (place : ℕ) (value : Step) : Type 0 where
   pub session : ℕ
   pub command : Sent

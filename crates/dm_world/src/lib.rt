@@ -94,26 +94,29 @@ pub fn executes_the_sent()
 {}
 
 /// Law: on every schedule what the server notes in its present session as sent of the job stands so in its messages:
-/// under that MsgID and CmdID the command of that number, or one like it but for its Data, whole or in part.
+/// under that MsgID and CmdID the command of that number, or one like it (a step but for its Data, a container but for
+/// its members), whole or in part.
 pub fn notes_the_sent()
     ensures { NotesTheSent }
 {}
 
 /// Law: on every schedule each code that the server holds for a command of the job is one that the client gave to it:
-/// it executed that command, or one like it but for its Data, whole or its last part, and made a Status with this code
-/// for it.
+/// it executed that command, or one like it (a step but for its Data, a container but for its members), whole or its
+/// last part, and made a Status with this code for it.
 pub fn codes_are_given()
     ensures { CodesAreGiven }
 {}
 
 /// Law: on every schedule each value that the server holds for a command of the job is one that the client found for
-/// that command, or one like it but for its Data, with its URI, its Format, its Type and all its bytes.
+/// that command, or one like it but for its Data, with its URI, its Format, its Type and all its bytes. Values are
+/// found for steps alone.
 pub fn values_are_found_for()
     ensures { ValuesAreFoundFor }
 {}
 
 /// Law: on every schedule each code that the server holds for its report is that of a Status in a message which the
-/// client sent, and each value came whole by Results in such a message.
+/// client sent, and each value ends with the bytes of an Item of Results in such a message, the last of the pieces that
+/// it came in.
 pub fn reports_the_said()
     ensures { ReportsTheSaid }
 {}

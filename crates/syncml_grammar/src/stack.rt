@@ -73,7 +73,8 @@ impl Nest {
         self.top.begin(&mut self.spares, element, kind)
     }
 
-    // The tag of a bare child with children. It is judged before memory is taken for it.
+    // The tag, without content, of a child that may have children. Where it may not end so, it is refused before memory
+    // is taken for it.
     fn bare(&mut self, element: Element, kind: Kind) -> Result<(), Stop>
         requires { holds_leaf kind ≡ false }
         ensures { GivesFrames result self.new (on_kind self.old element false kind) }

@@ -7,7 +7,8 @@ pub leave-requires : goal.leave-requires
 leave-requires c =
     let apart = c.self.inside.apart in
     let long =
-    left_long c.self.inside.command (apart_value apart) (apart_sent apart) c.args.self.now c.self.invariant c.self.view_is in
+    left_long c.self.inside.command (apart_value apart) (apart_sent apart) c.args.self.now
+    c.self.invariant c.self.view_is in
     let left = ap length c.left.ensures in
     omega (arith, long, left)
 
@@ -15,7 +16,8 @@ pub invariant_of-self : goal.invariant_of-self
 invariant_of-self c =
     let apart = c.self.inside.apart in
     let long =
-    left_long c.self.inside.command (apart_value apart) (apart_sent apart) c.args.self.now c.self.invariant c.self.view_is in
+    left_long c.self.inside.command (apart_value apart) (apart_sent apart) c.args.self.now
+    c.self.invariant c.self.view_is in
     let left = ap length c.left.ensures in
     let low = c.self.invariant.within in
     rw (c.keep_last.ensures, c.leave.ensures.value)
@@ -27,7 +29,8 @@ pub returns : goal.returns
 returns c =
     let apart = c.self.inside.apart in
     let long =
-    left_long c.self.inside.command (apart_value apart) (apart_sent apart) c.args.self.now c.self.invariant c.self.view_is in
+    left_long c.self.inside.command (apart_value apart) (apart_sent apart) c.args.self.now
+    c.self.invariant c.self.view_is in
     let left = ap length c.left.ensures in
     let low = c.self.invariant.within in
     rw (c.keep_last.ensures, c.leave.ensures.value)

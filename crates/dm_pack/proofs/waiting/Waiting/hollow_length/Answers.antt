@@ -21,7 +21,8 @@ pub numbered_length-requires-clause-room : goal.numbered_length-requires-clause-
 numbered_length-requires-clause-room c =
     let apart = c.self.inside.apart in
     let same =
-    kept_ids c.self.inside.command (apart_value apart) (apart_sent apart) c.args.self.now c.self.invariant c.self.view_is in
+    kept_ids c.self.inside.command (apart_value apart) (apart_sent apart) c.args.self.now
+    c.self.invariant c.self.view_is in
     omega (arith, same, c.requires.room)
 
 pub returns-clause-length : goal.returns-clause-length

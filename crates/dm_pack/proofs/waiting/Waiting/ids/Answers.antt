@@ -7,7 +7,8 @@ pub ids_in-requires : goal.ids_in-requires
 ids_in-requires c =
     let apart = c.self.inside.apart in
     let same =
-    kept_ids c.self.inside.command (apart_value apart) (apart_sent apart) c.args.self.now c.self.invariant c.self.view_is in
+    kept_ids c.self.inside.command (apart_value apart) (apart_sent apart) c.args.self.now
+    c.self.invariant c.self.view_is in
     omega (arith, same, c.requires)
 
 pub returns : goal.returns

@@ -9,7 +9,8 @@ set_ids-requires c =
     let apart = c.self.inside.apart in
     let copied = ap ids_in c.in_ok-command.ensures in
     let same =
-    kept_ids c.self.inside.command (apart_value apart) (apart_sent apart) c.args.self.now c.self.invariant c.self.view_is in
+    kept_ids c.self.inside.command (apart_value apart) (apart_sent apart) c.args.self.now
+    c.self.invariant c.self.view_is in
     omega (arith, copied, same, c.requires)
 
 pub returns : goal.returns
