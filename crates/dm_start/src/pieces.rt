@@ -1,5 +1,5 @@
 // The tree text, put to a sink a piece at a time.
-ghost use Rattle.std.specs.Prelude.{◌≡◌, ◌<◌, ◌≤◌, ◌++◌, length, OnOk};
+ghost use Rattle.std.specs.Prelude.{◌≡◌, ◌<◌, ◌≤◌, ◌++◌, false, length, OnOk};
 ghost use Rattle.dm_base.specs.Fields.{hex_text};
 ghost use Rattle.dm_base.specs.Lines.{line_feed};
 ghost use Rattle.dm_base.specs.Outside.{PutsAll, PutCounts};
@@ -79,7 +79,7 @@ fn put_value<K: Sink>(out: &mut K, text: &mut Bytes, bytes: &[u8]) -> Result<(),
 fn put_bytes<K: Sink>(out: &mut K, text: &mut Bytes, view: View) -> Result<(), Fault>
     ensures bytes { PutsOn (K.got out.old) (K.got out.new)
         (text.old ++ Spec.bytes_text (shown view.entry)) text.new result }
-    ensures few { OnOk result (view.interior ≡ false → length text.new < 65536) }
+    ensures few { OnOk result (view.entry.interior ≡ false → length text.new < 65536) }
     ensures count { PutCounts (K.faults out.old) (K.faults out.new) result }
     ensures source { K.as_source out.new ≡ K.as_source out.old }
 {
