@@ -8,10 +8,8 @@ mod run;
 mod tests;
 
 use adapters::{StdSink, StdSource};
-use dm_exit::Exit;
 use heap::keep_heap;
-use run::{ended, run};
-use std::io::ErrorKind;
+use run::{ended, run_words};
 use std::process::ExitCode;
 use std::{env, io};
 
@@ -28,13 +26,6 @@ fn main(rt: HostRuntime) -> ExitCode {
     keep_heap(rt.alloc());
     let mut source = StdSource::new(rt.reader());
     let mut sink = StdSink::new(io::writer(&rt));
-    let exit = match words_of(&rt) {
-        Ok(words) => run(rt.alloc(), words.as_slice(), &mut source, &mut sink),
-        // Words that aren't all UTF-8 are of no form, as no word is.
-        Err(error) if error.kind() == ErrorKind::InvalidData => {
-            run(rt.alloc(), &[], &mut source, &mut sink)
-        }
-        Err(_) => Exit::NoMemory,
-    };
+    let exit = run_words(rt.alloc(), words_of(&rt), &mut source, &mut sink);
     ended(exit)
 }

@@ -1,5 +1,7 @@
 // The top call.
-ghost use Rattle.std.specs.Prelude.{◌≡◌, ◌≢◌, ◌<◌, ℕ, List, Option, Some, None, map, string_bytes};
+ghost use Rattle.std.specs.Prelude.{◌≡◌, ◌≢◌, ◌<◌, ℕ, List, Option, Some, None, map, string_bytes, IfOk, IfErr};
+ghost use Rattle.std.specs.IoError.{error_kind};
+ghost use Rattle.std.specs.declared.io.ErrorKind.TheVariants.{InvalidData};
 ghost use Rattle.std.specs.Process.{exit_status};
 ghost use Rattle.dm_exit.specs.Causes.{SourceCause, SinkCause};
 ghost use Rattle.dm_replay.specs.Output.{AnswersTaken};
@@ -15,6 +17,8 @@ use dm_pair::pair;
 use dm_replay::replay;
 use dm_words::{Form, USAGE, read_form};
 use std::alloc::Global;
+use std::io;
+use std::io::ErrorKind;
 use std::process::ExitCode;
 
 #[tactic(auto, unfolding(crate::specs::Forms::Runs))]
@@ -132,6 +136,28 @@ pub fn run<S: Source, K: Sink>(alloc: Global, words: &[String], src: &mut S, out
         Ok(Some(form)) => run_form(alloc, form, src, out),
         Ok(None) => put_usage(out),
         Err(Memory) => Exit::NoMemory,
+    }
+}
+
+/// Does what the words of a command line ask for, as they were read. Words that aren't all UTF-8 are of no form, as no
+/// word is. Where the words themselves find no memory nothing is done.
+pub fn run_words<S: Source, K: Sink>(
+    alloc: Global,
+    words: io::Result<Vec<String>>,
+    src: &mut S,
+    out: &mut K,
+) -> Exit
+    ensures read { IfOk words (λ w. Runs (form_of (map string_bytes w.items)) (S.left src.old) (K.got out.old)
+        (K.got out.new) result) }
+    ensures unread { IfErr words (λ e. error_kind e ≡ InvalidData
+        → Runs None (S.left src.old) (K.got out.old) (K.got out.new) result) }
+    ensures lacking { IfErr words (λ e. error_kind e ≢ InvalidData
+        → (result ≡ Exit.NoMemory) × (src.new ≡ src.old) × (out.new ≡ out.old)) }
+{
+    match words {
+        Ok(words) => run(alloc, words.as_slice(), src, out),
+        Err(error) if error.kind() == ErrorKind::InvalidData => run(alloc, &[], src, out),
+        Err(_) => Exit::NoMemory,
     }
 }
 
