@@ -79,7 +79,8 @@ abbrev pub IsTaken : Front → Type 0
 IsTaken (wrong at reason) = ⊥
 IsTaken other = ⊤
 
--- what reading one part gives: its size, or 0 where it isn't whole; of one that is refused no want of memory is told
+-- what reading one part gives: its size, or 0 where it isn't whole; of one that the reader refuses no want of memory is
+-- told
 abbrev pub GivesPart : {W : Type 0} → Taking W → (W → W → Type 0) → Result ℕ FeedError → Reader → Reader → W → W → Front
     → Type 0
 GivesPart k left (Ok size) old new w v part =
@@ -103,7 +104,7 @@ abbrev pub told_at : ℕ → Result ℕ Stop → Result ℕ FeedError
 told_at place (Ok n) = Ok n
 told_at place (Err stop) = Err (stop_at place stop)
 
--- what reading a part without tokens gives
+-- what reading a part without tokens gives; of one that the reader refuses no want of memory is told
 abbrev pub GivesNoToken : Result ℕ FeedError → Reader → Reader → Front → Type 0
 GivesNoToken (Ok size) old new part =
     (size ≡ size_of part) × (new ≡ behind old part) × (tokens_of old.place part ≡ []) × IsTaken part
