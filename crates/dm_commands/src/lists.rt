@@ -13,21 +13,15 @@ use crate::outcome::Found;
 use dm_acl::Right;
 use dm_base::{Bytes, List, Memory};
 use dm_tree::{NodeId, Tree};
-use dm_uri::{Query, Uri, print};
 use std::alloc::Global;
 
 fn printed_path_of(alloc: Global, tree: &Tree, id: NodeId) -> Result<Bytes, Memory>
     requires { IsLive tree.now.rows id }
     ensures { IfOk result (λ text. text ≡ printed_path (path_of tree.now.rows id)) }
 {
-    let uri = Uri {
-        path: tree.path(id)?,
-        query: Query::Plain,
-    };
-    match print(alloc, &uri) {
-        Ok(text) => Ok(Bytes::of_vec(text)),
-        Err(_) => Err(Memory),
-    }
+    let mut text = Bytes::new(alloc);
+    tree.print_path(id, &mut text)?;
+    Ok(text)
 }
 
 fn listed_node(alloc: Global, tree: &Tree, id: NodeId, with_values: bool) -> Result<Found, Memory>

@@ -2,7 +2,6 @@ mod Counted
 pub mod Devices
 mod Laid
 mod Limits
-mod NodePaths
 mod Putting
 pub mod Sections
 pub mod Sound

@@ -3,7 +3,6 @@ ghost use Rattle.std.specs.Prelude.{◌≡◌, ◌++◌, IfOk, OnOk};
 ghost use Rattle.std.specs.Fmt.{decimal};
 ghost use Rattle.std.specs.Option.{option_copied};
 ghost use Rattle.dm_base.specs.Fields.{hex_text};
-ghost use Rattle.dm_uri.specs.Names.{printed_path};
 ghost use Rattle.dm_tree.specs.Rows.{nodes, node_of, path_of, IsLive};
 ghost use Rattle.dm_tree.specs.Views.{shown};
 ghost use Rattle.dm_start.specs.TreeText as Spec;
@@ -13,24 +12,6 @@ use dm_base::{Bytes, Memory, hex_into};
 use dm_tree::{NodeId, Stamp, Tree, View};
 use itoa::Buffer;
 use std::alloc::Global;
-
-// Goes down from the root.
-fn put_path(out: &mut Bytes, tree: &Tree, id: NodeId) -> Result<(), Memory>
-    requires { IsLive tree.now.rows id }
-    ensures { OnOk result (out.new ≡ out.old ++ printed_path (path_of tree.now.rows id)) }
-{
-    // Its contract says that each node but the root has a parent.
-    let _ = tree.root();
-    let Some(name) = tree.view(id).name else {
-        return out.push(b'.');
-    };
-    match tree.parent(id) {
-        Some(parent) => put_path(out, tree, parent)?,
-        None => unreachable!(),
-    }
-    out.push(b'/')?;
-    out.extend(name.as_slice())
-}
 
 fn put_number(out: &mut Bytes, number: u16) -> Result<(), Memory>
     ensures { OnOk result (out.new ≡ out.old ++ Spec.spaced (decimal number)) }
@@ -107,7 +88,7 @@ pub(crate) fn put_front(
 {
     let view = tree.view(id);
     out.extend(if view.interior { b"node " } else { b"leaf " })?;
-    put_path(out, tree, id)?;
+    tree.print_path(id, out)?;
     put_common(alloc, out, version, view)?;
     put_type(out, view)
 }

@@ -7,6 +7,7 @@ pub mod FoundRows
 pub mod RowAppends
 pub mod SubtreeCuts
 pub mod UpwardSearch
+pub mod PrintedPaths
 pub mod LiveRows
 pub mod EqualTrees
 pub mod DecidingLists

@@ -1,8 +1,9 @@
 // The tree, and what is read of it.
-ghost use Rattle.std.specs.Prelude.{◌≡◌, ◌<◌, ◌≤◌, ◌++◌, ◌∷◌, [], Some, None, if◌then◌else◌, IfOk, IfSome, option_map};
-ghost use Rattle.std.specs.Prelude.{option_and_then};
+ghost use Rattle.std.specs.Prelude.{◌≡◌, ◌<◌, ◌≤◌, ◌++◌, ◌∷◌, [], Some, None, if◌then◌else◌, IfOk, IfSome, OnOk};
+ghost use Rattle.std.specs.Prelude.{option_map, option_and_then};
 ghost use Rattle.std.specs.Option.{option_copied};
 ghost use Rattle.std.specs.FinMap as map;
+ghost use Rattle.dm_uri.specs.Names.{printed_path};
 ghost use Rattle.dm_tree.specs.Nodes.{first_stamp, root_node, above, last_name, tree_order, Nodes, IsReadAgain};
 ghost use Rattle.dm_tree.specs.Nodes.{IsStamp, IsWellFormed};
 ghost use Rattle.dm_tree.specs.Rows.{nodes, ids, node_of, path_of, IsLive, IsTree};
@@ -13,7 +14,7 @@ use crate::clock::Clock;
 use crate::index::Children;
 use crate::nodes::{Node, Role, Stamp, Value, View};
 use crate::rows::{NodeId, Row};
-use crate::walks::{child_row, deciding_row, found_row, put_path, row_allows};
+use crate::walks::{child_row, deciding_row, found_row, print_up, put_path, row_allows};
 use dm_acl::{Acl, Right};
 use dm_base::{Bytes, Memory};
 use dm_uri::{Name, Path, parse_name};
@@ -192,6 +193,19 @@ impl Tree {
         let depth = self.rows[id.row() as usize].depth;
         put_path(self.alloc, &self.rows, id.row(), depth, &mut path)?;
         Ok(path)
+    }
+
+    /// Appends the written form of a node's path: `.` for the root, else `./` and the names with a `/` between each two.
+    pub fn print_path(&self, id: NodeId, out: &mut Bytes) -> Result<(), Memory>
+        requires { IsLive self.now.rows id }
+        ensures { OnOk result (out.new ≡ out.old ++ printed_path (path_of self.now.rows id)) }
+    {
+        print_up(
+            &self.rows,
+            id.row(),
+            self.rows[id.row() as usize].depth,
+            out,
+        )
     }
 
     /// The node whose access list decides on a right: the nearest upwards, itself first, whose list names it. None

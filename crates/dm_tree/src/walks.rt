@@ -1,5 +1,6 @@
 // Searches downwards by name, and upwards.
 ghost use Rattle.std.specs.Prelude.{◌≡◌, ◌<◌, ◌≤◌, ◌+◌, ◌^◌, ◌++◌, length, bytes_eq, OnOk, OnErr, IfOk, is_some};
+ghost use Rattle.dm_uri.specs.Names.{printed_path};
 ghost use Rattle.dm_tree.specs.Rows.{IsShaped, row_at, path_below};
 ghost use Rattle.dm_tree.specs.Index.{IsIndex};
 ghost use Rattle.dm_tree.specs.Walks.{child_of, find_from, path_up, row_names as names_right};
@@ -8,7 +9,7 @@ ghost use Rattle.dm_tree.specs.Walks.{row_allows as row_allows_it, deciding_row}
 use crate::index::{Children, id_at, key_of, place_of};
 use crate::rows::Row;
 use dm_acl::Right;
-use dm_base::Memory;
+use dm_base::{Bytes, Memory};
 use dm_uri::{Name, Path};
 use std::alloc::Global;
 
@@ -94,6 +95,21 @@ pub(crate) fn put_path(
         Ok(()) => Ok(()),
         Err(_) => Err(Memory),
     }
+}
+
+// Appends the written form of the path down to a row, which has so many rows above it.
+pub(crate) fn print_up(rows: &[Row], id: u32, left: u32, out: &mut Bytes) -> Result<(), Memory>
+    requires shaped { IsShaped rows.now }
+    requires inside { id < length rows.now }
+    ensures { OnOk result (out.new ≡ out.old ++ printed_path (path_up rows.now left id)) }
+{
+    if left == 0 {
+        return out.push(b'.');
+    }
+    let row = &rows[id as usize];
+    print_up(rows, row.parent, left - 1, out)?;
+    out.push(b'/')?;
+    out.extend(row.name.as_slice())
 }
 
 fn row_names(row: &Row, right: Right) -> bool
