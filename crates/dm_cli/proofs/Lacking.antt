@@ -9,7 +9,7 @@ use Rattle.dm_words.specs.declared.forms.Form.{Form}
 use Rattle.dm_words.specs.declared.forms.Form.TheVariants as forms
 use Rattle.dm_check.specs.Receiving.{TakesNoMore}
 use Rattle.dm_check.proofs.Taking.{nothing_settled}
-use Rattle.dm_cli.specs.Forms.{Runs, TakesFor}
+use Rattle.dm_cli.specs.Forms.{Runs, TakesFor, AsksForMore}
 
 nothing : (old : Option (List ℕ)) (text : List ℕ) → PutsPrefix old old text
 nothing None text = (0, tt)
@@ -44,3 +44,13 @@ untaken left (Some forms.Pair) src = ([], consumes_nothing (left src), omega ari
 untaken left (Some forms.Show) src = takes_nothing (left src)
 untaken left (Some forms.Check) src = takes_nothing (left src)
 untaken left (Some (forms.Bench seed nodes messages)) src = refl
+
+-- and its source didn't fail
+pub unasked : (form : Option Form) (left : Option (List ℕ)) → AsksForMore form left left exit.NoMemory
+unfolding AsksForMore
+unasked None left = tt
+unasked (Some forms.Replay) left = tt
+unasked (Some forms.Pair) left = tt
+unasked (Some forms.Show) left = λ e. absurd (cc)
+unasked (Some forms.Check) left = λ e. absurd (cc)
+unasked (Some (forms.Bench seed nodes messages)) left = tt

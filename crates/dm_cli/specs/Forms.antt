@@ -1,5 +1,5 @@
 -- What a run puts, by the form of its words.
-use Rattle.std.specs.Prelude.{◌≡◌, ℕ, codes, List, ◌++◌, Option, Some, None}
+use Rattle.std.specs.Prelude.{◌≡◌, ℕ, codes, List, ◌++◌, Option, Some, None, ⊤}
 use Rattle.std.specs.Io.KnownBytes.{Appends}
 use Rattle.dm_base.specs.Lines.{line_feed}
 use Rattle.dm_base.specs.Outside.{OfKnown}
@@ -9,7 +9,7 @@ use Rattle.dm_exit.specs.Puts.{PutsPrefix, PutsEnd, Ends}
 use Rattle.dm_replay.specs.Input.{TakesOnePast}
 use Rattle.dm_replay.specs.Output.{Replays}
 use Rattle.dm_check.specs.Answers.{show_text, check_text, message_exit}
-use Rattle.dm_check.specs.Receiving.{TakesNoMore}
+use Rattle.dm_check.specs.Receiving.{TakesNoMore, Unsettled}
 use Rattle.dm_bench.specs.Workload.{bench_text}
 use Rattle.dm_pair.specs.Texts.{pair_text, pair_exit}
 use Rattle.dm_words.specs.declared.forms.Form.{Form}
@@ -43,8 +43,9 @@ Runs (Some (forms.Bench seed nodes messages)) left old new e =
 abbrev pub UsageMeansNoForm : Option Form → Exit → Type 0
 UsageMeansNoForm form e = e ≡ exit.Usage → form ≡ None
 
--- what a run takes of its source: nothing where its words have no form or ask for a workload, of a trace and
--- of a text for both ends at most one byte past those that it looks at, and of one message no more than settles it
+-- what a run takes of its source: nothing where its words have no form or ask for a workload, of a trace and of a text
+-- for both ends at most one byte past those that it looks at, and of one message at most a piece more than what settles
+-- no refusal
 unfoldable pub TakesFor : {S : Type 0} → (S → Option (List ℕ)) → Option Form → S → S → Type 0
 TakesFor left None old new = new ≡ old
 TakesFor left (Some forms.Replay) old new = TakesOnePast (left old) (left new)
@@ -52,6 +53,12 @@ TakesFor left (Some forms.Pair) old new = TakesOnePast (left old) (left new)
 TakesFor left (Some forms.Show) old new = TakesNoMore (left old) (left new)
 TakesFor left (Some forms.Check) old new = TakesNoMore (left old) (left new)
 TakesFor left (Some (forms.Bench seed nodes messages)) old new = new ≡ old
+
+-- where the source of one message failed, nothing that was taken of it settles a refusal: no source is asked behind one
+unfoldable pub AsksForMore : Option Form → Option (List ℕ) → Option (List ℕ) → Exit → Type 0
+AsksForMore (Some forms.Show) old new e = e ≡ exit.ReadFault → Unsettled old new
+AsksForMore (Some forms.Check) old new e = e ≡ exit.ReadFault → Unsettled old new
+AsksForMore other old new e = ⊤
 
 -- the status that the program ends with
 abbrev pub status_of : Exit → ℕ

@@ -7,7 +7,7 @@ ghost use Rattle.dm_exit.specs.Causes.{SourceCause, SinkCause};
 ghost use Rattle.dm_replay.specs.Output.{AnswersTaken};
 ghost use Rattle.dm_words.specs.declared.forms.Form.TheVariants as forms;
 ghost use Rattle.dm_words.specs.Forms.{form_of, IsWithinBounds};
-ghost use Rattle.dm_cli.specs.Forms.{Runs, TakesFor, UsageMeansNoForm, status_of};
+ghost use Rattle.dm_cli.specs.Forms.{Runs, TakesFor, AsksForMore, UsageMeansNoForm, status_of};
 
 use dm_base::{Fault, Memory, Sink, Source, put_all};
 use dm_bench::bench;
@@ -34,10 +34,11 @@ fn put_usage<K: Sink>(out: &mut K) -> Exit
     }
 }
 
-#[tactic(auto, unfolding(crate::specs::Forms::Runs, crate::specs::Forms::TakesFor))]
+#[tactic(auto, unfolding(crate::specs::Forms::Runs, crate::specs::Forms::TakesFor, crate::specs::Forms::AsksForMore))]
 fn run_replay<S: Source, K: Sink>(alloc: Global, src: &mut S, out: &mut K) -> Exit
     ensures output { Runs (Some forms.Replay) (S.left src.old) (K.got out.old) (K.got out.new) result }
     ensures answered { AnswersTaken (S.left src.old) (S.left src.new) (K.got out.old) (K.got out.new) result }
+    ensures asked { AsksForMore (Some forms.Replay) (S.left src.old) (S.left src.new) result }
     ensures usage { result ≢ Exit.Usage }
     ensures taken { TakesFor S.left (Some forms.Replay) src.old src.new }
     ensures source { SourceCause (S.faults src.old) (S.faults src.new) result }
@@ -46,9 +47,10 @@ fn run_replay<S: Source, K: Sink>(alloc: Global, src: &mut S, out: &mut K) -> Ex
     replay(alloc, src, out)
 }
 
-#[tactic(auto, unfolding(crate::specs::Forms::Runs, crate::specs::Forms::TakesFor))]
+#[tactic(auto, unfolding(crate::specs::Forms::Runs, crate::specs::Forms::TakesFor, crate::specs::Forms::AsksForMore))]
 fn run_pair<S: Source, K: Sink>(alloc: Global, src: &mut S, out: &mut K) -> Exit
     ensures output { Runs (Some forms.Pair) (S.left src.old) (K.got out.old) (K.got out.new) result }
+    ensures asked { AsksForMore (Some forms.Pair) (S.left src.old) (S.left src.new) result }
     ensures usage { result ≢ Exit.Usage }
     ensures taken { TakesFor S.left (Some forms.Pair) src.old src.new }
     ensures source { SourceCause (S.faults src.old) (S.faults src.new) result }
@@ -57,9 +59,10 @@ fn run_pair<S: Source, K: Sink>(alloc: Global, src: &mut S, out: &mut K) -> Exit
     pair(alloc, src, out)
 }
 
-#[tactic(auto, unfolding(crate::specs::Forms::Runs, crate::specs::Forms::TakesFor))]
+#[tactic(auto, unfolding(crate::specs::Forms::Runs, crate::specs::Forms::TakesFor, crate::specs::Forms::AsksForMore))]
 fn run_show<S: Source, K: Sink>(alloc: Global, src: &mut S, out: &mut K) -> Exit
     ensures output { Runs (Some forms.Show) (S.left src.old) (K.got out.old) (K.got out.new) result }
+    ensures asked { AsksForMore (Some forms.Show) (S.left src.old) (S.left src.new) result }
     ensures usage { result ≢ Exit.Usage }
     ensures taken { TakesFor S.left (Some forms.Show) src.old src.new }
     ensures source { SourceCause (S.faults src.old) (S.faults src.new) result }
@@ -69,9 +72,10 @@ fn run_show<S: Source, K: Sink>(alloc: Global, src: &mut S, out: &mut K) -> Exit
 }
 
 // Says whether a message is canonical.
-#[tactic(auto, unfolding(crate::specs::Forms::Runs, crate::specs::Forms::TakesFor))]
+#[tactic(auto, unfolding(crate::specs::Forms::Runs, crate::specs::Forms::TakesFor, crate::specs::Forms::AsksForMore))]
 fn run_check<S: Source, K: Sink>(alloc: Global, src: &mut S, out: &mut K) -> Exit
     ensures output { Runs (Some forms.Check) (S.left src.old) (K.got out.old) (K.got out.new) result }
+    ensures asked { AsksForMore (Some forms.Check) (S.left src.old) (S.left src.new) result }
     ensures usage { result ≢ Exit.Usage }
     ensures taken { TakesFor S.left (Some forms.Check) src.old src.new }
     ensures source { SourceCause (S.faults src.old) (S.faults src.new) result }
@@ -80,11 +84,12 @@ fn run_check<S: Source, K: Sink>(alloc: Global, src: &mut S, out: &mut K) -> Exi
     check(alloc, src, out)
 }
 
-#[tactic(auto, unfolding(crate::specs::Forms::Runs))]
+#[tactic(auto, unfolding(crate::specs::Forms::Runs, crate::specs::Forms::AsksForMore))]
 fn run_bench<K: Sink>(alloc: Global, seed: u64, nodes: u32, messages: u32, out: &mut K) -> Exit
     requires { 0 < nodes }
     ensures output { (left : Option (List ℕ)) → Runs (Some (forms.Bench seed nodes messages)) left (K.got out.old)
         (K.got out.new) result }
+    ensures asked { (left : Option (List ℕ)) → AsksForMore (Some (forms.Bench seed nodes messages)) left left result }
     ensures usage { result ≢ Exit.Usage }
     ensures source { (faults : ℕ) → SourceCause faults faults result }
     ensures sink { SinkCause (K.faults out.old) (K.faults out.new) result }
@@ -99,6 +104,7 @@ fn run_form<S: Source, K: Sink>(alloc: Global, form: Form, src: &mut S, out: &mu
     ensures output { Runs (Some form) (S.left src.old) (K.got out.old) (K.got out.new) result }
     ensures answered { form ≡ forms.Replay
         → AnswersTaken (S.left src.old) (S.left src.new) (K.got out.old) (K.got out.new) result }
+    ensures asked { AsksForMore (Some form) (S.left src.old) (S.left src.new) result }
     ensures usage { result ≢ Exit.Usage }
     ensures taken { TakesFor S.left (Some form) src.old src.new }
     ensures source { SourceCause (S.faults src.old) (S.faults src.new) result }
@@ -127,6 +133,7 @@ pub fn run<S: Source, K: Sink>(alloc: Global, words: &[String], src: &mut S, out
         (K.got out.new) result }
     ensures answered { form_of (map string_bytes words.now) ≡ Some forms.Replay
         → AnswersTaken (S.left src.old) (S.left src.new) (K.got out.old) (K.got out.new) result }
+    ensures asked { AsksForMore (form_of (map string_bytes words.now)) (S.left src.old) (S.left src.new) result }
     ensures usage { UsageMeansNoForm (form_of (map string_bytes words.now)) result }
     ensures taken { TakesFor S.left (form_of (map string_bytes words.now)) src.old src.new }
     ensures source { SourceCause (S.faults src.old) (S.faults src.new) result }
@@ -149,10 +156,18 @@ pub fn run_words<S: Source, K: Sink>(
 ) -> Exit
     ensures read { IfOk words (λ w. Runs (form_of (map string_bytes w.items)) (S.left src.old) (K.got out.old)
         (K.got out.new) result) }
+    ensures answered { IfOk words (λ w. form_of (map string_bytes w.items) ≡ Some forms.Replay
+        → AnswersTaken (S.left src.old) (S.left src.new) (K.got out.old) (K.got out.new) result) }
+    ensures asked { IfOk words
+        (λ w. AsksForMore (form_of (map string_bytes w.items)) (S.left src.old) (S.left src.new) result) }
+    ensures usage { IfOk words (λ w. UsageMeansNoForm (form_of (map string_bytes w.items)) result) }
+    ensures taken { IfOk words (λ w. TakesFor S.left (form_of (map string_bytes w.items)) src.old src.new) }
     ensures unread { IfErr words (λ e. error_kind e ≡ InvalidData
-        → Runs None (S.left src.old) (K.got out.old) (K.got out.new) result) }
+        → Runs None (S.left src.old) (K.got out.old) (K.got out.new) result × (src.new ≡ src.old)) }
     ensures lacking { IfErr words (λ e. error_kind e ≢ InvalidData
         → (result ≡ Exit.NoMemory) × (src.new ≡ src.old) × (out.new ≡ out.old)) }
+    ensures source { SourceCause (S.faults src.old) (S.faults src.new) result }
+    ensures sink { SinkCause (K.faults out.old) (K.faults out.new) result }
 {
     match words {
         Ok(words) => run(alloc, words.as_slice(), src, out),
