@@ -45,8 +45,8 @@ single_steps [] h = tt
 single_steps (p ∷ ps) h = (h.0.step, single_steps ps h.1)
 
 pub container_steps : (k : Kind) (ps : List Plain) → AllByRecursion IsGood ps → IsJobCommand (container k ps)
-container_steps atomic ps h = member_steps ps h
-container_steps sequence ps h = single_steps ps h
+container_steps atomic ps h = (refl, member_steps ps h)
+container_steps sequence ps h = (refl, single_steps ps h)
 
 filled : (n : ℕ) → nat_lt 0 n ≡ true → not (n == 0) ≡ true
 filled n h = let some = ltb-true 0 n h in ap not (ne_eqb n 0 (λ e. omega (arith, e, some)))

@@ -31,11 +31,11 @@ abbrev pub IsStepSeqMember : SeqMember → Type 0
 IsStepSeqMember (seq_member.Single m) = IsStepMember m
 IsStepSeqMember (seq_member.Atomic b) = ⊥
 
--- a command, or a container of commands
+-- a command, or a container of commands for which a Status is wanted too
 abbrev pub IsJobCommand : Command → Type 0
 IsJobCommand (command.Plain p) = IsStep p
-IsJobCommand (command.Atomic b) = AllByRecursion IsStepMember b.members
-IsJobCommand (command.Sequence b) = AllByRecursion IsStepSeqMember b.members
+IsJobCommand (command.Atomic b) = (b.no_resp ≡ false) × AllByRecursion IsStepMember b.members
+IsJobCommand (command.Sequence b) = (b.no_resp ≡ false) × AllByRecursion IsStepSeqMember b.members
 IsJobCommand other = ⊥
 
 -- it can be sent

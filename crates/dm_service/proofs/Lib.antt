@@ -7,6 +7,7 @@ pub mod Unaccepted
 pub mod Headers
 pub mod Stays
 pub mod Codes
+pub mod Alerts
 pub mod Faultless
 pub mod First
 pub mod Idle

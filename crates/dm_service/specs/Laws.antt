@@ -2,7 +2,7 @@
 use Rattle.std.specs.Prelude.{◌≡◌, ◌<◌, ◌≤◌, ◌+◌, ◌-◌, ◌⊎◌, ◌==◌, ℕ, true, false, length, get_or, if◌then◌else◌, List}
 use Rattle.std.specs.Prelude.{[], ◌∷◌, ◌++◌, map, Option}
 use Rattle.std.specs.Prelude.{Some, None, Result, Ok, Err, IfSome, ⊤}
-use Rattle.std.specs.List.{AllByRecursion, Contains}
+use Rattle.std.specs.List.{AllByRecursion, Contains, flat_map}
 use Rattle.dm_base.specs.Limits.{least_room}
 use Rattle.syncml_types.specs.Message.{Parts}
 use Rattle.syncml_types.specs.Canonical.{canonical}
@@ -22,9 +22,10 @@ use Rattle.syncml_types.specs.declared.command.Command.TheVariants as command
 use Rattle.dm_headers.specs.Checks.{fault_of, passes}
 use Rattle.dm_job.specs.declared.job.Job.{Job}
 use Rattle.dm_job.specs.Sound.{all_entries, AreNumbered, IsSound}
+use Rattle.dm_service.specs.declared.sent.KeptAlert.{KeptAlert}
 use Rattle.dm_service.specs.declared.sent.Sent.{Sent}
 use Rattle.dm_service.specs.Service.{Told, Session, Service}
-use Rattle.dm_service.specs.Matching.{untold, results_for, result_piece}
+use Rattle.dm_service.specs.Matching.{untold, results_for, result_piece, kept_alert}
 use Rattle.dm_service.specs.Messages.{first_service, tells, accepts}
 use Rattle.dm_service.specs.Events.{Arrival, number_of, reply_of}
 use Rattle.dm_service.specs.Pieces.{still_sent, is_read, pieces_in, pieces_from}
@@ -220,6 +221,17 @@ abbrev pub ValuesAreRead : Type 0
 ValuesAreRead = (job : Job) (es : List Arrival) (place : ℕ) (value : Step)
     → Contains (found_at (state_from (first_service job) es).told place) value
     → IsRead job.limits.max_obj (first_service job) [] es place value
+
+-- the generic alert that a command is
+abbrev pub generic_alert : Command → List KeptAlert
+generic_alert (command.Alert a) = if a.code == 1226 then kept_alert a.items ∷ [] else []
+generic_alert other = []
+
+-- what is kept of a message that is read is each of its generic alerts, in document order; of another one nothing
+abbrev pub AlertsAreTold : Type 0
+AlertsAreTold = (v : Service) (s : Session) (m : Parts) (nonce : List ℕ)
+    → (accepts v s m nonce).alerts
+    ≡ v.alerts ++ (if is_read v s m nonce then flat_map generic_alert m.body else [])
 
 -- a message that doesn't pass the checks of its header tells nothing of the job
 abbrev pub UnacceptedTellsNothing : Type 0

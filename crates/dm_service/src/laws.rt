@@ -1,6 +1,6 @@
 // What holds of the machine, over its definition alone.
 ghost use Rattle.dm_service.specs.Laws.{StateIsEnough, AcceptedNumbersRise, SendsOnce, RunsInOneSession};
-ghost use Rattle.dm_service.specs.Laws.{CodesAreTold, UnacceptedTellsNothing, FirstIsReady, StaysReady};
+ghost use Rattle.dm_service.specs.Laws.{CodesAreTold, AlertsAreTold, UnacceptedTellsNothing, FirstIsReady, StaysReady};
 ghost use Rattle.dm_service.specs.Laws.{SendsWithinRoom};
 ghost use Rattle.dm_service.specs.Laws.{SendsNoFault, JobKeepsItsSession, ValuesAreFound, ValuesAreRead, SentInOrder};
 
@@ -57,6 +57,12 @@ pub fn values_are_found()
 /// piece behind those of all earlier pieces of the same Source, which have MoreData and stand right in front of it.
 pub fn values_are_read()
     ensures { ValuesAreRead }
+{}
+
+/// Law: of a message that is read each generic Alert at its top level is kept, in document order and behind those that
+/// were kept before; of any other message none is.
+pub fn alerts_are_told()
+    ensures { AlertsAreTold }
 {}
 
 /// Law: a message that doesn't pass the checks of its header tells neither codes nor values nor alerts.

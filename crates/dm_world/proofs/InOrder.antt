@@ -221,8 +221,8 @@ seq-whole (seq_member.Atomic b ∷ ms) h = absurd h.0
 command-whole : (c : Command) → IsJobCommand c → AreWhole (command_acts c)
 command-whole (command.Plain p) h = step-whole false p h
 command-whole (command.Alert a) h = absurd h
-command-whole (command.Atomic b) h = members-whole true b.members h
-command-whole (command.Sequence b) h = seq-whole b.members h
+command-whole (command.Atomic b) h = members-whole true b.members h.1
+command-whole (command.Sequence b) h = seq-whole b.members h.1
 command-whole (command.Status c) h = absurd h
 command-whole (command.Results c) h = absurd h
 

@@ -71,8 +71,8 @@ seqs-whole (seq_member.Atomic b ∷ ms) h = absurd h.0
 pub job-whole : (c : Command) → IsJobCommand c → WholeEach c
 job-whole (command.Plain p) h = step-whole p h
 job-whole (command.Alert a) h = absurd h
-job-whole (command.Atomic b) h = members-whole b.members h
-job-whole (command.Sequence b) h = seqs-whole b.members h
+job-whole (command.Atomic b) h = members-whole b.members h.1
+job-whole (command.Sequence b) h = seqs-whole b.members h.1
 job-whole (command.Status c) h = absurd h
 job-whole (command.Results c) h = absurd h
 

@@ -66,8 +66,8 @@ job-seq-members (seq_member.Atomic b ∷ ms) h = absurd h.0
 pub job-each : (c : Command) → IsJobCommand c → OneEach c
 job-each (command.Plain p) h = (h.item, h.only)
 job-each (command.Alert a) h = absurd h
-job-each (command.Atomic b) h = job-members b.members h
-job-each (command.Sequence b) h = job-seq-members b.members h
+job-each (command.Atomic b) h = job-members b.members h.1
+job-each (command.Sequence b) h = job-seq-members b.members h.1
 job-each (command.Status c) h = absurd h
 job-each (command.Results c) h = absurd h
 
