@@ -18,6 +18,7 @@ use Rattle.dm_undo.specs.Journals.{Journal}
 use Rattle.dm_undo.specs.Entries.{AreAlike, AreRecords}
 use Rattle.dm_undo.specs.Trees.{Maps, tree_at}
 use Rattle.dm_undo.specs.Marks.{Recalls as RecallsTrees}
+use Rattle.dm_undo.specs.Sound.{AreAllHeld}
 use Rattle.dm_undo.specs.Notes.{Notes}
 use Rattle.dm_undo.proofs.Shapes.{alike_self, alike_long, alike_drop, records_alike}
 use Rattle.dm_objects.specs.declared.object.Object.{Object}
@@ -44,6 +45,7 @@ pub record JournalGoes (old new : Journal) (before now : List Row) : Type 0 wher
   pub longer : length old.entries ≤ length new.entries
   pub alike : AreAlike old.entries (drop (length new.entries - length old.entries) new.entries)
   pub room : old.room ≤ new.room
+  pub parked : AreAllHeld old.entries before → AreAllHeld new.entries now
 
 pub journal-same : (old new : Journal) (before now : List Row) → new.entries ≡ old.entries → old.room ≤ new.room
     → now ≡ before → JournalGoes old new before now
@@ -56,6 +58,7 @@ journal-same old new before now e r f = record {
       ∙ ap (λ n. drop n old.entries) (let z : length old.entries - length old.entries ≡ 0 = omega arith in z)
       ∙ drop-none old.entries)) (alike_self old.entries);
   room = r;
+  parked = λ all. subst (AreAllHeld new.entries) (sym f) (subst (λ l. AreAllHeld l before) (sym e) all);
 }
 
 pub journal-noted : (old new : Journal) (before now : List Row) → Notes old before new now
@@ -70,6 +73,7 @@ journal-noted old new before now n spare trees = record {
       (let z : length new.entries - length old.entries ≡ length n.newer = omega (arith, long) in z)
       ∙ drop-append_seam n.newer old.entries)) (alike_self old.entries);
   room = omega (arith, spare, n.spare, long);
+  parked = n.parked;
 }
   where
     long : length new.entries ≡ length n.newer + length old.entries
@@ -82,8 +86,9 @@ alike-rest c es (Flipped d ∷ fs) a = subst (AreAlike es) (sym (drop-none fs)) 
 
 pub journal-rolled : (old new : Journal) (before now : List Row) (c : ℕ)
     → RecallsTrees (length old.entries) old.entries before new.entries now
-    → AreAlike (Flipped c ∷ old.entries) new.entries → new.room ≡ old.room → JournalGoes old new before now
-journal-rolled old new before now c trees a r =
+    → AreAlike (Flipped c ∷ old.entries) new.entries → new.room ≡ old.room
+    → (AreAllHeld old.entries before → AreAllHeld new.entries now) → JournalGoes old new before now
+journal-rolled old new before now c trees a r parked =
     let long = alike_long (Flipped c ∷ old.entries) new.entries a in
     record {
       trees = trees;
@@ -92,6 +97,7 @@ journal-rolled old new before now c trees a r =
           (let z : 1 ≡ length new.entries - length old.entries = omega (arith, long) in z)
           (alike-rest c old.entries new.entries a);
       room = omega (arith, r);
+      parked = parked;
     }
 
 drop-alike : (old new : List Entry) (m : ℕ) → m ≤ length old → length old ≤ length new
@@ -376,18 +382,20 @@ holds_by old new j o s g = record {
     there = recalled-holds old new m j o s g r.held ∙ r.there;
   };
   pasts = λ m h. past-holds old new m g h;
+  parked = j.parked;
 }
 
 -- ---- one step and another
 
 pub holds_self : (e : Engine) → Holds e e
-holds_self e = record { marks = λ m w r. r; pasts = λ m h. refl }
+holds_self e = record { marks = λ m w r. r; pasts = λ m h. refl; parked = λ all. all }
 
 pub holds_then : (a b c : Engine) → Holds a b → Holds b c → Holds a c
 holds_then a b c g h = record {
   marks = λ m w r. h.marks m w (g.marks m w r);
   pasts = λ m held.
       h.pasts m (g.marks m (recalled a m) (record { held = held; there = refl })).held ∙ g.pasts m held;
+  parked = λ all. h.parked (g.parked all);
 }
 
 -- ---- single steps

@@ -5,6 +5,7 @@ use Rattle.dm_tree.specs.declared.rows.Row.{Row}
 use Rattle.dm_tree.specs.Nodes.{Ids}
 use Rattle.dm_tree.specs.Rows.{ids}
 use Rattle.dm_tree.specs.Devices.{IsUpdateInOrder}
+use Rattle.dm_undo.specs.Sound.{AreAllHeld}
 use Rattle.dm_undo.specs.declared.entries.Entry.{Entry}
 use Rattle.dm_undo.specs.Entries.{AreRecords}
 use Rattle.dm_undo.specs.Trees.{Maps, tree_at}
@@ -123,10 +124,15 @@ pub record Recalls (e : Engine) (m : EngineMark) (w : Whole) : Type 0 where
   pub held : IsHeld e m
   pub there : recalled e m ≡ w
 
--- each mark that could be gone back to can be still, and recalls what it did
+-- every subtree that was taken out of the tree is held by a record of the journal: none was left over
+abbrev pub LeavesNone : Engine → Type 0
+LeavesNone e = AreAllHeld e.journal.entries e.tree.rows
+
+-- each mark that could be gone back to can be still, and recalls what it did; and no subtree was left over
 pub record Holds (old new : Engine) : Type 0 where
   pub marks : (m : EngineMark) (w : Whole) → Recalls old m w → Recalls new m w
   pub pasts : (m : EngineMark) → IsHeld old m → past_at new m ≡ past_at old m
+  pub parked : LeavesNone old → LeavesNone new
 
 -- objects were held, one behind the other
 pub record ObjectsGo (old new : Seen) : Type 0 where

@@ -3,7 +3,7 @@ ghost use Rattle.std.specs.Prelude.{◌≡◌, ◌≤◌, ◌∷◌, ◌++◌, [
 ghost use Rattle.dm_atomic.specs.Engine.{state_of, IsSoundEngine};
 ghost use Rattle.dm_atomic.specs.Updates.{clock_of, max_obj_of};
 ghost use Rattle.dm_atomic.specs.Marks.{Whole, whole_of, past_of, past_at, no_past, groups, no_group, IsHeld};
-ghost use Rattle.dm_atomic.specs.Marks.{IsEarlier, Recalls};
+ghost use Rattle.dm_atomic.specs.Marks.{IsEarlier, Recalls, LeavesNone};
 ghost use Rattle.dm_atomic.specs.declared.marks.EngineMark.{EngineMark as AMark};
 
 use crate::engine::{EndedGroup, Engine};
@@ -53,6 +53,7 @@ impl Engine {
         ensures earlier { (k : AMark) (w : Whole) → Recalls self.old k w → IsEarlier k mark → Recalls self.new k w }
         ensures clock { clock_of self.new ≡ clock_of self.old }
         ensures max_obj { max_obj_of self.new ≡ max_obj_of self.old }
+        ensures parked { LeavesNone self.old → LeavesNone self.new }
         ensures sound { IsSoundEngine self.new }
     {
         self.journal.unwind(&mut self.tree, mark.journal);
@@ -90,6 +91,7 @@ impl Engine {
             → (k : AMark) (w : Whole) → Recalls self.new k w → w ≡ whole_of self.new }
         ensures clock { clock_of self.new ≡ clock_of self.old }
         ensures max_obj { max_obj_of self.new ≡ max_obj_of self.old }
+        ensures parked { LeavesNone self.old → LeavesNone self.new }
         ensures sound { IsSoundEngine self.new }
     {
         let first = self.first_place();

@@ -2,13 +2,13 @@
 ghost use Rattle.std.specs.Prelude.{◌≡◌, ◌≤◌, ◌<◌, ◌∷◌, ◌++◌, [], List as ListOf, ℕ, None, Some, is_some, true};
 ghost use Rattle.std.specs.Prelude.{vec_len, vec_capacity, IfOk, IfSome, OnOk, OnErr};
 ghost use Rattle.dm_base.specs.Limits.{object_limit};
-ghost use Rattle.dm_tree.specs.Rows.{nodes, ids, path_of, IsLive};
+ghost use Rattle.dm_tree.specs.Rows.{nodes, ids, path_of, IsLive, IsParkedTop};
 ghost use Rattle.dm_tree.specs.Devices.{update_node, IsUpdateInOrder};
 ghost use Rattle.dm_commands.specs.Outcomes.{asked_by};
 ghost use Rattle.dm_atomic.specs.Engine.{state_of, running, IsSoundEngine};
 ghost use Rattle.dm_atomic.specs.Updates.{clock_of, max_obj_of, is_updating, update_of as update_in, begun};
 ghost use Rattle.dm_atomic.specs.Updates.{update_finished};
-ghost use Rattle.dm_atomic.specs.Marks.{whole_of, Holds, past_of, no_past};
+ghost use Rattle.dm_atomic.specs.Marks.{whole_of, Holds, past_of, no_past, LeavesNone};
 
 use crate::engine::Engine;
 use crate::reports::Started;
@@ -61,6 +61,8 @@ impl Engine {
         ensures state { IfOk result (λ engine. state_of engine ≡ begun (nodes tree.rows)) }
         ensures ids { IfOk result (λ engine. (whole_of engine).ids ≡ ids tree.rows) }
         ensures past { IfOk result (λ engine. past_of engine ≡ no_past) }
+        ensures parked { IfOk result
+            (λ engine. ((k : ℕ) → IsParkedTop tree.rows k → ⊥) → LeavesNone engine) }
         ensures running { IfOk result (λ engine. (caller : ListOf ℕ) → running engine caller
             ≡ record { setting = asked_by caller tree.clock; max_obj = max_obj }) }
         ensures sound { IfOk result IsSoundEngine }

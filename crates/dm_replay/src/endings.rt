@@ -1,7 +1,7 @@
 // What a run puts, and how it ends.
 ghost use Rattle.std.specs.Prelude.{◌≡◌, ◌≢◌, ◌<◌, ◌≤◌, ◌++◌, [], length, IfOk, OnOk, MatchResult};
 ghost use Rattle.std.specs.Io.KnownBytes.{Appends};
-ghost use Rattle.dm_base.specs.Lines.{CountsTaken, IsFeedless};
+ghost use Rattle.dm_base.specs.Lines.{CountsTaken, IsFeedless, HasFeed};
 ghost use Rattle.dm_tree.specs.Rows.{nodes};
 ghost use Rattle.dm_exit.specs.Causes.{SourceCause, SinkCause};
 ghost use Rattle.dm_exit.specs.Puts.{PutsPart, PutsEnd, Ends};
@@ -26,6 +26,7 @@ pub(crate) fn put_due<K: Sink>(lines: &Lines, out: &mut K, due: &mut Bytes) -> R
     ensures bytes { PutsOn (K.got out.old) (K.got out.new) due.old due.new result }
     ensures all { OnOk result (IsFeedless lines.now.pending → due.new ≡ []) }
     ensures few { OnOk result (length due.new < 65536) }
+    ensures together { OnOk result (HasFeed lines.now.pending → length due.old < 65536 → due.new ≡ due.old) }
     ensures count { MatchResult result (λ _. K.faults out.new ≡ K.faults out.old)
         (λ e. SinkCause (K.faults out.old) (K.faults out.new) e) }
 {

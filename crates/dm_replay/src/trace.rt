@@ -45,9 +45,10 @@ fn line_of(alloc: Global, client: &mut Client, event: &Event) -> Result<Bytes, M
     Ok(line)
 }
 
-// Does an event, and adds its answer to those that are due.
+// Does an event, and adds its answer to those that are due, which aren't many.
 fn answer(alloc: Global, client: &mut Client, due: &mut Bytes, event: &Event) -> Result<(), Memory>
-    requires { IsOf (length client.old.machine.accounts) event.now }
+    requires account { IsOf (length client.old.machine.accounts) event.now }
+    requires few { length due.old < 65536 }
     ensures due { OnOk result (IfSome (happening_of event.now)
         (λ e. due.new ≡ due.old ++ answer_text (answer_now client.old.machine e))) }
     ensures state { OnOk result (IfSome (happening_of event.now)

@@ -23,7 +23,7 @@ returns-clause-marks c =
     (holds_journal e c.roll_back.new.tree c.roll_back.new.self
     (journal-rolled e.journal c.roll_back.new.self e.tree.rows c.roll_back.new.tree.rows
     (length e.journal.entries - e.mark) c.roll_back.ensures.recalls c.roll_back.ensures.entries
-    c.roll_back.ensures.room))
+    c.roll_back.ensures.room c.roll_back.ensures.parked))
     (holds_ended m c.end_group.new.self c.end_group.ensures.same c.end_group.ensures.ended)
 
 pub returns-clause-sound : goal.returns-clause-sound
