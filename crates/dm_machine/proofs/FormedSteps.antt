@@ -40,7 +40,7 @@ use Rattle.dm_tree.specs.Edits.{pruned, fits}
 use Rattle.dm_tree.specs.Order.{children}
 use Rattle.dm_tree.specs.Devices.{is_of_update, is_role, update_node, has_role, child_of_role, pkg_data, state_node}
 use Rattle.dm_tree.specs.Devices.{value_at, IsUpdateInOrder}
-use Rattle.dm_tree.proofs.NodeContents.{held_changed}
+use Rattle.dm_tree.proofs.FieldEdits.{held_changed}
 use Rattle.dm_tree.proofs.Devices.{update_is_found}
 use Rattle.dm_tree.proofs.NodesKept.{some_node, still_insert}
 use Rattle.dm_tree.proofs.Paths.{Ends, ends, none, last}

@@ -17,7 +17,7 @@ use Rattle.dm_tree.specs.declared.nodes.Stamp.{Stamp}
 use Rattle.dm_tree.specs.Nodes.{Path, Nodes, above, made, with_mark, IsNode, IsNewNode, IsRoot, IsChildOf, IsStamp}
 use Rattle.dm_tree.specs.Nodes.{IsWellFormed}
 use Rattle.dm_tree.proofs.LiveRows.{above-append}
-use Rattle.dm_tree.proofs.NodeContents.{held_made}
+use Rattle.dm_tree.proofs.FieldEdits.{held_made}
 use Rattle.dm_tree.proofs.NodesKept.{some_node, at_insert, still_insert}
 use Rattle.dm_tree.proofs.Paths.{tree_total}
 use Rattle.dm_start.specs.Growing.{go_on, takes_child, is_open, may_stand, with_one, with_all, may_be_permanent}

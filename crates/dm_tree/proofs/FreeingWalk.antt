@@ -1,83 +1,64 @@
 -- A subtree is freed: down where a row is left, and up where none is.
-use Rattle.std.proofs.Common.{◌≡◌, ◌≢◌, ℕ, zero, suc, ◌<◌, ◌+◌, ◌-◌, ◌*◌, true, false, cond, List, [], ◌∷◌}
-use Rattle.std.proofs.Common.{◌++◌, length, get_or, Option, None, Some, refl, sym, ◌∙◌, ap, subst, arith, ◌⊎◌, inl, inr}
-use Rattle.std.specs.Prelude.{slice_get, sum_by}
-use Rattle.std.proofs.Math.ListN.{set, length-set}
-use Rattle.std.proofs.lemmas.Bool.{false_from_ne_true}
-use Rattle.std.proofs.lemmas.List.{get_or-set_same, get_or-set_other, get_or_past}
+use Rattle.std.proofs.Common.{◌*◌}
+use Rattle.std.specs.Prelude.{sum_by}
 use Rattle.std.proofs.lemmas.List.Sums.{sum_by-set}
-use Rattle.std.proofs.lemmas.Option.{slice_get-get_or, slice_get_within, get_or_from_slice_get}
-use Rattle.dm_tree.specs.declared.rows.Row.{Row}
-use Rattle.dm_tree.specs.Nodes.{Path}
-use Rattle.dm_tree.specs.Rows.{blank, row_at, node_of, walk, path_below, IsShaped, IsTree, IsParkedTop}
-use Rattle.dm_tree.specs.Edits.{emptied, attached_as, without_content}
-use Rattle.dm_tree.specs.Reuse.{IsLeftOver, freed}
+use Rattle.std.proofs.lemmas.Option.{slice_get-get_or}
 use Rattle.dm_tree.specs.Frees.{spent, IsFreed}
-use Rattle.dm_tree.specs.Index.{ChildList, no_children, children_at, IsChildList, IsIndex}
-use Rattle.dm_tree.proofs.Paths.{below_or_not, same_or_not}
-use Rattle.dm_tree.proofs.RowPaths.{Way, way, attached_row, attached_falls}
-use Rattle.dm_tree.proofs.NodeEdits.{of_both}
-use Rattle.dm_tree.proofs.GivenUpRows.{self_below}
+use Rattle.dm_tree.proofs.Common.{◌≡◌, ◌≢◌, ℕ, zero, suc, ◌<◌, ◌+◌, ◌-◌, true, false, cond, List, [], length, Option}
+use Rattle.dm_tree.proofs.Common.{None, Some, refl, sym, ◌∙◌, ap, subst, arith, ◌⊎◌, inl, inr, slice_get, set}
+use Rattle.dm_tree.proofs.Common.{length-set, get_or-set_same, get_or-set_other, get_or_past, slice_get_within}
+use Rattle.dm_tree.proofs.Common.{get_or_from_slice_get, Row, Path, blank, row_at, node_of, path_below, IsShaped}
+use Rattle.dm_tree.proofs.Common.{IsTree, IsParkedTop, emptied, without_content, GoesAlike, IsLeftOver, freed}
+use Rattle.dm_tree.proofs.Common.{ChildList, no_children, children_at, IsChildList, IsIndex}
+use Rattle.dm_tree.proofs.Paths.{same_or_not}
+use Rattle.dm_tree.proofs.RowPaths.{attached_row}
+use Rattle.dm_tree.proofs.NodeEdits.{each_set, of_both}
+use Rattle.dm_tree.proofs.GivenUpRows.{path_up, path_down, self_below}
 use Rattle.dm_tree.proofs.RowReuse.{no_way}
-use Rattle.dm_tree.proofs.RowFreeing.{not_same}
-use Rattle.dm_tree.proofs.SubtreeFreeing.{IsFreeing, freeing-begins, freeing-goes_on, freed-found}
+use Rattle.dm_tree.proofs.ClearRows.{live-off}
+use Rattle.dm_tree.proofs.FlipsBeside.{alike-then, alike-fewer}
+use Rattle.dm_tree.proofs.UndoFlips.{parked-same}
+use Rattle.dm_tree.proofs.UndoPromises.{alike-given_up}
+use Rattle.dm_tree.proofs.RowFreeing.{freed_is, alike-freed}
 
--- ---- one step up, and one down
+-- a row that is out lies below itself alone
+only_top : (rows : List Row) (t j : ℕ) (q : Path) → (row_at rows j).attached ≡ false → path_below rows t j ≡ Some q
+    → j ≡ t
+only_top rows t j q out e =
+    let none : j ≢ t → path_below rows t j ≡ None = λ d. no_way rows (row_at rows j).depth t j d out in grind arith
 
-up_from : (rows : List Row) → IsShaped rows → (t j : ℕ) (p : Path) → j ≢ t → (d : ℕ) → (row_at rows j).depth ≡ d
-    → Way rows t j p d → ((row_at rows j).attached ≡ true) × (q : Path)
-    × (path_below rows t (row_at rows j).parent ≡ Some q)
-up_from rows shape t j p apart d e (Way.here a b) = absurd (apart a)
-up_from rows shape t j p apart (suc d) e (Way.up u) =
-    let deep : (row_at rows (row_at rows j).parent).depth ≡ d =
-    omega (arith, attached_falls rows shape j u.attached, e) in
-    (u.attached, u.above, ap (λ n. walk rows n t (row_at rows j).parent) deep ∙ u.found)
+above_root : (rows : List Row) → IsShaped rows → (t j : ℕ) (p : Path) → 0 < t → path_below rows t j ≡ Some p → 0 < j
+above_root rows shape t j p z e =
+    let same : j ≡ 0 → j ≡ t = λ f. only_top rows t j p (ap (λ i. (row_at rows i).attached) f ∙ shape.fixed) e in
+    grind arith
 
-pub path-up : (rows : List Row) → IsShaped rows → (t j : ℕ) (p : Path) → j ≢ t → path_below rows t j ≡ Some p
-    → ((row_at rows j).attached ≡ true) × (q : Path) × (path_below rows t (row_at rows j).parent ≡ Some q)
-path-up rows shape t j p apart e =
-    up_from rows shape t j p apart (row_at rows j).depth refl (way rows (row_at rows j).depth t j p e)
-
-pub path-down : (rows : List Row) → IsShaped rows → (t j : ℕ) (q : Path) → j ≢ t → (row_at rows j).attached ≡ true
-    → path_below rows t (row_at rows j).parent ≡ Some q → (p : Path) × (path_below rows t j ≡ Some p)
-path-down rows shape t j q apart at up =
-    (q ++ (row_at rows j).name ∷ [], rw (attached_falls rows shape j at) (rw (not_same j t apart, at, up) refl))
-
-pub above_root : (rows : List Row) → IsShaped rows → (t j : ℕ) (p : Path) → 0 < t → path_below rows t j ≡ Some p → 0 < j
-above_root rows shape t j p z e = elim (same_or_not j 0) [
-  | inl f ↦ absurd (
-      let none : path_below rows t j ≡ None =
-      no_way rows (row_at rows j).depth t j (λ g. omega (arith, f, g, z))
-      (ap (λ i. (row_at rows i).attached) f ∙ shape.fixed) in cc)
-  | inr d ↦ omega (arith, d)
-]
-
-only_top : (rows : List Row) (t top : ℕ) (q : Path) → (row_at rows top).attached ≡ false
-    → path_below rows t top ≡ Some q → top ≡ t
-only_top rows t top q out e = elim (same_or_not top t) [
-  | inl s ↦ s
-  | inr d ↦ absurd (let none : path_below rows t top ≡ None = no_way rows (row_at rows top).depth t top d out in cc)
+-- no row of a parked subtree was given up
+in_use : (old : List Row) → IsTree old → (top : ℕ) → IsParkedTop old top → (j : ℕ) (p : Path)
+    → path_below old top j ≡ Some p → (row_at old j).given_up ≡ false
+in_use old tree top is j p e = elim (same_or_not j top) [
+  | inl s ↦ ap (λ i. (row_at old i).given_up) s ∙ is.held
+  | inr d ↦ let at = (path_up old tree.shape top j p d e).attached in
+      (tree.each j (attached_row old tree.shape j at).1).attached at
 ]
 
 -- ---- how far the freeing has come
 
--- a row is as it was, or was given back
-abbrev StillOrSpent : Row → Row → Type 0
-StillOrSpent was is = ((is ≡ was) × (was.attached ≡ true)) ⊎ (is ≡ spent was)
+-- this is the row as it was, or what is left of it, where it lies below the top
+abbrev StillOrSpent : List Row → ℕ → ℕ → Row → Type 0
+StillOrSpent old top j r =
+    (r ≡ row_at old j) ⊎ ((r ≡ spent (row_at old j)) × (p : Path) × (path_below old top j ≡ Some p))
 
--- the rows of the subtree down to the row `at` were given back, and some beside this way; each that is left over stands
--- right below a row of the way
+-- the rows of the subtree down to the row `at` were given back, and some beside this way; each that is left below one
+-- of these stands right below a row of the way
 pub record IsGoing (old : List Row) (top : ℕ) (rows : List Row) (at : ℕ) : Type 0 where
-  pub so : IsFreeing old top rows
+  pub alike : GoesAlike (λ j. path_below old top j ≡ None) old rows
   pub long : length rows ≡ length old
-  pub depth : (j : ℕ) → (row_at rows j).depth ≡ (row_at old j).depth
-  pub each : (j : ℕ) (p : Path) → path_below old top j ≡ Some p → StillOrSpent (row_at old j) (row_at rows j)
-  pub ups : (j : ℕ) (p : Path) → path_below old top j ≡ Some p → j ≢ top → (row_at rows j).given_up ≡ true
-      → (row_at rows (row_at rows j).parent).given_up ≡ true
-  pub left : (j : ℕ) → IsLeftOver rows j
-      → IsLeftOver old j ⊎ ((q : Path) × (path_below old (row_at rows j).parent at ≡ Some q))
+  pub each : (j : ℕ) → StillOrSpent old top j (row_at rows j)
+  pub way : (t : ℕ) (q : Path) → path_below old t at ≡ Some q → (row_at rows t).given_up ≡ true
+  pub left : (j : ℕ) (p : Path) → path_below old top j ≡ Some p → (row_at rows j).attached ≡ true
+      → (row_at rows (row_at old j).parent).given_up ≡ true
+      → (q : Path) × (path_below old (row_at old j).parent at ≡ Some q)
   pub found : (p : Path) × (path_below old top at ≡ Some p)
-  pub given_up : (row_at rows at).given_up ≡ true
 
 abbrev weight : Row → ℕ
 weight r = cond r.attached 1 0
@@ -86,296 +67,232 @@ weight r = cond r.attached 1 0
 abbrev pub to_go : List Row → ℕ → ℕ
 to_go rows at = 2 * sum_by weight rows + (row_at rows at).depth
 
-module _ (old : List Row) (tree : IsTree old) (top : ℕ) (is : IsParkedTop old top) where
-  first : row_at (without_content old top) top
-      ≡ record (row_at old top) { given_up = true; node = emptied (node_of old top) }
-  first = get_or-set_same old top _ blank is.inside
+-- first the top is given up
+pub going-begins : (old : List Row) → IsTree old → (top : ℕ) → IsParkedTop old top
+    → IsGoing old top (without_content old top) top
+going-begins old tree top is = record {
+  alike = alike-fewer (λ j. j ≡ top → ⊥) (λ j. path_below old top j ≡ None)
+      (λ j none e. let some = ap (path_below old top) e ∙ itself in cc) (alike-given_up old top tree is);
+  long = length-set old top _;
+  each = λ j. each_set old top _ is.inside (StillOrSpent old top j) j (λ s. inr (
+    ap (λ b. record (row_at old top) { attached = b; given_up = true; node = emptied (node_of old top) }) is.out
+        ∙ ap (λ i. spent (row_at old i)) (sym s),
+    [],
+    ap (path_below old top) s ∙ itself,
+  )) (λ _. inl refl);
+  way = λ t q e. each_set old top _ is.inside (λ s. s.given_up ≡ true) t (λ _. refl)
+      (λ d. absurd (d (sym (only_top old t top q is.out e))));
+  left = λ j p e on up.
+      let at = sym (of_both old top _ (λ s. s.attached) refl j is.inside) ∙ on in
+      let apart : j ≢ top = λ s. absurd (let out = ap (λ i. (row_at old i).attached) s ∙ is.out in cc) in
+      let u = path_up old tree.shape top j p apart e in
+      let used = in_use old tree top is (row_at old j).parent u.above u.found in
+      let same =
+      each_set old top _ is.inside (λ s. s.given_up ≡ true → (row_at old j).parent ≡ top) (row_at old j).parent
+      (λ s _. s) (λ _ no. absurd (cc)) up in
+      ([], ap (λ t. path_below old t top) same ∙ itself);
+  found = ([], itself);
+}
+  where
+    itself : path_below old top top ≡ Some []
+    itself = self_below old (row_at old top).depth top
 
-  beside : (j : ℕ) → j ≢ top → row_at (without_content old top) j ≡ row_at old j
-  beside j d = get_or-set_other old top j _ blank d
+pub going-inside : {old : List Row} {top : ℕ} {rows : List Row} {at : ℕ} → IsGoing old top rows at → at < length rows
+going-inside {old} {top} {rows} {at} go =
+    let past = get_or_past rows at blank in
+    let up = go.way at [] (self_below old (row_at old at).depth at) in
+    grind arith
 
-  same_parent : (j : ℕ) → (row_at (without_content old top) j).parent ≡ (row_at old j).parent
-  same_parent j = of_both old top _ (λ s. s.parent) refl j is.inside
+module _ (old : List Row) (tree : IsTree old) (top : ℕ) (is : IsParkedTop old top) {rows : List Row} {at : ℕ}
+    (go : IsGoing old top rows at) where
+  -- the row at which it is was given back
+  at_spent : row_at rows at ≡ spent (row_at old at)
+  at_spent =
+      let row = go.each at in
+      let up = go.way at [] (self_below old (row_at old at).depth at) in
+      let used = in_use old tree top is at go.found.0 go.found.1 in
+      grind arith
 
-  left_before : (j : ℕ) → IsLeftOver (without_content old top) j → (row_at (without_content old top) j).parent ≢ top
-      → IsLeftOver old j
-  left_before j l d = record {
-    attached = sym (of_both old top _ (λ s. s.attached) refl j is.inside) ∙ l.attached;
-    below_root = omega (arith, l.below_root, same_parent j);
-    out =
-        ap (λ i. (row_at old i).attached) (sym (same_parent j)) ∙ ap (λ (s : Row). s.attached) (sym (beside _ d))
-        ∙ l.out;
-    given_up =
-        ap (λ i. (row_at old i).given_up) (sym (same_parent j)) ∙ ap (λ (s : Row). s.given_up) (sym (beside _ d))
-        ∙ l.given_up;
-  }
-
-  pub going-begins : IsGoing old top (without_content old top) top
-  going-begins = record {
-    so = freeing-begins old tree top is;
-    long = length-set old top _;
-    depth = λ j. of_both old top _ (λ s. s.depth) refl j is.inside;
-    each = λ j p e. elim (same_or_not j top) [
-      | inl s ↦ subst (λ i. StillOrSpent (row_at old i) (row_at (without_content old top) i)) (sym s)
-          (inr (first
-          ∙ ap (λ b. record (row_at old top) { attached = b; given_up = true; node = emptied (node_of old top) })
-          is.out))
-      | inr d ↦ inl (beside j d, (path-up old tree.shape top j p d e).0)
-    ];
-    ups = λ j p e d up. absurd (
-        let at = (path-up old tree.shape top j p d e).0 in
-        let not_up : (row_at old j).given_up ≡ false = (tree.each j (attached_row old tree.shape j at).1).attached at in
-        let is_up : (row_at old j).given_up ≡ true = ap (λ (s : Row). s.given_up) (sym (beside j d)) ∙ up in cc);
-    left = λ j l. elim (same_or_not (row_at (without_content old top) j).parent top) [
-      | inl e ↦ inr ([], ap (λ t. path_below old t top) e ∙ self_below old (row_at old top).depth top)
-      | inr d ↦ inl (left_before j l d)
-    ];
-    found = ([], self_below old (row_at old top).depth top);
-    given_up = ap (λ (s : Row). s.given_up) first;
-  }
-
--- ---- down
-
-module _ (old : List Row) (tree : IsTree old) (top : ℕ) (is : IsParkedTop old top) (rows : List Row) (at : ℕ)
-    (go : IsGoing old top rows at)
-    (k : ℕ) (child : (row_at rows k).attached ≡ true) (below : (row_at rows k).parent ≡ at) where
-  inside : k < length rows
-  inside = (attached_row rows go.so.tree.shape k child).1
-
-  above_out : (row_at rows at).attached ≡ false
-  above_out = false_from_ne_true _ (λ e.
-      let not_up : (row_at rows at).given_up ≡ false =
-      (go.so.tree.each at (attached_row rows go.so.tree.shape at e).1).attached e in
-      let is_up = go.given_up in cc)
-
-  pub left-below : IsLeftOver rows k
-  left-below = record {
-    attached = child;
-    below_root = omega (arith, below, above_root old tree.shape top at go.found.0 is.below_root go.found.1);
-    out = ap (λ i. (row_at rows i).attached) below ∙ above_out;
-    given_up = ap (λ i. (row_at rows i).given_up) below ∙ go.given_up;
-  }
-
-  above_found : path_below old top (row_at rows k).parent ≡ Some go.found.0
-  above_found = ap (path_below old top) below ∙ go.found.1
-
-  on : IsFreeing old top (freed rows k)
-  on = freeing-goes_on old tree top is rows go.so k left-below go.found.0 above_found
-
-  lies : path_below old top k ≡ Some (go.found.0 ++ (row_at old k).name ∷ [])
-  lies = freed-found old tree top is rows go.so k left-below go.found.0 above_found
-
-  long_out : length (attached_as rows k false) ≡ length rows
-  long_out = length-set rows k (record (row_at rows k) { attached = false })
-
-  other : (j : ℕ) → j ≢ k → row_at (freed rows k) j ≡ row_at rows j
-  other j d = get_or-set_other (attached_as rows k false) k j _ blank d ∙ get_or-set_other rows k j _ blank d
-
-  here : row_at (freed rows k) k ≡ spent (row_at rows k)
-  here =
-      get_or-set_same (attached_as rows k false) k _ blank (omega (arith, inside, long_out))
-      ∙ ap (λ (s : Row). record s { given_up = true; node = emptied s.node }) (get_or-set_same rows k _ blank inside)
-
-  still : row_at rows k ≡ row_at old k
-  still = elim (go.each k _ lies) [
-    | inl s ↦ s.0
-    | inr s ↦
-        absurd (let out : (row_at rows k).attached ≡ false = ap (λ (r : Row). r.attached) s in let yes = child in cc)
+  -- what a row keeps when it is given back is as it was in each row
+  kin : {X : Type 0} (f : Row → X) → ((r : Row) → f (spent r) ≡ f r) → (j : ℕ) → f (row_at rows j) ≡ f (row_at old j)
+  kin f same j = elim (go.each j) [
+    | inl s ↦ ap f s
+    | inr s ↦ ap f s.0 ∙ same (row_at old j)
   ]
 
-  parents_stay : (j : ℕ) → (row_at (freed rows k) j).parent ≡ (row_at rows j).parent
-  parents_stay j = on.parents j ∙ sym (go.so.parents j)
+  -- ---- down
 
-  more_up : (j : ℕ) → (row_at rows j).given_up ≡ true → (row_at (freed rows k) j).given_up ≡ true
-  more_up j up = elim (same_or_not j k) [
-    | inl e ↦ ap (λ i. (row_at (freed rows k) i).given_up) e ∙ ap (λ (s : Row). s.given_up) here
-    | inr d ↦ ap (λ (s : Row). s.given_up) (other j d) ∙ up
-  ]
+  module _ (k : ℕ) (child : ((row_at rows k).attached ≡ true) × ((row_at rows k).parent ≡ at)) where
+    inside : k < length rows
+    inside = (attached_row rows go.alike.tree.shape k child.0).1
 
-  was_left : (j : ℕ) → IsLeftOver (freed rows k) j → j ≢ k → (row_at (freed rows k) j).parent ≢ k → IsLeftOver rows j
-  was_left j l apart d = record {
-    attached = ap (λ (s : Row). s.attached) (sym (other j apart)) ∙ l.attached;
-    below_root = omega (arith, l.below_root, parents_stay j);
-    out =
-        ap (λ i. (row_at rows i).attached) (sym (parents_stay j)) ∙ ap (λ (s : Row). s.attached) (sym (other _ d))
-        ∙ l.out;
-    given_up =
-        ap (λ i. (row_at rows i).given_up) (sym (parents_stay j)) ∙ ap (λ (s : Row). s.given_up) (sym (other _ d))
-        ∙ l.given_up;
-  }
+    abbrev now : List Row
+    now = set rows k (spent (row_at rows k))
 
-  further : (j : ℕ) → (row_at (freed rows k) j).parent ≢ k
-      → IsLeftOver old j ⊎ ((q : Path) × (path_below old (row_at rows j).parent at ≡ Some q))
-      → IsLeftOver old j ⊎ ((q : Path) × (path_below old (row_at (freed rows k) j).parent k ≡ Some q))
-  further j d (inl o) = inl o
-  further j d (inr w) =
-      inr (path-down old tree.shape (row_at (freed rows k) j).parent k w.0 (λ e. d (sym e)) (go.so.out k child)
-      (ap (λ t. path_below old t (row_at old k).parent) (parents_stay j)
-      ∙ ap (path_below old (row_at rows j).parent) (sym (go.so.parents k) ∙ below) ∙ w.1))
+    pub left-below : IsLeftOver rows k
+    left-below = record {
+      attached = child.0;
+      below_root = omega (arith, child.1, above_root old tree.shape top at go.found.0 is.below_root go.found.1);
+      out = ap (λ i. (row_at rows i).attached) child.1 ∙ ap (λ (s : Row). s.attached) at_spent;
+      given_up = ap (λ i. (row_at rows i).given_up) child.1 ∙ ap (λ (s : Row). s.given_up) at_spent;
+    }
 
-  pub going-down : IsGoing old top (freed rows k) k
-  going-down = record {
-    so = on;
-    long = length-set (attached_as rows k false) k _ ∙ long_out ∙ go.long;
-    depth = λ j. elim (same_or_not j k) [
-      | inl e ↦ ap (λ i. (row_at (freed rows k) i).depth) e ∙ ap (λ (s : Row). s.depth) here
-          ∙ ap (λ i. (row_at rows i).depth) (sym e) ∙ go.depth j
-      | inr d ↦ ap (λ (s : Row). s.depth) (other j d) ∙ go.depth j
-    ];
-    each = λ j p e. elim (same_or_not j k) [
-      | inl s ↦ subst (λ i. StillOrSpent (row_at old i) (row_at (freed rows k) i)) (sym s) (inr (here ∙ ap spent still))
-      | inr d ↦ subst (StillOrSpent (row_at old j)) (sym (other j d)) (go.each j p e)
-    ];
-    ups = λ j p e d up. elim (same_or_not j k) [
-      | inl s ↦
-          ap (λ i. (row_at (freed rows k) i).given_up) (parents_stay j ∙ ap (λ i. (row_at rows i).parent) s ∙ below)
-          ∙ more_up at go.given_up
-      | inr s ↦ ap (λ i. (row_at (freed rows k) i).given_up) (parents_stay j)
-          ∙ more_up (row_at rows j).parent (go.ups j p e d (ap (λ (r : Row). r.given_up) (sym (other j s)) ∙ up))
-    ];
-    left = λ j l.
-        let apart : j ≢ k = λ s. absurd (
-        let out : (row_at (freed rows k) j).attached ≡ false =
-        ap (λ i. (row_at (freed rows k) i).attached) s ∙ ap (λ (r : Row). r.attached) here in
-        let yes = l.attached in cc) in
-        elim (same_or_not (row_at (freed rows k) j).parent k) [
-          | inl e ↦ inr ([], ap (λ t. path_below old t k) e ∙ self_below old (row_at old k).depth k)
-          | inr d ↦ further j d (go.left j (was_left j l apart d))
-        ];
-    found = (go.found.0 ++ (row_at old k).name ∷ [], lies);
-    given_up = ap (λ (s : Row). s.given_up) here;
-  }
+    still : row_at rows k ≡ row_at old k
+    still = let row = go.each k in let on = child.0 in grind arith
 
-  pub fewer-down : to_go (freed rows k) k < to_go rows at
-  fewer-down =
-      let one : weight (row_at rows k) ≡ 1 = ap (λ b. cond b 1 0) child in
-      let out : sum_by weight (attached_as rows k false) + weight (row_at rows k) ≡ sum_by weight rows + 0 =
-      sum_by-set weight rows k (record (row_at rows k) { attached = false }) blank inside in
-      let up : sum_by weight (freed rows k) + weight (row_at (attached_as rows k false) k)
-      ≡ sum_by weight (attached_as rows k false) + weight (row_at (attached_as rows k false) k) =
-      sum_by-set weight (attached_as rows k false) k _ blank (omega (arith, inside, long_out)) in
-      let deep : (row_at (freed rows k) k).depth ≡ suc (row_at rows at).depth =
-      ap (λ (s : Row). s.depth) here ∙ attached_falls rows go.so.tree.shape k child
-      ∙ ap (λ i. suc (row_at rows i).depth) below in
-      omega (arith, one, out, up, deep)
+    parent_at : (row_at old k).parent ≡ at
+    parent_at = ap (λ (s : Row). s.parent) (sym still) ∙ child.1
 
--- ---- up, and the end
+    was_on : (row_at old k).attached ≡ true
+    was_on = ap (λ (s : Row). s.attached) (sym still) ∙ child.0
 
-module _ (old : List Row) (tree : IsTree old) (top : ℕ) (is : IsParkedTop old top) (rows : List Row) (at : ℕ)
-    (go : IsGoing old top rows at)
-    (bare : (j : ℕ) → (row_at rows j).attached ≡ true → (row_at rows j).parent ≡ at → ⊥) where
-  behind : (j : ℕ) → IsLeftOver rows j
-      → IsLeftOver old j ⊎ ((q : Path) × (path_below old (row_at rows j).parent at ≡ Some q))
-      → IsLeftOver old j ⊎ ((q : Path) × (path_below old (row_at rows j).parent (row_at rows at).parent ≡ Some q))
-  behind j l (inl o) = inl o
-  behind j l (inr w) =
-      let up = path-up old tree.shape (row_at rows j).parent at w.0 (λ e. bare j l.attached (sym e)) w.1 in
-      inr (up.1, ap (path_below old (row_at rows j).parent) (go.so.parents at) ∙ up.2)
-
-  pub going-up : at ≢ top → IsGoing old top rows (row_at rows at).parent
-  going-up apart =
-      let up = path-up old tree.shape top at go.found.0 apart go.found.1 in
-      record {
-        so = go.so;
-        long = go.long;
-        depth = go.depth;
-        each = go.each;
-        ups = go.ups;
-        left = λ j l. behind j l (go.left j l);
-        found = (up.1, ap (path_below old top) (go.so.parents at) ∙ up.2);
-        given_up = go.ups at go.found.0 go.found.1 apart go.given_up;
-      }
-
-  pub fewer-up : at ≢ top → to_go rows (row_at rows at).parent < to_go rows at
-  fewer-up apart =
-      let up = (path-up old tree.shape top at go.found.0 apart go.found.1).0 in
-      let above : (row_at rows (row_at rows at).parent).depth ≡ (row_at old (row_at old at).parent).depth =
-      ap (λ i. (row_at rows i).depth) (go.so.parents at) ∙ go.depth (row_at old at).parent in
-      omega (arith, above, go.depth at, attached_falls old tree.shape at up)
-
-  was_left_over : at ≡ top → (j : ℕ) → IsLeftOver rows j → IsLeftOver old j
-  was_left_over e j l = elim (go.left j l) [
-    | inl o ↦ o
-    | inr w ↦
-        absurd (bare j l.attached
-        (sym (only_top old (row_at rows j).parent at w.0 (ap (λ i. (row_at old i).attached) e ∙ is.out) w.1)))
-  ]
-
-  -- what is above a row of the subtree was in use
-  in_use : (j : ℕ) (p : Path) → path_below old top j ≡ Some p → (row_at old j).attached ≡ false
-      → (row_at old j).given_up ≡ true → ⊥
-  in_use j p e out up = elim (same_or_not j top) [
-    | inl s ↦ let held : (row_at old j).given_up ≡ false = ap (λ i. (row_at old i).given_up) s ∙ is.held in absurd (cc)
-    | inr d ↦ let yes = (path-up old tree.shape top j p d e).0 in absurd (cc)
-  ]
-
-  not_still : at ≡ top → (j : ℕ) (p : Path) → j ≢ top → path_below old top j ≡ Some p → row_at rows j ≡ row_at old j
-      → ((q : Path) → (row_at old j).attached ≡ true → path_below old top (row_at old j).parent ≡ Some q
-      → row_at rows (row_at old j).parent ≡ spent (row_at old (row_at old j).parent)) → ⊥
-  not_still end j p d e same above =
-      let up = path-up old tree.shape top j p d e in
-      let gone = above up.1 up.0 up.2 in
-      let l : IsLeftOver old j = was_left_over end j (record {
-        attached = ap (λ (s : Row). s.attached) same ∙ up.0;
-        below_root =
-            omega (arith, go.so.parents j, above_root old tree.shape top (row_at old j).parent up.1 is.below_root up.2);
-        out = ap (λ i. (row_at rows i).attached) (go.so.parents j) ∙ ap (λ (s : Row). s.attached) gone;
-        given_up = ap (λ i. (row_at rows i).given_up) (go.so.parents j) ∙ ap (λ (s : Row). s.given_up) gone;
-      }) in
-      in_use (row_at old j).parent up.1 up.2 l.out l.given_up
-
-  is_spent : at ≡ top → (j : ℕ) (p : Path) → path_below old top j ≡ Some p
-      → ((q : Path) → (row_at old j).attached ≡ true → path_below old top (row_at old j).parent ≡ Some q
-      → row_at rows (row_at old j).parent ≡ spent (row_at old (row_at old j).parent))
-      → row_at rows j ≡ spent (row_at old j)
-  is_spent end j p e above = elim (go.each j p e) [
-    | inr s ↦ s
-    | inl s ↦ elim (same_or_not j top) [
-      | inl t ↦
-          absurd (let out : (row_at old j).attached ≡ false = ap (λ i. (row_at old i).attached) t ∙ is.out in
-          let yes = s.1 in cc)
-      | inr d ↦ absurd (not_still end j p d e s.0 above)
-    ]
-  ]
-
-  all_spent : at ≡ top → (n j : ℕ) (p : Path) → (row_at old j).depth ≡ n → path_below old top j ≡ Some p
-      → row_at rows j ≡ spent (row_at old j)
-  all_spent end zero j p deep e =
-      is_spent end j p e (λ q up f. absurd (omega (arith, deep, attached_falls old tree.shape j up)))
-  all_spent end (suc n) j p deep e =
-      is_spent end j p e
-      (λ q up f. all_spent end n (row_at old j).parent q (omega (arith, deep, attached_falls old tree.shape j up)) f)
-
-  pub going-ends : at ≡ top → IsFreed old top rows
-  going-ends end = record {
-    spent = λ j p e. all_spent end (row_at old j).depth j p refl e;
-    given = go.so.given;
-    alike = go.so.alike;
-    parked = go.so.parked;
-    used = go.so.used;
-    long = go.long;
-  }
-
--- ---- what the lists of children tell
-
-pub last-child : (rows : List Row) (at : ℕ) (c : ChildList) → IsChildList rows at c → (k : ℕ)
-    → slice_get c.ids (length c.ids - 1) ≡ Some k
-    → ((row_at rows k).attached ≡ true) × ((row_at rows k).parent ≡ at)
-last-child rows at c h k e =
-    let l : length c.ids - 1 < length c.ids = slice_get_within c.ids (length c.ids - 1) k e in
-    let is : get_or c.ids (length c.ids - 1) 0 ≡ k = get_or_from_slice_get c.ids (length c.ids - 1) k 0 e in (
-      ap (λ i. (row_at rows i).attached) (sym is) ∙ h.attached _ l,
-      ap (λ i. (row_at rows i).parent) (sym is) ∙ h.parent _ l,
+    lies : (p : Path) × (path_below old top k ≡ Some p)
+    lies = (
+      _,
+      path_down old tree.shape top k go.found.0
+          (λ e. absurd (let out = ap (λ i. (row_at old i).attached) e ∙ is.out in let on = was_on in cc)) was_on
+          (ap (path_below old top) parent_at ∙ go.found.1),
     )
 
-pub no-child : (rows : List Row) (at : ℕ) (c : ChildList) → IsChildList rows at c
-    → slice_get c.ids (length c.ids - 1) ≡ None
-    → (j : ℕ) → (row_at rows j).attached ≡ true → (row_at rows j).parent ≡ at → ⊥
-no-child rows at c h e j up below =
-    let there = h.all j up below in
-    let last : slice_get c.ids (length c.ids - 1) ≡ Some (get_or c.ids (length c.ids - 1) 0) =
-    slice_get-get_or c.ids (length c.ids - 1) 0 (omega (arith, there.1)) in
-    absurd (cc)
+    off_way : (j : ℕ) → path_below old top j ≡ None → j ≢ k
+    off_way j none e = absurd (let some = ap (path_below old top) e ∙ lies.1 in cc)
+
+    going : IsGoing old top now k
+    going = record {
+      alike = alike-then (λ j. path_below old top j ≡ None) go.alike
+          (subst (GoesAlike (λ j. path_below old top j ≡ None) rows) (freed_is rows k inside)
+          (alike-fewer (λ j. j ≡ k → ⊥) (λ j. path_below old top j ≡ None) off_way
+          (alike-freed rows go.alike.tree k left-below)));
+      long = length-set rows k _ ∙ go.long;
+      each = λ j. each_set rows k _ inside (StillOrSpent old top j) j (λ s. inr (
+        ap spent still ∙ ap (λ i. spent (row_at old i)) (sym s),
+        lies.0,
+        ap (path_below old top) s ∙ lies.1,
+      )) (λ _. go.each j);
+      way = λ t q e. each_set rows k _ inside (λ s. s.given_up ≡ true) t (λ _. refl) (λ d.
+          let u = path_up old tree.shape t k q (λ s. d (sym s)) e in
+          go.way t u.above (ap (path_below old t) (sym parent_at) ∙ u.found));
+      left = λ j p e on up. elim (same_or_not (row_at old j).parent k) [
+        | inl s ↦ ([], ap (λ t. path_below old t k) s ∙ self_below old (row_at old k).depth k)
+        | inr d ↦
+            let on_before =
+            each_set rows k (spent (row_at rows k)) inside (λ s. s.attached ≡ true → (row_at rows j).attached ≡ true) j
+            (λ _ no. absurd (cc)) (λ _ yes. yes) on in
+            let w =
+            go.left j p e on_before
+            (ap (λ (s : Row). s.given_up) (sym (get_or-set_other rows k (row_at old j).parent _ blank d)) ∙ up) in (
+              _,
+              path_down old tree.shape (row_at old j).parent k w.0 (λ s. d (sym s)) was_on
+                  (ap (path_below old (row_at old j).parent) parent_at ∙ w.1),
+            )
+      ];
+      found = lies;
+    }
+
+    pub going-down : IsGoing old top (freed rows k) k
+    going-down = subst (λ r. IsGoing old top r k) (sym (freed_is rows k inside)) going
+
+    pub fewer-down : to_go (freed rows k) k < to_go rows at
+    fewer-down =
+        let one : weight (row_at rows k) ≡ 1 = ap (λ b. cond b 1 0) child.0 in
+        let deep : (row_at now k).depth ≡ suc (row_at rows at).depth =
+        of_both rows k _ (λ s. s.depth) refl k inside ∙ go.alike.tree.shape.falls k child.0
+        ∙ ap (λ i. suc (row_at rows i).depth) child.1 in
+        subst (λ r. to_go r k < to_go rows at) (sym (freed_is rows k inside))
+        (omega (arith, one, sum_by-set weight rows k (spent (row_at rows k)) blank inside, deep))
+
+  -- ---- up, and the end
+
+  module _ (bare : (j : ℕ) → (row_at rows j).attached ≡ true → (row_at rows j).parent ≡ at → ⊥) where
+    pub going-up : at ≢ top → IsGoing old top rows (row_at rows at).parent
+    going-up apart =
+        let u = path_up old tree.shape top at go.found.0 apart go.found.1 in
+        subst (IsGoing old top rows) (sym (kin (λ s. s.parent) (λ s. refl) at)) (record {
+          alike = go.alike;
+          long = go.long;
+          each = go.each;
+          way = λ t q e. elim (same_or_not at t) [
+            | inl s ↦ go.way t [] (ap (path_below old t) s ∙ self_below old (row_at old t).depth t)
+            | inr d ↦ go.way t _ (path_down old tree.shape t at q d u.attached e)
+          ];
+          left = λ j p e on up.
+              let w = go.left j p e on up in
+              let v =
+              path_up old tree.shape (row_at old j).parent at w.0
+              (λ s. bare j on (kin (λ s. s.parent) (λ s. refl) j ∙ sym s)) w.1 in
+              (v.above, v.found);
+          found = (u.above, u.found);
+        })
+
+    pub fewer-up : at ≢ top → to_go rows (row_at rows at).parent < to_go rows at
+    fewer-up apart =
+        let u = path_up old tree.shape top at go.found.0 apart go.found.1 in
+        omega (
+          arith,
+          ap (λ i. (row_at rows i).depth) (kin (λ s. s.parent) (λ s. refl) at),
+          kin (λ s. s.depth) (λ s. refl) (row_at old at).parent,
+          kin (λ s. s.depth) (λ s. refl) at,
+          tree.shape.falls at u.attached,
+        )
+
+    module _ (end : at ≡ top) where
+      -- a row that is left would stand right below the top
+      all_spent : (n j : ℕ) (p : Path) → (row_at old j).depth < n → path_below old top j ≡ Some p
+          → row_at rows j ≡ spent (row_at old j)
+      all_spent zero j p deep e = absurd (omega arith)
+      all_spent (suc n) j p deep e = elim (same_or_not j top) [
+        | inl t ↦ subst (λ i. row_at rows i ≡ spent (row_at old i)) (end ∙ sym t) at_spent
+        | inr d ↦
+            let u = path_up old tree.shape top j p d e in
+            let above = all_spent n (row_at old j).parent u.above (omega (arith, deep, tree.shape.falls j u.attached))
+            u.found in
+            elim (go.each j) [
+              | inl s ↦
+                  let on : (row_at rows j).attached ≡ true = ap (λ (r : Row). r.attached) s ∙ u.attached in
+                  let w = go.left j p e on (ap (λ (r : Row). r.given_up) above) in
+                  let same : at ≡ (row_at old j).parent =
+                  only_top old (row_at old j).parent at w.0 (ap (λ i. (row_at old i).attached) end ∙ is.out) w.1 in
+                  absurd (bare j on (kin (λ s. s.parent) (λ s. refl) j ∙ sym same))
+              | inr s ↦ s.0
+            ]
+      ]
+
+      are_spent : (j : ℕ) (p : Path) → path_below old top j ≡ Some p → row_at rows j ≡ spent (row_at old j)
+      are_spent j p e = all_spent (suc (row_at old j).depth) j p (omega arith) e
+
+      others : (j : ℕ) → path_below old top j ≡ None → row_at rows j ≡ row_at old j
+      others j none = let row = go.each j in grind arith
+
+      parked_was : (j : ℕ) → IsParkedTop rows j → (o : Option Path) → path_below old top j ≡ o
+          → IsParkedTop old j × (path_below old top j ≡ None)
+      parked_was j p None none =
+          (parked-same rows old j (omega (arith, p.inside, go.long)) (sym (others j none)) p, none)
+      parked_was j p (Some q) e =
+          absurd (let up = ap (λ (s : Row). s.given_up) (are_spent j q e) in let held = p.held in cc)
+
+      pub going-ends : IsFreed old top rows
+      going-ends = record {
+        spent = are_spent;
+        given = record {
+          gone = λ j p e.
+              let out = ap (λ (s : Row). s.attached) (are_spent j p e) in (
+                λ live.
+                    omega (arith, only_top rows 0 j _ out live, above_root old tree.shape top j p is.below_root e),
+                λ held. absurd (
+                    let up = ap (λ (s : Row). s.given_up) (are_spent j p e) in
+                    let same = ap (λ i. (row_at rows i).given_up) (only_top rows held.0 j held.2 out held.3) in
+                    let not_up = held.1.held in cc),
+              );
+          live = λ j live. others j (live-off old tree.shape top is.below_root is.out (row_at old j).depth j live);
+          parked = λ j held none. others j none;
+        };
+        alike = go.alike;
+        parked = λ j p. parked_was j p (path_below old top j) refl;
+        used = λ j used none. go.alike.used [] j tt tt none used;
+        long = go.long;
+      }
+
+-- ---- what the lists of children tell
 
 -- a list without rows is made anew
 pub renewed_index : (rows : List Row) (index : List ChildList) → IsIndex rows index → (id : ℕ) → id < length rows
@@ -384,10 +301,8 @@ pub renewed_index : (rows : List Row) (index : List ChildList) → IsIndex rows 
 renewed_index rows index known id l bare none = record {
   same = length-set index id no_children ∙ known.same;
   each = λ k kl. elim (same_or_not k id) [
-    | inl e ↦ subst (λ i. IsChildList rows i (children_at (set index id no_children) i)) (sym e)
-        (subst (IsChildList rows id)
-        (sym (get_or-set_same index id no_children no_children (omega (arith, l, known.same)))) anew)
-    | inr d ↦ subst (IsChildList rows k) (sym (get_or-set_other index id k no_children no_children d)) (known.each k kl)
+    | inl e ↦ rw (e, get_or-set_same index id no_children no_children (omega (arith, l, known.same))) anew
+    | inr d ↦ rw (get_or-set_other index id k no_children no_children d) (known.each k kl)
   ];
 }
   where
@@ -401,29 +316,30 @@ renewed_index rows index known id l bare none = record {
       room = omega arith;
     }
 
-pub going-inside : (old : List Row) (top : ℕ) (rows : List Row) (at : ℕ) → IsGoing old top rows at → at < length rows
-going-inside old top rows at go = elim (below_or_not at (length rows)) [
-  | inl l ↦ l
-  | inr l ↦
-      absurd (let no : (row_at rows at).given_up ≡ false = ap (λ (s : Row). s.given_up) (get_or_past rows at blank l) in
-      let yes = go.given_up in cc)
-]
-
 -- what the code has read of a list
-abbrev pub last_of : List ChildList → ℕ → Option ℕ
+abbrev last_of : List ChildList → ℕ → Option ℕ
 last_of index at = slice_get (children_at index at).ids (length (children_at index at).ids - 1)
 
-pub child-read : {old : List Row} {top : ℕ} {rows : List Row} {at : ℕ} {index index' : List ChildList} {o : Option ℕ}
-    {k : ℕ}
-    → IsGoing old top rows at → IsIndex rows index → index' ≡ index → o ≡ last_of index' at → o ≡ Some k
-    → ((row_at rows k).attached ≡ true) × ((row_at rows k).parent ≡ at)
-child-read {old} {top} {rows} {at} {index} {index'} {o} {k} go known same is e =
-    last-child rows at (children_at index at) (known.each at (going-inside old top rows at go)) k
-    (ap (λ i. last_of i at) (sym same) ∙ sym is ∙ e)
+module _ {old : List Row} {top : ℕ} {rows : List Row} {at : ℕ} {index index' : List ChildList} {o : Option ℕ}
+    (go : IsGoing old top rows at) (known : IsIndex rows index) (same : index' ≡ index)
+    (is : o ≡ last_of index' at) where
+  list : IsChildList rows at (children_at index at)
+  list = known.each at (going-inside go)
 
-pub none-read : {old : List Row} {top : ℕ} {rows : List Row} {at : ℕ} {index index' : List ChildList} {o : Option ℕ}
-    → IsGoing old top rows at → IsIndex rows index → index' ≡ index → o ≡ last_of index' at → o ≡ None
-    → (j : ℕ) → (row_at rows j).attached ≡ true → (row_at rows j).parent ≡ at → ⊥
-none-read {old} {top} {rows} {at} {index} {index'} {o} go known same is e =
-    no-child rows at (children_at index at) (known.each at (going-inside old top rows at go))
-    (ap (λ i. last_of i at) (sym same) ∙ sym is ∙ e)
+  pub child-read : {k : ℕ} → o ≡ Some k → ((row_at rows k).attached ≡ true) × ((row_at rows k).parent ≡ at)
+  child-read {k} e =
+      let ids = (children_at index at).ids in
+      let last : last_of index at ≡ Some k = ap (λ i. last_of i at) (sym same) ∙ sym is ∙ e in
+      let l = slice_get_within ids (length ids - 1) k last in
+      let found = sym (get_or_from_slice_get ids (length ids - 1) k 0 last) in (
+        ap (λ i. (row_at rows i).attached) found ∙ list.attached _ l,
+        ap (λ i. (row_at rows i).parent) found ∙ list.parent _ l,
+      )
+
+  pub none-read : o ≡ None → (j : ℕ) → (row_at rows j).attached ≡ true → (row_at rows j).parent ≡ at → ⊥
+  none-read e j up below =
+      let ids = (children_at index at).ids in
+      let last : last_of index at ≡ None = ap (λ i. last_of i at) (sym same) ∙ sym is ∙ e in
+      let there = list.all j up below in
+      let some = slice_get-get_or ids (length ids - 1) 0 (omega (arith, there.1)) in
+      absurd (cc)

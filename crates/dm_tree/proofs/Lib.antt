@@ -1,3 +1,4 @@
+pub mod Common
 pub mod Paths
 pub mod MapKeys
 pub mod RowPaths
@@ -12,13 +13,11 @@ pub mod LiveRows
 pub mod EqualTrees
 pub mod DecidingLists
 pub mod RootTree
-pub mod NodeContents
 pub mod TreeEdits
 pub mod CutTrees
 pub mod UndoFlips
 pub mod GivenUpRows
 pub mod RenamedRows
-pub mod RenamedTrees
 pub mod RenamedLengths
 pub mod PathOrder
 pub mod FirstKeys
@@ -28,9 +27,9 @@ pub mod NextNodes
 pub mod Devices
 pub mod NodesBehind
 pub mod ChildListing
-pub mod SpareRows
 pub mod FlippedRows
 pub mod RowReuse
+pub mod NewRows
 pub mod ClearRows
 pub mod UndoPromises
 pub mod FieldEdits
@@ -38,7 +37,6 @@ pub mod FlipsBeside
 pub mod RowInserts
 pub mod NewRowPlace
 pub mod RowFreeing
-pub mod SubtreeFreeing
 pub mod FreeingWalk
 pub mod NameOrder
 pub mod IndexLinks

@@ -1,25 +1,20 @@
 -- What is read of a row of the tree.
-use Rattle.std.proofs.Common.{◌≡◌, ℕ, zero, suc, ◌+◌, ◌<◌, Bool, true, false, cond, nat_eq, List, [], ◌∷◌, ◌++◌, length}
-use Rattle.std.proofs.Common.{Option, None, Some, refl, sym, ◌∙◌, ap, subst, arith, get_or}
-use Rattle.std.proofs.lemmas.List.{get_or_default}
-use Rattle.std.proofs.lemmas.Bool.{and_from, and_parts}
-use Rattle.std.specs.Prelude.{unwrap_or, is_some, IfSome}
-use Rattle.std.specs.Option.{option_map}
-use Rattle.std.specs.Ordering.{eq_by_cmp}
-use Rattle.std.specs.List.{list_all}
-use Rattle.std.specs.FinMap.{insert, get-insert, get, len, contains_key, from_entries, len-insert, len-empty}
-use Rattle.std.specs.FinMap.{get-from_entries}
-use Rattle.dm_uri.specs.Names.{is_name, IsPath, is_within_limits}
-use Rattle.dm_tree.specs.declared.nodes.Node.{Node}
-use Rattle.dm_tree.specs.declared.rows.Row.{Row}
-use Rattle.dm_tree.specs.Nodes.{Path, tree_order, above, last_name, IsChildOf, IsNode, IsWellFormed}
-use Rattle.dm_tree.specs.Rows.{blank, row_at, node_of, walk, path_below, placed, ids_below, with_nodes, ids, nodes}
-use Rattle.dm_tree.specs.Rows.{IsShaped, IsTree, IsLive, StayLive, path_of}
-use Rattle.dm_tree.specs.Walks.{path_up}
-use Rattle.dm_tree.proofs.Paths.{same_path, tree_total, same_ends, not_empty}
+use Rattle.std.proofs.Common.{unwrap_or, is_some, option_map, IfSome}
+use Rattle.std.proofs.lemmas.List.Folds.{list_all-append}
+use Rattle.std.specs.FinMap.{insert, len-empty}
+use Rattle.dm_uri.specs.Names.{IsPath}
+use Rattle.dm_tree.specs.Nodes.{IsWellFormed}
+use Rattle.dm_tree.specs.Rows.{StayLive}
+use Rattle.dm_tree.proofs.Common.{◌≡◌, ℕ, zero, suc, ◌<◌, true, false, nat_eq, List, [], ◌∷◌, ◌++◌, length, get_or}
+use Rattle.dm_tree.proofs.Common.{Option, None, Some, refl, sym, ◌∙◌, ap, subst, arith, and_from, get_or_default}
+use Rattle.dm_tree.proofs.Common.{list_all, get, len, contains_key, from_entries, len-insert, get-from_entries, is_name}
+use Rattle.dm_tree.proofs.Common.{is_within_limits, Node, Row, Path, tree_order, above, last_name, IsChildOf, IsNode}
+use Rattle.dm_tree.proofs.Common.{blank, row_at, node_of, walk, path_below, placed, ids_below, with_nodes, ids, nodes}
+use Rattle.dm_tree.proofs.Common.{Tree, IsShaped, IsTree, IsLive, path_of, path_up}
+use Rattle.dm_tree.proofs.Paths.{tree_total, same_ends, not_empty}
 use Rattle.dm_tree.proofs.RowPaths.{attached_row, up_from, at_bottom, at_top, one_row, depth_is, not_zero, same_number}
 use Rattle.dm_tree.proofs.RowMaps.{found_live, get_nodes, id_is, id_of, find_id, found_in, find-with_nodes}
-use Rattle.dm_tree.proofs.RowMaps.{node_of_path, root_live, some_of}
+use Rattle.dm_tree.proofs.RowMaps.{node_of_path, root_live, some_of, insert_beside}
 use Rattle.dm_tree.proofs.NodeEdits.{live_row}
 
 -- ---- ends of paths
@@ -36,107 +31,93 @@ last_name-append (m ∷ k ∷ ks) n = last_name-append (k ∷ ks) n
 
 -- ---- one row up
 
+pub live_at : (rows : List Row) (k : ℕ) (p : Path) → path_below rows 0 k ≡ Some p → IsLive rows k × (path_of rows k ≡ p)
+live_at rows k p e = let is : path_of rows k ≡ p = ap (λ o. unwrap_or o []) e in (e ∙ ap (λ q. Some q) (sym is), is)
+
 pub record HasParent (rows : List Row) (k : ℕ) : Type 0 where
   pub attached : (row_at rows k).attached ≡ true
   pub deep : (row_at rows k).depth ≡ suc (row_at rows (row_at rows k).parent).depth
   pub live : IsLive rows (row_at rows k).parent
   pub path : path_of rows k ≡ path_of rows (row_at rows k).parent ++ (row_at rows k).name ∷ []
 
-pub has_parent : (rows : List Row) → IsShaped rows → (k : ℕ) → IsLive rows k → nat_eq k 0 ≡ false → HasParent rows k
-has_parent rows shape k live other = by_depth (row_at rows k).depth refl
-  where
-    by_depth : (d : ℕ) → (row_at rows k).depth ≡ d → HasParent rows k
-    by_depth zero deep =
-        let is : nat_eq k 0 ≡ true =
-        at_bottom rows 0 k (path_of rows k) (subst (λ e. walk rows e 0 k ≡ Some (path_of rows k)) deep live) in
-        absurd (cc)
-    by_depth (suc d) deep =
-        let u =
-        up_from rows shape d k (path_of rows k) deep
-        (subst (λ e. walk rows e 0 k ≡ Some (path_of rows k)) deep live) in
-        let found : path_below rows 0 (row_at rows k).parent ≡ Some u.0.above = rw u.1 u.0.found in
-        let is : path_of rows (row_at rows k).parent ≡ u.0.above = ap (λ o. unwrap_or o []) found in
-        record {
-          attached = u.0.attached;
-          deep = shape.falls k u.0.attached;
-          live = found ∙ ap (λ p. Some p) (sym is);
-          path = u.0.named ∙ ap (λ p. p ++ (row_at rows k).name ∷ []) (sym is);
-        }
+pub root_path_of : (rows : List Row) → path_of rows 0 ≡ []
+root_path_of rows =
+    elim (row_at rows 0).depth as (λ d. unwrap_or (walk rows d 0 0) [] ≡ []) [ zero ↦ refl | suc d ↦ refl ]
 
-pub root_path : (rows : List Row) → IsShaped rows → (k : ℕ) → nat_eq k 0 ≡ true → path_of rows k ≡ []
-root_path rows shape k is =
-    ap (λ o. unwrap_or o []) (ap (path_below rows 0) (same_number k 0 is) ∙ root_live rows shape)
+module _ (rows : List Row) (shape : IsShaped rows) where
+  pub has_parent : (k : ℕ) → IsLive rows k → nat_eq k 0 ≡ false → HasParent rows k
+  has_parent k live other = by_depth (row_at rows k).depth refl
+    where
+      by_depth : (d : ℕ) → (row_at rows k).depth ≡ d → HasParent rows k
+      by_depth zero deep = absurd (let is = at_bottom rows 0 k _ (rw deep at live) in cc)
+      by_depth (suc d) deep =
+          let there = subst (λ e. walk rows e 0 k ≡ Some (path_of rows k)) deep live in
+          let u = up_from rows shape d k (path_of rows k) deep there in
+          let parent = live_at rows (row_at rows k).parent u.0.above (rw u.1 u.0.found) in
+          record {
+            attached = u.0.attached;
+            deep = shape.falls k u.0.attached;
+            live = parent.0;
+            path = rw parent.1 u.0.named;
+          }
 
-pub path_up-is : (rows : List Row) → IsShaped rows → (d k : ℕ) (p : Path) → (row_at rows k).depth ≡ d
-    → walk rows d 0 k ≡ Some p → path_up rows d k ≡ p
-path_up-is rows shape zero k p deep e = sym (at_top rows zero 0 k p (at_bottom rows 0 k p e) e)
-path_up-is rows shape (suc d) k p deep e =
-    let u = up_from rows shape d k p deep e in
-    ap (λ q. q ++ (row_at rows k).name ∷ [])
-    (path_up-is rows shape d (row_at rows k).parent u.0.above u.1 u.0.found) ∙ sym u.0.named
+  pub root_path : (k : ℕ) → nat_eq k 0 ≡ true → path_of rows k ≡ []
+  root_path k is = ap (path_of rows) (same_number k 0 is) ∙ root_path_of rows
 
--- ---- the node at the path of a row
+  pub path_up-is : (d k : ℕ) (p : Path) → (row_at rows k).depth ≡ d → walk rows d 0 k ≡ Some p → path_up rows d k ≡ p
+  path_up-is zero k p deep e = sym (at_top rows zero 0 k p (at_bottom rows 0 k p e) e)
+  path_up-is (suc d) k p deep e =
+      let u = up_from rows shape d k p deep e in
+      rw (u.0.named, path_up-is d (row_at rows k).parent u.0.above u.1 u.0.found) refl
 
-pub node_there : (rows : List Row) → IsShaped rows → (k : ℕ) → IsLive rows k
-    → get (nodes rows) (path_of rows k) ≡ Some (node_of rows k)
-node_there rows shape k live = node_of_path rows shape k (path_of rows k) live
+  -- the node at the path of a row
+  pub node_there : (k : ℕ) → IsLive rows k → get (nodes rows) (path_of rows k) ≡ Some (node_of rows k)
+  node_there k live = node_of_path rows shape k (path_of rows k) live
 
--- ---- how many nodes there are
+  -- ---- how many nodes there are
 
-not_yet : (rows : List Row) → IsShaped rows → (n : ℕ) (p : Path) → path_below rows 0 n ≡ Some p
-    → find_id p (ids_below rows 0 n) ≡ None
-not_yet rows shape n p e = by_answer (find_id p (ids_below rows 0 n)) refl
-  where
-    by_answer : (o : Option ℕ) → find_id p (ids_below rows 0 n) ≡ o → find_id p (ids_below rows 0 n) ≡ None
-    by_answer None is = is
-    by_answer (Some i) is =
-        let there = found_in rows 0 n p i is in
-        let same : i ≡ n = one_row rows shape _ _ 0 i n p there.0 e in
-        absurd (omega (arith, there.1, same))
+  not_yet : (n : ℕ) (p : Path) → path_below rows 0 n ≡ Some p → find_id p (ids_below rows 0 n) ≡ None
+  not_yet n p e = by_answer (find_id p (ids_below rows 0 n)) refl
+    where
+      by_answer : (o : Option ℕ) → find_id p (ids_below rows 0 n) ≡ o → o ≡ None
+      by_answer None is = refl
+      by_answer (Some i) is =
+          let there = found_in rows 0 n p i is in
+          absurd (omega (arith, there.1, one_row rows shape _ _ 0 i n p there.0 e))
 
-len-upto : (rows : List Row) → IsShaped rows → (n : ℕ)
-    → len (from_entries {R = tree_order} (with_nodes rows (ids_below rows 0 n))) ≡ length (ids_below rows 0 n)
-len-upto rows shape zero = len-empty tree_order Node
-len-upto rows shape (suc n) = by_place (len-upto rows shape n) (path_below rows 0 n) refl
-  where
-    by_place : len (from_entries {R = tree_order} (with_nodes rows (ids_below rows 0 n))) ≡ length (ids_below rows 0 n)
-        → (o : Option Path) → path_below rows 0 n ≡ o
-        → len (from_entries {R = tree_order} (with_nodes rows (placed o n (ids_below rows 0 n))))
-        ≡ length (placed o n (ids_below rows 0 n))
-    by_place less None e = less
-    by_place less (Some p) e =
-        let before = with_nodes rows (ids_below rows 0 n) in
-        let new : contains_key (from_entries {R = tree_order} before) p ≡ false =
-        ap is_some (get-from_entries tree_total before p ∙ find-with_nodes rows p (ids_below rows 0 n)
-        ∙ ap (option_map (λ k. (row_at rows k).node)) (not_yet rows shape n p e)) in
-        let one : len (from_entries {R = tree_order} before) + 1 ≡ suc (length (ids_below rows 0 n)) =
-        omega (arith, less) in
-        len-insert tree_total (from_entries before) p (node_of rows n)
-        ∙ ap (λ b. cond b (len (from_entries {R = tree_order} before)) (len (from_entries {R = tree_order} before) + 1))
-        new ∙ one
+  len-upto : (n : ℕ)
+      → len (from_entries {R = tree_order} (with_nodes rows (ids_below rows 0 n))) ≡ length (ids_below rows 0 n)
+  len-upto zero = len-empty tree_order Node
+  len-upto (suc n) = by_place (len-upto n) (path_below rows 0 n) refl
+    where
+      before : List (Path × Node)
+      before = with_nodes rows (ids_below rows 0 n)
 
-pub len-nodes : (rows : List Row) → IsShaped rows → len (nodes rows) ≡ length (ids_below rows 0 (length rows))
-unfolding nodes
-len-nodes rows shape = len-upto rows shape (length rows)
+      by_place : len (from_entries {R = tree_order} before) ≡ length (ids_below rows 0 n)
+          → (o : Option Path) → path_below rows 0 n ≡ o
+          → len (from_entries {R = tree_order} (with_nodes rows (placed o n (ids_below rows 0 n))))
+          ≡ length (placed o n (ids_below rows 0 n))
+      by_place less None e = less
+      by_place less (Some p) e =
+          let new : contains_key (from_entries {R = tree_order} before) p ≡ false =
+          ap is_some (get-from_entries tree_total before p ∙ find-with_nodes rows p (ids_below rows 0 n)
+          ∙ ap (option_map (λ k. (row_at rows k).node)) (not_yet n p e)) in
+          len-insert tree_total (from_entries before) p (node_of rows n) ∙ rw new (omega (arith, less))
 
--- ---- every tree is well-formed
+  pub len-nodes : len (nodes rows) ≡ length (ids_below rows 0 (length rows))
+  unfolding nodes
+  len-nodes = len-upto (length rows)
 
-named_last : (p : Path) (n : List ℕ) → list_all is_name p ≡ true → is_name n ≡ true
-    → list_all is_name (p ++ n ∷ []) ≡ true
-named_last [] n ps h = and_from (is_name n) true h refl
-named_last (m ∷ ms) n ps h =
-    let both = and_parts (is_name m) (list_all is_name ms) ps in
-    and_from (is_name m) (list_all is_name (ms ++ n ∷ [])) both.0 (named_last ms n both.1 h)
+  -- ---- every tree is well-formed
 
-pub all_named : (rows : List Row) → IsShaped rows → ((j : ℕ) → j < length rows → is_name (row_at rows j).name ≡ true)
-    → (d k : ℕ) (p : Path) → (row_at rows k).depth ≡ d → walk rows d 0 k ≡ Some p → list_all is_name p ≡ true
-all_named rows shape names zero k p deep e = ap (list_all is_name) (at_top rows zero 0 k p (at_bottom rows 0 k p e) e)
-all_named rows shape names (suc d) k p deep e =
-    let u = up_from rows shape d k p deep e in
-    ap (list_all is_name) u.0.named
-    ∙ named_last u.0.above (row_at rows k).name
-    (all_named rows shape names d (row_at rows k).parent u.0.above u.1 u.0.found)
-    (names k (attached_row rows shape k u.0.attached).1)
+  pub all_named : ((j : ℕ) → j < length rows → is_name (row_at rows j).name ≡ true) → (d k : ℕ) (p : Path)
+      → (row_at rows k).depth ≡ d → walk rows d 0 k ≡ Some p → list_all is_name p ≡ true
+  all_named names zero k p deep e = rw (at_top rows zero 0 k p (at_bottom rows 0 k p e) e) refl
+  all_named names (suc d) k p deep e =
+      let u = up_from rows shape d k p deep e in
+      ap (list_all is_name) u.0.named ∙ list_all-append is_name u.0.above ((row_at rows k).name ∷ [])
+      ∙ and_from _ _ (all_named names d (row_at rows k).parent u.0.above u.1 u.0.found)
+      (and_from _ true (names k (attached_row rows shape k u.0.attached).1) refl)
 
 -- what the map shows at a path stands in a row
 pub record StandsInRow (rows : List Row) (p : Path) (node : Node) : Type 0 where
@@ -151,23 +132,17 @@ row_there rows p node e =
     let lies = id_is rows p found.0 found.1 in
     record { row = found.0; lies = lies.0; inside = lies.1; node_is = found.2 }
 
-pub live_at : (rows : List Row) (k : ℕ) (p : Path) → path_below rows 0 k ≡ Some p → IsLive rows k × (path_of rows k ≡ p)
-live_at rows k p e = let is : path_of rows k ≡ p = ap (λ o. unwrap_or o []) e in (e ∙ ap (λ q. Some q) (sym is), is)
-
 parent_there : (rows : List Row) → IsTree rows → (p : Path) (name : List ℕ) (child : Node)
     → StandsInRow rows (p ++ name ∷ []) child
     → (parent : Node) × (get (nodes rows) p ≡ Some parent) × IsChildOf child parent
 parent_there rows tree p name child r =
     let live = live_at rows r.row _ r.lies in
-    let other : nat_eq r.row 0 ≡ false =
-    not_zero r.row (λ z.
-    not_empty p name (sym live.1 ∙ ap (path_of rows) z ∙ ap (λ o. unwrap_or o []) (root_live rows tree.shape))) in
+    let other = not_zero r.row (λ z. not_empty p name (sym live.1 ∙ ap (path_of rows) z ∙ root_path_of rows)) in
     let up = has_parent rows tree.shape r.row live.0 other in
-    let same =
-    same_ends (path_of rows (row_at rows r.row).parent) p (row_at rows r.row).name name (sym up.path ∙ live.1) in (
+    let same = same_ends _ p _ name (sym up.path ∙ live.1) in (
       node_of rows (row_at rows r.row).parent,
-      ap (get (nodes rows)) (sym same.0) ∙ node_there rows tree.shape (row_at rows r.row).parent up.live,
-      subst (λ n. IsChildOf n (node_of rows (row_at rows r.row).parent)) r.node_is (tree.children r.row up.attached),
+      ap (get (nodes rows)) (sym same.0) ∙ node_there rows tree.shape _ up.live,
+      rw r.node_is at (tree.children r.row up.attached),
     )
 
 path_there : (rows : List Row) → IsTree rows → (p : Path) (node : Node) → StandsInRow rows p node
@@ -204,31 +179,19 @@ found_node rows q o e = get_nodes rows q ∙ ap (option_map (node_of rows)) (sym
 
 -- ---- the row that was read
 
-pub read_row : (now rows : List Row) → rows ≡ now → (k j : ℕ) → k < length now → j ≡ k → (r : Row) → r ≡ get_or rows j r
-    → r ≡ row_at now k
-read_row now rows same k j inside jk r e =
-    e ∙ ap (λ s. get_or s j r) same ∙ ap (λ i. get_or now i r) jk ∙ get_or_default now k r blank inside
-
-pub read_live : (now rows : List Row) → IsShaped now → rows ≡ now → (k j : ℕ) → IsLive now k → j ≡ k → (r : Row)
-    → r ≡ get_or rows j r → r ≡ row_at now k
-read_live now rows shape same k j live jk r e = read_row now rows same k j (live_row now shape k live) jk r e
+pub read_live : {was now : Tree} {k j : ℕ} {r : Row} → was ≡ now → IsTree was.rows → IsLive now.rows k → j ≡ k
+    → r ≡ get_or was.rows j r → r ≡ row_at now.rows k
+read_live {now = now} {k = k} {r = r} same tree live jk e =
+    let rows = ap (λ (t : Tree). t.rows) same in
+    (rw (rows, jk) at e) ∙ get_or_default now.rows k r blank (live_row now.rows (rw rows at tree).shape k live)
 
 -- ---- where the numbers are as they were
 
 pub stay_live : (rows new : List Row) → IsShaped rows → ids new ≡ ids rows → StayLive rows new
-stay_live rows new shape e k live =
-    found_live new (path_of rows k) k (ap (λ m. get m (path_of rows k)) e ∙ id_of rows shape k (path_of rows k) live)
+stay_live rows new shape e k live = found_live new _ k (rw e (id_of rows shape k (path_of rows k) live))
 
 pub stay_live-insert : (rows new : List Row) → IsShaped rows → (p : Path) (j : ℕ) → get (ids rows) p ≡ None
     → ids new ≡ insert (ids rows) p j → StayLive rows new
 stay_live-insert rows new shape p j free e k live =
-    found_live new (path_of rows k) k
-    (ap (λ m. get m (path_of rows k)) e ∙ get-insert tree_total (ids rows) p j (path_of rows k)
-    ∙ by_test (eq_by_cmp tree_order (path_of rows k) p) refl)
-  where
-    by_test : (b : Bool) → eq_by_cmp tree_order (path_of rows k) p ≡ b
-        → cond b (Some j) (get (ids rows) (path_of rows k)) ≡ Some k
-    by_test true is =
-        absurd (let there = ap (get (ids rows)) (sym (same_path (path_of rows k) p is))
-        ∙ id_of rows shape k (path_of rows k) live in cc)
-    by_test false is = id_of rows shape k (path_of rows k) live
+    let there = id_of rows shape k (path_of rows k) live in
+    found_live new _ k (rw e (insert_beside (ids rows) p (path_of rows k) j (λ same. cc) ∙ there))

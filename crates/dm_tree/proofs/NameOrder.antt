@@ -1,18 +1,15 @@
--- A list of rows in the order of their names: one more, and one fewer.
-use Rattle.std.proofs.Common.{◌≡◌, ◌≢◌, ℕ, zero, suc, ◌+◌, ◌<◌, ◌≤◌, true, false, List, length, get_or, refl, sym, ◌∙◌}
-use Rattle.std.proofs.Common.{ap, subst, arith, inl, inr}
+-- A list of rows in the order of their names: where a row stands, one more, and one fewer.
+use Rattle.std.proofs.Common.{min}
 use Rattle.std.specs.List.{insert, remove}
-use Rattle.std.specs.Ordering.{is_lt, ordering_reverse}
-use Rattle.std.specs.declared.cmp.Ordering.{Ordering}
-use Rattle.std.specs.declared.cmp.Ordering.TheVariants.{Less, Equal, Greater}
+use Rattle.std.proofs.lemmas.Bool.{cases_order}
 use Rattle.std.proofs.lemmas.List.Edits.{length-insert, get_or-insert_below, get_or-insert_at, get_or-insert_above}
 use Rattle.std.proofs.lemmas.List.Edits.{length-remove, get_or-remove_below, get_or-remove_above}
-use Rattle.dm_tree.specs.declared.rows.Row.{Row}
-use Rattle.dm_tree.specs.Rows.{row_at}
-use Rattle.dm_tree.specs.Index.{is_named_before, IsInOrder, IsPlace}
-use Rattle.dm_tree.proofs.Paths.{below_or_not, same_or_not}
+use Rattle.dm_tree.proofs.Common.{◌≡◌, ℕ, suc, ◌+◌, ◌-◌, ◌<◌, ◌≤◌, true, false, List, length, get_or, refl, sym, ◌∙◌}
+use Rattle.dm_tree.proofs.Common.{ap, subst, arith, ◌⊎◌, inl, inr, is_lt, ordering_reverse, Ordering, Less, Equal}
+use Rattle.dm_tree.proofs.Common.{Greater, Row, row_at, is_named_before, IsInOrder, IsPlace}
+use Rattle.dm_tree.proofs.Paths.{below_or_not}
 use Rattle.dm_tree.proofs.PathOrder.{name_order, name_total, name_exact}
-use Rattle.dm_tree.proofs.LeastChild.{itself_not_less}
+use Rattle.dm_tree.proofs.LeastChild.{itself_not_less, not_before_less}
 
 -- of two names that differ, one stands before the other
 pub other_side : (a b : List ℕ) → is_lt (name_order a b) ≡ false → (a ≡ b → ⊥) → is_lt (name_order b a) ≡ true
@@ -24,107 +21,129 @@ other_side a b h differ =
     by_order Equal h d = absurd (d refl)
     by_order Greater h d = refl
 
--- a name doesn't stand before itself
-pub not_before_itself : (a : List ℕ) → is_lt (name_order a a) ≡ true → ⊥
-not_before_itself a h = let no = itself_not_less a in cc
+pub not_less_back : (a b : List ℕ) → is_lt (name_order a b) ≡ true → is_lt (name_order b a) ≡ false
+not_less_back a b h = not_before_less b b a (itself_not_less b) h
 
-module _ (ids : List ℕ) (place id : ℕ) (within : place ≤ length ids) where
-  -- what stands at the i-th place after an insert
-  pub data Stands : ℕ → Type 0 where
-    low : (i : ℕ) → i < place → get_or (insert ids place id) i 0 ≡ get_or ids i 0 → Stands i
-    mid : (i : ℕ) → i ≡ place → get_or (insert ids place id) i 0 ≡ id → Stands i
-    high : (i : ℕ) → place ≤ i → i < length ids → get_or (insert ids place id) (suc i) 0 ≡ get_or ids i 0
-        → Stands (suc i)
+-- ---- a row of a name stands at the place of the name
 
-  pub stands : (i : ℕ) → i < suc (length ids) → Stands i
-  stands i l =
-      elim (below_or_not i place) [
-        | inl h ↦ low i h (get_or-insert_below ids place id 0 i h within)
-        | inr h ↦ elim (same_or_not i place) [
-          | inl e ↦ mid i e (ap (λ n. get_or (insert ids place id) n 0) e ∙ get_or-insert_at ids place id 0 within)
-          | inr n ↦ upper i l h n
-        ]
-      ]
-    where
-      upper : (i : ℕ) → i < suc (length ids) → place ≤ i → i ≢ place → Stands i
-      upper zero l h n = absurd (n (omega (arith, h)))
-      upper (suc i) l h n =
-          let e : i + 1 ≡ suc i = omega arith in
-          let p : place ≤ i = omega (arith, h, n) in
-          high i p (omega (arith, l))
-          (ap (λ m. get_or (insert ids place id) m 0) (sym e) ∙ get_or-insert_above ids place id 0 i p within)
+pub named_place : {rows : List Row} {ids name : List ℕ} {place : ℕ} → IsInOrder rows ids → IsPlace rows ids name place
+    → (i : ℕ) → i < length ids → (row_at rows (get_or ids i 0)).name ≡ name → i ≡ place
+named_place {name = name} {place} order at i l e = elim (cases_order i place) [
+  | inl same ↦ same
+  | inr other ↦ absurd (elim other [
+    | inl m ↦ let yes = rw e at (at.before i m) in let no = itself_not_less name in cc
+    | inr m ↦
+        let yes = rw e at (order place i m l) in
+        let no = at.behind place (omega arith) (omega (arith, m, l)) in cc
+  ])
+]
 
-module _ (rows : List Row) (ids : List ℕ) where
-  -- the i-th stands before the j-th
-  abbrev pub Before : ℕ → ℕ → Type 0
-  Before a b = is_named_before rows (row_at rows b).name a ≡ true
+-- ---- one more, and one fewer
 
-  pub insert_order : (place id : ℕ) → IsInOrder rows ids → IsPlace rows ids (row_at rows id).name place
-      → ((i : ℕ) → i < length ids → (row_at rows (get_or ids i 0)).name ≡ (row_at rows id).name → ⊥)
-      → IsInOrder rows (insert ids place id)
-  insert_order place id order at differ i j l m =
-      by_places (stands ids place id at.within i (omega (arith, l, m, length-insert ids place id at.within)))
-      (stands ids place id at.within j (omega (arith, m, length-insert ids place id at.within))) l
-    where
-      both : (i j a b : ℕ) → get_or (insert ids place id) i 0 ≡ a → get_or (insert ids place id) j 0 ≡ b → Before a b
-          → Before (get_or (insert ids place id) i 0) (get_or (insert ids place id) j 0)
-      both i j a b e f h = subst (λ x. Before x (get_or (insert ids place id) j 0)) (sym e) (subst (Before a) (sym f) h)
+-- the row j stands in the list
+abbrev pub Listed : List ℕ → ℕ → Type 0
+Listed ids j = (i : ℕ) × (i < length ids) × (get_or ids i 0 ≡ j)
 
-      behind : (i : ℕ) → place ≤ i → i < length ids → Before id (get_or ids i 0)
-      behind i p l = other_side (row_at rows (get_or ids i 0)).name (row_at rows id).name (at.behind i p l) (differ i l)
+-- which place the i-th is once one more stands at a place
+abbrev moved : ℕ → ℕ → ℕ
+moved place i = i + min 1 (suc i - place)
 
-      by_places : {i j : ℕ} → Stands ids place id at.within i → Stands ids place id at.within j → i < j
-          → Before (get_or (insert ids place id) i 0) (get_or (insert ids place id) j 0)
-      by_places (low i h e) (low j k f) l = both i j _ _ e f (order i j l (omega (arith, k, at.within)))
-      by_places (low i h e) (mid j k f) l = both i j _ _ e f (at.before i h)
-      by_places (low i h e) (high j k n f) l = both i (suc j) _ _ e f (order i j (omega (arith, h, k)) n)
-      by_places (mid i h e) (low j k f) l = absurd (omega (arith, l, h, k))
-      by_places (mid i h e) (mid j k f) l = absurd (omega (arith, l, h, k))
-      by_places (mid i h e) (high j k n f) l = both i (suc j) _ _ e f (behind j k n)
-      by_places (high i h m e) (low j k f) l = absurd (omega (arith, l, h, k))
-      by_places (high i h m e) (mid j k f) l = absurd (omega (arith, l, h, k))
-      by_places (high i h m e) (high j k n f) l = both (suc i) (suc j) _ _ e f (order i j (omega (arith, l)) n)
+-- the second list is the first with the row id at a place
+pub record HasMore (ids more : List ℕ) (place id : ℕ) : Type 0 where
+  pub within : place ≤ length ids
+  pub long : length more ≡ suc (length ids)
+  pub here : get_or more place 0 ≡ id
+  pub below : (i : ℕ) → i < place → get_or more i 0 ≡ get_or ids i 0
+  pub above : (i : ℕ) → place ≤ i → get_or more (i + 1) 0 ≡ get_or ids i 0
 
--- where the i-th of the list without one member stood
-abbrev pub Stood : List ℕ → ℕ → ℕ → Type 0
-Stood ids place i =
-    (k : ℕ) × (k < length ids) × (k ≢ place) × (get_or (remove ids place) i 0 ≡ get_or ids k 0) × (i < place → k ≡ i)
-    × (place ≤ i → k ≡ suc i)
+pub inserted : (ids : List ℕ) (place id : ℕ) → place ≤ length ids → HasMore ids (insert ids place id) place id
+inserted ids place id within = record {
+  within = within;
+  long = omega (arith, length-insert ids place id within);
+  here = get_or-insert_at ids place id 0 within;
+  below = λ i l. get_or-insert_below ids place id 0 i l within;
+  above = λ i g. get_or-insert_above ids place id 0 i g within;
+}
 
-pub stood : (ids : List ℕ) (place : ℕ) → place < length ids → (i : ℕ) → suc i < length ids → Stood ids place i
-stood ids place within i l =
-    elim (below_or_not i place) [
-      | inl h ↦ (
-        i,
-        omega arith,
-        (λ e. omega arith),
-        get_or-remove_below ids place 0 i h within,
-        (λ _. refl),
-        (λ p. absurd (omega arith)),
-      )
-      | inr h ↦
-          let e : i + 1 ≡ suc i = omega arith in (
-            suc i,
-            l,
-            (λ f. omega arith),
-            get_or-remove_above ids place 0 i h within ∙ ap (λ n. get_or ids n 0) e,
-            (λ p. absurd (omega arith)),
-            (λ _. refl),
-          )
+pub removed : (ids : List ℕ) (place id : ℕ) → place < length ids → get_or ids place 0 ≡ id
+    → HasMore (remove ids place) ids place id
+removed ids place id within here = record {
+  within = omega (arith, length-remove ids place within);
+  long = omega (arith, length-remove ids place within);
+  here = here;
+  below = λ i l. sym (get_or-remove_below ids place 0 i l within);
+  above = λ i g. sym (get_or-remove_above ids place 0 i g within);
+}
+
+module _ {ids more : List ℕ} {place id : ℕ} (h : HasMore ids more place id) where
+  -- what stands at the m-th place of the longer list
+  data Stands : ℕ → ℕ → Type 0 where
+    new : Stands place id
+    old : (i m : ℕ) → i < length ids → m ≡ moved place i → Stands m (get_or ids i 0)
+
+  stands : (m : ℕ) → m < length more → Stands m (get_or more m 0)
+  stands m l = elim (cases_order m place) [
+    | inl e ↦ subst (λ n. Stands n (get_or more n 0)) (sym e) (subst (Stands place) (sym h.here) new)
+    | inr other ↦ elim other [
+      | inl b ↦
+          subst (Stands m) (sym (h.below m b)) (old m m (omega (arith, b, h.within)) (omega arith))
+      | inr g ↦
+          let e : m - 1 + 1 ≡ m = omega arith in
+          subst (Stands m) (sym (h.above (m - 1) (omega arith)) ∙ ap (λ n. get_or more n 0) e)
+          (old (m - 1) m (omega (arith, h.long)) (omega arith))
     ]
+  ]
 
-pub remove_order : (rows : List Row) (ids : List ℕ) (place : ℕ) → place < length ids → IsInOrder rows ids
-    → IsInOrder rows (remove ids place)
-remove_order rows ids place within order i j l m =
-    let long = length-remove ids place within in
-    let a = stood ids place within i (omega (arith, l, m, long)) in
-    let b = stood ids place within j (omega (arith, m, long)) in
-    let apart : a.0 < b.0 =
-    elim (below_or_not i place) [
-      | inl h ↦
-          elim (below_or_not j place) [ inl k ↦ omega (arith, a.4 h, b.4 k) | inr k ↦ omega (arith, a.4 h, b.5 k) ]
-      | inr h ↦ omega (arith, a.5 h, b.5 (omega arith))
-    ] in
-    subst (λ x. is_named_before rows (row_at rows (get_or (remove ids place) j 0)).name x ≡ true) (sym a.3)
-    (subst (λ y. is_named_before rows (row_at rows y).name (get_or ids a.0 0) ≡ true) (sym b.3)
-    (order a.0 b.0 apart b.1))
+  -- where the i-th of the shorter one stands
+  up : (i : ℕ) → i < length ids
+      → (m : ℕ) × (m ≡ moved place i) × (m < length more) × (get_or more m 0 ≡ get_or ids i 0)
+  up i l = elim (below_or_not i place) [
+    | inl b ↦ (i, omega arith, omega (arith, h.long), h.below i b)
+    | inr g ↦ (i + 1, omega arith, omega (arith, h.long), h.above i g)
+  ]
+
+  pub new_listed : Listed more id
+  new_listed = (place, omega (arith, h.within, h.long), h.here)
+
+  pub still_listed : (j : ℕ) → Listed ids j → Listed more j
+  still_listed j was = let u = up was.0 was.1 in (u.0, u.2, u.3 ∙ was.2)
+
+  pub was_listed : (j : ℕ) → Listed more j → (j ≡ id) ⊎ Listed ids j
+  was_listed j is = subst (λ k. (k ≡ id) ⊎ Listed ids k) is.2 (by_place (stands is.0 is.1))
+    where
+      by_place : {m k : ℕ} → Stands m k → (k ≡ id) ⊎ Listed ids k
+      by_place new = inl refl
+      by_place (old i m l e) = inr (i, l, refl)
+
+  module _ (rows : List Row) where
+    pub order_more : IsInOrder rows ids → IsPlace rows ids (row_at rows id).name place
+        → ((j : ℕ) → Listed ids j → (row_at rows j).name ≡ (row_at rows id).name → ⊥) → IsInOrder rows more
+    order_more order at differ m n l k = by_places (stands m (omega arith)) (stands n k) l
+      where
+        by_places : {m n j k : ℕ} → Stands m j → Stands n k → m < n
+            → is_named_before rows (row_at rows k).name j ≡ true
+        by_places new new l = absurd (omega arith)
+        by_places new (old j n k e) l =
+            other_side (row_at rows (get_or ids j 0)).name (row_at rows id).name
+            (at.behind j (omega (arith, l, e)) k) (differ (get_or ids j 0) (j, k, refl))
+        by_places (old i m k e) new l = at.before i (omega (arith, l, e))
+        by_places (old i m k e) (old j n g f) l = order i j (omega (arith, l, e, f)) g
+
+    pub order_fewer : IsInOrder rows more → IsInOrder rows ids
+    order_fewer order i j l k =
+        let a = up i (omega (arith, l, k)) in
+        let b = up j k in
+        rw (sym a.3, sym b.3) (order a.0 b.0 (omega (arith, l, a.1, b.1)) b.2)
+
+    -- no row stands in it twice
+    pub once : IsInOrder rows more → Listed ids id → ⊥
+    once order was =
+        let u = up was.0 was.1 in
+        let no = itself_not_less (row_at rows id).name in
+        elim (cases_order u.0 place) [
+          | inl e ↦ omega (arith, e, u.1)
+          | inr other ↦ elim other [
+            | inl m ↦ let yes = rw (u.3 ∙ was.2, h.here) at (order u.0 place m (omega (arith, h.within, h.long))) in cc
+            | inr m ↦ let yes = rw (u.3 ∙ was.2, h.here) at (order place u.0 m u.2) in cc
+          ]
+        ]

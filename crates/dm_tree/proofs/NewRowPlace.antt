@@ -1,49 +1,37 @@
--- A new node's row has its place: behind the others, or that of a free one.
-use Rattle.std.proofs.Common.{ℕ, ◌+◌, ◌<◌, ◌^◌, List, [], ◌∷◌, ◌++◌, length, sym, subst, inl, inr}
-use Rattle.std.proofs.Math.ListN.{set}
-use Rattle.dm_tree.specs.declared.nodes.Node.{Node}
-use Rattle.dm_tree.specs.declared.rows.Row.{Row}
+-- A row that was placed out of the tree is put in.
 use Rattle.dm_tree.specs.declared.rows.Change.TheVariants as change
-use Rattle.dm_tree.specs.Rows.{IsTree}
-use Rattle.dm_tree.specs.Edits.{new_row}
-use Rattle.dm_tree.specs.Undos.{IsInserted}
-use Rattle.dm_tree.specs.Notes.{TakesEditBack}
-use Rattle.dm_tree.specs.Reuse.{IsFreeRow, IsPlaced}
-use Rattle.dm_tree.proofs.TreeEdits.{MayCome, tree-append}
-use Rattle.dm_tree.proofs.SpareRows.{inserted}
-use Rattle.dm_tree.proofs.UndoPromises.{edit-insert}
-use Rattle.dm_tree.proofs.RowInserts.{IsWelcome, tree-reused, inserted-reused, edit-reused}
+use Rattle.dm_tree.proofs.Common.{◌≡◌, ℕ, ◌<◌, true, false, List, [], length, ◌∙◌, ap, inl, inr, get_or-set_same}
+use Rattle.dm_tree.proofs.Common.{set-set, get_or-append_seam, Row, blank, row_at, IsTree, attached_as, IsPut, IsPlaced}
+use Rattle.dm_tree.proofs.RowAppends.{set_last}
+use Rattle.dm_tree.proofs.UndoFlips.{flipped_twice}
+use Rattle.dm_tree.proofs.NewRows.{IsNewAt, new_at}
 
-module _ (rows : List Row) (tree : IsTree rows) (k : ℕ) (name : List ℕ) (node : Node)
-    (may : IsWelcome rows k name node) where
-  with_room : length rows + 1 < 2 ^ 32 → MayCome rows k name node
-  with_room room = record {
-    live = may.live;
-    interior = may.interior;
-    free = may.free;
-    within = may.within;
-    permanent = may.permanent;
-    node = may.node;
-    name = may.name;
-    room = room;
-    size = may.size;
+-- it stands where it was placed
+pub put_in_placed : (rows now : List Row) (id : ℕ) (r : Row) → IsPlaced rows now id r
+    → IsPlaced rows (attached_as now id true) id (record r { attached = true })
+put_in_placed rows now id r (inl (e, (room, f))) =
+    inl (e, (room, rw (f, e, get_or-append_seam rows r [] blank) (set_last rows r (record r { attached = true }))))
+put_in_placed rows now id r (inr (free, f)) =
+    let l = free.inside in
+    inr (free, rw (f, get_or-set_same) (set-set rows id r (record r { attached = true })))
+
+module _ (rows now : List Row) (tree : IsTree rows) (id : ℕ) (r : Row) (out : r.attached ≡ false)
+    (held : r.given_up ≡ false) (inside : r.parent < length rows) (placed : IsPlaced rows now id r) where
+  new : IsNewAt rows now id r
+  new = new_at rows now tree id r placed inside
+
+  is_out : (row_at now id).attached ≡ false
+  is_out = ap (λ (s : Row). s.attached) new.here ∙ out
+
+  pub may_put : IsTree (attached_as now id true) → IsPut now id
+  may_put after = record {
+    inside = new.inside;
+    below_root = new.below_root;
+    out = is_out;
+    held = ap (λ (s : Row). s.given_up) new.here ∙ held;
+    shaped = after.shape;
   }
 
-  pub tree-behind : length rows + 1 < 2 ^ 32 → IsTree (rows ++ new_row rows k name node ∷ [])
-  tree-behind room = tree-append rows tree k name node (with_room room)
-
-  pub tree-within : (id : ℕ) → IsFreeRow rows id → IsTree (set rows id (new_row rows k name node))
-  tree-within id free = tree-reused rows tree id free k name node may
-
-  pub placed : (new : List Row) (id : ℕ) → IsPlaced rows new id (new_row rows k name node)
-      → IsInserted rows new k name node id (change.TakeOut id) × TakesEditBack (change.TakeOut id) rows new
-  placed new id (inl (e, (room, f))) =
-      subst (λ n. IsInserted rows n k name node id (change.TakeOut id) × TakesEditBack (change.TakeOut id) rows n)
-      (sym f)
-      (subst (λ i. IsInserted rows (rows ++ new_row rows k name node ∷ []) k name node i (change.TakeOut i)
-      × TakesEditBack (change.TakeOut i) rows (rows ++ new_row rows k name node ∷ [])) (sym e)
-      (inserted rows tree k name node (with_room room), edit-insert rows tree k name node (with_room room)))
-  placed new id (inr (free, f)) =
-      subst (λ n. IsInserted rows n k name node id (change.TakeOut id) × TakesEditBack (change.TakeOut id) rows n)
-      (sym f)
-      (inserted-reused rows tree id free k name node may, edit-reused rows tree id free k name node may)
+  -- taken out again, it is as it was
+  pub out_again : attached_as (attached_as now id true) id false ≡ now
+  out_again = flipped_twice now (change.PutIn id) new.inside is_out

@@ -1,19 +1,11 @@
 -- One node is changed, and every row stays where it lies.
-use Rattle.std.proofs.Common.{◌≡◌, ◌≢◌, ℕ, zero, suc, ◌<◌, true, false, cond, List, length, None, Some, refl, sym, ◌∙◌}
-use Rattle.std.proofs.Common.{ap, subst, arith, inl, inr}
-use Rattle.dm_tree.specs.declared.nodes.Node.{Node}
-use Rattle.dm_tree.specs.declared.rows.Row.{Row}
-use Rattle.dm_tree.specs.Nodes.{Path, tree_order}
-use Rattle.dm_tree.specs.Rows.{blank, row_at, walk, path_below, ids_below, ids, nodes, IsShaped, IsLive, path_of}
-use Rattle.dm_tree.specs.Edits.{with_node}
-use Rattle.std.proofs.lemmas.List.{get_or-set_same, get_or-set_other}
-use Rattle.std.proofs.Math.ListN.{set, length-set}
-use Rattle.std.specs.Ordering.{eq_by_cmp}
-use Rattle.std.specs.FinMap.{get, insert, from_entries, get-insert, same_map}
-use Rattle.std.specs.Option.{option_map}
-use Rattle.dm_tree.proofs.Paths.{other_path, same_or_not, same_path, tree_exact, tree_total}
-use Rattle.dm_tree.proofs.RowPaths.{some_path}
-use Rattle.dm_tree.proofs.RowMaps.{get_nodes, id_is, id_of, within}
+use Rattle.std.specs.FinMap.{insert}
+use Rattle.dm_tree.proofs.Common.{◌≡◌, ◌≢◌, ℕ, zero, suc, ◌<◌, true, List, length, Some, refl, sym, ◌∙◌, ap, subst}
+use Rattle.dm_tree.proofs.Common.{arith, inl, inr, get_or-set_same, get_or-set_other, set, length-set, from_entries}
+use Rattle.dm_tree.proofs.Common.{Node, Row, blank, row_at, walk, path_below, ids_below, ids, nodes, IsShaped, IsLive}
+use Rattle.dm_tree.proofs.Common.{path_of, with_node}
+use Rattle.dm_tree.proofs.Paths.{same_or_not}
+use Rattle.dm_tree.proofs.RowMaps.{within, node_of_path, node_from, nodes_insert}
 
 -- rows that differ in their nodes alone lie alike
 pub record IsAlike (rows rows' : List Row) : Type 0 where
@@ -28,12 +20,13 @@ walk_alike rows rows' same zero top k = refl
 walk_alike rows rows' same (suc d) top k =
     rw (same.parent k, same.attached k, same.name k, walk_alike rows rows' same d top (row_at rows k).parent) refl
 
+pub path_alike : (rows rows' : List Row) → IsAlike rows rows' → (top k : ℕ)
+    → path_below rows' top k ≡ path_below rows top k
+path_alike rows rows' same top k = walk_alike rows rows' same _ top k ∙ ap (λ d. walk rows d top k) (same.depth k)
+
 pub ids_alike : (rows rows' : List Row) → IsAlike rows rows' → (n : ℕ) → ids_below rows' 0 n ≡ ids_below rows 0 n
 ids_alike rows rows' same zero = refl
-ids_alike rows rows' same (suc n) =
-    let here : path_below rows' 0 n ≡ path_below rows 0 n =
-    walk_alike rows rows' same _ 0 n ∙ ap (λ d. walk rows d 0 n) (same.depth n) in
-    rw (here, ids_alike rows rows' same n) refl
+ids_alike rows rows' same (suc n) = rw (path_alike rows rows' same 0 n, ids_alike rows rows' same n) refl
 
 pub same_ids : (rows rows' : List Row) → IsAlike rows rows' → (ids rows') ≡ (ids rows)
 unfolding ids nodes
@@ -52,37 +45,10 @@ pub of_both : {X : Type 0} (rows : List Row) (k : ℕ) (r : Row) (f : Row → X)
 of_both rows k r f e j l =
     each_set rows k r l (λ s. f s ≡ f (row_at rows j)) j (λ h. e ∙ ap (λ n. f (row_at rows n)) (sym h)) (λ _. refl)
 
--- the rows i and j are one where these two, which stand in them, have one parent and one name
+-- i and j are one number where the rows r and s, which stand there, are attached under one parent and one name
 abbrev pub AreOne : ℕ → ℕ → Row → Row → Type 0
 AreOne i j r s =
     r.attached ≡ true → s.attached ≡ true → r.parent ≡ s.parent → r.name ≡ s.name → i ≡ j
-
--- one node is changed
-pub nodes_changed : (rows rows' : List Row) → IsShaped rows → IsAlike rows rows' → (k : ℕ) (p : Path)
-    → get (ids rows) p ≡ Some k
-    → ((j : ℕ) → j ≢ k → (row_at rows' j).node ≡ (row_at rows j).node)
-    → (nodes rows') ≡ insert (nodes rows) p (row_at rows' k).node
-nodes_changed rows rows' shape same k p at others =
-    same_map tree_total tree_exact _ _ (λ q.
-    get_nodes rows' q ∙ ap (λ m. option_map (λ j. (row_at rows' j).node) (get m q)) (same_ids rows rows' same)
-    ∙ (elim (eq_by_cmp tree_order q p)
-    as (λ b. eq_by_cmp tree_order q p ≡ b
-    → option_map (λ j. (row_at rows' j).node) (get (ids rows) q)
-    ≡ cond b (Some (row_at rows' k).node) (get (nodes rows) q)) [
-      | true ↦ λ is. ap (option_map (λ j. (row_at rows' j).node)) (ap (get (ids rows)) (same_path q p is) ∙ at)
-      | false ↦ λ is.
-          elim (get (ids rows) q)
-          as (λ o. get (ids rows) q ≡ o → option_map (λ j. (row_at rows' j).node) o ≡ get (nodes rows) q) [
-            | None ↦ λ e. sym (get_nodes rows q ∙ ap (option_map (λ j. (row_at rows j).node)) e)
-            | Some j ↦ λ e.
-                ap (λ n. Some n)
-                (others j (λ jk.
-                other_path q p is
-                (some_path q p (sym (id_is rows q j e).0 ∙ ap (path_below rows 0) jk ∙ (id_is rows p k at).0))))
-                ∙ sym (get_nodes rows q ∙ ap (option_map (λ j. (row_at rows j).node)) e)
-          ] refl
-    ] refl)
-    ∙ sym (get-insert tree_total (nodes rows) p (row_at rows' k).node q))
 
 pub node_alike : (rows : List Row) (k : ℕ) (n : Node) → k < length rows → IsAlike rows (with_node rows k n)
 node_alike rows k n l = record {
@@ -93,21 +59,30 @@ node_alike rows k n l = record {
   long = length-set rows k _;
 }
 
-pub shaped_alike : (rows rows' : List Row) → IsAlike rows rows' → IsShaped rows → IsShaped rows'
-shaped_alike rows rows' same shape = record {
-  rooted = omega (arith, same.long, shape.rooted);
-  few = omega (arith, same.long, shape.few);
-  at_root = same.depth 0 ∙ shape.at_root;
-  fixed = same.attached 0 ∙ shape.fixed;
-  inside = λ k l. omega (arith, same.long, same.parent k, shape.inside k (omega (arith, same.long)));
+-- rows that lie as deep below the same parents, no two of one name
+pub shaped_by : (rows rows' : List Row) → length rows' ≡ length rows
+    → ((k : ℕ) → (row_at rows' k).parent ≡ (row_at rows k).parent)
+    → ((k : ℕ) → (row_at rows' k).depth ≡ (row_at rows k).depth)
+    → ((k : ℕ) → (row_at rows' k).attached ≡ (row_at rows k).attached)
+    → ((i j : ℕ) → AreOne i j (row_at rows' i) (row_at rows' j)) → IsShaped rows → IsShaped rows'
+shaped_by rows rows' long parent depth attached twins shape = record {
+  rooted = omega (arith, long, shape.rooted);
+  few = omega (arith, long, shape.few);
+  at_root = depth 0 ∙ shape.at_root;
+  fixed = attached 0 ∙ shape.fixed;
+  inside = λ k l. omega (arith, long, parent k, shape.inside k (omega (arith, long)));
   falls =
-      λ k at. same.depth k ∙ shape.falls k (sym (same.attached k) ∙ at)
-      ∙ ap suc (ap (λ j. (row_at rows j).depth) (sym (same.parent k)) ∙ sym (same.depth _));
-  shallow = λ k. omega (arith, same.depth k, shape.shallow k);
-  no_twins = λ i j a b p n.
-      shape.no_twins i j (sym (same.attached i) ∙ a) (sym (same.attached j) ∙ b)
-      (sym (same.parent i) ∙ p ∙ same.parent j) (sym (same.name i) ∙ n ∙ same.name j);
+      λ k at. depth k ∙ shape.falls k (sym (attached k) ∙ at)
+      ∙ ap suc (ap (λ j. (row_at rows j).depth) (sym (parent k)) ∙ sym (depth _));
+  shallow = λ k. omega (arith, depth k, shape.shallow k);
+  no_twins = twins;
 }
+
+pub shaped_alike : (rows rows' : List Row) → IsAlike rows rows' → IsShaped rows → IsShaped rows'
+shaped_alike rows rows' same shape =
+    shaped_by rows rows' same.long same.parent same.depth same.attached (λ i j a b p n.
+    shape.no_twins i j (sym (same.attached i) ∙ a) (sym (same.attached j) ∙ b)
+    (sym (same.parent i) ∙ p ∙ same.parent j) (sym (same.name i) ∙ n ∙ same.name j)) shape
 
 pub live_row : (rows : List Row) → IsShaped rows → (k : ℕ) → IsLive rows k → k < length rows
 live_row rows shape k live = within rows shape k _ live
@@ -116,10 +91,14 @@ live_row rows shape k live = within rows shape k _ live
 pub nodes-with_node : (rows : List Row) → IsShaped rows → (k : ℕ) → IsLive rows k → (n : Node)
     → nodes (with_node rows k n) ≡ insert (nodes rows) (path_of rows k) n
 nodes-with_node rows shape k live n =
-    let long = live_row rows shape k live in
-    nodes_changed rows (with_node rows k n) shape (node_alike rows k n long) k _ (id_of rows shape k _ live)
-    (λ j h. ap (λ s. s.node) (get_or-set_other rows k j _ blank h))
-    ∙ ap (λ (r : Row). insert (nodes rows) (path_of rows k) r.node) (get_or-set_same rows k _ blank long)
+    let l = live_row rows shape k live in
+    let same = node_alike rows k n l in
+    nodes_insert (with_node rows k n) (shaped_alike rows _ same shape) (nodes rows) k (path_of rows k)
+    (path_alike rows _ same 0 k ∙ live) (λ i q d e.
+    node_of_path rows shape i q (sym (path_alike rows _ same 0 i) ∙ e)
+    ∙ ap (λ (r : Row). Some r.node) (sym (get_or-set_other rows k i _ blank d)))
+    (λ q m e. let s = node_from rows q m e in (s.0, path_alike rows _ same 0 s.0 ∙ s.1))
+    ∙ ap (λ (r : Row). insert (nodes rows) (path_of rows k) r.node) (get_or-set_same rows k _ blank l)
 
 pub ids-with_node : (rows : List Row) → IsShaped rows → (k : ℕ) → IsLive rows k → (n : Node)
     → ids (with_node rows k n) ≡ ids rows

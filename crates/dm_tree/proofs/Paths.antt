@@ -1,32 +1,13 @@
 -- Paths: their order, their ends, and which begins which.
-use Rattle.std.proofs.Common.{◌≡◌, ◌≢◌, ℕ, ◌<◌, ◌≤◌, true, false, nat_eq, List, [], ◌∷◌, ◌++◌, length, refl, sym, ◌∙◌}
-use Rattle.std.proofs.Common.{ap, arith, ◌⊎◌, inl, inr, length-append, take}
-use Rattle.dm_tree.specs.Nodes.{Path, tree_order, is_below}
-use Rattle.std.specs.Prelude.{nat_lt}
-use Rattle.std.proofs.lemmas.Bool.{cases_Bool, false_from_ne_true}
-use Rattle.std.proofs.lemmas.Bool.Decides.{nat_tests}
-use Rattle.std.specs.declared.cmp.Ordering.{Ordering}
-use Rattle.std.specs.declared.cmp.Ordering.TheVariants.{Less, Equal, Greater}
-use Rattle.std.specs.Ordering.{eq_by_cmp, is_eq}
-use Rattle.std.specs.Cmp.{IsTotalOrder, nat_cmp_total, tied_itself}
+use Rattle.std.specs.Cmp.{IsTotalOrder, nat_cmp_total}
 use Rattle.std.specs.Cmp.Lexicographic.{lists_total}
 use Rattle.std.specs.FinMap.{IsAntisymmetric, nat_cmp-IsAntisymmetric, slice_cmp-IsAntisymmetric}
-use Rattle.std.proofs.lemmas.List.{take_all, length-take, take-append-le}
-use Rattle.std.proofs.Math.Seq.{take-length}
-
-pub below_or_not : (a b : ℕ) → (a < b) ⊎ (b ≤ a)
-below_or_not a b =
-    elim (nat_lt a b) as (λ v. nat_lt a b ≡ v → (a < b) ⊎ (b ≤ a)) [
-      | true ↦ λ h. inl (grind (arith, nat_tests))
-      | false ↦ λ h. inr (grind (arith, nat_tests))
-    ] refl
-
-pub same_or_not : (a b : ℕ) → (a ≡ b) ⊎ (a ≢ b)
-same_or_not a b =
-    elim (nat_eq a b) as (λ v. nat_eq a b ≡ v → (a ≡ b) ⊎ (a ≢ b)) [
-      | true ↦ λ h. inl (grind (arith, nat_tests))
-      | false ↦ λ h. inr (grind (arith, nat_tests))
-    ] refl
+use Rattle.std.proofs.lemmas.List.{take_all}
+pub use Rattle.std.proofs.lemmas.Bool.{cases_lt as below_or_not, cases_eq as same_or_not}
+use Rattle.dm_tree.proofs.Common.{◌≡◌, ◌≢◌, ℕ, ◌≤◌, true, false, List, [], ◌∷◌, ◌++◌, length, refl, sym, ◌∙◌, ap, arith}
+use Rattle.dm_tree.proofs.Common.{◌⊎◌, inl, inr, length-append, take, cases_Bool, false_from_ne_true, Ordering, Equal}
+use Rattle.dm_tree.proofs.Common.{eq_by_cmp, is_eq, tied_itself, length-take, take-append-le, take-length, Path}
+use Rattle.dm_tree.proofs.Common.{tree_order, is_below}
 
 pub tree_total : IsTotalOrder tree_order
 tree_total = lists_total (lists_total nat_cmp_total)
@@ -35,9 +16,12 @@ pub tree_exact : IsAntisymmetric tree_order
 tree_exact = slice_cmp-IsAntisymmetric (slice_cmp-IsAntisymmetric nat_cmp-IsAntisymmetric)
 
 -- a path is longer than none, and its last name and the rest are known from it
+pub longer : (q : Path) (m : List ℕ) (ms : Path) → q ++ m ∷ ms ≡ [] → ⊥
+longer [] m ms e = cc
+longer (x ∷ q) m ms e = cc
+
 pub not_empty : (r : Path) (n : List ℕ) → r ++ n ∷ [] ≡ [] → ⊥
-not_empty [] n e = cc
-not_empty (x ∷ r) n e = cc
+not_empty r n = longer r n []
 
 pub same_ends : (r s : Path) (m n : List ℕ) → r ++ m ∷ [] ≡ s ++ n ∷ [] → (r ≡ s) × (m ≡ n)
 same_ends [] [] m n e = (refl, cc)
@@ -51,9 +35,7 @@ same_ends (x ∷ r) (y ∷ s) m n e =
 
 -- reading the list of ids at a path
 pub is_equal : (r : Ordering) → is_eq r ≡ true → r ≡ Equal
-is_equal Less e = absurd (cc)
-is_equal Equal e = refl
-is_equal Greater e = absurd (cc)
+is_equal r e = grind (arith, e)
 
 pub same_path : (p q : Path) → eq_by_cmp tree_order p q ≡ true → p ≡ q
 same_path p q e = tree_exact p q (is_equal (tree_order p q) e)
@@ -80,10 +62,6 @@ ends (n ∷ ns) = later n ns (ends ns)
     later : (n : List ℕ) (ns : Path) → Ends ns → Ends (n ∷ ns)
     later n [] none = last [] n
     later n ns (last front m) = last (n ∷ front) m
-
-pub longer : (q : Path) (m : List ℕ) (ms : Path) → q ++ m ∷ ms ≡ [] → ⊥
-longer [] m ms e = cc
-longer (x ∷ q) m ms e = cc
 
 pub equal_below : (p q : Path) → is_below p q ≡ true → take (length p) q ≡ p
 equal_below p q e = same_path _ _ e

@@ -1,13 +1,9 @@
 -- The written form of a path, one name further down.
-use Rattle.std.proofs.Common.{◌≡◌, ◌<◌, ◌-◌, ℕ, List, [], ◌∷◌, ◌++◌, sym, ap, ◌∙◌, append-nil, append_assoc}
 use Rattle.std.proofs.lemmas.Grind.{flat_map-append}
 use Rattle.std.specs.List.{flat_map}
-use Rattle.dm_uri.specs.Names.{printed_path}
 use Rattle.dm_uri.proofs.Printing.{slashed, printed_path-slashed}
-use Rattle.dm_tree.specs.declared.rows.Row.{Row}
-use Rattle.dm_tree.specs.Nodes.{Path}
-use Rattle.dm_tree.specs.Rows.{row_at}
-use Rattle.dm_tree.specs.Walks.{path_up}
+use Rattle.dm_tree.proofs.Common.{◌≡◌, ◌<◌, ◌-◌, ℕ, List, [], ◌∷◌, ◌++◌, sym, ap, ◌∙◌, append-nil, append_assoc}
+use Rattle.dm_tree.proofs.Common.{printed_path, Row, Path, row_at, path_up}
 use Rattle.dm_tree.proofs.UpwardSearch.{path_up_one}
 
 printed_more : (p : Path) (n : List ℕ) → printed_path (p ++ n ∷ []) ≡ printed_path p ++ 47 ∷ n
@@ -22,8 +18,8 @@ pub printed_up : (rows : List Row) (d k : ℕ) (r : Row) (out upper slashed all 
     → slashed ≡ upper ++ 47 ∷ [] → all ≡ slashed ++ name → all ≡ out ++ printed_path (path_up rows d k)
 printed_up rows d k r out upper slashed all name some is named first then_ last =
     let p = path_up rows (d - 1) r.parent in
-    last ∙ ap (λ l. l ++ name) (then_ ∙ ap (λ l. l ++ 47 ∷ []) first) ∙ append_assoc (out ++ printed_path p) (47 ∷ []) name
-    ∙ append_assoc out (printed_path p) (47 ∷ name) ∙ ap (λ l. out ++ l) (sym (printed_more p name))
+    last ∙ ap (λ l. l ++ name) (then_ ∙ ap (λ l. l ++ 47 ∷ []) first)
+    ∙ append_assoc (out ++ printed_path p) (47 ∷ []) name ∙ append_assoc out (printed_path p) (47 ∷ name) ∙ ap (λ l. out ++ l) (sym (printed_more p name))
     ∙ ap (λ n. out ++ printed_path (p ++ n ∷ [])) named
     ∙ ap (λ (s : Row). out ++ printed_path (path_up rows (d - 1) s.parent ++ s.name ∷ [])) is
     ∙ ap (λ q. out ++ printed_path q) (sym (path_up_one rows d k some))

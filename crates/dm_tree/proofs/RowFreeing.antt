@@ -1,21 +1,13 @@
 -- A row below one that was given up is freed.
-use Rattle.std.proofs.Common.{◌≡◌, ◌≢◌, ℕ, zero, suc, ◌<◌, true, false, nat_eq, List, length}
-use Rattle.std.proofs.Common.{None, refl, sym, ◌∙◌, ap, subst, arith, inl, inr}
-use Rattle.std.proofs.Math.ListN.{set, length-set}
-use Rattle.std.proofs.lemmas.Bool.{false_from_ne_true}
-use Rattle.std.proofs.lemmas.List.{get_or-set_same, get_or-set_other}
-use Rattle.std.proofs.lemmas.Bool.Decides.{nat_tests}
-use Rattle.dm_tree.specs.declared.rows.Row.{Row}
-use Rattle.dm_tree.specs.declared.rows.Change.{Change}
-use Rattle.dm_tree.specs.Rows.{blank, row_at, walk, path_below, ids, nodes, IsTree}
-use Rattle.dm_tree.specs.Rows.{IsParkedTop}
-use Rattle.dm_tree.specs.Edits.{attached_as}
-use Rattle.dm_tree.specs.Undos.{row_of, flipped, Fits}
-use Rattle.dm_tree.specs.Notes.{GoesAlike}
-use Rattle.dm_tree.specs.Reuse.{IsLeftOver, IsClear, freed}
-use Rattle.dm_tree.proofs.Paths.{same_or_not}
+use Rattle.dm_tree.specs.Frees.{spent}
+use Rattle.dm_tree.proofs.Common.{◌≡◌, ℕ, zero, suc, ◌<◌, true, false, List, length, refl, sym, ◌∙◌, ap, subst, arith}
+use Rattle.dm_tree.proofs.Common.{set, length-set, false_from_ne_true, nat_tests, get_or-set_same, get_or-set_other}
+use Rattle.dm_tree.proofs.Common.{Row, Change, blank, row_at, node_of, walk, path_below, ids, nodes, IsTree}
+use Rattle.dm_tree.proofs.Common.{IsParkedTop, attached_as, row_of, flipped, Fits, GoesAlike, IsClear, IsLeftOver}
+use Rattle.dm_tree.proofs.Common.{freed}
 use Rattle.dm_tree.proofs.RowPaths.{attached_row}
 use Rattle.dm_tree.proofs.NodeEdits.{of_both}
+use Rattle.dm_tree.proofs.RowAppends.{set_twice}
 use Rattle.dm_tree.proofs.SubtreeCuts.{still_attached}
 use Rattle.dm_tree.proofs.GivenUpRows.{tree-given_up}
 use Rattle.dm_tree.proofs.FlippedRows.{other_row, kin-flipped}
@@ -24,81 +16,52 @@ use Rattle.dm_tree.proofs.RowReuse.{no_way, ids_by, nodes_by}
 use Rattle.dm_tree.proofs.ClearRows.{clear-less}
 use Rattle.dm_tree.proofs.UndoFlips.{parked-taken_out}
 use Rattle.dm_tree.proofs.CutTrees.{tree-out}
-use Rattle.dm_tree.proofs.FlipsBeside.{IsReason, alike-set, alike-then}
+use Rattle.dm_tree.proofs.FlipsBeside.{IsReason, set-lasts, alike-beside, alike-then}
 
-pub not_same : (m n : ℕ) → m ≢ n → nat_eq m n ≡ false
-not_same m n h = grind (arith, nat_tests)
+-- what is left of it is a row without contents
+pub freed_is : (rows : List Row) (k : ℕ) → k < length rows → freed rows k ≡ set rows k (spent (row_at rows k))
+freed_is rows k l = rw (node_of, get_or-set_same, set_twice) refl
 
-module _ (rows : List Row) (k : ℕ) (left : IsLeftOver rows k) where
-  up : ℕ
-  up = (row_at rows k).parent
+module _ (rows : List Row) (k : ℕ) (left : IsLeftOver rows k) (tree : IsTree rows) where
+  place : (0 < k) × (k < length rows)
+  place = attached_row rows tree.shape k left.attached
 
-  -- from a row one comes up to the same tops as before
-  pub walk-out : IsTree rows → (d top j : ℕ) → k ≢ top → (row_at rows k).parent ≢ top
-      → walk (attached_as rows k false) d top j ≡ walk rows d top j
-  walk-out tree zero top j a b = refl
-  walk-out tree (suc d) top j a b = elim (same_or_not j k) [
-    | inl e ↦ subst (λ i. walk (attached_as rows k false) (suc d) top i ≡ walk rows (suc d) top i) (sym e)
-        (new ∙ sym old)
-    | inr h ↦
-        let here : row_at (attached_as rows k false) j ≡ row_at rows j =
-        get_or-set_other rows k j (record (row_at rows k) { attached = false }) blank h in
-        rw (here, walk-out tree d top (row_at rows j).parent a b) refl
-  ]
-    where
-      inside : k < length rows
-      inside = (attached_row rows tree.shape k left.attached).1
+  -- once it is out, one comes up from each row to the root as before
+  walk-out : (d j : ℕ) → walk (attached_as rows k false) d 0 j ≡ walk rows d 0 j
+  walk-out zero j = refl
+  walk-out (suc d) j =
+      let new = get_or-set_same rows k (record (row_at rows k) { attached = false }) blank place.1 in
+      let other = get_or-set_other rows k j (record (row_at rows k) { attached = false }) blank in
+      let left_out = no_way rows d 0 (row_at rows k).parent (λ z. omega (arith, z, left.below_root)) left.out in
+      let up = walk-out d (row_at rows j).parent in
+      let below = place.0 in
+      grind (arith, nat_tests)
 
-      new : walk (attached_as rows k false) (suc d) top k ≡ None
-      new =
-          no_way (attached_as rows k false) (suc d) top k a
-          (ap (λ (s : Row). s.attached)
-          (get_or-set_same rows k (record (row_at rows k) { attached = false }) blank inside))
+  outside : (j : ℕ) → path_below (attached_as rows k false) 0 j ≡ path_below rows 0 j
+  outside j =
+      ap (λ d. walk (attached_as rows k false) d 0 j) (of_both rows k _ (λ s. s.depth) refl j place.1)
+      ∙ walk-out (row_at rows j).depth j
 
-      old : walk rows (suc d) top k ≡ None
-      old = rw (not_same k top a, left.attached, no_way rows d top (row_at rows k).parent b left.out) refl
+  ids-left : ids (attached_as rows k false) ≡ ids rows
+  ids-left = ids_by (attached_as rows k false) rows (length-set rows k _) outside
 
-  pub path-out : IsTree rows → (top j : ℕ) → k ≢ top → (row_at rows k).parent ≢ top
-      → path_below (attached_as rows k false) top j ≡ path_below rows top j
-  path-out tree top j a b =
-      ap (λ d. walk (attached_as rows k false) d top j)
-      (of_both rows k (record (row_at rows k) { attached = false }) (λ s. s.depth) refl j
-      (attached_row rows tree.shape k left.attached).1)
-      ∙ walk-out tree (row_at rows j).depth top j a b
+  nodes-left : nodes (attached_as rows k false) ≡ nodes rows
+  nodes-left =
+      nodes_by (attached_as rows k false) rows ids-left (λ j q e. of_both rows k _ (λ s. s.node) refl j place.1)
 
-  no_root : IsTree rows → k ≢ 0
-  no_root tree z = omega (arith, z, (attached_row rows tree.shape k left.attached).0)
+  pub tree-left : IsTree (attached_as rows k false)
+  tree-left = tree-out rows tree k place.0 place.1 (λ j q e. sym (outside j) ∙ e)
 
-  no_root_above : (row_at rows k).parent ≢ 0
-  no_root_above z = omega (arith, z, left.below_root)
+  pub parked-left : IsParkedTop (attached_as rows k false) k
+  parked-left = parked-taken_out rows k tree place.1 left.attached
 
-  pub ids-left : IsTree rows → ids (attached_as rows k false) ≡ ids rows
-  ids-left tree =
-      ids_by (attached_as rows k false) rows (length-set rows k _) (λ j. path-out tree 0 j (no_root tree) no_root_above)
-
-  node_stays : IsTree rows → (j : ℕ) → (row_at (attached_as rows k false) j).node ≡ (row_at rows j).node
-  node_stays tree j =
-      of_both rows k (record (row_at rows k) { attached = false }) (λ s. s.node) refl j
-      (attached_row rows tree.shape k left.attached).1
-
-  pub nodes-left : IsTree rows → nodes (attached_as rows k false) ≡ nodes rows
-  nodes-left tree = nodes_by (attached_as rows k false) rows (ids-left tree) (λ j q e. node_stays tree j)
-
-  pub tree-left : IsTree rows → IsTree (attached_as rows k false)
-  tree-left tree =
-      let place = attached_row rows tree.shape k left.attached in
-      tree-out rows tree k place.0 place.1 (λ j q e. sym (path-out tree 0 j (no_root tree) no_root_above) ∙ e)
-
-  pub parked-left : IsTree rows → IsParkedTop (attached_as rows k false) k
-  parked-left tree = parked-taken_out rows k tree (attached_row rows tree.shape k left.attached).1 left.attached
-
-  pub tree-freed : IsTree rows → IsTree (freed rows k)
-  tree-freed tree = tree-given_up (attached_as rows k false) (tree-left tree) k (parked-left tree)
+  pub tree-freed : IsTree (freed rows k)
+  tree-freed = tree-given_up (attached_as rows k false) tree-left k parked-left
 
 -- ---- Undos of other rows
 
 -- a row that is left over stays so, whatever is flipped beside it: what was given up isn't put in again
-pub left-flipped : (rows : List Row) (u : Change) (k : ℕ) → (row_of u ≡ k → ⊥) → Fits rows u → IsLeftOver rows k
+left-flipped : (rows : List Row) (u : Change) (k : ℕ) → (row_of u ≡ k → ⊥) → Fits rows u → IsLeftOver rows k
     → IsLeftOver (flipped rows u) k
 left-flipped rows u k d f left = record {
   attached = ap (λ (s : Row). s.attached) here ∙ left.attached;
@@ -112,8 +75,8 @@ left-flipped rows u k d f left = record {
 
     given : (row_at (flipped rows u) (row_at (flipped rows u) k).parent).given_up ≡ true
     given =
-        ap (λ (s : Row). (row_at (flipped rows u) s.parent).given_up) here
-        ∙ kin-flipped (λ s. s.given_up) (λ s a name n. refl) rows u f.inside (row_at rows k).parent ∙ left.given_up
+        rw here (kin-flipped (λ s. s.given_up) (λ s a name n. refl) rows u f.inside (row_at rows k).parent
+        ∙ left.given_up)
 
     out : (row_at (flipped rows u) (row_at (flipped rows u) k).parent).attached ≡ false
     out = false_from_ne_true _ (λ e.
@@ -121,24 +84,23 @@ left-flipped rows u k d f left = record {
         let not_up = (f.sound.each _ place.1).attached e in
         let up = given in cc)
 
-abbrev LeftAs : ℕ → Row → List Row → Type 0
-LeftAs k r rows = IsLeftOver rows k × (row_at rows k ≡ r)
+abbrev LeftOut : ℕ → List Row → List Row → Type 0
+LeftOut k a b = IsLeftOver a k × (b ≡ attached_as a k false)
 
-reason-left : (k : ℕ) (r : Row) → IsReason k (record r { attached = false }) (LeftAs k r)
-reason-left k r = record {
-  lasts = λ rows u d tree f ok. (left-flipped rows u k d f ok.0, other_row rows u k d ∙ ok.1);
-  tree = λ rows tree ok.
-      subst (λ (s : Row). IsTree (set rows k (record s { attached = false }))) ok.1 (tree-left rows k ok.0 tree);
-  nodes = λ rows tree ok.
-      subst (λ (s : Row). nodes (set rows k (record s { attached = false })) ≡ nodes rows) ok.1
-      (nodes-left rows k ok.0 tree);
-  ids = λ rows tree ok.
-      subst (λ (s : Row). ids (set rows k (record s { attached = false })) ≡ ids rows) ok.1 (ids-left rows k ok.0 tree);
-  clear = λ rows tree ok i j oi oj c. subst (λ (s : Row). IsClear (set rows k (record s { attached = false })) i j) ok.1
-      (clear-less rows (attached_as rows k false)
-      (λ m. of_both rows k (record (row_at rows k) { attached = false }) (λ s. s.parent) refl m
-      (attached_row rows tree.shape k ok.0.attached).1)
-      (λ m at. (still_attached rows k m (attached_row rows tree.shape k ok.0.attached).1 at).1) i j c);
+reason-left : (k : ℕ) → IsReason k (LeftOut k)
+reason-left k = record {
+  lasts = λ a b u d f ok.
+      (left-flipped a u k d f ok.0, set-lasts k (λ (s : Row). record s { attached = false }) a b u d ok.1);
+  longer = λ a b ok. omega (arith, ap length ok.1, length-set a k (record (row_at a k) { attached = false }));
+  other = λ a b ok j d. ap (λ s. row_at s j) ok.1 ∙ get_or-set_other a k j _ blank d;
+  tree = λ a b tree ok. subst IsTree (sym ok.1) (tree-left a k ok.0 tree);
+  nodes = λ a b tree ok. ap nodes ok.1 ∙ nodes-left a k ok.0 tree;
+  ids = λ a b tree ok. ap ids ok.1 ∙ ids-left a k ok.0 tree;
+  clear = λ a b tree ok i j oj c. let l = (attached_row a tree.shape k ok.0.attached).1 in
+      subst (λ s. IsClear s i j) (sym ok.1)
+      (clear-less a (attached_as a k false)
+      (λ m. of_both a k (record (row_at a k) { attached = false }) (λ s. s.parent) refl m l)
+      (λ m at. (still_attached a k m l at).1) i j c);
 }
 
 -- freeing it leaves all Undos of other rows usable
@@ -146,6 +108,5 @@ pub alike-freed : (rows : List Row) → IsTree rows → (k : ℕ) → IsLeftOver
     → GoesAlike (λ j. j ≡ k → ⊥) rows (freed rows k)
 alike-freed rows tree k left =
     alike-then (λ j. j ≡ k → ⊥)
-    (alike-set k (record (row_at rows k) { attached = false }) (LeftAs k (row_at rows k))
-    (reason-left k (row_at rows k)) rows tree (left, refl))
+    (alike-beside k (LeftOut k) (reason-left k) rows (attached_as rows k false) tree (left, refl))
     (alike-given_up (attached_as rows k false) k (tree-left rows k left tree) (parked-left rows k left tree))

@@ -1,15 +1,10 @@
 -- Going up from a row: the path on which it lies.
-use Rattle.std.proofs.Common.{◌≡◌, ◌≢◌, ℕ, zero, suc, ◌<◌, true, false, nat_eq, List, [], ◌∷◌, ◌++◌, length}
-use Rattle.std.proofs.Common.{Option, None, Some, refl, sym, ◌∙◌, ap, arith, inl, inr, append_assoc, length-append}
-use Rattle.dm_tree.specs.declared.rows.Row.{Row}
-use Rattle.dm_tree.specs.Nodes.{Path}
-use Rattle.dm_tree.specs.Rows.{blank, row_at, walk, path_below, IsShaped}
-use Rattle.std.proofs.lemmas.Bool.{cases_Bool}
-use Rattle.std.proofs.lemmas.Bool.Decides.{nat_tests}
 use Rattle.std.proofs.lemmas.Option.{cond_some}
-use Rattle.std.proofs.lemmas.List.{get_or_past}
-use Rattle.std.specs.Option.{option_map}
-use Rattle.dm_tree.proofs.Paths.{none, last, Ends, below_or_not, ends, longer, not_empty, same_ends, same_or_not}
+use Rattle.dm_tree.proofs.Common.{◌⊎◌, ◌≡◌, ◌≢◌, ℕ, zero, suc, ◌<◌, true, false, nat_eq, List, [], ◌∷◌, ◌++◌, length}
+use Rattle.dm_tree.proofs.Common.{Option, None, Some, refl, sym, ◌∙◌, ap, arith, inl, inr, length-append, Row, Path}
+use Rattle.dm_tree.proofs.Common.{blank, row_at, walk, path_below, IsShaped, cases_Bool, nat_tests, get_or_past}
+use Rattle.dm_tree.proofs.Common.{option_map}
+use Rattle.dm_tree.proofs.Paths.{longer, not_empty, same_ends}
 
 pub record Up (rows : List Row) (d top k : ℕ) (p : Path) : Type 0 where
   pub attached : (row_at rows k).attached ≡ true
@@ -17,17 +12,17 @@ pub record Up (rows : List Row) (d top k : ℕ) (p : Path) : Type 0 where
   pub found : walk rows d top (row_at rows k).parent ≡ Some above
   pub named : p ≡ above ++ (row_at rows k).name ∷ []
 
-pub option_up : (o : Option Path) (n : List ℕ) (p : Path) → option_map (λ p. p ++ n ∷ []) o ≡ Some p
-    → (r : Path) × (o ≡ Some r) × (p ≡ r ++ n ∷ [])
-option_up None n p e = absurd (cc)
-option_up (Some r) n p e = (r, refl, cc)
+pub some_of : {X Y : Type 0} (f : X → Y) (o : Option X) (y : Y) → option_map f o ≡ Some y
+    → (x : X) × (o ≡ Some x) × (f x ≡ y)
+some_of f None y e = absurd (cc)
+some_of f (Some x) y e = (x, refl, cc)
 
 pub walk_up : (rows : List Row) (d top k : ℕ) (p : Path) → nat_eq k top ≡ false → walk rows (suc d) top k ≡ Some p
     → Up rows d top k p
 walk_up rows d top k p other e = elim (cases_Bool (row_at rows k).attached) [
   | inl joined ↦
-      let u = option_up _ _ p (rw (other, joined) at e) in
-      record { attached = joined; above = u.0; found = u.1; named = u.2 }
+      let u = some_of (λ q. q ++ (row_at rows k).name ∷ []) _ p (rw (other, joined) at e) in
+      record { attached = joined; above = u.0; found = u.1; named = sym u.2 }
   | inr out ↦ absurd (let none : None ≡ Some p = rw (other, out) at e in cc)
 ]
 
@@ -81,17 +76,8 @@ not_zero n h = not_same n 0 h
 -- a row that is attached is no root, and is there
 pub attached_row : (rows : List Row) → IsShaped rows → (k : ℕ) → (row_at rows k).attached ≡ true
     → (0 < k) × (k < length rows)
-attached_row rows shape k at = (
-  elim (same_or_not k 0) [
-    | inl h ↦ let fixed = shape.fixed in absurd (cc)
-    | inr h ↦ omega arith
-  ],
-  elim (below_or_not k (length rows)) [
-    | inl h ↦ h
-    | inr h ↦ let past : row_at rows k ≡ blank = get_or_past rows k blank h in
-        let no : (row_at rows k).attached ≡ false = ap (λ (r : Row). r.attached) past in absurd (cc)
-  ],
-)
+attached_row rows shape k at =
+    let fixed = shape.fixed in (grind (arith, at, fixed), grind (arith, at, get_or_past rows k blank))
 
 pub attached_falls : (rows : List Row) → IsShaped rows → (k : ℕ) → (row_at rows k).attached ≡ true
     → (row_at rows k).depth ≡ suc (row_at rows (row_at rows k).parent).depth
@@ -128,29 +114,31 @@ pub record Above (rows : List Row) (q : Path) (m : List ℕ) : Type 0 where
   pub named : (row_at rows row).name ≡ m
   pub parent_there : path_below rows 0 (row_at rows row).parent ≡ Some q
 
-pub above_step : (rows : List Row) (d i : ℕ) (q : Path) (m : List ℕ) (ms : Path) → Up rows d 0 i (q ++ m ∷ ms)
-    → (row_at rows (row_at rows i).parent).depth ≡ d → Ends ms
-    → ((front : Path) → walk rows d 0 (row_at rows i).parent ≡ Some (q ++ m ∷ front) → Above rows q m) → Above rows q m
-above_step rows d i q m [] u deep none rec =
-    let both = same_ends q u.above m (row_at rows i).name u.named in
-    record {
-      row = i;
-      attached = u.attached;
-      named = sym both.1;
-      parent_there = rw deep (u.found ∙ ap (λ r. Some r) (sym both.0));
-    }
-above_step rows d i q m ms u deep (last front n) rec =
-    let joined : (q ++ m ∷ front) ++ n ∷ [] ≡ u.above ++ (row_at rows i).name ∷ [] =
-    append_assoc q (m ∷ front) (n ∷ []) ∙ u.named in
-    rec front (u.found ∙ ap (λ r. Some r) (sym (same_ends (q ++ m ∷ front) u.above n (row_at rows i).name joined).0))
+-- a path that ends with one name ends right behind q and m, or further on
+split_end : (q : Path) (m : List ℕ) (ms a : Path) (n : List ℕ) → q ++ m ∷ ms ≡ a ++ n ∷ []
+    → ((a ≡ q) × (n ≡ m)) ⊎ ((front : Path) × (a ≡ q ++ m ∷ front))
+split_end [] m ms [] n e = inl (refl, cc)
+split_end [] m ms (x ∷ a) n e = inr (a, cc)
+split_end (y ∷ q) m ms [] n e = let tail : q ++ m ∷ ms ≡ [] = cc in absurd (longer q m ms tail)
+split_end (y ∷ q) m ms (x ∷ a) n e =
+    let head : y ≡ x = cc in
+    elim (split_end q m ms a n (cc)) [ inl at ↦ inl (cc, at.1) | inr far ↦ inr (far.0, cc) ]
 
 pub above : (rows : List Row) → IsShaped rows → (d i : ℕ) (q : Path) (m : List ℕ) (ms : Path)
     → (row_at rows i).depth ≡ d → walk rows d 0 i ≡ Some (q ++ m ∷ ms) → Above rows q m
 above rows shape zero i q m ms deep e = absurd (longer q m ms (at_top rows zero 0 i _ (at_bottom rows 0 i _ e) e))
 above rows shape (suc d) i q m ms deep e =
     let u = up_from rows shape d i _ deep e in
-    above_step rows d i q m ms u.0 u.1 (ends ms)
-    (λ front h. above rows shape d (row_at rows i).parent q m front u.1 h)
+    elim (split_end q m ms u.0.above (row_at rows i).name u.0.named) [
+      | inl at ↦ record {
+        row = i;
+        attached = u.0.attached;
+        named = at.1;
+        parent_there = rw u.1 (u.0.found ∙ ap (λ r. Some r) at.0);
+      }
+      | inr far ↦
+          above rows shape d (row_at rows i).parent q m far.0 u.1 (u.0.found ∙ ap (λ r. Some r) far.1)
+    ]
 
 -- a path is as long as its row is deep
 pub depth_is : (rows : List Row) → IsShaped rows → (d k : ℕ) (p : Path) → (row_at rows k).depth ≡ d

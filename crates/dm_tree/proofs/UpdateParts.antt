@@ -1,15 +1,8 @@
 -- What keeps its permanent nodes alike keeps the update part.
-use Rattle.std.proofs.Common.{◌≡◌, Bool, true, false, refl, sym, ◌∙◌, ap, inl, inr}
-use Rattle.std.proofs.lemmas.Bool.{false_from_ne_true}
-use Rattle.std.specs.FinMap.{get, insert}
-use Rattle.dm_tree.specs.declared.nodes.Node.{Node}
-use Rattle.dm_tree.specs.declared.nodes.Value.{Value}
-use Rattle.dm_tree.specs.declared.nodes.Role.{Role}
-use Rattle.dm_tree.specs.declared.nodes.Role.TheVariants as role
-use Rattle.dm_tree.specs.Nodes.{Path, Nodes}
-use Rattle.dm_tree.specs.Devices.{is_of_update, is_update_state, Stands, HasUpdate, HasNoUpdate, IsUpdateInOrder}
-use Rattle.dm_tree.specs.Devices.{StaysForUpdate, KeepsUpdate}
+use Rattle.dm_tree.specs.Devices.{Stands, HasUpdate, HasNoUpdate, IsUpdateInOrder, StaysForUpdate, KeepsUpdate}
 use Rattle.dm_tree.specs.Laws.{ChangedKeepsUpdate, AddedKeepsUpdate, PrunedKeepsUpdate, RenamedKeepsUpdate}
+use Rattle.dm_tree.proofs.Common.{◌≡◌, Bool, false, refl, sym, ◌∙◌, ap, inl, inr, false_from_ne_true, get, Node, Role}
+use Rattle.dm_tree.proofs.Common.{Path, Nodes, is_of_update}
 use Rattle.dm_tree.proofs.NodesKept.{Was, Keeps, some_node, keeps_changed, keeps_added, keeps_pruned, keeps_renamed}
 
 module _ (alike : Node → Node → Type 0) (stays : (x y : Node) → alike x y → StaysForUpdate x y) (m n : Nodes)
@@ -29,18 +22,11 @@ module _ (alike : Node → Node → Type 0) (stays : (x y : Node) → alike x y 
         still.alike,
       )
 
-  state_then : (old new : Node) → StaysForUpdate old new → old.role ≡ role.State
-      → is_update_state old.value.bytes ≡ true → is_update_state new.value.bytes ≡ true
-  state_then old new stay is_state state = elim (stay.state is_state) [
-    | inl e ↦ ap (λ (v : Value). is_update_state v.bytes) e ∙ state
-    | inr may ↦ may
-  ]
-
   moved_nowhere : {r : Path} {interior : Bool} {k : Role} (q : Path) (y : Node) (w : Was m q y) (x : Node)
       → Stands m r interior k x → w.at ≡ r → q ≡ r
   moved_nowhere q y w x s e =
       let same : x ≡ w.old = some_node x w.old (sym s.there ∙ ap (get m) (sym e) ∙ w.there) in
-      sym (w.unmoved (ap (λ (n : Node). n.permanent) (sym same) ∙ s.permanent)) ∙ e
+      sym (w.unmoved (rw same at s.permanent)) ∙ e
 
   pub has_update : (p : Path) → HasUpdate m p → HasUpdate n p
   has_update p has =
@@ -54,7 +40,10 @@ module _ (alike : Node → Node → Type 0) (stays : (x y : Node) → alike x y 
         update_stands = update.1;
         data_stands = data_node.1;
         state_stands = state.1;
-        state_is = state_then has.state state.0 (stays has.state state.0 state.2) has.state_stands.role_is has.state_is;
+        state_is = elim ((stays has.state state.0 state.2).state has.state_stands.role_is) [
+          | inl same ↦ rw same has.state_is
+          | inr may ↦ may
+        ];
         alone = λ q y there role.
             let w = keeps.was q y there role in
             elim (has.alone w.at w.old w.there (ap is_of_update (sym w.role) ∙ role)) [
@@ -91,11 +80,11 @@ keeps_update m n keeps = record {
 
 pub changed_keeps_update : ChangedKeepsUpdate
 changed_keeps_update m p old new there stay =
-    keeps_update m (insert m p new) (keeps_changed StaysForUpdate itself m p old new there stay stay.role)
+    keeps_update m _ (keeps_changed StaysForUpdate itself m p old new there stay stay.role)
 
 pub added_keeps_update : AddedKeepsUpdate
 added_keeps_update m p new free role_is =
-    keeps_update m (insert m p new) (keeps_added StaysForUpdate itself m p new free role_is)
+    keeps_update m _ (keeps_added StaysForUpdate itself m p new free role_is)
 
 pub pruned_keeps_update : PrunedKeepsUpdate
 pruned_keeps_update m p node formed there other =

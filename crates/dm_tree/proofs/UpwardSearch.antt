@@ -1,13 +1,10 @@
 -- What the searches upwards find, one row further up.
-use Rattle.std.proofs.Common.{◌≡◌, ℕ, zero, suc, ◌-◌, ◌<◌, ◌≤◌, ◌++◌, ◌∷◌, Bool, true, false, cond, nat_eq}
-use Rattle.std.proofs.Common.{List, [], length, length-append, Option, Some, None, arith, refl}
-use Rattle.std.specs.Prelude.{is_some}
-use Rattle.std.specs.Option.{option_map}
 use Rattle.dm_acl.specs.declared.values.Right.{Right}
-use Rattle.dm_tree.specs.declared.rows.Row.{Row}
-use Rattle.dm_tree.specs.Nodes.{Path}
-use Rattle.dm_tree.specs.Rows.{row_at, walk, path_below, placed, ids_below}
-use Rattle.dm_tree.specs.Walks.{path_up, row_names, deciding_row}
+use Rattle.dm_tree.specs.Walks.{row_names}
+use Rattle.dm_tree.proofs.Common.{◌≡◌, ℕ, zero, suc, ◌-◌, ◌<◌, ◌≤◌, ◌++◌, ◌∷◌, true, false, nat_eq, List, [], length}
+use Rattle.dm_tree.proofs.Common.{length-append, Option, Some, None, arith, refl, inl, inr, is_some, option_map}
+use Rattle.dm_tree.proofs.Common.{cases_Bool, Row, Path, row_at, walk, path_below, placed, ids_below, path_up}
+use Rattle.dm_tree.proofs.Common.{deciding_row}
 
 pub length-path_up : (rows : List Row) (d k : ℕ) → length (path_up rows d k) ≡ d
 length-path_up rows zero k = refl
@@ -62,22 +59,16 @@ not_in rows zero k other out = rw other refl
 not_in rows (suc d) k other out = rw (other, out) refl
 
 pub in_at_end : (rows : List Row) (d k : ℕ) → d ≡ 0 → is_some (walk rows d 0 k) ≡ nat_eq k 0
-in_at_end rows zero k z = by_test (nat_eq k 0)
-  where
-    found : Bool → Option Path
-    found b = cond b (Some []) None
-
-    by_test : (b : Bool) → is_some (found b) ≡ b
-    by_test true = refl
-    by_test false = refl
+in_at_end rows zero k z = elim (cases_Bool (nat_eq k 0)) [ inl is ↦ rw is refl | inr isnt ↦ rw isnt refl ]
 in_at_end rows (suc d) k z = absurd (omega (arith, z))
 
 -- ---- how many rows lie there
 
 pub length-ids_below : (rows : List Row) (top n : ℕ) → length (ids_below rows top n) ≤ n
 length-ids_below rows top zero = omega arith
-length-ids_below rows top (suc n) = by_test (path_below rows top n) (length-ids_below rows top n)
-  where
-    by_test : (o : Option Path) → length (ids_below rows top n) ≤ n → length (placed o n (ids_below rows top n)) ≤ suc n
-    by_test None h = omega arith
-    by_test (Some p) h = omega arith
+length-ids_below rows top (suc n) =
+    let fewer = length-ids_below rows top n in
+    elim (path_below rows top n) as (λ o. length (placed o n (ids_below rows top n)) ≤ suc n) [
+      | None ↦ omega arith
+      | Some p ↦ omega arith
+    ]

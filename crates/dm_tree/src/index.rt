@@ -306,7 +306,7 @@ pub(crate) fn add_row(
     sizes: &mut Vec<u32>,
     row: Row,
 ) -> Result<(), Memory>
-    requires shaped { IsShaped rows.old.items }
+    requires tree { IsTree rows.old.items }
     requires few { length rows.old.items + 1 < 2 ^ 32 }
     requires out { row.attached ≡ false }
     requires held { row.given_up ≡ false }
@@ -328,6 +328,7 @@ pub(crate) fn add_row(
 }
 
 /// Puts a row that isn't put in yet in place of a free one. Its parent gets room for it.
+#[tactic(auto, using(crate::proofs::IndexFills::room_below))]
 pub(crate) fn fill_row(
     rows: &mut Vec<Row>,
     index: &mut Vec<Children>,

@@ -1,8 +1,5 @@
-use Rattle.std.proofs.Common.{◌≡◌, ◌∙◌, ◌<◌, ap, sym, arith, length}
-use Rattle.std.proofs.lemmas.List.{get_or_default}
-use Rattle.dm_tree.specs.declared.rows.Row.{Row}
-use Rattle.dm_tree.specs.Rows.{blank}
-use Rattle.dm_tree.specs.Index.{ChildList, no_children, children_at}
+use Rattle.dm_tree.proofs.Common.{◌≡◌, ◌∙◌, ◌<◌, ap, sym, arith, length, get_or_default, Row, blank, ChildList}
+use Rattle.dm_tree.proofs.Common.{no_children, children_at}
 use Rattle.dm_tree.proofs.IndexFills.{free-bare}
 use Rattle.dm_tree.proofs.discards.free_row.Goals as goal
 

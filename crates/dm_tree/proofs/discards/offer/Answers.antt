@@ -1,7 +1,5 @@
-use Rattle.std.proofs.Common.{◌≡◌, ◌∙◌, ap, sym, subst, arith, length}
-use Rattle.std.proofs.Math.ListN.{set}
-use Rattle.std.proofs.lemmas.List.{get_or_default}
-use Rattle.dm_tree.specs.Index.{ChildList, no_children, children_at, IsIndex}
+use Rattle.dm_tree.proofs.Common.{◌≡◌, ◌∙◌, ap, sym, subst, arith, length, set, get_or_default, ChildList, no_children}
+use Rattle.dm_tree.proofs.Common.{children_at, IsIndex}
 use Rattle.dm_tree.proofs.FreeingWalk.{renewed_index}
 use Rattle.dm_tree.proofs.discards.offer.Goals as goal
 

@@ -1,4 +1,4 @@
-use Rattle.std.proofs.Common.{◌∙◌}
+use Rattle.dm_tree.proofs.Common.{◌∙◌}
 use Rattle.dm_tree.proofs.IndexUnlinks.{back_in, put_again, renamed_index}
 use Rattle.dm_tree.proofs.index.move_name.Goals as goal
 

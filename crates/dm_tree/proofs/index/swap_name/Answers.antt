@@ -1,18 +1,12 @@
-use Rattle.std.proofs.Common.{◌∙◌, ap, sym, subst}
-use Rattle.dm_tree.specs.declared.rows.Row.{Row}
-use Rattle.dm_tree.specs.Rows.{blank, node_of}
-use Rattle.dm_tree.specs.Edits.{with_name}
-use Rattle.dm_tree.specs.Index.{IsIndex}
-use Rattle.dm_tree.proofs.IndexLinks.{read, index-alike}
-use Rattle.dm_tree.proofs.IndexUnlinks.{link-with_name}
+use Rattle.dm_tree.proofs.Common.{◌∙◌, ap, sym, Row, blank, node_of}
+use Rattle.dm_tree.proofs.IndexLinks.{read}
+use Rattle.dm_tree.proofs.IndexUnlinks.{index-with_name}
 use Rattle.dm_tree.proofs.index.swap_name.Goals as goal
 
 pub returns-else-index-clause-index : goal.returns-else-index-clause-index
 returns-else-index-clause-index c =
     let rows = c.args.rows.now.items in
     let row = read rows c.args.id c.index.result.now blank c.requires.inside c.index.ensures in
-    subst (λ rs. IsIndex rs c.args.index.now.items) (sym c.exchange_name.ensures.rows)
-    (index-alike rows (with_name rows c.args.id c.args.name.now (node_of rows c.args.id))
-    (link-with_name rows c.args.id c.args.name.now (node_of rows c.args.id) c.requires.inside
-    (ap (λ (r : Row). r.attached) (sym row) ∙ c.if-index.false))
-    c.args.index.now.items c.requires.index)
+    rw c.exchange_name.ensures.rows
+    (index-with_name rows c.args.id c.args.name.now (node_of rows c.args.id) c.requires.inside
+    (ap (λ (r : Row). r.attached) (sym row) ∙ c.if-index.false) c.args.index.now.items c.requires.index)

@@ -1,6 +1,4 @@
-use Rattle.std.proofs.Common.{◌+◌, subst}
-use Rattle.dm_tree.specs.Rows.{row_at}
-use Rattle.dm_tree.specs.Index.{IsPlacePast}
+use Rattle.dm_tree.proofs.Common.{◌+◌, subst, row_at, IsPlacePast}
 use Rattle.dm_tree.proofs.NamePlaces.{past_child}
 use Rattle.dm_tree.proofs.siblings.place_behind.Goals as goal
 

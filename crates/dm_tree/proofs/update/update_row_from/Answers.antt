@@ -1,18 +1,13 @@
-use Rattle.std.proofs.Common.{◌≡◌, ◌∙◌, ◌<◌, ℕ, Bool, List, length, get_or, ap, sym, arith, inl, inr}
-use Rattle.std.proofs.lemmas.List.{get_or_default}
 use Rattle.dm_tree.specs.declared.nodes.Role.TheVariants as role
-use Rattle.dm_tree.specs.declared.rows.Row.{Row}
-use Rattle.dm_tree.specs.Devices.{is_role, is_update_node}
-use Rattle.dm_tree.specs.Rows.{blank, node_of}
+use Rattle.dm_tree.proofs.Common.{◌≡◌, ◌∙◌, ◌<◌, ℕ, Bool, List, length, get_or, ap, sym, arith, inl, inr}
+use Rattle.dm_tree.proofs.Common.{get_or_default, Row, is_role, is_update_node, blank, node_of}
 use Rattle.dm_tree.proofs.Paths.{same_or_not}
 use Rattle.dm_tree.proofs.RoleSearch.{is_update}
 use Rattle.dm_tree.proofs.update.update_row_from.Goals as goal
 
 role_read : (rows : List Row) (k : ℕ) (r : Row) → k < length rows → (b : Bool)
     → b ≡ is_role (get_or rows k r).node.role role.UpdateNode → is_update_node (node_of rows k).role ≡ b
-role_read rows k r l b e =
-    sym (is_update (node_of rows k).role)
-    ∙ ap (λ (s : Row). is_role s.node.role role.UpdateNode) (sym (get_or_default rows k r blank l)) ∙ sym e
+role_read rows k r l b e = rw (e, get_or_default rows k r blank l) (sym (is_update (node_of rows k).role))
 
 pub loop-row-init : goal.loop-row-init
 loop-row-init c k from to = absurd (omega (arith, from, to))

@@ -1,5 +1,5 @@
-use Rattle.std.proofs.Common.{◌-◌, length}
 use Rattle.dm_tree.specs.Devices.{HaveOtherRoles}
+use Rattle.dm_tree.proofs.Common.{◌-◌, length}
 use Rattle.dm_tree.proofs.update.update_row_from.Given as goal
 
 abbrev pub invariant-loop-row : goal.invariant-loop-row

@@ -1,8 +1,6 @@
-use Rattle.std.proofs.Common.{◌<◌, ◌∙◌, arith}
 use Rattle.std.proofs.lemmas.Grind.{common_steps}
 use Rattle.std.proofs.lemmas.Result.{on_ok_weaker}
-use Rattle.std.proofs.lemmas.List.{get_or_default}
-use Rattle.dm_tree.specs.Rows.{blank}
+use Rattle.dm_tree.proofs.Common.{◌<◌, ◌∙◌, arith, get_or_default, blank}
 use Rattle.dm_tree.proofs.PrintedPaths.{printed_up}
 use Rattle.dm_tree.proofs.walks.+print_up.Goals as goal
 

@@ -1,5 +1,5 @@
-use Rattle.std.proofs.Common.{arith}
 use Rattle.std.proofs.lemmas.Grind.{common_steps}
+use Rattle.dm_tree.proofs.Common.{arith}
 use Rattle.dm_tree.proofs.UpwardSearch.{length-path_up, path_up_one}
 use Rattle.dm_tree.proofs.walks.+put_path.Goals as goal
 

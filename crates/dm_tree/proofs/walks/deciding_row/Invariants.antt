@@ -1,6 +1,4 @@
-use Rattle.std.proofs.Common.{◌≡◌, ◌<◌, length}
-use Rattle.dm_tree.specs.Rows.{row_at}
-use Rattle.dm_tree.specs.Walks.{deciding_row}
+use Rattle.dm_tree.proofs.Common.{◌≡◌, ◌<◌, length, row_at, deciding_row}
 use Rattle.dm_tree.proofs.walks.deciding_row.Given as goal
 
 abbrev pub invariant-loop-left : goal.invariant-loop-left

@@ -1,5 +1,4 @@
-use Rattle.std.proofs.Common.{◌≡◌, ◌<◌, drop, length}
-use Rattle.dm_tree.specs.Walks.{find_from}
+use Rattle.dm_tree.proofs.Common.{◌≡◌, ◌<◌, drop, length, find_from}
 use Rattle.dm_tree.proofs.walks.found_row.Given as goal
 
 abbrev pub invariant-loop-name : goal.invariant-loop-name

@@ -1,6 +1,4 @@
-use Rattle.std.proofs.Common.{◌≡◌, ◌<◌, length}
-use Rattle.std.specs.Prelude.{is_some}
-use Rattle.dm_tree.specs.Rows.{walk, path_below}
+use Rattle.dm_tree.proofs.Common.{◌≡◌, ◌<◌, length, is_some, walk, path_below}
 use Rattle.dm_tree.proofs.walks.is_in.Given as goal
 
 abbrev pub invariant-loop-left : goal.invariant-loop-left

@@ -1,7 +1,5 @@
-use Rattle.std.proofs.Common.{◌≡◌, ◌++◌, length}
-use Rattle.dm_uri.specs.Names.{joined}
-use Rattle.dm_tree.specs.Order.{children_behind, child_names}
-use Rattle.dm_tree.specs.Rows.{nodes, path_of, IsLive}
+use Rattle.dm_tree.specs.Order.{child_names}
+use Rattle.dm_tree.proofs.Common.{◌≡◌, ◌++◌, length, joined, children_behind, nodes, path_of, IsLive}
 use Rattle.dm_tree.proofs.ChildListing.{more_names}
 use Rattle.dm_tree.proofs.tree.Tree.child_names.Given as goal
 

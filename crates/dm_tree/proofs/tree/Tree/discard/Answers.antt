@@ -1,16 +1,8 @@
-use Rattle.std.proofs.Common.{◌≡◌, ℕ, [], sym, subst, ap, arith, length}
-use Rattle.dm_tree.specs.Rows.{Tree, IsTree, IsParkedTop}
-use Rattle.dm_tree.specs.Undos.{IsHeld, IsDiscarded}
-use Rattle.dm_tree.specs.Index.{IsIndex}
-use Rattle.dm_tree.specs.Notes.{GoesAlike, Stays}
-use Rattle.dm_tree.specs.Reuse.{IsUsed}
-use Rattle.dm_tree.specs.Frees.{IsFreed, IsGivenBack}
+use Rattle.dm_tree.specs.Frees.{IsFreed}
+use Rattle.dm_tree.proofs.Common.{[], sym, subst, ap, arith, length, Tree, IsParkedTop, IsHeld, IsIndex}
 use Rattle.dm_tree.proofs.EqualTrees.{tree_kept}
 use Rattle.dm_tree.proofs.LiveRows.{stay_live}
 use Rattle.dm_tree.proofs.tree.Tree.discard.Goals as goal
-
-rows_were : (c : goal.After-offer_above) → c.self.inside.rows.items ≡ c.args.self.now.rows
-rows_were c = ap (λ (t : Tree). t.rows) c.self.view_is
 
 pub free_subtree-requires-clause-parked : goal.free_subtree-requires-clause-parked
 free_subtree-requires-clause-parked c =
@@ -20,13 +12,8 @@ free_subtree-requires-clause-parked c =
 -- what was done
 done : (c : goal.After-offer_above) → IsFreed c.args.self.now.rows c.in-PutIn.id c.free_subtree.new.rows.items
 done c =
-    subst (λ rows. IsFreed rows c.in-PutIn.id c.free_subtree.new.rows.items) (rows_were c) c.free_subtree.ensures.freed
-
-top : (c : goal.After-offer_above) → IsParkedTop c.args.self.now.rows c.in-PutIn.id
-top c = subst (IsHeld c.args.self.now.rows) (sym c.in-PutIn.ensures) c.requires
-
-tree : (c : goal.After-offer_above) → IsTree c.args.self.now.rows
-tree c = tree_kept c.self.view_is c.self.invariant.tree
+    subst (λ (t : Tree). IsFreed t.rows c.in-PutIn.id c.free_subtree.new.rows.items) c.self.view_is
+    c.free_subtree.ensures.freed
 
 pub offer_above-requires-clause-inside : goal.offer_above-requires-clause-inside
 offer_above-requires-clause-inside c =
@@ -34,8 +21,8 @@ offer_above-requires-clause-inside c =
       arith,
       ap length c.deref.ensures.value,
       c.free_subtree.ensures.freed.long,
-      (subst (λ rows. IsParkedTop rows c.in-PutIn.id) (sym (ap (λ (t : Tree). t.rows) c.self.view_is))
-          (subst (IsHeld c.args.self.now.rows) (sym c.in-PutIn.ensures) c.requires)).inside,
+      ap (λ (t : Tree). length t.rows) c.self.view_is,
+      (subst (IsHeld c.args.self.now.rows) (sym c.in-PutIn.ensures) c.requires).inside,
     )
 
 pub invariant_of-self : goal.invariant_of-self
@@ -53,29 +40,20 @@ returns-in-PutIn-clause-ids c = (done c).alike.ids [] tt tt
 
 pub returns-in-PutIn-clause-stays : goal.returns-in-PutIn-clause-stays
 returns-in-PutIn-clause-stays c =
-    stay_live c.args.self.now.rows c.free_subtree.new.rows.items (tree c).shape (returns-in-PutIn-clause-ids c)
+    stay_live c.args.self.now.rows c.free_subtree.new.rows.items
+    (tree_kept c.self.view_is c.self.invariant.tree).shape (returns-in-PutIn-clause-ids c)
 
 pub returns-in-PutIn-clause-rows : goal.returns-in-PutIn-clause-rows
-returns-in-PutIn-clause-rows c =
-    subst (λ u. IsDiscarded u c.args.self.now.rows c.free_subtree.new.rows.items) c.in-PutIn.ensures (done c).given
+returns-in-PutIn-clause-rows c = rw (← c.in-PutIn.ensures) (done c).given
 
 pub returns-in-PutIn-clause-alike : goal.returns-in-PutIn-clause-alike
-returns-in-PutIn-clause-alike c =
-    subst (λ u. GoesAlike (Stays c.args.self.now.rows u) c.args.self.now.rows c.free_subtree.new.rows.items)
-    c.in-PutIn.ensures (done c).alike
+returns-in-PutIn-clause-alike c = rw (← c.in-PutIn.ensures) (done c).alike
 
 pub returns-in-PutIn-clause-parked : goal.returns-in-PutIn-clause-parked
-returns-in-PutIn-clause-parked c =
-    subst (λ u. (k : ℕ) → IsParkedTop c.free_subtree.new.rows.items k
-    → IsParkedTop c.args.self.now.rows k × Stays c.args.self.now.rows u k)
-    c.in-PutIn.ensures (done c).parked
+returns-in-PutIn-clause-parked c = rw (← c.in-PutIn.ensures) (done c).parked
 
 pub returns-in-PutIn-clause-used : goal.returns-in-PutIn-clause-used
-returns-in-PutIn-clause-used c =
-    subst (λ u. (k : ℕ) → IsUsed c.args.self.now.rows k → Stays c.args.self.now.rows u k
-    → IsUsed c.free_subtree.new.rows.items k)
-    c.in-PutIn.ensures (done c).used
+returns-in-PutIn-clause-used c = rw (← c.in-PutIn.ensures) (done c).used
 
 pub returns-in-PutIn-clause-given_back : goal.returns-in-PutIn-clause-given_back
-returns-in-PutIn-clause-given_back c =
-    subst (λ u. IsGivenBack u c.args.self.now.rows c.free_subtree.new.rows.items) c.in-PutIn.ensures (done c).spent
+returns-in-PutIn-clause-given_back c = rw (← c.in-PutIn.ensures) (done c).spent

@@ -1,9 +1,4 @@
-use Rattle.std.proofs.Common.{◌≡◌, length}
-use Rattle.std.specs.Prelude.{IsTrue, IfSome}
-use Rattle.std.specs.List.{list_all}
-use Rattle.dm_tree.specs.Nodes.{is_below}
-use Rattle.dm_tree.specs.Rows.{nodes, path_of, IsLive}
-use Rattle.dm_tree.specs.Edits.{fits}
+use Rattle.dm_tree.proofs.Common.{◌≡◌, length, IsTrue, IfSome, list_all, is_below, nodes, path_of, IsLive, fits}
 use Rattle.dm_tree.proofs.RenamedLengths.{then_fits, still_to_come}
 use Rattle.dm_tree.proofs.tree.Tree.fits.Given as goal
 

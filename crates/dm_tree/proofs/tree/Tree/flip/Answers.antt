@@ -1,66 +1,53 @@
-use Rattle.std.proofs.Common.{◌≡◌, ◌∙◌, sym, subst, ap}
-use Rattle.dm_tree.specs.Rows.{Tree}
-use Rattle.dm_tree.specs.Undos.{flipped, turned, Fits, IsHeld, TakesBack}
-use Rattle.dm_tree.specs.Index.{IsSized}
+use Rattle.dm_tree.proofs.Common.{subst₂, ap₂, ◌≡◌, ◌∙◌, List, sym, subst, ap, Change, Row, Tree, IsTree, flipped}
+use Rattle.dm_tree.proofs.Common.{turned, Fits, IsHeld, TakesBack, IsSized}
 use Rattle.dm_tree.proofs.EqualTrees.{tree_kept}
 use Rattle.dm_tree.proofs.UndoFlips.{again, held_then, turned_twice}
+use Rattle.dm_tree.proofs.tree.Tree.flip.Goals.{After-flip_row}
 use Rattle.dm_tree.proofs.tree.Tree.flip.Goals as goal
 
-rows_are : (c : goal.After-recount) → c.flip_row.new.rows.items ≡ flipped c.args.self.now.rows c.args.undo.now
-rows_are c =
-    c.flip_row.ensures.rows ∙ ap (λ (t : Tree). flipped t.rows c.undo.inside.change) c.self.view_is
-    ∙ ap (flipped c.args.self.now.rows) c.undo.view_is
+tree : (c : After-flip_row) → IsTree c.args.self.now.rows
+tree c = tree_kept c.self.view_is c.self.invariant.tree
 
-undo_is : (c : goal.After-recount) → c.flip_row.new.change ≡ turned c.args.self.now.rows c.args.undo.now
+rows_are : (c : After-flip_row) → c.flip_row.new.rows.items ≡ flipped c.args.self.now.rows c.args.undo.now
+rows_are c =
+    c.flip_row.ensures.rows ∙ ap₂ (λ (t : Tree) u. flipped t.rows u) c.self.view_is c.undo.view_is
+
+undo_is : (c : After-flip_row) → c.flip_row.new.change ≡ turned c.args.self.now.rows c.args.undo.now
 undo_is c =
-    c.flip_row.ensures.change ∙ ap (λ (t : Tree). turned t.rows c.undo.inside.change) c.self.view_is
-    ∙ ap (turned c.args.self.now.rows) c.undo.view_is
+    c.flip_row.ensures.change ∙ ap₂ (λ (t : Tree) u. turned t.rows u) c.self.view_is c.undo.view_is
+
+-- what holds of the flipped rows and what the Undo has become holds of what the code left
+as_left : (c : After-flip_row) (P : Change → List Row → Type 0)
+    → P (turned c.args.self.now.rows c.args.undo.now) (flipped c.args.self.now.rows c.args.undo.now)
+    → P c.flip_row.new.change c.flip_row.new.rows.items
+as_left c P = subst₂ P (sym (undo_is c)) (sym (rows_are c))
+
+back : (c : After-flip_row) → TakesBack c.flip_row.new.change c.args.self.now.rows c.flip_row.new.rows.items
+back c =
+    as_left c (λ u r. TakesBack u c.args.self.now.rows r)
+    (again c.args.self.now.rows c.args.undo.now (tree c) c.requires)
 
 pub returns-clause-again : goal.returns-clause-again
 returns-clause-again c =
-    let rows = c.args.self.now.rows in
-    let undo = c.args.undo.now in
-    let tree = tree_kept c.self.view_is c.self.invariant.tree in (
-      subst (λ u. TakesBack u rows c.flip_row.new.rows.items) (sym (undo_is c))
-          (subst (TakesBack (turned rows undo) rows) (sym (rows_are c)) (again rows undo tree c.requires)),
-      ap (λ r. turned r c.flip_row.new.change) (rows_are c) ∙ ap (turned (flipped rows undo)) (undo_is c)
-          ∙ turned_twice rows undo c.requires.inside,
+    let was = (goal.at.returns-clause-again c).After-flip_row in (
+      back was,
+      as_left was (λ u r. turned r u ≡ c.args.undo.now)
+          (turned_twice c.args.self.now.rows c.args.undo.now c.requires.inside),
     )
 
 pub returns-clause-held : goal.returns-clause-held
 returns-clause-held c =
-    let rows = c.args.self.now.rows in
-    let undo = c.args.undo.now in
-    let tree = tree_kept c.self.view_is c.self.invariant.tree in
-    subst (λ u. IsHeld c.flip_row.new.rows.items u) (sym (undo_is c))
-    (subst (λ r. IsHeld r (turned rows undo)) (sym (rows_are c)) (held_then rows undo tree c.requires))
+    let was = (goal.at.returns-clause-held c).After-flip_row in
+    as_left was (λ u r. IsHeld r u) (held_then c.args.self.now.rows c.args.undo.now (tree was) c.requires)
 
 pub recount-requires-clause-fits : goal.recount-requires-clause-fits
 recount-requires-clause-fits c =
-    let now = c.args.self.now.rows in
-    let undo = c.args.undo.now in
-    let tree = tree_kept c.self.view_is c.self.invariant.tree in
-    let rows : c.deref.result.now ≡ flipped now undo =
-    c.deref.ensures.value ∙ c.flip_row.ensures.rows
-    ∙ ap (λ (t : Tree). flipped t.rows c.undo.inside.change) c.self.view_is ∙ ap (flipped now) c.undo.view_is in
-    let change : c.flip_row.new.change ≡ turned now undo =
-    c.flip_row.ensures.change ∙ ap (λ (t : Tree). turned t.rows c.undo.inside.change) c.self.view_is
-    ∙ ap (turned now) c.undo.view_is in
-    subst (λ r. Fits r c.flip_row.new.change) (sym rows)
-    (subst (Fits (flipped now undo)) (sym change) (again now undo tree c.requires).fits)
+    subst (λ r. Fits r c.flip_row.new.change) (sym c.deref.ensures.value)
+    (back (goal.at.recount-requires-clause-fits c).After-flip_row).fits
 
 pub recount-requires-clause-sizes : goal.recount-requires-clause-sizes
 recount-requires-clause-sizes c =
-    let now = c.args.self.now.rows in
-    let undo = c.args.undo.now in
-    let tree = tree_kept c.self.view_is c.self.invariant.tree in
-    let rows : c.deref.result.now ≡ flipped now undo =
-    c.deref.ensures.value ∙ c.flip_row.ensures.rows
-    ∙ ap (λ (t : Tree). flipped t.rows c.undo.inside.change) c.self.view_is ∙ ap (flipped now) c.undo.view_is in
-    let change : c.flip_row.new.change ≡ turned now undo =
-    c.flip_row.ensures.change ∙ ap (λ (t : Tree). turned t.rows c.undo.inside.change) c.self.view_is
-    ∙ ap (turned now) c.undo.view_is in
-    let back : flipped c.deref.result.now c.flip_row.new.change ≡ c.self.inside.rows.items =
-    ap (λ r. flipped r c.flip_row.new.change) rows ∙ ap (flipped (flipped now undo)) change
-    ∙ (again now undo tree c.requires).rows ∙ sym (ap (λ (t : Tree). t.rows) c.self.view_is) in
-    subst (λ r. IsSized r c.self.inside.sizes.items) (sym back) c.self.invariant.sizes
+    let back = back (goal.at.recount-requires-clause-sizes c).After-flip_row in
+    subst (λ r. IsSized r c.self.inside.sizes.items)
+    (ap (λ (t : Tree). t.rows) c.self.view_is ∙ sym back.rows
+    ∙ ap (λ r. flipped r c.flip_row.new.change) (sym c.deref.ensures.value)) c.self.invariant.sizes

@@ -1,4 +1,4 @@
-use Rattle.std.proofs.Common.{◌∙◌, [], Some, sym, ap}
+use Rattle.dm_tree.proofs.Common.{[], sym}
 use Rattle.dm_tree.proofs.EqualTrees.{tree_kept}
 use Rattle.dm_tree.proofs.RowMaps.{id_of, root_live}
 use Rattle.dm_tree.proofs.LiveRows.{well_formed}
@@ -6,9 +6,8 @@ use Rattle.dm_tree.proofs.tree.Tree.root.Goals as goal
 
 pub returns-clause-id : goal.returns-clause-id
 returns-clause-id c =
-    let tree = tree_kept c.self.view_is c.self.invariant.tree in
-    ap (λ n. Some n) c.of.ensures
-    ∙ sym (id_of c.args.self.now.rows tree.shape 0 [] (root_live c.args.self.now.rows tree.shape))
+    let shape = (tree_kept c.self.view_is c.self.invariant.tree).shape in
+    rw c.of.ensures (sym (id_of c.args.self.now.rows shape 0 [] (root_live c.args.self.now.rows shape)))
 
 pub returns-clause-well_formed : goal.returns-clause-well_formed
 returns-clause-well_formed c =
