@@ -124,11 +124,12 @@ pub record Recalls (e : Engine) (m : EngineMark) (w : Whole) : Type 0 where
   pub held : IsHeld e m
   pub there : recalled e m ≡ w
 
--- every subtree that was taken out of the tree is held by a record of the journal: none was left over
+-- every subtree that is parked is held by a record of the journal: none was left over
 abbrev pub LeavesNone : Engine → Type 0
 LeavesNone e = AreAllHeld e.journal.entries e.tree.rows
 
--- each mark that could be gone back to can be still, and recalls what it did; and no subtree was left over
+-- each mark that could be gone back to can be still, and recalls what it did, with as much known of what stood before
+-- it; and where no subtree was left over, none is
 pub record Holds (old new : Engine) : Type 0 where
   pub marks : (m : EngineMark) (w : Whole) → Recalls old m w → Recalls new m w
   pub pasts : (m : EngineMark) → IsHeld old m → past_at new m ≡ past_at old m

@@ -21,8 +21,8 @@ pub fn refusals_are_told()
     ensures { RefusalsAreTold }
 {}
 
-/// Law: each command of a job that is read can be sent and wants its Status, a container and its members too; no package
-/// is empty, and commands are numbered in order.
+/// Law: each command of a job that is read can be sent and wants its Status, a container and its members too; no
+/// package is empty, and commands are numbered in order.
 pub fn jobs_are_sound()
     ensures { JobsAreSound }
 {}

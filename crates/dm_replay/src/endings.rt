@@ -18,7 +18,7 @@ use dm_start::put_tree;
 use dm_tree::Tree;
 use std::alloc::Global;
 
-// So many bytes of answers are put together at most, where no more bytes are wanted of the source.
+// Where so many bytes of answers wait they are put, also where no more bytes are wanted of the source.
 const PIECE: usize = 65_536;
 
 /// Puts the answers that are due: where the source would be asked for more bytes, and where they are many.

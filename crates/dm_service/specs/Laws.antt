@@ -222,12 +222,12 @@ ValuesAreRead = (job : Job) (es : List Arrival) (place : ℕ) (value : Step)
     → Contains (found_at (state_from (first_service job) es).told place) value
     → IsRead job.limits.max_obj (first_service job) [] es place value
 
--- the generic alert that a command is
+-- what is kept of a command that is a generic alert, Type and Data of its first Item; of any other command nothing
 abbrev pub generic_alert : Command → List KeptAlert
 generic_alert (command.Alert a) = if a.code == 1226 then kept_alert a.items ∷ [] else []
 generic_alert other = []
 
--- what is kept of a message that is read is each of its generic alerts, in document order; of another one nothing
+-- of a message that is read each generic alert outside its containers is kept, in document order; of another one none is
 abbrev pub AlertsAreTold : Type 0
 AlertsAreTold = (v : Service) (s : Session) (m : Parts) (nonce : List ℕ)
     → (accepts v s m nonce).alerts
