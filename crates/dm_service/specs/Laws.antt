@@ -227,7 +227,8 @@ abbrev pub generic_alert : Command → List KeptAlert
 generic_alert (command.Alert a) = if a.code == 1226 then kept_alert a.items ∷ [] else []
 generic_alert other = []
 
--- of a message that is read each generic alert outside its containers is kept, in document order; of another one none is
+-- of a message that is read each generic alert outside its containers is kept, in document order; of another one none
+-- is
 abbrev pub AlertsAreTold : Type 0
 AlertsAreTold = (v : Service) (s : Session) (m : Parts) (nonce : List ℕ)
     → (accepts v s m nonce).alerts

@@ -1,4 +1,5 @@
--- A field of a node is set: the rows stay a tree, and the edit is a flip.
+-- A field of a node is set: the rows stay a tree, and the edit is a flip; and what a node that is made or changed keeps
+-- to.
 use Rattle.dm_tree.specs.declared.fields.Field.{Field}
 use Rattle.dm_tree.specs.declared.fields.Field.TheVariants as field
 use Rattle.dm_tree.specs.declared.rows.Change.TheVariants as change
@@ -13,7 +14,7 @@ use Rattle.dm_tree.proofs.NodeEdits.{live_row}
 use Rattle.dm_tree.proofs.TreeEdits.{IsKin, tree-with_node}
 use Rattle.dm_tree.proofs.UndoPromises.{IsEditBack, edit-back}
 
--- ---- the node
+-- ---- what a node keeps to
 
 pub held_changed : (clock : Stamp) (n : Node) → IsStamp clock → IsValue n.interior n.value → IfSome n.acl IsReadAgain
     → length n.title ≤ 255 → IsNode (changed clock n)

@@ -1,4 +1,4 @@
--- Flips beside a row that is another one.
+-- Flips of other rows, in two lists of rows that differ in one.
 use Rattle.std.proofs.lemmas.List.{set_comm}
 use Rattle.dm_tree.specs.declared.rows.Change.TheVariants as change
 use Rattle.dm_tree.specs.Undos.{FitAll}

@@ -26,6 +26,8 @@ pub self_below : (rows : List Row) (d k : ℕ) → walk rows d k k ≡ Some []
 self_below rows zero k = grind (arith, nat_tests)
 self_below rows (suc d) k = grind (arith, nat_tests)
 
+-- ---- a top is given up
+
 alike : (rows : List Row) (k : ℕ) → k < length rows → IsAlike rows (without_content rows k)
 alike rows k l = record {
   parent = λ j. of_both rows k _ (λ s. s.parent) refl j l;

@@ -13,7 +13,7 @@ use Rattle.dm_tree.proofs.IndexLinks.{parked-same, parked-more, parked-some, is_
 use Rattle.dm_tree.proofs.IndexUnlinks.{few_parked}
 use Rattle.dm_tree.proofs.GivenUpRows.{self_below}
 use Rattle.dm_tree.proofs.RowReuse.{no_way}
-use Rattle.dm_tree.proofs.NewRows.{IsNewAt, in_place, behind, each_new, childless, path_out, off_new}
+use Rattle.dm_tree.proofs.NewRows.{IsNewAt, in_place, at_end, each_new, childless, path_out, off_new}
 
 -- a row that was given up and has no list is free
 pub free-bare : (rows : List Row) → IsTree rows → (index : List ChildList) → IsIndex rows index → (k : ℕ) → 0 < k
@@ -169,7 +169,7 @@ module _ (rows : List Row) (tree : IsTree rows) (room : length rows + 1 < 2 ^ 32
   longer = rows ++ r ∷ []
 
   added : IsNewAt rows longer (length rows) r
-  added = behind rows tree room r inside
+  added = at_end rows tree room r inside
 
   one_longer : length longer ≡ suc (length rows)
   one_longer = omega (arith, length-append rows (r ∷ []))

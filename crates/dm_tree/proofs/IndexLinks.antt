@@ -10,7 +10,7 @@ use Rattle.dm_tree.proofs.Common.{parked_below, IsInOrder, IsChildList, IsIndex,
 use Rattle.dm_tree.proofs.Common.{set-set}
 use Rattle.dm_tree.proofs.Paths.{below_or_not, same_or_not}
 use Rattle.dm_tree.proofs.RowPaths.{same_number}
-use Rattle.dm_tree.proofs.NodeEdits.{each_set, of_both}
+use Rattle.dm_tree.proofs.NodeEdits.{each_member, each_set, of_both}
 use Rattle.dm_tree.proofs.NameOrder.{named_place, Listed, HasMore, inserted, removed, new_listed, still_listed}
 use Rattle.dm_tree.proofs.NameOrder.{was_listed, order_more, order_fewer, once}
 
@@ -104,7 +104,8 @@ neither_below k s t isnt isnt' = record { still = λ is. absurd (isnt is); back 
 pub itself_below : (k : ℕ) (s : Row) → StaysBelow k s s
 itself_below k s = record { still = λ is. (is, refl); back = λ is. is }
 
--- where the same rows stand below the row k, its list stays; as many as there are then may be parked
+-- where the same rows stand below the row k, its list has the same numbers; how many are parked, and the room, may be
+-- others
 pub same_children : (rows rows' : List Row) (k : ℕ) → ((j : ℕ) → StaysBelow k (row_at rows j) (row_at rows' j))
     → (c : ChildList) → IsChildList rows k c → (parked room : ℕ) → parked ≡ parked_below rows' k (length rows')
     → length c.ids + parked ≤ room → IsChildList rows' k (record { ids = c.ids; parked = parked; room = room })
@@ -120,14 +121,6 @@ same_children rows rows' k same c h parked room is fits = record {
     stays : (i : ℕ) → i < length c.ids → StandsBelow k (row_at rows' (get_or c.ids i 0))
         × ((row_at rows' (get_or c.ids i 0)).name ≡ (row_at rows (get_or c.ids i 0)).name)
     stays i l = (same (get_or c.ids i 0)).still (h.attached i l, h.parent i l)
-
--- what holds of the new member of a list, and of the others, holds of each
-pub each_member : {X : Type 0} (xs : List X) (i : ℕ) (x d : X) → i < length xs → (P : X → Type 0) (j : ℕ)
-    → (j ≡ i → P x) → (j ≢ i → P (get_or xs j d)) → P (get_or (set xs i x) j d)
-each_member xs i x d l P j new old = elim (same_or_not j i) [
-  | inl e ↦ subst P (sym (ap (λ n. get_or (set xs i x) n d) e ∙ get_or-set_same xs i x d l)) (new e)
-  | inr apart ↦ subst P (sym (get_or-set_other xs i j x d apart)) (old apart)
-]
 
 -- one row's children are others, and those of the other rows stay
 pub index_set : (rows rows' : List Row) (index : List ChildList) (p : ℕ) (c : ChildList) → IsIndex rows index
@@ -172,7 +165,7 @@ module _ (rows : List Row) (id : ℕ) (r : Row) (inside : id < length rows) wher
       (rw (get_or-set_same rows id r blank inside) isnt) was
       (λ j d. ap (is_parked_row k j) (sym (get_or-set_other rows id j r blank d))))
 
-  -- it may be parked, or stand below its parent, otherwise than before
+  -- where it was put in, taken out or given up, only the list of its parent is another
   pub index_anew : r.parent ≡ (row_at rows id).parent → (index : List ChildList) → IsIndex rows index
       → (row_at rows id).parent < length rows → (c : ChildList)
       → IsChildList (set rows id r) (row_at rows id).parent c

@@ -6,8 +6,7 @@ use Rattle.dm_tree.proofs.Common.{◌≡◌, ◌∙◌, ℕ, ◌<◌, ◌∷◌,
 use Rattle.dm_tree.proofs.Common.{refl, sym, ap, arith, Node, Row, blank, row_at, node_of, nodes, ids}
 use Rattle.dm_tree.proofs.Common.{path_of, IsTree, IsLive, IsParkedTop, with_node, with_name, attached_as}
 use Rattle.dm_tree.proofs.Common.{without_content, ChildList, no_children, children_at, IsChildList, IsIndex}
-use Rattle.dm_tree.proofs.Common.{IsTaken, set, get_or-set_same, set-get_or, Entries}
-use Rattle.dm_tree.proofs.RowAppends.{set_twice}
+use Rattle.dm_tree.proofs.Common.{IsTaken, set, get_or-set_same, set-get_or, Entries, set-set}
 use Rattle.dm_tree.proofs.SubtreeCuts.{live_attached}
 use Rattle.dm_tree.proofs.LiveRows.{stay_live}
 use Rattle.dm_tree.proofs.RootTree.{root_row, not_attached}
@@ -75,7 +74,7 @@ pub back_again : (rows now : List Row) (k : ℕ) → k < length rows → (row_at
     → now ≡ attached_as rows k false → attached_as now k true ≡ rows
 back_again rows now k l a e =
     rw (e, get_or-set_same rows k (record (row_at rows k) { attached = false }) blank l)
-    (set_twice rows k _ _ ∙ ap (λ b. set rows k (record (row_at rows k) { attached = b })) (sym a)
+    (set-set rows k _ _ ∙ ap (λ b. set rows k (record (row_at rows k) { attached = b })) (sym a)
     ∙ set-get_or rows k blank)
 
 -- ---- the tree that is its root

@@ -5,7 +5,6 @@ pub mod RowPaths
 pub mod RowMaps
 pub mod NodeEdits
 pub mod FoundRows
-pub mod RowAppends
 pub mod SubtreeCuts
 pub mod UpwardSearch
 pub mod PrintedPaths

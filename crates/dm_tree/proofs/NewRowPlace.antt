@@ -2,9 +2,14 @@
 use Rattle.dm_tree.specs.declared.rows.Change.TheVariants as change
 use Rattle.dm_tree.proofs.Common.{◌≡◌, ℕ, ◌<◌, true, false, List, [], length, ◌∙◌, ap, inl, inr, get_or-set_same}
 use Rattle.dm_tree.proofs.Common.{set-set, get_or-append_seam, Row, blank, row_at, IsTree, attached_as, IsPut, IsPlaced}
-use Rattle.dm_tree.proofs.RowAppends.{set_last}
+use Rattle.dm_tree.proofs.Common.{set, ◌∷◌, ◌++◌, refl}
 use Rattle.dm_tree.proofs.UndoFlips.{flipped_twice}
 use Rattle.dm_tree.proofs.NewRows.{IsNewAt, new_at}
+
+-- the last one is replaced
+set_last : {A : Type 0} (l : List A) (a b : A) → set (l ++ a ∷ []) (length l) b ≡ l ++ b ∷ []
+set_last [] a b = refl
+set_last (x ∷ l) a b = ap (λ t. x ∷ t) (set_last l a b)
 
 -- it stands where it was placed
 pub put_in_placed : (rows now : List Row) (id : ℕ) (r : Row) → IsPlaced rows now id r
@@ -23,8 +28,8 @@ module _ (rows now : List Row) (tree : IsTree rows) (id : ℕ) (r : Row) (out : 
   is_out : (row_at now id).attached ≡ false
   is_out = ap (λ (s : Row). s.attached) new.here ∙ out
 
-  pub may_put : IsTree (attached_as now id true) → IsPut now id
-  may_put after = record {
+  pub may_put_placed : IsTree (attached_as now id true) → IsPut now id
+  may_put_placed after = record {
     inside = new.inside;
     below_root = new.below_root;
     out = is_out;

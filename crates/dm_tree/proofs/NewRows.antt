@@ -52,9 +52,9 @@ in_place rows tree k free r parent = record {
     long : length (set rows k r) ≡ length rows
     long = length-set rows k r
 
-pub behind : (rows : List Row) → IsTree rows → length rows + 1 < 2 ^ 32 → (r : Row) → r.parent < length rows
+pub at_end : (rows : List Row) → IsTree rows → length rows + 1 < 2 ^ 32 → (r : Row) → r.parent < length rows
     → IsNewAt rows (rows ++ r ∷ []) (length rows) r
-behind rows tree room r parent = record {
+at_end rows tree room r parent = record {
   below_root = tree.shape.rooted;
   inside = omega (arith, long);
   few = omega (arith, long, room);
@@ -77,7 +77,7 @@ pub new_at : (rows now : List Row) → IsTree rows → (k : ℕ) (r : Row) → I
     → IsNewAt rows now k r
 new_at rows now tree k r (inl (e, (room, f))) parent =
     subst (λ n. IsNewAt rows n k r) (sym f)
-    (subst (λ i. IsNewAt rows (rows ++ r ∷ []) i r) (sym e) (behind rows tree room r parent))
+    (subst (λ i. IsNewAt rows (rows ++ r ∷ []) i r) (sym e) (at_end rows tree room r parent))
 new_at rows now tree k r (inr (free, f)) parent =
     subst (λ n. IsNewAt rows n k r) (sym f) (in_place rows tree k free r parent)
 
@@ -106,19 +106,20 @@ new-as rows now k r b new = record {
     long : length (attached_as now k b) ≡ length now
     long = length-set now k _
 
--- what may stand there: where it is attached, below another row
+-- below its parent, another row, there is a place for it: one deeper, and under a name that no child has
 pub record IsBelow (rows : List Row) (k : ℕ) (r : Row) : Type 0 where
   pub away : r.parent ≢ k
   pub deep : r.depth ≡ suc (row_at rows r.parent).depth
   pub named : (j : ℕ) → Child rows r.parent r.name j → ⊥
   pub child : IsChildOf r.node (node_of rows r.parent)
 
+-- what may stand there: where it is attached, below another row
 pub record IsNewcomer (rows : List Row) (k : ℕ) (r : Row) : Type 0 where
   pub shallow : r.depth ≤ 16
   pub row : IsRow r
   pub below : r.attached ≡ true → IsBelow rows k r
 
--- a row that may be parked anywhere
+-- a row that may stand anywhere, since it isn't attached
 pub record IsAside (r : Row) : Type 0 where
   pub out : r.attached ≡ false
   pub row : IsRow r

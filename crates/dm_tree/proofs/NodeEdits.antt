@@ -3,11 +3,11 @@ use Rattle.std.specs.FinMap.{insert}
 use Rattle.dm_tree.proofs.Common.{◌≡◌, ◌≢◌, ℕ, zero, suc, ◌<◌, true, List, length, Some, refl, sym, ◌∙◌, ap, subst}
 use Rattle.dm_tree.proofs.Common.{arith, inl, inr, get_or-set_same, get_or-set_other, set, length-set, from_entries}
 use Rattle.dm_tree.proofs.Common.{Node, Row, blank, row_at, walk, path_below, ids_below, ids, nodes, IsShaped, IsLive}
-use Rattle.dm_tree.proofs.Common.{path_of, with_node}
+use Rattle.dm_tree.proofs.Common.{path_of, with_node, get_or}
 use Rattle.dm_tree.proofs.Paths.{same_or_not}
 use Rattle.dm_tree.proofs.RowMaps.{within, node_of_path, node_from, nodes_insert}
 
--- rows that differ in their nodes alone lie alike
+-- rows that lie alike, under the same names; their nodes may differ, and which were given up
 pub record IsAlike (rows rows' : List Row) : Type 0 where
   pub parent : (k : ℕ) → (row_at rows' k).parent ≡ (row_at rows k).parent
   pub depth : (k : ℕ) → (row_at rows' k).depth ≡ (row_at rows k).depth
@@ -32,13 +32,17 @@ pub same_ids : (rows rows' : List Row) → IsAlike rows rows' → (ids rows') �
 unfolding ids nodes
 same_ids rows rows' same = rw same.long (ap from_entries (ids_alike rows rows' same (length rows)))
 
--- what holds of the new row, and of the others, holds of each
+-- what holds of the new member of a list, and of the others, holds of each
+pub each_member : {X : Type 0} (xs : List X) (i : ℕ) (x d : X) → i < length xs → (P : X → Type 0) (j : ℕ)
+    → (j ≡ i → P x) → (j ≢ i → P (get_or xs j d)) → P (get_or (set xs i x) j d)
+each_member xs i x d l P j new old = elim (same_or_not j i) [
+  | inl e ↦ subst P (sym (ap (λ n. get_or (set xs i x) n d) e ∙ get_or-set_same xs i x d l)) (new e)
+  | inr apart ↦ subst P (sym (get_or-set_other xs i j x d apart)) (old apart)
+]
+
 pub each_set : (rows : List Row) (k : ℕ) (r : Row) → k < length rows → (P : Row → Type 0) (j : ℕ) → (j ≡ k → P r)
     → (j ≢ k → P (row_at rows j)) → P (row_at (set rows k r) j)
-each_set rows k r l P j new old = elim (same_or_not j k) [
-  | inl e ↦ subst P (sym (ap (row_at (set rows k r)) e ∙ get_or-set_same rows k r blank l)) (new e)
-  | inr d ↦ subst P (sym (get_or-set_other rows k j r blank d)) (old d)
-]
+each_set rows k r = each_member rows k r blank
 
 pub of_both : {X : Type 0} (rows : List Row) (k : ℕ) (r : Row) (f : Row → X) → f r ≡ f (row_at rows k) → (j : ℕ)
     → k < length rows → f (row_at (set rows k r) j) ≡ f (row_at rows j)

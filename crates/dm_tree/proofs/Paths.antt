@@ -33,7 +33,7 @@ same_ends (x ∷ r) (y ∷ s) m n e =
     let both = same_ends r s m n tails in
     (λ i. heads i ∷ both.0 i, both.1)
 
--- reading the list of ids at a path
+-- paths that compare equal are equal
 pub is_equal : (r : Ordering) → is_eq r ≡ true → r ≡ Equal
 is_equal r e = grind (arith, e)
 

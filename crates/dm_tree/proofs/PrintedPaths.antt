@@ -19,7 +19,8 @@ pub printed_up : (rows : List Row) (d k : ℕ) (r : Row) (out upper slashed all 
 printed_up rows d k r out upper slashed all name some is named first then_ last =
     let p = path_up rows (d - 1) r.parent in
     last ∙ ap (λ l. l ++ name) (then_ ∙ ap (λ l. l ++ 47 ∷ []) first)
-    ∙ append_assoc (out ++ printed_path p) (47 ∷ []) name ∙ append_assoc out (printed_path p) (47 ∷ name) ∙ ap (λ l. out ++ l) (sym (printed_more p name))
+    ∙ append_assoc (out ++ printed_path p) (47 ∷ []) name ∙ append_assoc out (printed_path p) (47 ∷ name)
+    ∙ ap (λ l. out ++ l) (sym (printed_more p name))
     ∙ ap (λ n. out ++ printed_path (p ++ n ∷ [])) named
     ∙ ap (λ (s : Row). out ++ printed_path (path_up rows (d - 1) s.parent ++ s.name ∷ [])) is
     ∙ ap (λ q. out ++ printed_path q) (sym (path_up_one rows d k some))

@@ -34,7 +34,7 @@ is_some-walk rows (suc d) top j =
 lies_here : (rows : List Row) (d k : ℕ) → lies rows d k k ≡ true
 lies_here rows d k = sym (is_some-walk rows d k k) ∙ ap is_some (self_below rows d k)
 
--- behind a row that isn't attached is none
+-- a row that isn't attached lies below no other
 lies_no_more : (rows : List Row) (d k at : ℕ) → k ≢ at → (row_at rows at).attached ≡ false → lies rows d k at ≡ false
 lies_no_more rows zero k at h out = grind (arith, nat_tests)
 lies_no_more rows (suc d) k at h out = grind (arith, nat_tests)
@@ -107,7 +107,7 @@ same_count a b top (suc n) same =
 -- ---- a row is put in or taken out: the numbers of those above it are off by as many as it has
 
 -- those of the row `at` and of each row above it are too small by `more`, and too large by `fewer`
-pub record IsOff (rows : List Row) (more fewer : ℕ) (sizes : List ℕ) (at : ℕ) : Type 0 where
+pub record AreOff (rows : List Row) (more fewer : ℕ) (sizes : List ℕ) (at : ℕ) : Type 0 where
   pub inside : at < length rows
   pub same : length sizes ≡ length rows
   pub each : (k : ℕ) → k < length rows
@@ -203,7 +203,7 @@ module _ (on : List Row) (shape : IsShaped on) (id : ℕ) (is : (row_at on id).a
 
   -- the row has been put in
   pub off_put_in : (sizes : List ℕ) → IsSized off sizes → (n : ℕ) → n ≡ get_or sizes id n
-      → IsOff on n 0 sizes (row_at on id).parent
+      → AreOff on n 0 sizes (row_at on id).parent
   off_put_in sizes sized n read =
       let same = sized.same ∙ long in
       let before = counted_before on off long sizes sized in
@@ -216,7 +216,7 @@ module _ (on : List Row) (shape : IsShaped on) (id : ℕ) (is : (row_at on id).a
 
   -- it has been taken out
   off_out : (sizes : List ℕ) → IsSized on sizes → (n : ℕ) → n ≡ get_or sizes id n
-      → IsOff off 0 n sizes (row_at off id).parent
+      → AreOff off 0 n sizes (row_at off id).parent
   off_out sizes sized n read =
       let inside : id < length off = omega (arith, long, place.1) in
       let before = counted_before off on (sym long) sizes sized in
@@ -230,7 +230,7 @@ module _ (on : List Row) (shape : IsShaped on) (id : ℕ) (is : (row_at on id).a
 
 -- ---- they are put right, from there upwards
 
-module _ {rows : List Row} {more fewer : ℕ} {sizes : List ℕ} {at : ℕ} (is : IsOff rows more fewer sizes at) where
+module _ {rows : List Row} {more fewer : ℕ} {sizes : List ℕ} {at : ℕ} (is : AreOff rows more fewer sizes at) where
   -- the number that is read is that of the row, and is off
   pub read_off : (n : ℕ) → n ≡ get_or sizes at n
       → (n + more ≡ length (ids_below rows at (length rows)) + fewer) × (n + more ≤ length rows + fewer)
@@ -260,7 +260,7 @@ module _ {rows : List Row} {more fewer : ℕ} {sizes : List ℕ} {at : ℕ} (is 
   less_deep shape r s e = rw (read_row s) (let on = rw (read_row r) at e in omega (arith, shape.falls at on))
 
   pub off_up : IsShaped rows → (r s : Row) → (get_or rows at r).attached ≡ true → (v n : ℕ) → n ≡ get_or sizes at n
-      → v + fewer ≡ n + more → IsOff rows more fewer (set sizes at v) (get_or rows at s).parent
+      → v + fewer ≡ n + more → AreOff rows more fewer (set sizes at v) (get_or rows at s).parent
   off_up shape r s e v n read right =
       let on : (row_at rows at).attached ≡ true = rw (read_row r) at e in
       rw (read_row s) (record {
@@ -282,10 +282,10 @@ module _ {rows : List Row} {more fewer : ℕ} {sizes : List ℕ} {at : ℕ} (is 
 pub off_taken_out : (rows : List Row) (id : ℕ) → id < length rows → (row_at rows id).attached ≡ false
     → IsShaped (attached_as rows id true)
     → (sizes : List ℕ) → IsSized (attached_as rows id true) sizes → (n : ℕ) → n ≡ get_or sizes id n
-    → IsOff rows 0 n sizes (row_at rows id).parent
+    → AreOff rows 0 n sizes (row_at rows id).parent
 off_taken_out rows id l out shape sizes sized n read =
     let is : (row_at (attached_as rows id true) id).attached ≡ true = rw get_or-set_same refl in
-    subst (λ r. IsOff r 0 n sizes (row_at r id).parent) (flipped_twice rows (change.PutIn id) l out)
+    subst (λ r. AreOff r 0 n sizes (row_at r id).parent) (flipped_twice rows (change.PutIn id) l out)
     (off_out (attached_as rows id true) shape id is sizes sized n read)
 
 -- ---- names and nodes don't matter

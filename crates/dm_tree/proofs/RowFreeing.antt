@@ -4,10 +4,9 @@ use Rattle.dm_tree.proofs.Common.{◌≡◌, ℕ, zero, suc, ◌<◌, true, fals
 use Rattle.dm_tree.proofs.Common.{set, length-set, false_from_ne_true, nat_tests, get_or-set_same, get_or-set_other}
 use Rattle.dm_tree.proofs.Common.{Row, Change, blank, row_at, node_of, walk, path_below, ids, nodes, IsTree}
 use Rattle.dm_tree.proofs.Common.{IsParkedTop, attached_as, row_of, flipped, Fits, GoesAlike, IsClear, IsLeftOver}
-use Rattle.dm_tree.proofs.Common.{freed}
+use Rattle.dm_tree.proofs.Common.{freed, set-set}
 use Rattle.dm_tree.proofs.RowPaths.{attached_row}
 use Rattle.dm_tree.proofs.NodeEdits.{of_both}
-use Rattle.dm_tree.proofs.RowAppends.{set_twice}
 use Rattle.dm_tree.proofs.SubtreeCuts.{still_attached}
 use Rattle.dm_tree.proofs.GivenUpRows.{tree-given_up}
 use Rattle.dm_tree.proofs.FlippedRows.{other_row, kin-flipped}
@@ -20,7 +19,7 @@ use Rattle.dm_tree.proofs.FlipsBeside.{IsReason, set-lasts, alike-beside, alike-
 
 -- what is left of it is a row without contents
 pub freed_is : (rows : List Row) (k : ℕ) → k < length rows → freed rows k ≡ set rows k (spent (row_at rows k))
-freed_is rows k l = rw (node_of, get_or-set_same, set_twice) refl
+freed_is rows k l = rw (node_of, get_or-set_same, set-set) refl
 
 module _ (rows : List Row) (k : ℕ) (left : IsLeftOver rows k) (tree : IsTree rows) where
   place : (0 < k) × (k < length rows)

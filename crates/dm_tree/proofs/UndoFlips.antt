@@ -66,7 +66,7 @@ pub held_then : (rows : List Row) (u : Change) → IsTree rows → Fits rows u �
 held_then rows (change.TakeOut k) tree fits = parked-taken_out rows k tree fits.inside fits.ready
 held_then rows u tree fits = tt
 
--- ---- another row of the same contents
+-- ---- the same row in other rows
 
 -- an Undo turns alike in rows that are alike where it speaks of them
 pub turned-same : (a b : List Row) (u : Change) → row_at b (row_of u) ≡ row_at a (row_of u) → turned b u ≡ turned a u

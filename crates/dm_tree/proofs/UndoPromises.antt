@@ -14,7 +14,7 @@ use Rattle.dm_tree.proofs.UndoFlips.{again, held_then, length-flipped, row_turne
 use Rattle.dm_tree.proofs.FlipsBeside.{set-lasts, alike-beside, IsReason}
 use Rattle.dm_tree.proofs.GivenUpRows.{tree-given_up, nodes-given_up, ids-given_up}
 
--- ---- one row and another
+-- ---- what a discard leaves to Undos of other rows
 
 -- a flip leaves parked what it doesn't speak of
 pub parked-flipped : (rows : List Row) (u : Change) (k : ℕ) → (row_of u ≡ k → ⊥) → IsParkedTop rows k

@@ -79,7 +79,7 @@ fits m p name = list_all (λ q. nat_le (length (printed_path (rekeyed p name q))
 abbrev pub emptied : Node → Node
 emptied node = record node { value = record node.value { media = []; bytes = [] }; acl = None; title = [] }
 
--- the rows with a top that is given up, and holds no more than its name and its Format
+-- the rows with a top that is given up, without bytes, Type, access list and title
 abbrev pub without_content : List Row → ℕ → List Row
 without_content rows k = set rows k (record (row_at rows k) { given_up = true; node = emptied (node_of rows k) })
 

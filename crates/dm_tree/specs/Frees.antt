@@ -9,7 +9,7 @@ use Rattle.dm_tree.specs.Edits.{emptied, IsGivenUp}
 use Rattle.dm_tree.specs.Reuse.{IsUsed}
 use Rattle.dm_tree.specs.Notes.{GoesAlike}
 
--- what is left of a row that is given back: it is out, given up, and holds no more than its name and its Format
+-- what is left of a row that is given back: it is out, given up, and has no bytes, Type, access list and title any more
 abbrev pub spent : Row → Row
 spent r = record r { attached = false; given_up = true; node = emptied r.node }
 

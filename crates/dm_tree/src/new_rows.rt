@@ -36,7 +36,7 @@ pub(crate) fn new_row(rows: &[Row], parent: u32, name: Name, node: Node) -> Row
 // Finds a place for a row that isn't put in yet: a free one where there is one at hand, else behind the others. Its
 // parent gets room for it.
 #[tactic(auto, using(crate::proofs::IndexFills::filled_sizes, crate::proofs::IndexFills::added_sizes))]
-fn place_spare(
+fn add_or_fill(
     alloc: Global,
     rows: &mut Vec<Row>,
     index: &mut Vec<Children>,
@@ -71,7 +71,7 @@ fn place_spare(
     }
 }
 
-/// Finds a place for a row. It is put in there, and counted above it.
+/// Finds a place for a row that isn't put in yet, puts it in there, and counts it in the rows above it.
 pub(crate) fn place_row(
     alloc: Global,
     rows: &mut Vec<Row>,
@@ -91,7 +91,7 @@ pub(crate) fn place_row(
     ensures memory { IfErr result (λ e. e ≡ error.Memory) }
     ensures kept { IsKept rows.new.items index.new.items sizes.new.items }
 {
-    match place_spare(alloc, rows, index, sizes, free, row) {
+    match add_or_fill(alloc, rows, index, sizes, free, row) {
         Err(_) => Err(TreeError::Memory),
         Ok(id) => {
             put_in(rows, index, id);

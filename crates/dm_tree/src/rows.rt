@@ -8,8 +8,8 @@ use dm_uri::Name;
 use std::marker::Model;
 
 /// A row: its parent's row, its name below that, and its node. A row that isn't attached is the root, the top of a
-/// subtree that was taken out, or one that was given up: that holds no more than its name and its Format, and a new
-/// node may take it once no row below it is parked.
+/// subtree that was taken out, or one that was given up: that has no bytes, Type, access list and title any more, and a
+/// new node may take it once no row below it is parked.
 #[derive(Drop)]
 pub struct Row {
     pub parent: u32,

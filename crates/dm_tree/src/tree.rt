@@ -195,7 +195,8 @@ impl Tree {
         Ok(path)
     }
 
-    /// Appends the written form of a node's path: `.` for the root, else `./` and the names with a `/` between each two.
+    /// Appends the written form of a node's path: `.` for the root, else `./` and the names with a `/` between each
+    /// two.
     pub fn print_path(&self, id: NodeId, out: &mut Bytes) -> Result<(), Memory>
         requires { IsLive self.now.rows id }
         ensures { OnOk result (out.new ≡ out.old ++ printed_path (path_of self.now.rows id)) }
