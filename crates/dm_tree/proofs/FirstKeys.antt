@@ -5,7 +5,7 @@ use Rattle.dm_tree.proofs.Common.{◌≡◌, Bool, true, false, List, [], ◌∷
 use Rattle.dm_tree.proofs.Common.{filter, and_parts, cases_Bool, false_from_ne_true, FinMap, get, keys, entries, Path}
 use Rattle.dm_tree.proofs.Common.{tree_order, is_before, is_sorted, entries_sorted, below_all}
 use Rattle.dm_tree.proofs.MapKeys.{IsAmong, first, later, among_map, rises, among_keys}
-use Rattle.dm_tree.proofs.MapKeys.{each_key}
+use Rattle.dm_tree.proofs.MapKeys.{each_key, entry_held}
 use Rattle.dm_tree.proofs.PathOrder.{not_before_itself, not_back}
 pub use Rattle.dm_tree.proofs.MapKeys.{value_of, names_of, is_true, behind_first}
 
@@ -119,3 +119,9 @@ module _ {X : Type 0} (m : FinMap tree_order X) (f : Path → Bool) where
 
   pub keys_none : find f (keys m) ≡ None → filter f (keys m) ≡ []
   keys_none h = (none_pass f (keys m) (λ q is. none_passes f is h)).1
+
+-- ---- the first entry that passes
+
+pub entry_there : {X : Type 0} (m : FinMap tree_order X) (f : Path × X → Bool) (d : Path × X)
+    → find f (entries m) ≡ Some d → (get m d.0 ≡ Some d.1) × (f d ≡ true)
+entry_there m f d h = let is = found f (entries m) d h in (entry_held m d is.0, is.1)

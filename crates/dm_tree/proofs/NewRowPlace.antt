@@ -1,21 +1,18 @@
 -- A row that was placed out of the tree is put in.
+use Rattle.std.proofs.lemmas.List.{set_at}
 use Rattle.dm_tree.specs.declared.rows.Change.TheVariants as change
 use Rattle.dm_tree.proofs.Common.{◌≡◌, ℕ, ◌<◌, true, false, List, [], length, ◌∙◌, ap, inl, inr, get_or-set_same}
 use Rattle.dm_tree.proofs.Common.{set-set, get_or-append_seam, Row, blank, row_at, IsTree, attached_as, IsPut, IsPlaced}
-use Rattle.dm_tree.proofs.Common.{set, ◌∷◌, ◌++◌, refl}
+use Rattle.dm_tree.proofs.Common.{refl}
 use Rattle.dm_tree.proofs.UndoFlips.{flipped_twice}
 use Rattle.dm_tree.proofs.NewRows.{IsNewAt, new_at}
-
--- the last one is replaced
-set_last : {A : Type 0} (l : List A) (a b : A) → set (l ++ a ∷ []) (length l) b ≡ l ++ b ∷ []
-set_last [] a b = refl
-set_last (x ∷ l) a b = ap (λ t. x ∷ t) (set_last l a b)
 
 -- it stands where it was placed
 pub put_in_placed : (rows now : List Row) (id : ℕ) (r : Row) → IsPlaced rows now id r
     → IsPlaced rows (attached_as now id true) id (record r { attached = true })
 put_in_placed rows now id r (inl (e, (room, f))) =
-    inl (e, (room, rw (f, e, get_or-append_seam rows r [] blank) (set_last rows r (record r { attached = true }))))
+    let last = set_at rows r [] (record r { attached = true }) (length rows) refl in
+    inl (e, (room, rw (f, e, get_or-append_seam rows r [] blank) last))
 put_in_placed rows now id r (inr (free, f)) =
     let l = free.inside in
     inr (free, rw (f, get_or-set_same) (set-set rows id r (record r { attached = true })))

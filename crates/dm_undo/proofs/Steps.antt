@@ -3,12 +3,11 @@ use Rattle.std.proofs.Common.{◌≡◌, ℕ, zero, suc, ◌+◌, ◌-◌, ◌<�
 use Rattle.std.proofs.Common.{◌∙◌, ap, subst, arith}
 use Rattle.std.specs.Prelude.{reverse}
 use Rattle.std.proofs.Math.ListN.{set}
-use Rattle.std.proofs.lemmas.List.{set-append_left, length-reverse}
+use Rattle.std.proofs.lemmas.List.{set-append_left, set_at, length-reverse}
 use Rattle.std.proofs.lemmas.Grind.{reverse_onto}
 use Rattle.dm_tree.specs.declared.rows.Row.{Row}
 use Rattle.dm_tree.specs.declared.rows.Change.{Change}
 use Rattle.dm_tree.specs.Undos.{flipped, turned, Fits}
-use Rattle.dm_tree.proofs.RowAppends.{set_last}
 use Rattle.dm_undo.specs.declared.entries.Entry.{Entry}
 use Rattle.dm_undo.specs.declared.entries.Entry.TheVariants.{Record, Flipped}
 use Rattle.dm_undo.specs.Entries.{AreRecords}
@@ -20,7 +19,8 @@ pub set_reverse : {A : Type 0} (xs : List A) (k : ℕ) (x : A) → k < length xs
 set_reverse [] k x l = absurd (omega (arith, l))
 set_reverse (y ∷ ys) zero x l =
     let at : suc (length ys) - 1 - 0 ≡ length (reverse ys) = omega (arith, length-reverse ys) in
-    reverse_onto ys x [] ∙ sym (set_last (reverse ys) y x) ∙ ap (λ n. set (reverse ys ++ y ∷ []) n x) (sym at)
+    reverse_onto ys x [] ∙ sym (set_at (reverse ys) y [] x (length (reverse ys)) refl)
+    ∙ ap (λ n. set (reverse ys ++ y ∷ []) n x) (sym at)
     ∙ ap (λ l. set l (suc (length ys) - 1 - 0) x) (sym (reverse_onto ys y []))
 set_reverse (y ∷ ys) (suc k) x l =
     let at : length ys - 1 - k ≡ suc (length ys) - 1 - suc k = omega arith in
