@@ -3,6 +3,7 @@ use Rattle.std.proofs.Common.{ℕ, List, [], inr, refl, sym, arith}
 use Rattle.std.specs.Io.KnownBytes.{Consumes}
 use Rattle.std.specs.Prelude.{Option, Some, None}
 use Rattle.std.proofs.lemmas.List.{append-nil}
+use Rattle.dm_exit.specs.declared.exit.Exit.{Exit}
 use Rattle.dm_exit.specs.declared.exit.Exit.TheVariants as exit
 use Rattle.dm_exit.specs.Puts.{PutsPrefix}
 use Rattle.dm_words.specs.declared.forms.Form.{Form}
@@ -45,12 +46,12 @@ untaken left (Some forms.Show) src = takes_nothing (left src)
 untaken left (Some forms.Check) src = takes_nothing (left src)
 untaken left (Some (forms.Bench seed nodes messages)) src = refl
 
--- and its source didn't fail
-pub unasked : (form : Option Form) (left : Option (List ℕ)) → AsksForMore form left left exit.NoMemory
+-- and asks for nothing more
+pub unasked : (form : Option Form) (left : Option (List ℕ)) (e : Exit) → AsksForMore form left left e
 unfolding AsksForMore
-unasked None left = tt
-unasked (Some forms.Replay) left = tt
-unasked (Some forms.Pair) left = tt
-unasked (Some forms.Show) left = λ e. absurd (cc)
-unasked (Some forms.Check) left = λ e. absurd (cc)
-unasked (Some (forms.Bench seed nodes messages)) left = tt
+unasked None left e = tt
+unasked (Some forms.Replay) left e = tt
+unasked (Some forms.Pair) left e = tt
+unasked (Some forms.Show) left e = λ _. ([], consumes_nothing left, nothing_settled)
+unasked (Some forms.Check) left e = λ _. ([], consumes_nothing left, nothing_settled)
+unasked (Some (forms.Bench seed nodes messages)) left e = tt

@@ -148,6 +148,7 @@ pub fn run<S: Source, K: Sink>(alloc: Global, words: &[String], src: &mut S, out
 
 /// Does what the words of a command line ask for, as they were read. Words that aren't all UTF-8 are of no form, as no
 /// word is. Where the words themselves find no memory nothing is done.
+#[tactic(auto, unfolding(crate::specs::Forms::TakesFor))]
 pub fn run_words<S: Source, K: Sink>(
     alloc: Global,
     words: io::Result<Vec<String>>,
@@ -163,7 +164,8 @@ pub fn run_words<S: Source, K: Sink>(
     ensures usage { IfOk words (λ w. UsageMeansNoForm (form_of (map string_bytes w.items)) result) }
     ensures taken { IfOk words (λ w. TakesFor S.left (form_of (map string_bytes w.items)) src.old src.new) }
     ensures unread { IfErr words (λ e. error_kind e ≡ InvalidData
-        → Runs None (S.left src.old) (K.got out.old) (K.got out.new) result × (src.new ≡ src.old)) }
+        → Runs None (S.left src.old) (K.got out.old) (K.got out.new) result) }
+    ensures untaken { IfErr words (λ e. error_kind e ≡ InvalidData → src.new ≡ src.old) }
     ensures lacking { IfErr words (λ e. error_kind e ≢ InvalidData
         → (result ≡ Exit.NoMemory) × (src.new ≡ src.old) × (out.new ≡ out.old)) }
     ensures source { SourceCause (S.faults src.old) (S.faults src.new) result }

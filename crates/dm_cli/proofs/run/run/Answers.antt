@@ -1,4 +1,4 @@
-use Rattle.dm_cli.proofs.Lacking.{lacking, untaken}
+use Rattle.dm_cli.proofs.Lacking.{lacking, untaken, unasked}
 use Rattle.dm_cli.proofs.run.run.Goals as goal
 
 pub returns-in-Err-clause-output : goal.returns-in-Err-clause-output
@@ -12,3 +12,9 @@ returns-in-Ok-None-clause-taken g c = untaken _ _ _
 
 pub returns-in-Ok-None-clause-source : goal.returns-in-Ok-None-clause-source
 returns-in-Ok-None-clause-source g c = c.put_usage.ensures.source _
+
+pub returns-in-Ok-None-clause-asked : goal.returns-in-Ok-None-clause-asked
+returns-in-Ok-None-clause-asked g c = unasked _ _ _
+
+pub returns-in-Err-clause-asked : goal.returns-in-Err-clause-asked
+returns-in-Err-clause-asked g c = unasked _ _ _
