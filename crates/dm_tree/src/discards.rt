@@ -6,7 +6,8 @@ ghost use Rattle.dm_tree.specs.Index.{children_at, IsIndex, IsKept};
 ghost use Rattle.dm_tree.specs.Reuse.{IsFreeRow, IsLeftOver, freed};
 ghost use Rattle.dm_tree.specs.Frees.{IsFreed};
 
-use crate::index::{Children, forget, id_at, take_out};
+use crate::children::Children;
+use crate::index::{forget, id_at, take_out};
 use crate::rows::Row;
 use crate::sizes::count_out;
 use dm_base::Bytes;

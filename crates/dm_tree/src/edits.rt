@@ -18,10 +18,11 @@ ghost use Rattle.dm_tree.specs.Notes.{GoesAlike, TakesEditBack, Stays};
 ghost use Rattle.dm_tree.specs.Frees.{IsGivenBack};
 ghost use Rattle.dm_base.specs.Limits.{node_limit};
 
+use crate::children::Children;
 use crate::clock::Clock;
 use crate::discards::{free_subtree, offer_above};
 use crate::fields::Field;
-use crate::index::{Children, put_in, take_out};
+use crate::index::{put_in, take_out};
 use crate::new_rows::{new_row, place_row};
 use crate::nodes::{NewNode, Node, Stamp, Value};
 use crate::renames::flip_name;

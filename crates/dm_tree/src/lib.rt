@@ -1,6 +1,7 @@
 //! The management tree: nodes in rows, edits that are taken back, and access lists.
 #![tactic(auto)]
 
+mod children;
 mod clock;
 mod discards;
 pub mod edits;

@@ -1,15 +1,16 @@
 // Where a new row comes: in place of a free one, or behind the others.
 ghost use Rattle.std.specs.Prelude.{ℕ, List, ◌≡◌, ◌<◌, true, false, length, IfOk, IfErr, OnErr};
 ghost use Rattle.dm_tree.specs.declared.edits.TreeError.TheVariants as error;
-ghost use Rattle.dm_tree.specs.declared.rows.Row.{Row as Rows};
+ghost use Rattle.dm_tree.specs.declared.rows.Row.{Row as ARow};
 ghost use Rattle.dm_tree.specs.Rows.{row_at, IsTree};
 ghost use Rattle.dm_tree.specs.Index.{IsIndex, IsSized, IsKept};
 ghost use Rattle.dm_tree.specs.Edits.{new_row as new_row_below};
 ghost use Rattle.dm_tree.specs.Reuse.{IsPlaced};
 
+use crate::children::Children;
 use crate::discards::free_row;
 use crate::edits::TreeError;
-use crate::index::{Children, add_row, fill_row, put_in};
+use crate::index::{add_row, fill_row, put_in};
 use crate::nodes::Node;
 use crate::rows::Row;
 use crate::sizes::count_in;
@@ -83,7 +84,7 @@ pub(crate) fn place_row(
     requires out { row.attached ≡ false }
     requires held { row.given_up ≡ false }
     requires parent { row.parent < length rows.old.items }
-    requires after { (k : ℕ) → (now : List Rows) → IsPlaced rows.old.items now k (record row { attached = true })
+    requires after { (k : ℕ) → (now : List ARow) → IsPlaced rows.old.items now k (record row { attached = true })
         → IsTree now }
     requires kept { IsKept rows.old.items index.old.items sizes.old.items }
     ensures ok { IfOk result (λ id. IsPlaced rows.old.items rows.new.items id (record row { attached = true })) }

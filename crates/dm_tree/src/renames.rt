@@ -10,8 +10,9 @@ ghost use Rattle.dm_tree.specs.Undos.{TakesBack};
 ghost use Rattle.dm_tree.specs.Notes.{TakesEditBack};
 ghost use Rattle.dm_tree.specs.Walks.{name_then, has_room as rows_have_room};
 
+use crate::children::Children;
 use crate::edits::{raised, swap_counts};
-use crate::index::{Children, swap_name};
+use crate::index::swap_name;
 use crate::nodes::Stamp;
 use crate::rows::{Change, NodeId, Row, Undo};
 use crate::tree::Tree;

@@ -12,7 +12,8 @@ ghost use Rattle.dm_tree.specs.Walks.{least_child as least_child_of, next_past a
 ghost use Rattle.dm_tree.specs.Walks.{next_row as next_row_of};
 ghost use Rattle.dm_tree.specs.Index.{IsIndex, AreRows, IsInOrder, IsPlacePast};
 
-use crate::index::{Children, id_at, place_past};
+use crate::children::Children;
+use crate::index::{id_at, place_past};
 use crate::rows::{NodeId, Row};
 use crate::tree::Tree;
 use dm_base::{Bytes, Memory};

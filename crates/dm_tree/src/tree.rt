@@ -10,8 +10,8 @@ ghost use Rattle.dm_tree.specs.Rows.{nodes, ids, node_of, path_of, IsLive, IsTre
 ghost use Rattle.dm_tree.specs.Rights.{effective_path, allows};
 ghost use Rattle.dm_tree.specs.Views.{shown};
 
+use crate::children::Children;
 use crate::clock::Clock;
-use crate::index::Children;
 use crate::nodes::{Node, Role, Stamp, Value, View};
 use crate::rows::{NodeId, Row};
 use crate::walks::{child_row, deciding_row, found_row, print_up, put_path, row_allows};
@@ -196,7 +196,7 @@ impl Tree {
     }
 
     /// Appends the written form of a node's path: `.` for the root, else `./` and the names with a `/` between each
-    /// two.
+    /// two. `Memory` is the only error; what was appended by then stays.
     pub fn print_path(&self, id: NodeId, out: &mut Bytes) -> Result<(), Memory>
         requires { IsLive self.now.rows id }
         ensures { OnOk result (out.new ≡ out.old ++ printed_path (path_of self.now.rows id)) }

@@ -6,7 +6,8 @@ ghost use Rattle.dm_tree.specs.Index.{IsIndex};
 ghost use Rattle.dm_tree.specs.Walks.{child_of, find_from, path_up, row_names as names_right};
 ghost use Rattle.dm_tree.specs.Walks.{row_allows as row_allows_it, deciding_row};
 
-use crate::index::{Children, id_at, key_of, place_of};
+use crate::children::Children;
+use crate::index::{id_at, key_of, place_of};
 use crate::rows::Row;
 use dm_acl::Right;
 use dm_base::{Bytes, Memory};
