@@ -19,15 +19,16 @@ pub struct Children {
 }
 
 impl Model for Children {
-    ghost use Rattle.std.specs.Prelude.{◌≤◌, vec_len, vec_capacity};
+    ghost use Rattle.std.specs.Prelude.{◌≡◌, ◌≤◌, vec_len, vec_capacity};
     ghost use Rattle.dm_tree.specs.Index.{ChildList};
 
     ghost Value = { ChildList };
 
     ghost view = { λ c. record { ids = c.ids.items; parked = c.parked; room = vec_capacity c.ids } };
 
-    // No more keys than rows, so that what no clause sees doesn't grow.
-    ghost invariant = { λ c. vec_len c.keys ≤ vec_len c.ids };
+    // No more keys than rows, and no room for any where there is none for rows, so that what no clause sees doesn't
+    // grow, and goes when the list is given back.
+    ghost invariant = { λ c. (vec_len c.keys ≤ vec_len c.ids) × (vec_capacity c.ids ≡ 0 → vec_capacity c.keys ≡ 0) };
 }
 
 impl Children {
@@ -97,7 +98,11 @@ impl Children {
     {
         let parked = self.parked + 1;
         self.keys.reserve(parked as usize)?;
-        self.ids.reserve(parked as usize)?;
+        if self.ids.reserve(parked as usize).is_err() {
+            // The keys keep no more room than the rows: none where these have none.
+            self.keys.shrink_to(self.ids.capacity());
+            return Err(Memory);
+        }
         self.parked = parked;
         Ok(())
     }
