@@ -9,7 +9,7 @@ use Rattle.dm_tree.proofs.Common.{first_child, next_sibling, children_behind, no
 use Rattle.dm_tree.proofs.PathOrder.{before_before}
 use Rattle.dm_tree.proofs.FirstKeys.{key_passes, keys_from, keys_none}
 use Rattle.dm_tree.proofs.LiveRows.{above-append}
-use Rattle.dm_tree.proofs.NextNodes.{Shows, child_is, some_length}
+use Rattle.dm_tree.proofs.NextNodes.{Shows, child_path, some_length}
 
 abbrev is_beside : Path → Path → Bool
 is_beside p q = not (length p == 0) && is_child_of (above p) q && is_before p q
@@ -20,15 +20,15 @@ in_between false = refl
 
 -- a child is beside the others
 child_parts : (p q : Path) → is_child_of p q ≡ true → (above q ≡ p) × (not (length q == 0) ≡ true)
-child_parts p q h = let c = child_is p q h in
+child_parts p q h = let c = child_path p q h in
     (ap above c.1 ∙ above-append p c.0, ap (λ (s : Path). not (length s == 0)) c.1 ∙ some_length p c.0)
 
 not_beside : (q r : Path) → is_before q r ≡ false → is_beside q r ≡ false
 not_beside q r early = and_right (not (length q == 0) && is_child_of (above q) r) (is_before q r) early
 
 -- the children are the first and those beside it, and those behind a node the next and those behind that
-children_from : (m : Nodes) (p q : Path) → first_child m p ≡ Some q → children m p ≡ q ∷ children_behind m q
-children_from m p q h =
+children_by_first : (m : Nodes) (p q : Path) → first_child m p ≡ Some q → children m p ≡ q ∷ children_behind m q
+children_by_first m p q h =
     let c = child_parts p q (key_passes m (is_child_of p) q h) in
     keys_from m (is_child_of p) (is_beside q) q h (not_beside q)
     (λ r y v late. rw (c.1, c.0, late) (in_between (is_child_of p r)))
@@ -45,7 +45,7 @@ behind_from m p q h =
 pub shown_children : (rows : List Row) (p : Path) (o : Option ℕ) → Shows rows o (first_child (nodes rows) p)
     → children (nodes rows) p ≡ option_map_or (λ c. path_of rows c ∷ children_behind (nodes rows) (path_of rows c)) o []
 shown_children rows p None h = keys_none (nodes rows) (is_child_of p) h
-shown_children rows p (Some c) h = children_from (nodes rows) p (path_of rows c) h.1
+shown_children rows p (Some c) h = children_by_first (nodes rows) p (path_of rows c) h.1
 
 pub shown_beside : (rows : List Row) (p : Path) (o : Option ℕ) → Shows rows o (next_sibling (nodes rows) p)
     → children_behind (nodes rows) p

@@ -9,7 +9,7 @@ use Rattle.dm_tree.proofs.RowPaths.{attached_row, not_same, not_zero}
 use Rattle.dm_tree.proofs.SubtreeCuts.{live_attached}
 use Rattle.dm_tree.proofs.LiveRows.{has_parent}
 use Rattle.dm_tree.proofs.FlippedRows.{other_row, kin-flipped}
-use Rattle.dm_tree.proofs.RowReuse.{no_way}
+use Rattle.dm_tree.proofs.SamePaths.{no_way}
 
 -- a row from whose parent one doesn't come up to the row k
 none_through : (rows : List Row) (d k j : ℕ) → j ≢ k → walk rows d k (row_at rows j).parent ≡ None

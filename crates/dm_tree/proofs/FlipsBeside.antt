@@ -7,7 +7,7 @@ use Rattle.dm_tree.proofs.Common.{◌≡◌, ◌≤◌, ℕ, List, [], ◌∷◌
 use Rattle.dm_tree.proofs.Common.{Row, Change, row_at, node_of, nodes, ids, IsTree, row_of, flipped, Fits, all_flipped}
 use Rattle.dm_tree.proofs.Common.{IsReadyChange, GoesAlike, IsClear}
 use Rattle.dm_tree.proofs.FlippedRows.{other_row}
-use Rattle.dm_tree.proofs.UndoFlips.{turned-same, parked-same}
+use Rattle.dm_tree.proofs.UndoFlips.{turned-same, parked_top-same}
 
 -- ---- one row
 
@@ -74,7 +74,7 @@ module _ (k : ℕ) (Ok : List Row → List Row → Type 0) (reason : IsReason k 
         ids = λ us o f. reason.ids _ _ (all us o f).0 (all us o f).1;
         turned = λ us u o f ou fu. turned-same _ _ u (reason.other _ _ (all us o f).1 (row_of u) ou);
         parked = λ us j o f oj p. let now = (all us o f).1 in
-            parked-same _ _ j (omega (arith, p.inside, reason.longer _ _ now)) (reason.other _ _ now j oj) p;
+            parked_top-same _ _ j (omega (arith, p.inside, reason.longer _ _ now)) (reason.other _ _ now j oj) p;
         used = λ us j o f oj u. let now = (all us o f).1 in (
           omega (arith, u.0, reason.longer _ _ now),
           λ z. ap (λ (s : Row). s.given_up) (reason.other _ _ now j oj) ∙ u.1 z,

@@ -14,10 +14,10 @@ use Rattle.dm_tree.proofs.Paths.{same_or_not}
 use Rattle.dm_tree.proofs.RowPaths.{attached_row}
 use Rattle.dm_tree.proofs.NodeEdits.{each_set, of_both}
 use Rattle.dm_tree.proofs.GivenUpRows.{path_up, path_down, self_below}
-use Rattle.dm_tree.proofs.RowReuse.{no_way}
+use Rattle.dm_tree.proofs.SamePaths.{no_way}
 use Rattle.dm_tree.proofs.ClearRows.{live-off}
 use Rattle.dm_tree.proofs.FlipsBeside.{alike-then, alike-fewer}
-use Rattle.dm_tree.proofs.UndoFlips.{parked-same}
+use Rattle.dm_tree.proofs.UndoFlips.{parked_top-same}
 use Rattle.dm_tree.proofs.UndoPromises.{alike-given_up}
 use Rattle.dm_tree.proofs.RowFreeing.{freed_is, alike-freed}
 
@@ -266,7 +266,7 @@ module _ (old : List Row) (tree : IsTree old) (top : ℕ) (is : IsParkedTop old 
       parked_was : (j : ℕ) → IsParkedTop rows j → (o : Option Path) → path_below old top j ≡ o
           → IsParkedTop old j × (path_below old top j ≡ None)
       parked_was j p None none =
-          (parked-same rows old j (omega (arith, p.inside, go.long)) (sym (others j none)) p, none)
+          (parked_top-same rows old j (omega (arith, p.inside, go.long)) (sym (others j none)) p, none)
       parked_was j p (Some q) e =
           absurd (let up = ap (λ (s : Row). s.given_up) (are_spent j q e) in let held = p.held in cc)
 

@@ -4,8 +4,8 @@ use Rattle.dm_tree.proofs.Common.{ap, arith, inl, inr, length-set, cases_Bool, g
 use Rattle.dm_tree.proofs.Common.{Path, IsNode, IsRoot, blank, row_at, node_of, walk, path_below, ids, nodes, IsRow}
 use Rattle.dm_tree.proofs.Common.{IsTree, IsParkedTop, IsShaped, emptied, without_content}
 use Rattle.dm_tree.proofs.RowPaths.{Up, walk_up, not_same}
-use Rattle.dm_tree.proofs.NodeEdits.{IsAlike, each_set, of_both, same_ids}
-use Rattle.dm_tree.proofs.RowReuse.{no_way, nodes_by}
+use Rattle.dm_tree.proofs.NodeEdits.{IsAlike, path_alike, each_set, of_both}
+use Rattle.dm_tree.proofs.SamePaths.{no_way, ids_by, nodes_by}
 use Rattle.dm_tree.proofs.TreeEdits.{IsStill, tree-still}
 
 -- ---- the way up to a top
@@ -76,7 +76,9 @@ pub tree-given_up : (rows : List Row) → IsTree rows → (k : ℕ) → IsParked
 tree-given_up rows tree k top = tree-still rows _ tree (still-given_up rows tree k top)
 
 pub ids-given_up : (rows : List Row) (k : ℕ) → IsParkedTop rows k → ids (without_content rows k) ≡ ids rows
-ids-given_up rows k top = same_ids rows _ (alike rows k top.inside)
+ids-given_up rows k top =
+    let same = alike rows k top.inside in
+    ids_by (without_content rows k) rows same.long (path_alike rows _ same 0)
 
 -- what is parked isn't in the tree
 not_live : (rows : List Row) (k : ℕ) → IsParkedTop rows k → (j : ℕ) (p : Path) → path_below rows 0 j ≡ Some p → j ≢ k

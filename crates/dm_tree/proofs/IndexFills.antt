@@ -10,9 +10,9 @@ use Rattle.dm_tree.proofs.Common.{parked_below, IsChildList, IsIndex, IsSized, I
 use Rattle.dm_tree.proofs.Paths.{same_or_not, below_or_not}
 use Rattle.dm_tree.proofs.RowPaths.{not_same}
 use Rattle.dm_tree.proofs.IndexLinks.{parked-same, parked-more, parked-some, is_parked, parked_elsewhere, order-alike}
-use Rattle.dm_tree.proofs.IndexUnlinks.{few_parked}
+use Rattle.dm_tree.proofs.IndexEdits.{few_parked}
 use Rattle.dm_tree.proofs.GivenUpRows.{self_below}
-use Rattle.dm_tree.proofs.RowReuse.{no_way}
+use Rattle.dm_tree.proofs.SamePaths.{no_way, ids_upto}
 use Rattle.dm_tree.proofs.NewRows.{IsNewAt, in_place, at_end, each_new, childless, path_out, off_new}
 
 -- a row that was given up and has no list is free
@@ -103,11 +103,6 @@ module _ {rows now : List Row} {id : ℕ} {r : Row} (tree : IsTree rows) (new : 
         (list.parked ∙ sym (counts k false (not_same r.parent k d))) list.room)
   ]
 
-  -- what lies below each row is as before
-  pub ids_upto : (top n : ℕ) → ids_below now top n ≡ ids_below rows top n
-  ids_upto top zero = refl
-  ids_upto top (suc n) = let here = path_out tree new out top n in rw (here, ids_upto top n) refl
-
 -- ---- in place of a free row
 
 module _ (rows : List Row) (tree : IsTree rows) (id : ℕ) (free : IsFreeRow rows id) (r : Row)
@@ -152,7 +147,7 @@ module _ (rows : List Row) (tree : IsTree rows) (id : ℕ) (free : IsFreeRow row
     each = λ k l.
         sized.each k (omega (arith, l, long))
         ∙ sym (ap (λ n. length (ids_below (set rows id r) k n)) long
-        ∙ ap length (ids_upto tree filled out held k (length rows)));
+        ∙ ap length (ids_upto (set rows id r) rows k (path_out tree filled out k) (length rows)));
   })
 
 -- ---- behind the others
@@ -250,4 +245,4 @@ module _ (rows : List Row) (tree : IsTree rows) (room : length rows + 1 < 2 ^ 32
       one_more : (k : ℕ) → length (ids_below longer k (length longer)) ≡ length (ids_below rows k (suc (length rows)))
       one_more k =
           ap (λ n. length (ids_below longer k n)) one_longer
-          ∙ ap length (ids_upto tree added out held k (suc (length rows)))
+          ∙ ap length (ids_upto longer rows k (path_out tree added out k) (suc (length rows)))

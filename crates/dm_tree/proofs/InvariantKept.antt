@@ -12,7 +12,7 @@ use Rattle.dm_tree.proofs.LiveRows.{stay_live}
 use Rattle.dm_tree.proofs.RootTree.{root_row, not_attached}
 use Rattle.dm_tree.proofs.NodeEdits.{live_row, nodes-with_node, ids-with_node}
 use Rattle.dm_tree.proofs.TreeEdits.{isnt_root}
-use Rattle.dm_tree.proofs.IndexUnlinks.{index-with_node}
+use Rattle.dm_tree.proofs.IndexEdits.{index-with_node}
 use Rattle.dm_tree.proofs.RowCounts.{sized-alike, alike-with_node, alike-with_name, alike-without_content}
 
 -- a node is changed

@@ -3,6 +3,7 @@ pub mod Paths
 pub mod MapKeys
 pub mod RowPaths
 pub mod RowMaps
+pub mod SamePaths
 pub mod NodeEdits
 pub mod FoundRows
 pub mod SubtreeCuts
@@ -27,7 +28,6 @@ pub mod Devices
 pub mod NodesBehind
 pub mod ChildListing
 pub mod FlippedRows
-pub mod RowReuse
 pub mod NewRows
 pub mod ClearRows
 pub mod UndoPromises
@@ -39,7 +39,7 @@ pub mod RowFreeing
 pub mod FreeingWalk
 pub mod NameOrder
 pub mod IndexLinks
-pub mod IndexUnlinks
+pub mod IndexEdits
 pub mod RowCounts
 pub mod InvariantKept
 pub mod IndexFills

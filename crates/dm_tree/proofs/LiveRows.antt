@@ -14,7 +14,7 @@ use Rattle.dm_tree.proofs.Common.{Tree, IsShaped, IsTree, IsLive, path_of, path_
 use Rattle.dm_tree.proofs.Paths.{tree_total, same_ends, not_empty}
 use Rattle.dm_tree.proofs.RowPaths.{attached_row, up_from, at_bottom, at_top, one_row, depth_is, not_zero, same_number}
 use Rattle.dm_tree.proofs.RowMaps.{found_live, get_nodes, id_is, id_of, find_id, found_in, find-with_nodes}
-use Rattle.dm_tree.proofs.RowMaps.{node_of_path, root_live, some_of, insert_beside}
+use Rattle.dm_tree.proofs.RowMaps.{node_of_path, root_live, insert_beside, StandsInRow, row_there}
 use Rattle.dm_tree.proofs.NodeEdits.{live_row}
 
 -- ---- ends of paths
@@ -118,19 +118,6 @@ module _ (rows : List Row) (shape : IsShaped rows) where
       ap (list_all is_name) u.0.named ∙ list_all-append is_name u.0.above ((row_at rows k).name ∷ [])
       ∙ and_from _ _ (all_named names d (row_at rows k).parent u.0.above u.1 u.0.found)
       (and_from _ true (names k (attached_row rows shape k u.0.attached).1) refl)
-
--- what the map shows at a path stands in a row
-pub record StandsInRow (rows : List Row) (p : Path) (node : Node) : Type 0 where
-  pub row : ℕ
-  pub lies : path_below rows 0 row ≡ Some p
-  pub inside : row < length rows
-  pub node_is : node_of rows row ≡ node
-
-pub row_there : (rows : List Row) (p : Path) (node : Node) → get (nodes rows) p ≡ Some node → StandsInRow rows p node
-row_there rows p node e =
-    let found = some_of (λ j. (row_at rows j).node) (get (ids rows) p) node (sym (get_nodes rows p) ∙ e) in
-    let lies = id_is rows p found.0 found.1 in
-    record { row = found.0; lies = lies.0; inside = lies.1; node_is = found.2 }
 
 parent_there : (rows : List Row) → IsTree rows → (p : Path) (name : List ℕ) (child : Node)
     → StandsInRow rows (p ++ name ∷ []) child

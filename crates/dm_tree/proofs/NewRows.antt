@@ -13,7 +13,7 @@ use Rattle.dm_tree.proofs.RowPaths.{attached_row, not_same, one_row, some_path, 
 use Rattle.dm_tree.proofs.RowMaps.{id_is, id_of, insert_here, insert_beside, ids_are}
 use Rattle.dm_tree.proofs.NodeEdits.{AreOne}
 use Rattle.dm_tree.proofs.LiveRows.{live_at}
-use Rattle.dm_tree.proofs.RowReuse.{stuck, no_way, nodes_by, nodes_as, nodes_at}
+use Rattle.dm_tree.proofs.SamePaths.{stuck, no_way, nodes_by, nodes_as, nodes_at}
 
 -- the row r has come in at the number k, which wasn't in use, nor any row right below it; the others are as before
 pub record IsNewAt (rows now : List Row) (k : ℕ) (r : Row) : Type 0 where

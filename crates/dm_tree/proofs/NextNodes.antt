@@ -16,8 +16,8 @@ use Rattle.dm_tree.proofs.Common.{next_past}
 use Rattle.dm_tree.proofs.Paths.{below_last, below_longer, equal_below}
 use Rattle.dm_tree.proofs.RowPaths.{child_below, attached_row, one_row, not_zero, same_number, at_bottom}
 use Rattle.dm_tree.proofs.RowPaths as climbs
-use Rattle.dm_tree.proofs.RowMaps.{id_of}
-use Rattle.dm_tree.proofs.LiveRows.{has_parent, above-append, root_path, root_path_of, live_at, node_there, row_there}
+use Rattle.dm_tree.proofs.RowMaps.{id_of, row_there}
+use Rattle.dm_tree.proofs.LiveRows.{has_parent, above-append, root_path, root_path_of, live_at, node_there}
 use Rattle.dm_tree.proofs.PathOrder.{name_order, name_exact, rest_below, below_append, below_below, fork, before_longer}
 use Rattle.dm_tree.proofs.PathOrder.{before_before, not_before_itself, not_back, behind_all, not_below_shorter}
 use Rattle.dm_tree.proofs.FirstKeys.{first_key, no_key, same_key, key_passes}
@@ -57,8 +57,8 @@ pub child_passes : (a : Path) (m : List ℕ) → is_child_of a (a ++ m ∷ []) �
 child_passes a m = let long : length (a ++ m ∷ []) ≡ length a + 1 = length-append a (m ∷ []) in
     and_from _ _ (grind (arith, nat_tests, long)) (below_append a (m ∷ []))
 
-pub child_is : (a q : Path) → is_child_of a q ≡ true → (m : List ℕ) × (q ≡ a ++ m ∷ [])
-child_is a q h =
+pub child_path : (a q : Path) → is_child_of a q ≡ true → (m : List ℕ) × (q ≡ a ++ m ∷ [])
+child_path a q h =
     let both = and_parts (length q == length a + 1) (is_below a q) h in
     let long : length q ≡ length a + 1 = grind (arith, nat_tests, both.0) in
     let e = rest_below a q both.1 in
@@ -133,7 +133,7 @@ module _ (rows : List Row) where
   first_seeks : (a : Path) → Seeks rows None a (is_child_of a) (λ _. false)
   first_seeks a = record {
     passes = λ m _. child_passes a m;
-    parts = λ q is. let m = child_is a q is in inl (m.0, [], m.1, refl);
+    parts = λ q is. let m = child_path a q is in inl (m.0, [], m.1, refl);
     far = λ q e. absurd (cc);
   }
 
@@ -144,7 +144,7 @@ module _ (rows : List Row) where
         let s =
         three_parts (not (length (a ++ n ∷ []) == 0)) (is_child_of (above (a ++ n ∷ [])) q) (is_before (a ++ n ∷ []) q)
         is in
-        let m = child_is a q (rw above-append at s.1) in
+        let m = child_path a q (rw above-append at s.1) in
         inl (m.0, [], m.1, sym (fork_before a n m.0 []) ∙ ap (is_before (a ++ n ∷ [])) (sym m.1) ∙ s.2);
     far = λ q e. absurd (cc);
   }
@@ -302,11 +302,11 @@ module _ (rows : List Row) (shape : IsShaped rows) where
           let one = one_row rows shape _ _ 0 k top (path_of rows top) (live ∙ ap (λ p. Some p) (path ∙ sym same)) tl in
           let yes : nat_eq k top ≡ true = grind (arith, nat_tests, one) in cc)
 
-  pub below-is : (top k : ℕ) → IsLive rows top → IsLive rows k → is_below (path_of rows top) (path_of rows k) ≡ true
+  pub shows_next : (top k : ℕ) → IsLive rows top → IsLive rows k → is_below (path_of rows top) (path_of rows k) ≡ true
       → (past : Bool)
       → Shows rows (next_row rows top k past) (next_below (nodes rows) (path_of rows top) (path_of rows k) past)
-  below-is top k tl kl b true = past-is top tl (row_at rows k).depth k kl refl b
-  below-is top k tl kl b false =
+  shows_next top k tl kl b true = past-is top tl (row_at rows k).depth k kl refl b
+  shows_next top k tl kl b false =
       seek k kl None _ _ (below_seeks rows (path_of rows top) (path_of rows k) b) _
       (past-is top tl (row_at rows k).depth k kl refl b)
 

@@ -1,11 +1,12 @@
 -- One node is changed, and every row stays where it lies.
 use Rattle.std.specs.FinMap.{insert}
 use Rattle.dm_tree.proofs.Common.{◌≡◌, ◌≢◌, ℕ, zero, suc, ◌<◌, true, List, length, Some, refl, sym, ◌∙◌, ap, subst}
-use Rattle.dm_tree.proofs.Common.{arith, inl, inr, get_or-set_same, get_or-set_other, set, length-set, from_entries}
-use Rattle.dm_tree.proofs.Common.{Node, Row, blank, row_at, walk, path_below, ids_below, ids, nodes, IsShaped, IsLive}
+use Rattle.dm_tree.proofs.Common.{arith, inl, inr, get_or-set_same, get_or-set_other, set, length-set}
+use Rattle.dm_tree.proofs.Common.{Node, Row, blank, row_at, walk, path_below, ids, nodes, IsShaped, IsLive}
 use Rattle.dm_tree.proofs.Common.{path_of, with_node, get_or}
 use Rattle.dm_tree.proofs.Paths.{same_or_not}
-use Rattle.dm_tree.proofs.RowMaps.{within, node_of_path, node_from, nodes_insert}
+use Rattle.dm_tree.proofs.RowMaps.{within, node_of_path, row_there, nodes_insert}
+use Rattle.dm_tree.proofs.SamePaths.{ids_by}
 
 -- rows that lie alike, under the same names; their nodes may differ, and which were given up
 pub record IsAlike (rows rows' : List Row) : Type 0 where
@@ -23,14 +24,6 @@ walk_alike rows rows' same (suc d) top k =
 pub path_alike : (rows rows' : List Row) → IsAlike rows rows' → (top k : ℕ)
     → path_below rows' top k ≡ path_below rows top k
 path_alike rows rows' same top k = walk_alike rows rows' same _ top k ∙ ap (λ d. walk rows d top k) (same.depth k)
-
-pub ids_alike : (rows rows' : List Row) → IsAlike rows rows' → (n : ℕ) → ids_below rows' 0 n ≡ ids_below rows 0 n
-ids_alike rows rows' same zero = refl
-ids_alike rows rows' same (suc n) = rw (path_alike rows rows' same 0 n, ids_alike rows rows' same n) refl
-
-pub same_ids : (rows rows' : List Row) → IsAlike rows rows' → (ids rows') ≡ (ids rows)
-unfolding ids nodes
-same_ids rows rows' same = rw same.long (ap from_entries (ids_alike rows rows' same (length rows)))
 
 -- what holds of the new member of a list, and of the others, holds of each
 pub each_member : {X : Type 0} (xs : List X) (i : ℕ) (x d : X) → i < length xs → (P : X → Type 0) (j : ℕ)
@@ -101,9 +94,11 @@ nodes-with_node rows shape k live n =
     (path_alike rows _ same 0 k ∙ live) (λ i q d e.
     node_of_path rows shape i q (sym (path_alike rows _ same 0 i) ∙ e)
     ∙ ap (λ (r : Row). Some r.node) (sym (get_or-set_other rows k i _ blank d)))
-    (λ q m e. let s = node_from rows q m e in (s.0, path_alike rows _ same 0 s.0 ∙ s.1))
+    (λ q m e. let s = row_there rows q m e in (s.row, path_alike rows _ same 0 s.row ∙ s.lies))
     ∙ ap (λ (r : Row). insert (nodes rows) (path_of rows k) r.node) (get_or-set_same rows k _ blank l)
 
 pub ids-with_node : (rows : List Row) → IsShaped rows → (k : ℕ) → IsLive rows k → (n : Node)
     → ids (with_node rows k n) ≡ ids rows
-ids-with_node rows shape k live n = same_ids rows _ (node_alike rows k n (live_row rows shape k live))
+ids-with_node rows shape k live n =
+    let same = node_alike rows k n (live_row rows shape k live) in
+    ids_by (with_node rows k n) rows same.long (path_alike rows _ same 0)

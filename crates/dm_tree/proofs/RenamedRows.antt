@@ -18,7 +18,7 @@ use Rattle.dm_tree.proofs.Paths.{not_empty, equal_below, below_longer, below_las
 use Rattle.dm_tree.proofs.PathOrder.{not_below_shorter}
 use Rattle.dm_tree.proofs.MapKeys.{moved_from, moved_to, keys_all}
 use Rattle.dm_tree.proofs.RowPaths.{child_below, one_row, some_path, not_zero, depth_is}
-use Rattle.dm_tree.proofs.RowMaps.{id_is, id_of, some_of, ids_are, node_of_path, node_from, nodes_insert}
+use Rattle.dm_tree.proofs.RowMaps.{id_is, id_of, some_of, ids_are, node_of_path, row_there, nodes_insert}
 use Rattle.dm_tree.proofs.NodeEdits.{of_both, live_row, AreOne, each_set, shaped_by}
 use Rattle.dm_tree.proofs.LiveRows.{has_parent, above-append, live_at, len-nodes, all_named}
 use Rattle.dm_tree.proofs.TreeEdits.{IsKin, child_kin, kin_set, isnt_root}
@@ -192,11 +192,11 @@ module _ (rows : List Row) (shape : IsShaped rows) (k : ℕ) (live : IsLive rows
         nodes_insert now shape' before k new there (λ i q d e.
         let w = was i q e in
         ap (get before) (sym w.2) ∙ moved_to then (nodes rows) w.0 (node_of rows i) (λ a y g same.
-        let s = node_from rows a y g in apart i w.0 w.1 s.0 a s.1 same) (node_of_path rows shape i w.0 w.1)
+        let s = row_there rows a y g in apart i w.0 w.1 s.row a s.lies same) (node_of_path rows shape i w.0 w.1)
         ∙ ap (λ (r : Row). Some r.node) (sym (other_then i d))) (λ q n e.
         let from = moved_from then (nodes rows) q n e in
-        let s = node_from rows from.0 n from.1 in
-        (s.0, lies_then s.0 from.0 s.1 ∙ ap (λ p. Some p) from.2))
+        let s = row_there rows from.0 n from.1 in
+        (s.row, lies_then s.row from.0 s.lies ∙ ap (λ p. Some p) from.2))
         ∙ ap (λ (r : Row). insert before new r.node) here_then
       where
         there : path_below now 0 k ≡ Some new

@@ -9,14 +9,14 @@ use Rattle.dm_tree.proofs.Common.{Row, Path, Nodes, tree_order, above, last_name
 use Rattle.dm_tree.proofs.Common.{row_at, node_of, nodes, ids, path_of, IsLive, IsShaped, IsTree, is_role}
 use Rattle.dm_tree.proofs.Common.{is_update_node, update_node, has_role}
 use Rattle.dm_tree.proofs.FirstKeys.{value_of, names_of, is_true, behind_first, first_key, no_key}
-use Rattle.dm_tree.proofs.LiveRows.{above-append, has_parent, last_name-append, node_there, row_there, live_at}
+use Rattle.dm_tree.proofs.LiveRows.{above-append, has_parent, last_name-append, node_there, live_at}
 use Rattle.dm_tree.proofs.MapKeys.{tied}
 use Rattle.dm_tree.proofs.NextNodes.{Shows}
 use Rattle.dm_tree.proofs.NodesBehind.{below-is}
 use Rattle.dm_tree.proofs.PathOrder.{not_before_itself}
 use Rattle.dm_tree.proofs.Paths.{same_or_not}
 use Rattle.dm_tree.proofs.RenamedLengths.{still_to_come}
-use Rattle.dm_tree.proofs.RowMaps.{id_of}
+use Rattle.dm_tree.proofs.RowMaps.{id_of, row_there}
 use Rattle.dm_tree.proofs.RowPaths.{same_number}
 
 -- an entry is found where its key is

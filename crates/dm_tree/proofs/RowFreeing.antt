@@ -11,7 +11,7 @@ use Rattle.dm_tree.proofs.SubtreeCuts.{still_attached}
 use Rattle.dm_tree.proofs.GivenUpRows.{tree-given_up}
 use Rattle.dm_tree.proofs.FlippedRows.{other_row, kin-flipped}
 use Rattle.dm_tree.proofs.UndoPromises.{alike-given_up}
-use Rattle.dm_tree.proofs.RowReuse.{no_way, ids_by, nodes_by}
+use Rattle.dm_tree.proofs.SamePaths.{no_way, ids_by, nodes_by}
 use Rattle.dm_tree.proofs.ClearRows.{clear-less}
 use Rattle.dm_tree.proofs.UndoFlips.{parked-taken_out}
 use Rattle.dm_tree.proofs.CutTrees.{tree-out}

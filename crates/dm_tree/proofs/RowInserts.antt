@@ -15,7 +15,7 @@ use Rattle.dm_tree.proofs.RowMaps.{get_nodes, id_of}
 use Rattle.dm_tree.proofs.NodeEdits.{live_row}
 use Rattle.dm_tree.proofs.TreeEdits.{parent_is_shallow}
 use Rattle.dm_tree.proofs.LiveRows.{live_at, stay_live-insert}
-use Rattle.dm_tree.proofs.UndoFlips.{length-flipped, parked-same}
+use Rattle.dm_tree.proofs.UndoFlips.{length-flipped, parked_top-same}
 use Rattle.dm_tree.proofs.FlippedRows.{other_row, kin-flipped}
 use Rattle.dm_tree.proofs.ClearRows.{live-off}
 use Rattle.dm_tree.proofs.FlipsBeside.{alike-beside, alike-fewer}
@@ -202,14 +202,14 @@ module _ (rows now : List Row) (id : ℕ) (tree : IsTree rows) (k : ℕ) (name :
   no_new_top j p =
       let apart : j ≢ id = λ e. (let at : (row_at now j).attached ≡ true =
       ap (λ i. (row_at now i).attached) e ∙ ap (λ (s : Row). s.attached) new.here in let out = p.out in cc) in
-      parked-same now rows j (new.before j p.inside apart) (sym (new.other j apart)) p
+      parked_top-same now rows j (new.before j p.inside apart) (sym (new.other j apart)) p
 
   edit_then : TakesEditBack (change.TakeOut id) rows now
   edit_then = record {
     tree = tree_then;
     fits = fits_then;
     alike = alike-aside rows _ id _ tree back aside;
-    parked = λ j p. parked-same rows now j (omega (arith, p.inside, new.longer)) (new.other j (no_top j p)) p;
+    parked = λ j p. parked_top-same rows now j (omega (arith, p.inside, new.longer)) (new.other j (no_top j p)) p;
     held = tt;
     only = λ j p. inl (no_new_top j p);
     used = (new.inside, λ z. ap (λ (s : Row). s.given_up) new.here);

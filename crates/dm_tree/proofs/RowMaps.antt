@@ -3,7 +3,7 @@ use Rattle.std.specs.FinMap.{find, insert}
 use Rattle.dm_tree.proofs.Common.{◌≡◌, ◌≢◌, ℕ, zero, suc, ◌<◌, List, [], ◌∷◌, length, Option, None, Some}
 use Rattle.dm_tree.proofs.Common.{refl, sym, ◌∙◌, ap, arith, ◌⊎◌, inl, inr, cases_Bool, false_from_ne_true}
 use Rattle.dm_tree.proofs.Common.{get_or_past, unwrap_or, eq_by_cmp, FinMap, get, get-from_entries, get-insert}
-use Rattle.dm_tree.proofs.Common.{same_map, option_map, Node, Row, Path, tree_order, blank, row_at, path_below}
+use Rattle.dm_tree.proofs.Common.{same_map, option_map, Node, Row, Path, tree_order, blank, row_at, node_of, path_below}
 use Rattle.dm_tree.proofs.Common.{placed, ids_below, with_nodes, ids, nodes, IsShaped, IsLive, path_of}
 use Rattle.dm_tree.proofs.MapKeys.{tied}
 use Rattle.dm_tree.proofs.Paths.{below_or_not, path_or_not, same_or_not, same_path, tree_exact, tree_total}
@@ -120,18 +120,24 @@ node_of_path rows shape i q e =
     get_nodes rows q ∙ ap (option_map (λ j. (row_at rows j).node)) (id_of rows shape i q e)
 
 -- what the map shows at a path stands in a row
-pub node_from : (rows : List Row) (q : Path) (n : Node) → get (nodes rows) q ≡ Some n
-    → (i : ℕ) × (path_below rows 0 i ≡ Some q) × ((row_at rows i).node ≡ n)
-node_from rows q n e =
-    let found = some_of (λ j. (row_at rows j).node) (get (ids rows) q) n (sym (get_nodes rows q) ∙ e) in
-    (found.0, (id_is rows q found.0 found.1).0, found.2)
+pub record StandsInRow (rows : List Row) (p : Path) (node : Node) : Type 0 where
+  pub row : ℕ
+  pub lies : path_below rows 0 row ≡ Some p
+  pub inside : row < length rows
+  pub node_is : node_of rows row ≡ node
+
+pub row_there : (rows : List Row) (p : Path) (node : Node) → get (nodes rows) p ≡ Some node → StandsInRow rows p node
+row_there rows p node e =
+    let found = some_of (λ j. (row_at rows j).node) (get (ids rows) p) node (sym (get_nodes rows p) ∙ e) in
+    let lies = id_is rows p found.0 found.1 in
+    record { row = found.0; lies = lies.0; inside = lies.1; node_is = found.2 }
 
 -- the node of each row of the tree is in it under the row's path, and no other path
 pub nodes_are : (rows : List Row) → IsShaped rows → (m : FinMap tree_order Node)
     → ((i : ℕ) (q : Path) → path_below rows 0 i ≡ Some q → get m q ≡ Some (row_at rows i).node)
     → ((q : Path) (n : Node) → get m q ≡ Some n → (i : ℕ) × (path_below rows 0 i ≡ Some q)) → nodes rows ≡ m
 nodes_are rows shape m to from = same_map tree_total tree_exact _ _ (λ q. same_answer _ _ (λ n e.
-    let s = node_from rows q n e in to s.0 q s.1 ∙ ap (λ x. Some x) s.2) (λ n e.
+    let s = row_there rows q n e in to s.row q s.lies ∙ ap (λ x. Some x) s.node_is) (λ n e.
     let s = from q n e in node_of_path rows shape s.0 q s.1 ∙ sym (to s.0 q s.1) ∙ e))
 
 -- the node of the row k stands in the place of what a map has there, and the map has the nodes of the other rows

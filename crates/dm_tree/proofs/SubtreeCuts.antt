@@ -7,9 +7,9 @@ use Rattle.dm_tree.proofs.Common.{ids, nodes, IsShaped, IsLive, path_of, attache
 use Rattle.dm_tree.proofs.Common.{get_or-set_other, length-set}
 use Rattle.dm_tree.proofs.Paths.{below_last, below_longer, below_none, below_self, tree_exact}
 use Rattle.dm_tree.proofs.RowPaths.{at_bottom, at_top, attached_row, not_zero, one_row, up_from}
-use Rattle.dm_tree.proofs.RowMaps.{id_is, id_of, ids_are, node_of_path, nodes_are, root_live}
+use Rattle.dm_tree.proofs.RowMaps.{id_is, id_of, ids_are, node_of_path, nodes_are, root_live, row_there}
 use Rattle.dm_tree.proofs.NodeEdits.{each_set, live_row, of_both}
-use Rattle.dm_tree.proofs.LiveRows.{has_parent, row_there}
+use Rattle.dm_tree.proofs.LiveRows.{has_parent}
 
 pub still_attached : (rows : List Row) (k j : ℕ) → k < length rows
     → (row_at (attached_as rows k false) j).attached ≡ true → (j ≢ k) × ((row_at rows j).attached ≡ true)

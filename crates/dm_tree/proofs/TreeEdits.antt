@@ -9,7 +9,8 @@ use Rattle.dm_tree.proofs.Common.{row_at, node_of, ids_below, nodes, IsShaped, I
 use Rattle.dm_tree.proofs.Common.{with_node}
 use Rattle.dm_tree.proofs.Paths.{same_or_not}
 use Rattle.dm_tree.proofs.RowPaths.{depth_is, not_zero, attached_row}
-use Rattle.dm_tree.proofs.NodeEdits.{IsAlike, path_alike, ids_alike, each_set, of_both, node_alike, shaped_alike}
+use Rattle.dm_tree.proofs.SamePaths.{ids_upto}
+use Rattle.dm_tree.proofs.NodeEdits.{IsAlike, path_alike, each_set, of_both, node_alike, shaped_alike}
 use Rattle.dm_tree.proofs.LiveRows.{len-nodes, live_at}
 
 -- ---- another node in a row
@@ -17,7 +18,7 @@ use Rattle.dm_tree.proofs.LiveRows.{len-nodes, live_at}
 len_alike : (rows rows' : List Row) → IsShaped rows → IsAlike rows rows' → len (nodes rows') ≡ len (nodes rows)
 len_alike rows rows' shape same =
     len-nodes rows' (shaped_alike rows rows' same shape)
-    ∙ ap length (ap (ids_below rows' 0) same.long ∙ ids_alike rows rows' same (length rows))
+    ∙ ap length (ap (ids_below rows' 0) same.long ∙ ids_upto rows' rows 0 (path_alike rows rows' same 0) (length rows))
     ∙ sym (len-nodes rows shape)
 
 -- rows that lie as before, each with a node that may stand there

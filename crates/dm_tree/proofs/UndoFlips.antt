@@ -75,7 +75,7 @@ turned-same a b (change.PutIn k) e = refl
 turned-same a b u e = rw (e, node_of) refl
 
 -- a top stays parked where its row stays as it is
-pub parked-same : (a b : List Row) (j : ℕ) → j < length b → row_at b j ≡ row_at a j → IsParkedTop a j
+pub parked_top-same : (a b : List Row) (j : ℕ) → j < length b → row_at b j ≡ row_at a j → IsParkedTop a j
     → IsParkedTop b j
-parked-same a b j inside same p =
+parked_top-same a b j inside same p =
     record { below_root = p.below_root; inside = inside; out = rw same p.out; held = rw same p.held }

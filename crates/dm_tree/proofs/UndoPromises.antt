@@ -10,7 +10,7 @@ use Rattle.dm_tree.proofs.SubtreeCuts.{live_attached, still_attached}
 use Rattle.dm_tree.proofs.FlippedRows.{other_row, kin-flipped}
 use Rattle.dm_tree.proofs.ClearRows.{clear-less, live-clear}
 use Rattle.dm_tree.proofs.NodeEdits.{of_both, live_row}
-use Rattle.dm_tree.proofs.UndoFlips.{again, held_then, length-flipped, row_turned, parked-same}
+use Rattle.dm_tree.proofs.UndoFlips.{again, held_then, length-flipped, row_turned, parked_top-same}
 use Rattle.dm_tree.proofs.FlipsBeside.{set-lasts, alike-beside, IsReason}
 use Rattle.dm_tree.proofs.GivenUpRows.{tree-given_up, nodes-given_up, ids-given_up}
 
@@ -20,7 +20,7 @@ use Rattle.dm_tree.proofs.GivenUpRows.{tree-given_up, nodes-given_up, ids-given_
 pub parked-flipped : (rows : List Row) (u : Change) (k : ℕ) → (row_of u ≡ k → ⊥) → IsParkedTop rows k
     → IsParkedTop (flipped rows u) k
 parked-flipped rows u k d p =
-    parked-same rows (flipped rows u) k (omega (arith, p.inside, length-flipped rows u)) (other_row rows u k d) p
+    parked_top-same rows (flipped rows u) k (omega (arith, p.inside, length-flipped rows u)) (other_row rows u k d) p
 
 abbrev emptied_row : Row → Row
 emptied_row r = record r { given_up = true; node = emptied r.node }
@@ -90,7 +90,7 @@ edit-flip rows u tree fits none live = record {
         inr (out-flipped rows u fits.inside none (attached (omega (arith, e, p.below_root)))
         (subst (λ i. (row_at (flipped rows u) i).attached ≡ false) (sym e) p.out) ∙ ap (λ i. Some i) e)
     | inr d ↦
-        inl (parked-same (flipped rows u) rows j (omega (arith, p.inside, length-flipped rows u))
+        inl (parked_top-same (flipped rows u) rows j (omega (arith, p.inside, length-flipped rows u))
         (sym (other_row rows u j d)) p)
   ];
   used = rw (row_turned rows u)

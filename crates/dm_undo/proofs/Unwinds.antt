@@ -12,7 +12,7 @@ use Rattle.dm_tree.specs.Reuse.{IsClear}
 use Rattle.dm_tree.proofs.RowPaths.{attached_row}
 use Rattle.dm_tree.proofs.NodeEdits.{of_both}
 use Rattle.dm_tree.proofs.SubtreeCuts.{still_attached}
-use Rattle.dm_tree.proofs.RowReuse.{no_way}
+use Rattle.dm_tree.proofs.SamePaths.{no_way}
 use Rattle.dm_tree.proofs.ClearRows.{clear-less, clear-outside}
 use Rattle.dm_tree.specs.Undos.{flipped, turned, Fits}
 use Rattle.dm_tree.specs.Notes.{GoesAlike, Stays}

@@ -1,6 +1,6 @@
 use Rattle.dm_tree.proofs.Common.{◌≡◌, List, get_or, refl, subst, set, Node, Row, Change, Fits, row_of, ChildList}
 use Rattle.dm_tree.proofs.Common.{IsIndex}
-use Rattle.dm_tree.proofs.IndexUnlinks.{index-set, may_put}
+use Rattle.dm_tree.proofs.IndexEdits.{index-set, may_put}
 use Rattle.dm_tree.proofs.edits.flip_row.Goals as goal
 
 -- another node in the row of which the change speaks

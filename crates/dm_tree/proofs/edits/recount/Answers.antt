@@ -1,4 +1,4 @@
-use Rattle.dm_tree.proofs.IndexUnlinks.{sized-flipped}
+use Rattle.dm_tree.proofs.IndexEdits.{sized-flipped}
 use Rattle.dm_tree.proofs.edits.recount.Goals as goal
 
 pub returns-in_default : goal.returns-in_default

@@ -1,6 +1,6 @@
 use Rattle.dm_tree.proofs.Common.{blank}
 use Rattle.dm_tree.proofs.IndexLinks.{HasRead, read, read_children}
-use Rattle.dm_tree.proofs.IndexUnlinks.{forgotten_index, forgotten_some}
+use Rattle.dm_tree.proofs.IndexEdits.{forgotten_index, forgotten_some}
 use Rattle.dm_tree.proofs.index.forget.Goals as goal
 use Rattle.dm_tree.proofs.index.forget.Goals.{After-index_mut}
 

@@ -1,5 +1,5 @@
 use Rattle.dm_tree.proofs.Common.{◌∙◌}
-use Rattle.dm_tree.proofs.IndexUnlinks.{back_in, put_again, renamed_index}
+use Rattle.dm_tree.proofs.IndexEdits.{back_in, put_again, renamed_index}
 use Rattle.dm_tree.proofs.index.move_name.Goals as goal
 
 pub put_in-requires-clause-out : goal.put_in-requires-clause-out

@@ -1,6 +1,6 @@
 use Rattle.dm_tree.proofs.Common.{◌∙◌, ap, sym, Row, blank, node_of}
 use Rattle.dm_tree.proofs.IndexLinks.{read}
-use Rattle.dm_tree.proofs.IndexUnlinks.{index-with_name}
+use Rattle.dm_tree.proofs.IndexEdits.{index-with_name}
 use Rattle.dm_tree.proofs.index.swap_name.Goals as goal
 
 pub returns-else-index-clause-index : goal.returns-else-index-clause-index

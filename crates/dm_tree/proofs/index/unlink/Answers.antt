@@ -1,6 +1,6 @@
 use Rattle.dm_tree.proofs.Common.{refl, blank}
 use Rattle.dm_tree.proofs.IndexLinks.{taken_index, child_place, ids_inside, HasRead, read, read_list, read_children}
-use Rattle.dm_tree.proofs.IndexUnlinks.{few_parked}
+use Rattle.dm_tree.proofs.IndexEdits.{few_parked}
 use Rattle.dm_tree.proofs.index.unlink.Goals as goal
 use Rattle.dm_tree.proofs.index.unlink.Goals.{After-as_slice}
 

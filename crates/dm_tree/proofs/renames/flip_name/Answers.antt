@@ -1,5 +1,5 @@
 use Rattle.dm_tree.proofs.Common.{◌∙◌, ◌<◌, refl, ap, length, set, length-set, counted, node_of}
-use Rattle.dm_tree.proofs.IndexUnlinks.{shaped-renode, named_node, index-set}
+use Rattle.dm_tree.proofs.IndexEdits.{shaped-renode, named_node, index-set}
 use Rattle.dm_tree.proofs.renames.flip_name.Goals as goal
 
 pub swap_name-requires-clause-after : goal.swap_name-requires-clause-after

@@ -1,6 +1,6 @@
 use Rattle.dm_tree.proofs.Common.{◌∙◌, ap, next_below, Tree, nodes, path_of}
 use Rattle.dm_tree.proofs.EqualTrees.{tree_kept}
-use Rattle.dm_tree.proofs.NextNodes.{Shows, below-is, shown_ids, shown_live, shown_within}
+use Rattle.dm_tree.proofs.NextNodes.{Shows, shows_next, shown_ids, shown_live, shown_within}
 use Rattle.dm_tree.proofs.NodesBehind.{shown_behind}
 use Rattle.dm_tree.proofs.tree.Tree.next_below.Goals as goal
 
@@ -12,7 +12,7 @@ returns c =
     let shows : Shows now c.of_row.result
     (next_below (nodes now) (path_of now c.args.top) (path_of now c.args.id) c.args.past) =
     rw (c.of_row.ensures, c.next_row.ensures, rows, c.row.ensures, c.row-2.ensures)
-    (below-is now shape c.args.top c.args.id c.requires.top c.requires.live c.requires.below c.args.past) in
+    (shows_next now shape c.args.top c.args.id c.requires.top c.requires.live c.requires.below c.args.past) in
     record {
       found = shown_ids now shape c.of_row.result _ shows;
       live = shown_live now c.of_row.result _ shows;

@@ -1,4 +1,4 @@
--- The index of children, when a row is given up, renamed or has another node, and what a flip leaves of sizes.
+-- The index of children, when a row is given up, is renamed or has another node, and what a flip leaves of the sizes.
 use Rattle.dm_tree.specs.declared.rows.Change.TheVariants as change
 use Rattle.dm_tree.proofs.Common.{◌≡◌, ℕ, suc, ◌+◌, ◌-◌, ◌<◌, ◌^◌, true, false, List}
 use Rattle.dm_tree.proofs.Common.{length, get_or, refl, sym, ◌∙◌, ap, subst, arith}

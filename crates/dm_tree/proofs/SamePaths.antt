@@ -18,15 +18,15 @@ no_way rows d top k other out = stuck rows d top k out ∙ rw (not_same k top ot
 
 -- ---- the maps
 
-ids_upto : (a b : List Row) → ((j : ℕ) → path_below a 0 j ≡ path_below b 0 j) → (n : ℕ)
-    → ids_below a 0 n ≡ ids_below b 0 n
-ids_upto a b same zero = refl
-ids_upto a b same (suc n) = let here = same n in rw (here, ids_upto a b same n) refl
+pub ids_upto : (a b : List Row) (top : ℕ) → ((j : ℕ) → path_below a top j ≡ path_below b top j) → (n : ℕ)
+    → ids_below a top n ≡ ids_below b top n
+ids_upto a b top same zero = refl
+ids_upto a b top same (suc n) = let here = same n in rw (here, ids_upto a b top same n) refl
 
 -- rows that lie at the same paths have the same numbers there
 pub ids_by : (a b : List Row) → length a ≡ length b → ((j : ℕ) → path_below a 0 j ≡ path_below b 0 j) → ids a ≡ ids b
 unfolding ids
-ids_by a b long same = rw long (ap from_entries (ids_upto a b same (length b)))
+ids_by a b long same = rw long (ap from_entries (ids_upto a b 0 same (length b)))
 
 -- the nodes at these numbers, where those in the tree are the same
 pub nodes_at : (a b : List Row) (q : Path)
