@@ -26,8 +26,8 @@ impl Model for Children {
 
     ghost view = { λ c. record { ids = c.ids.items; parked = c.parked; room = vec_capacity c.ids } };
 
-    // No more keys than rows, and no room for any where there is none for rows, so that what no clause sees doesn't
-    // grow, and goes when the list is given back.
+    // No more keys than rows, and no room for keys where there is none for rows: what no clause sees doesn't grow, and
+    // is freed with the rest.
     ghost invariant = { λ c. (vec_len c.keys ≤ vec_len c.ids) × (vec_capacity c.ids ≡ 0 → vec_capacity c.keys ≡ 0) };
 }
 
