@@ -234,9 +234,9 @@ fn source(alloc: Global, bytes: &[u8], failing: u64) -> Result<MemSource, Fail> 
     Ok(MemSource::new(Bytes::of_slice(alloc, bytes)?, 3, fails))
 }
 
-fn is_line(answer: Result<LineOut, TakeError>, text: &str) -> bool {
+fn is_line(lines: &Lines, answer: Result<LineOut, TakeError>, text: &str) -> bool {
     match answer {
-        Ok(LineOut::Line(line)) => line.as_slice() == text.as_bytes(),
+        Ok(LineOut::Line) => lines.line() == text.as_bytes(),
         Ok(LineOut::Bad(LineReason::Cut)) => text == "Cut",
         Ok(LineOut::Bad(_)) => false,
         Ok(LineOut::End) => text == "End",
@@ -251,7 +251,8 @@ fn wrong_answer(
     wants: &[&'static str],
 ) -> Option<&'static str> {
     for want in wants {
-        if !is_line(lines.next(src), want) {
+        let answer = lines.next(src);
+        if !is_line(lines, answer, want) {
             return Some(want);
         }
     }

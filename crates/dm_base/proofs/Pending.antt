@@ -3,7 +3,10 @@ use Rattle.std.proofs.Common.{None, Some, Ok, Err, Bool, true, false, inl, inr, 
 use Rattle.std.proofs.Common.{◌∷◌, ◌++◌, refl, sym, ap, subst, ◌∙◌, take, drop, length, get_or, arith, length-append}
 use Rattle.std.proofs.Common.{take-append-drop, append_assoc, append-nil, MatchOption, is_some}
 use Rattle.std.proofs.lemmas.List.{drop_more, get_or_append_left, get_or-drop, get_or-take, length-drop, length-take-le}
-use Rattle.std.proofs.lemmas.List.{take_all}
+use Rattle.std.proofs.Common.{slice_range, take-add, drop-drop, ap₂}
+use Rattle.std.proofs.lemmas.List.{take_all, drop-take, length-take, take-take}
+use Rattle.dm_base.specs.declared.outside.Failed.{Failed}
+use Rattle.dm_base.specs.Lines.{PutsPending}
 use Rattle.std.proofs.Math.Seq.{take-append_seam}
 use Rattle.std.proofs.lemmas.Bool.{cases_lt, eq-eqb, eqb-true}
 use Rattle.memchr.specs.Find.{IsFirstByte, Nowhere, Passes, is_byte}
@@ -14,7 +17,7 @@ use Rattle.dm_base.specs.declared.outside.TakeError.{TakeError}
 use Rattle.dm_base.specs.declared.outside.TakeError.TheVariants.{Read, TooLong, Memory}
 use Rattle.dm_base.specs.declared.lines.LineOut.TheVariants as line_out
 use Rattle.dm_base.specs.declared.lines.LineReason.TheVariants as reason
-use Rattle.dm_base.specs.Outside.{OfKnown}
+use Rattle.dm_base.specs.Outside.{OfKnown, TakesSome}
 use Rattle.dm_base.specs.Lines.{LinesState, FillsPending, ReadsLine, ahead, behind, IsFeedless, IsLongLine, CountsTaken}
 use Rattle.dm_base.specs.Lines.{AskedForMore, LeavesNoLine, HasFeed, IsPastRoom, room, line_limit}
 
@@ -49,18 +52,17 @@ gave_line (Some x) (Some y) bytes new at within is rest kept =
     sym kept ∙ ap (λ l. l ++ y) (split_at_feed bytes at within is ∙ ap (λ l. take at bytes ++ 10 ∷ l) (sym rest))
     ∙ append_assoc (take at bytes) (10 ∷ new) y ∙ sym (append_assoc (take at bytes) (10 ∷ []) (new ++ y))
 
--- what was to come is the line, its line feed and what is to come
-pub line_given : (a left : Option (List ℕ)) (old new : LinesState) (line : List ℕ) (at r : ℕ)
+pub line_given : (a left : Option (List ℕ)) (old new : LinesState) (at r : ℕ)
     → (at < length old.pending) × (get_or old.pending at 0 ≡ 10) × IsClear old.pending at → at ≤ 8400000 → room old ≡ r
-    → line ≡ take at old.pending → new ≡ record old { pending = drop (at + 1) old.pending } → Keeps a (ahead old left)
-    → ReadsLine r a (ahead new left) (Ok (line_out.Line line))
-line_given a left old new line at r found short same is rest kept =
+    → new.line ≡ take at old.pending → new ≡ record old { line = new.line; pending = drop (at + 1) old.pending }
+    → Keeps a (ahead old left) → ReadsLine r a (ahead new left) new.line (Ok line_out.Line)
+line_given a left old new at r found short same is rest kept =
     let all : length (take at old.pending) ≡ at = length-take-le at old.pending (omega (arith, found.0)) in
-    let long : length line ≡ at = ap length is ∙ all in (
+    let long : length new.line ≡ at = ap length is ∙ all in (
       subst IsFeedless (sym is) (feedless_front old.pending at (omega (arith, found.0)) found.2),
       omega (arith, long, short),
       omega (arith, long, found.0, same),
-      subst (λ s. Consumes a (ahead s left) (line ++ 10 ∷ [])) (sym rest)
+      subst (λ s. Consumes a (ahead s left) (new.line ++ 10 ∷ [])) (sym rest)
           (subst (λ l. Consumes a (prepend_known (drop (at + 1) old.pending) (behind old left)) (l ++ 10 ∷ [])) (sym is)
           (gave_line a (behind old left) old.pending _ at found.0 found.1 refl kept)),
     )
@@ -82,7 +84,7 @@ too_long (Some x) (Some y) bytes n r within long low clear kept =
 -- the pending bytes are fewer than a run looks at
 pub long_line : (a left : Option (List ℕ)) (s : LinesState) (n r : ℕ) → n ≤ length s.pending → 8400000 < n
     → IsClear s.pending n
-    → room s ≡ r → Keeps a (ahead s left) → ReadsLine r a (ahead s left) (Ok (line_out.Bad reason.Long))
+    → room s ≡ r → Keeps a (ahead s left) → ReadsLine r a (ahead s left) s.line (Ok (line_out.Bad reason.Long))
 long_line a left s n r within long clear same kept =
     (kept, too_long a (behind s left) s.pending n r within long (omega (arith, same)) clear kept)
 
@@ -120,7 +122,8 @@ pub taken_at_error : (a left rest : Option (List ℕ)) (old new : LinesState) (e
 taken_at_error a left rest old new Read first h taken =
     taken_kept a left rest first _ _ taken (ap (λ s. s.taken) h.0) h.1
 taken_at_error a left rest old new TooLong first h taken = taken_more a left rest first _ _ taken h.0
-taken_at_error a left rest old new Memory first h taken = taken_more a left rest first _ _ taken h
+taken_at_error a left rest old new Memory first h taken =
+    taken_kept a left rest first _ _ taken (ap (λ s. s.taken) h.0) h.1
 
 -- the pending bytes are all that a run looks at, without a line feed, and another byte comes
 pub past_room : (a b : Option (List ℕ)) (bytes : List ℕ) (r : ℕ) → Keeps a (prepend_known bytes b)
@@ -150,14 +153,15 @@ kept_ahead (Some x) (Some y) (Some z) s kept stays = ap (λ l. s.pending ++ (s.p
 -- the pending bytes hold no whole line, and no piece came
 pub line_stops : (a left rest : Option (List ℕ)) (first old new : LinesState) (n : ℕ) (error : TakeError)
     → FillsPending old new left rest (Err error) → n ≡ length old.pending → n ≤ 8400000 → IsClear old.pending n
-    → room old ≡ room first → Keeps a (ahead old left) → ReadsLine (room first) a (ahead new rest) (Err error)
+    → room old ≡ room first → Keeps a (ahead old left) → ReadsLine (room first) a (ahead new rest) new.line (Err error)
 line_stops a left rest first old new n Read fill all short clear same kept =
     subst (λ s. Keeps a (ahead s rest)) (sym fill.0) (kept_ahead a left rest old kept fill.1)
 line_stops a left rest first old new n TooLong fill all short clear same kept =
     let full = fill.1 in
     past_room a (behind old left) old.pending (room first) kept fill.2 (omega (arith, same, full))
     (omega (arith, all, short)) (subst (λ m. IsClear old.pending m) all clear)
-line_stops a left rest first old new n Memory fill all short clear same kept = tt
+line_stops a left rest first old new n Memory fill all short clear same kept =
+    subst (λ s. Keeps a (ahead s rest)) (sym fill.0) (kept_ahead a left rest old kept fill.1)
 
 -- after a piece more, by what `fill` says of it
 pub filled_within : (old new : LinesState) (left rest : Option (List ℕ)) (b : Bool) (n : ℕ) → b ≡ true
@@ -261,26 +265,28 @@ feed_missed first now n feed all clear unasked =
     let within = ap length same in
     absurd (clear feed.0 (omega (arith, all, within, feed.1)) (ap (λ l. get_or l feed.0 0) same ∙ feed.2))
 
--- so a source that fails was asked where none is pending
+-- so an error comes only where none was pending
 pub asked_for_more : (first now : LinesState) (n : ℕ) {Same : Type 0} (error : TakeError)
     → n ≡ length now.pending → IsClear now.pending n → (HasFeed first.pending → (now ≡ first) × Same)
     → AskedForMore first.pending (Err error)
-asked_for_more first now n Read all clear unasked =
+asked_for_more first now n error all clear unasked =
     λ k low feed. feed_missed first now n (k, low, feed) all clear unasked
-asked_for_more first now n TooLong all clear unasked = tt
-asked_for_more first now n Memory all clear unasked = tt
 
 -- and none is held back even then
+no_line_left : (old new : LinesState) (n : ℕ) → new ≡ record old { line = new.line } → old.past ≡ []
+    → n ≡ length old.pending → n ≤ line_limit → IsClear old.pending n
+    → IsFeedless (new.pending ++ new.past) × (length (new.pending ++ new.past) ≤ line_limit)
+no_line_left old new n same none all short clear =
+    subst (λ bytes. IsFeedless bytes × (length bytes ≤ line_limit))
+    (sym (ap (λ s. s.pending ++ s.past) same ∙ ap (λ past. old.pending ++ past) none ∙ append-nil old.pending))
+    (subst (λ m. IsClear old.pending m) all clear, omega (arith, all, short))
+
 pub asked_last : (old new : LinesState) (left rest : Option (List ℕ)) (n : ℕ) (error : TakeError)
     → FillsPending old new left rest (Err error) → n ≡ length old.pending → n ≤ line_limit → IsClear old.pending n
     → LeavesNoLine (new.pending ++ new.past) (Err error)
-asked_last old new left rest n Read fill all short clear =
-    subst (λ s. LeavesNoLine (s.pending ++ s.past) (Err Read)) (sym fill.0)
-    (subst (λ past. LeavesNoLine (old.pending ++ past) (Err Read)) (sym fill.2)
-    (subst (λ bytes. LeavesNoLine bytes (Err Read)) (sym (append-nil old.pending))
-    (subst (λ m. IsClear old.pending m) all clear, omega (arith, all, short))))
 asked_last old new left rest n TooLong fill all short clear = tt
-asked_last old new left rest n Memory fill all short clear = tt
+asked_last old new left rest n Read fill all short clear = no_line_left old new n fill.0 fill.2 all short clear
+asked_last old new left rest n Memory fill all short clear = no_line_left old new n fill.0 fill.2 all short clear
 
 -- what a search from the front says where it found a place
 pub line_there : (bytes looked : List ℕ) (r : Option ℕ) → looked ≡ bytes
@@ -291,3 +297,53 @@ pub line_there : (bytes looked : List ℕ) (r : Option ℕ) → looked ≡ bytes
 line_there bytes looked None was found some = cc
 line_there bytes looked (Some at) was found some =
     (at, subst (λ l. at < length l) was found.1, sym (ap (λ l. get_or l at 0) was) ∙ found.2)
+
+-- ---- the bytes of a list, and the part of them that is pending
+
+-- the part from a later place on
+pub range_behind : (xs : List ℕ) (from n end : ℕ) → from + n ≤ end
+    → slice_range xs (from + n) end ≡ drop n (slice_range xs from end)
+range_behind xs from n end within =
+    let long : n + (end - (from + n)) ≡ end - from = omega (arith, within) in
+    ap (take (end - (from + n))) (sym (drop-drop n from xs))
+    ∙ sym (drop-take n (end - (from + n)) (drop from xs)) ∙ ap (λ k. drop n (take k (drop from xs))) long
+
+-- a part that ends at a place looks at nothing behind it
+range_within : (old new : List ℕ) (from end : ℕ) → from ≤ end → take end new ≡ take end old
+    → slice_range new from end ≡ slice_range old from end
+range_within old new from end low same = by_front new ∙ ap (drop from) same ∙ sym (by_front old)
+  where
+    by_front : (xs : List ℕ) → slice_range xs from end ≡ drop from (take end xs)
+    by_front xs = let long : from + (end - from) ≡ end = omega (arith, low) in
+        sym (drop-take from (end - from) xs) ∙ ap (λ k. drop from (take k xs)) long
+
+-- bytes that are put behind the part
+pub range_longer : (old new : List ℕ) (from end n : ℕ) → from ≤ end → take end new ≡ take end old
+    → slice_range new from (end + n) ≡ slice_range old from end ++ take n (drop end new)
+range_longer old new from end n low same =
+    let sum : (end - from) + n ≡ end + n - from = omega (arith, low) in
+    let there : from + (end - from) ≡ end = omega (arith, low) in
+    ap (λ k. take k (drop from new)) (sym sum) ∙ take-add (end - from) n (drop from new)
+    ∙ ap₂ (λ a b. a ++ take n b) (range_within old new from end low same)
+    (drop-drop (end - from) from new ∙ ap (λ k. drop k new) there)
+
+-- what a source put into the room behind the pending bytes is pending then
+pub put_pending : (old room kept : List ℕ) (from end n count size : ℕ) (left rest : Option (List ℕ)) → from ≤ end
+    → length room ≡ size → take end room ≡ take end old
+    → TakesSome {E = Failed} left rest (Ok n) (take count (drop end room))
+    → PutsPending (slice_range old from end)
+    (slice_range (take size (room ++ drop (length room) kept)) from (end + n)) left rest count (Ok n)
+put_pending old room kept from end n count size left rest low long same took =
+    let whole : take size (room ++ drop (length room) kept) ≡ room =
+    ap (λ k. take k (room ++ drop (length room) kept)) (sym long) ∙ take-append_seam room (drop (length room) kept) in
+    let fits = length-take count (drop end room) in
+    let within = took.0 in
+    let few : n ≤ count = omega (arith, fits, within) in (
+      take n (take count (drop end room)),
+      length-take-le n (take count (drop end room)) within,
+      few,
+      ap (λ l. slice_range l from (end + n)) whole ∙ range_longer old room from end n low same
+          ∙ ap (λ l. slice_range old from end ++ l) (sym (take-take n count (drop end room) few)),
+      took.1,
+      took.2,
+    )

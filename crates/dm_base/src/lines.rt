@@ -5,7 +5,6 @@ ghost use Rattle.dm_base.specs.Outside.{ReadCounts};
 ghost use Rattle.dm_base.specs.Lines.{LinesState, ReadsLine, StaysUnlessLine, CountsTaken, FillsPending, ahead};
 ghost use Rattle.dm_base.specs.Lines.{AskedForMore, LeavesNoLine, HasFeed, IsFeedless, room, bytes_given, run_limit};
 
-use crate::bytes::{Bytes, Memory};
 use crate::outside::{Failed, Source, TakeError};
 use crate::pending_bytes::PendingBytes;
 use memchr::memchr;
@@ -40,10 +39,10 @@ pub enum LineReason {
     Message,
 }
 
-/// The next line without its line feed, or why there is none: `Bad` with `Cut` or `Long`, or the end of the input.
-#[derive(Drop)]
+/// A line came, or why there is none: `Bad` with `Cut` or `Long`, or the end of the input.
+#[derive(Clone, Copy, Debug, PartialEq, Eq)]
 pub enum LineOut {
-    Line(Bytes),
+    Line,
     Bad(LineReason),
     End,
 }
@@ -51,7 +50,6 @@ pub enum LineOut {
 /// The lines of one source, of which at most 67,108,864 bytes are looked at.
 #[derive(Drop)]
 pub struct Lines {
-    alloc: Global,
     pending: PendingBytes,
     // How many bytes within the limit were taken.
     taken: usize,
@@ -66,6 +64,7 @@ impl Model for Lines {
     ghost Value = { LinesState };
 
     ghost view = { λ s. record {
+      line = s.pending.line;
       pending = s.pending.bytes;
       past = option_to_list s.past;
       taken = s.taken + length (option_to_list s.past);
@@ -91,10 +90,9 @@ fn feed_from(bytes: &[u8], from: usize) -> Option<usize>
 impl Lines {
     /// The lines of a source of which nothing was taken yet.
     pub fn new(alloc: Global) -> Lines
-        ensures { result ≡ record { pending = []; past = []; taken = 0 } }
+        ensures { result ≡ record { line = []; pending = []; past = []; taken = 0 } }
     {
         Lines {
-            alloc,
             pending: PendingBytes::new(alloc),
             taken: 0,
             past: None,
@@ -109,6 +107,26 @@ impl Lines {
         feed_from(self.pending.as_slice(), 0).is_some()
     }
 
+    // Takes the byte past the limit, where there is one.
+    fn pass_limit<S: Source>(&mut self, src: &mut S) -> Result<bool, TakeError>
+        requires none { self.old.past ≡ [] }
+        requires full { self.old.taken ≡ run_limit }
+        ensures bytes { FillsPending self.old self.new (S.left src.old) (S.left src.new) result }
+        ensures limit { self.new.taken ≤ run_limit + 1 }
+        ensures count { ReadCounts (S.faults src.old) (S.faults src.new) result }
+        ensures sink { S.as_sink src.new ≡ S.as_sink src.old }
+    {
+        let mut byte = [0u8];
+        match src.take(&mut byte) {
+            Ok(0) => Ok(false),
+            Ok(_) => {
+                self.past = Some(byte[0]);
+                Err(TakeError::TooLong)
+            }
+            Err(Failed) => Err(TakeError::Read),
+        }
+    }
+
     // Takes the next piece. The byte past the limit is asked for alone, and only here.
     fn fill<S: Source>(&mut self, src: &mut S) -> Result<bool, TakeError>
         ensures bytes { FillsPending self.old self.new (S.left src.old) (S.left src.new) result }
@@ -119,53 +137,30 @@ impl Lines {
         if self.past.is_some() {
             return Err(TakeError::TooLong);
         }
-        let mut buf = [0u8; PIECE];
-        let wanted = (RUN_LIMIT - self.taken).min(PIECE).max(1);
-        match src.take(&mut buf[..wanted]) {
-            Ok(0) => Ok(false),
-            Ok(count) => {
-                if self.taken == RUN_LIMIT {
-                    self.past = Some(buf[0]);
-                    return Err(TakeError::TooLong);
-                }
-                self.taken += count;
-                match self.pending.extend(&buf[..count]) {
-                    Ok(()) => Ok(true),
-                    Err(_) => Err(TakeError::Memory),
-                }
-            }
-            Err(Failed) => Err(TakeError::Read),
+        if self.taken == RUN_LIMIT {
+            return self.pass_limit(src);
         }
+        let count = self.pending.fill(src, (RUN_LIMIT - self.taken).min(PIECE))?;
+        self.taken += count;
+        Ok(count > 0)
     }
 
-    // Gives the bytes before a line feed as a line.
-    fn give(&mut self, at: usize) -> Result<Bytes, Memory>
-        requires { at < length self.old.pending }
-        ensures given { IfOk result (λ line. line ≡ take at self.old.pending) }
-        ensures rest { OnOk result
-            (self.new ≡ record self.old { pending = drop (at + 1) self.old.pending }) }
-        ensures err { OnErr result (self.new ≡ self.old) }
+    /// The line that `next` gave last, without its line feed, until `next` is called again.
+    pub fn line(&self) -> &[u8]
+        ensures { result.now ≡ self.now.line }
     {
-        // A long line is mostly alone, and isn't copied then; a short one leaves the room of its piece where it is.
-        if at > PIECE && self.pending.len() - at == 1 {
-            let mut line = self.pending.take_all(self.alloc)?;
-            line.cut_to(at);
-            return Ok(line);
-        }
-        let line = Bytes::of_slice(self.alloc, &self.pending.as_slice()[..at])?;
-        self.pending.drop_front(at + 1);
-        Ok(line)
+        self.pending.line()
     }
 
-    /// The next line. Where a line feed is pending the source isn't asked. A line that is whole within the first
-    /// 67,108,864 bytes is given before another byte is asked for, also where the source fails. `TooLong` comes exactly
-    /// where no whole line is left in them, at most 8,400,000 bytes of the next one stand there, and another byte
-    /// comes; where there are more of it, it is too long without another byte. After `Bad`, `End` and `TooLong` the
-    /// same comes again. After `Read` nothing is lost, and the source is asked again; after `Memory` what was taken may
-    /// be lost.
+    /// Whether a line comes next, which `line` gives then. Where a line feed is pending the source isn't asked. A line
+    /// that is whole within the first 67,108,864 bytes is given before another byte is asked for, also where the source
+    /// fails, and takes no memory. `TooLong` comes exactly where no whole line is left in them, at most 8,400,000 bytes
+    /// of the next one stand there, and another byte comes; where there are more of it, it is too long without another
+    /// byte. After `Bad`, `End` and `TooLong` the same comes again. After `Read` and `Memory` nothing is lost, and the
+    /// source is asked again.
     pub fn next<S: Source>(&mut self, src: &mut S) -> Result<LineOut, TakeError>
         ensures line { ReadsLine (room self.old) (ahead self.old (S.left src.old))
-            (ahead self.new (S.left src.new)) result }
+            (ahead self.new (S.left src.new)) self.new.line result }
         ensures pending { HasFeed self.old.pending → src.new ≡ src.old }
         ensures asked { AskedForMore self.old.pending result }
         ensures no_line { LeavesNoLine (self.new.pending ++ self.new.past) result }
@@ -173,7 +168,7 @@ impl Lines {
             (room self.old) (room self.new) result }
         ensures taken { CountsTaken (S.left src.old) (S.left src.new) self.old.taken self.new.taken }
         ensures limit { self.new.taken ≤ run_limit + 1 }
-        ensures room { IfOk result (λ out. room self.new + bytes_given out ≡ room self.old) }
+        ensures room { IfOk result (λ out. room self.new + bytes_given self.new.line out ≡ room self.old) }
         ensures count { ReadCounts (S.faults src.old) (S.faults src.new) result }
         ensures sink { S.as_sink src.new ≡ S.as_sink src.old }
     {
@@ -181,10 +176,10 @@ impl Lines {
         'pieces: loop {
             match feed_from(self.pending.as_slice(), scanned) {
                 Some(at) if at > LINE_LIMIT => return Ok(LineOut::Bad(LineReason::Long)),
-                Some(at) => match self.give(at) {
-                    Ok(line) => return Ok(LineOut::Line(line)),
-                    Err(_) => return Err(TakeError::Memory),
-                },
+                Some(at) => {
+                    self.pending.give_line(at);
+                    return Ok(LineOut::Line);
+                }
                 None => {}
             }
             scanned = self.pending.len();

@@ -13,11 +13,11 @@ pieces-preserved g c =
     let clear =
     none_found c.pieces.self.pending _ c.pieces.scanned _ looked all c.pieces.invariant.clear c.in-None.ensures in
     record {
-      within = filled_within _ _ _ _ _ _ more filled all;
-      clear = filled_clear _ _ _ _ _ _ more filled all clear;
-      kept = filled_ahead _ _ _ _ _ _ more filled c.pieces.invariant.kept;
-      taken = filled_taken _ _ _ _ _ _ _ more filled c.pieces.invariant.taken;
-      room = filled_room _ _ _ _ _ more filled ∙ c.pieces.invariant.room;
+      within = filled_within c.pieces.self _ _ _ _ _ more filled all;
+      clear = filled_clear c.pieces.self _ _ _ _ _ more filled all clear;
+      kept = filled_ahead _ c.pieces.self _ _ _ _ more filled c.pieces.invariant.kept;
+      taken = filled_taken _ c.pieces.self _ _ _ _ _ more filled c.pieces.invariant.taken;
+      room = filled_room c.pieces.self _ _ _ _ more filled ∙ c.pieces.invariant.room;
       count = c.in-Ok-true.ensures.count ∙ c.pieces.invariant.count;
       unasked = λ feed. feed_missed _ c.pieces.self _ feed all clear c.pieces.invariant.unasked;
       sink = c.fill.ensures.sink ∙ c.pieces.invariant.sink;
@@ -31,39 +31,14 @@ returns-in-Some-clause-line g c =
     long_line _ _ c.pieces.self c.in-Some.at _ (omega (arith, found.0)) c.if-at-gt-LINE_LIMIT.true found.2
     c.pieces.invariant.room c.pieces.invariant.kept
 
-pub returns-in-Ok-clause-line : goal.returns-in-Ok-clause-line
-returns-in-Ok-clause-line g c =
-    let looked = c.as_slice.ensures ∙ ap (λ s. s.pending) c.self.view_is in
-    let found =
-    found_at c.pieces.self.pending _ c.pieces.scanned c.in-Some.at looked c.pieces.invariant.clear c.in-Some.ensures in
-    line_given _ _ c.pieces.self c.give.new.self c.in-Ok.line c.in-Some.at _ found c.if-at-gt-LINE_LIMIT.false
-    c.pieces.invariant.room c.in-Ok.ensures.given c.in-Ok.ensures.rest c.pieces.invariant.kept
-
-pub returns-in-Err-fill-clause-line : goal.returns-in-Err-fill-clause-line
-returns-in-Err-fill-clause-line g c =
+pub returns-in-Err-clause-line : goal.returns-in-Err-clause-line
+returns-in-Err-clause-line g c =
     let looked = c.as_slice.ensures ∙ ap (λ s. s.pending) c.self.view_is in
     let all = c.len-scanned.ensures ∙ ap (λ s. length s.pending) c.self.view_is in
     let clear =
     none_found c.pieces.self.pending _ c.pieces.scanned _ looked all c.pieces.invariant.clear c.in-None.ensures in
-    line_stops _ _ _ c.args.self.now c.pieces.self _ _ _ c.in-Err-fill.ensures.bytes all
+    line_stops _ _ _ c.args.self.now c.pieces.self _ _ _ c.in-Err.ensures.bytes all
     c.if-scanned-gt-LINE_LIMIT.false clear c.pieces.invariant.room c.pieces.invariant.kept
 
-pub returns-in-Err-fill-clause-asked : goal.returns-in-Err-fill-clause-asked
-returns-in-Err-fill-clause-asked g c =
-    let looked = c.as_slice.ensures ∙ ap (λ s. s.pending) c.self.view_is in
-    let all = c.len-scanned.ensures ∙ ap (λ s. length s.pending) c.self.view_is in
-    let clear =
-    none_found c.pieces.self.pending _ c.pieces.scanned _ looked all c.pieces.invariant.clear c.in-None.ensures in
-    asked_for_more c.args.self.now c.pieces.self _ c.in-Err-fill.error all clear c.pieces.invariant.unasked
-
-pub returns-in-Err-fill-clause-no_line : goal.returns-in-Err-fill-clause-no_line
-returns-in-Err-fill-clause-no_line g c =
-    let looked = c.as_slice.ensures ∙ ap (λ s. s.pending) c.self.view_is in
-    let all = c.len-scanned.ensures ∙ ap (λ s. length s.pending) c.self.view_is in
-    let clear =
-    none_found c.pieces.self.pending _ c.pieces.scanned _ looked all c.pieces.invariant.clear c.in-None.ensures in
-    asked_last c.pieces.self _ _ _ _ c.in-Err-fill.error c.in-Err-fill.ensures.bytes all
-    (omega (arith, c.if-scanned-gt-LINE_LIMIT.false)) clear
-
-pub returns-in-Err-fill-clause-taken : goal.returns-in-Err-fill-clause-taken
-returns-in-Err-fill-clause-taken g c = taken_at_error _ _ _ _ _ _ _ c.in-Err-fill.ensures.bytes c.pieces.invariant.taken
+pub returns-in-Err-clause-taken : goal.returns-in-Err-clause-taken
+returns-in-Err-clause-taken g c = taken_at_error _ _ _ c.pieces.self _ _ _ c.in-Err.ensures.bytes c.pieces.invariant.taken
