@@ -14,7 +14,7 @@ use Rattle.dm_tree.specs.declared.nodes.Role.TheVariants as role
 use Rattle.dm_tree.specs.declared.nodes.Stamp.{Stamp}
 use Rattle.dm_tree.specs.declared.rows.Row.{Row}
 use Rattle.dm_tree.specs.Nodes.{Path, Nodes, above, last_name, with_mark}
-use Rattle.dm_tree.specs.Rows.{Tree, nodes, ids, node_of, path_of, IsLive}
+use Rattle.dm_tree.specs.Rows.{Tree, nodes, ids, node_of, path_of, IsLive, IsNoneParked}
 use Rattle.dm_tree.specs.Devices.{update_node}
 use Rattle.dm_tree.proofs.RowMaps.{get_nodes}
 use Rattle.dm_tree.proofs.Paths.{Ends, ends, none, last}
@@ -25,10 +25,11 @@ use Rattle.dm_start.specs.declared.node_lines.Leaf.{Leaf}
 use Rattle.dm_start.specs.Fields.{leaf_in}
 use Rattle.dm_start.specs.Growing.{or_fields, or_refused, new_node, takes_child, is_open, with_one, with_all, go_on}
 use Rattle.dm_start.specs.Growing.{leaf_line, with_leaf, update_part, with_update, with_mark_at, changed_at}
+use Rattle.dm_undo.specs.declared.entries.Entry.{Entry}
 use Rattle.dm_undo.specs.Journals.{Journal}
-use Rattle.dm_undo.specs.Sound.{IsSound}
+use Rattle.dm_undo.specs.Sound.{AreAllHeld, IsSound}
 use Rattle.dm_undo.specs.Trees.{maps_of, tree_at}
-use Rattle.dm_start.specs.Laying.{Stays, Refuses, IsOutside, IsSpot, GoesBackTo}
+use Rattle.dm_start.specs.Laying.{ParksNone, Stays, Refuses, IsOutside, IsSpot, GoesBackTo}
 use Rattle.dm_start.proofs.Spots.{not_within, free_below}
 
 -- ---- errors
@@ -45,7 +46,7 @@ device_is_within wanted (line_error.Bad why) h =
 device_is_within wanted line_error.Memory h = tt
 
 pub itself : (t : Tree) → Stays t t
-itself t = record { nodes_are = refl; clock = refl }
+itself t = record { nodes_are = refl; clock = refl; parked = λ clear. clear }
 
 -- ---- a spot
 
@@ -143,10 +144,10 @@ begins_at clock m whole t is at = record { clock_is = at; rest_is = ap (λ k. wi
 module _ {clock : Stamp} {m : Nodes} {whole rest : List (Path × NewNode)} {t : Tree} {p : Path} {new : NewNode}
     (on : IsOn clock m whole ((p, new) ∷ rest) t) where
   pub goes_on : (u : Tree) (q : Path) → q ≡ p
-      → (with_one t.clock (nodes t.rows) q new ≡ Ok (nodes u.rows)) × (u.clock ≡ t.clock)
+      → (with_one t.clock (nodes t.rows) q new ≡ Ok (nodes u.rows)) × ((u.clock ≡ t.clock) × ParksNone t u)
       → IsOn clock m whole rest u
   goes_on u q same one = record {
-    clock_is = one.1 ∙ on.clock_is;
+    clock_is = one.1.0 ∙ on.clock_is;
     rest_is =
         on.rest_is
         ∙ ap (λ r. go_on r (λ n. with_all clock n rest))
@@ -194,3 +195,12 @@ goes_back_at_first new kept rows mark same bare at sound there = record {
 pub first_mark : (new kept : Journal) (mark : ℕ) → kept.entries ≡ new.entries → new.entries ≡ []
     → mark ≡ length kept.entries → mark ≡ 0
 first_mark new kept mark same bare at = at ∙ ap length (same ∙ bare)
+
+-- where nothing is parked, nothing is to be held
+pub nothing_to_hold : (es : List Entry) (rows : List Row) → IsNoneParked rows → AreAllHeld es rows
+nothing_to_hold es rows clear k top = absurd (clear k top)
+
+-- and where nothing holds, nothing is parked
+pub nothing_held : (es : List Entry) (rows : List Row) → length es ≡ 0 → AreAllHeld es rows → IsNoneParked rows
+nothing_held [] rows bare held = held
+nothing_held (e ∷ es) rows bare held = absurd (omega (arith, bare))

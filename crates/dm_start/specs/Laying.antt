@@ -6,7 +6,7 @@ use Rattle.dm_base.specs.declared.lines.LineReason.TheVariants as reason
 use Rattle.dm_uri.specs.Names.{is_within_limits}
 use Rattle.dm_tree.specs.declared.rows.Row.{Row}
 use Rattle.dm_tree.specs.Nodes.{Path, Nodes}
-use Rattle.dm_tree.specs.Rows.{Tree, nodes, node_of, path_of, IsLive}
+use Rattle.dm_tree.specs.Rows.{Tree, nodes, node_of, path_of, IsLive, IsNoneParked}
 use Rattle.dm_undo.specs.Journals.{Journal}
 use Rattle.dm_undo.specs.Sound.{IsSound}
 use Rattle.dm_undo.specs.Trees.{Maps, tree_at}
@@ -15,19 +15,24 @@ use Rattle.dm_start.specs.declared.errors.LineError.TheVariants as line_error
 use Rattle.dm_start.specs.declared.new_nodes.Spot.{Spot}
 use Rattle.dm_start.specs.Growing.{is_open}
 
--- the nodes and the clock are as they were
+-- where nothing was parked, nothing is
+abbrev pub ParksNone : Tree → Tree → Type 0
+ParksNone old new = IsNoneParked old.rows → IsNoneParked new.rows
+
+-- the nodes and the clock are as they were, and nothing is left over
 pub record Stays (old new : Tree) : Type 0 where
   pub nodes_are : nodes new.rows ≡ nodes old.rows
   pub clock : new.clock ≡ old.clock
+  pub parked : ParksNone old new
 
 -- a refusal is the wanted one; want of memory may come in its place, or in that of a value
 abbrev pub Refuses : {Y : Type 0} → Result Y LineReason → LineError → Type 0
 Refuses wanted (line_error.Bad why) = wanted ≡ Err why
 Refuses wanted line_error.Memory = Unit {0}
 
--- the tree is the wanted one; an error leaves all
+-- the tree is the wanted one, and nothing is left over; an error leaves all
 abbrev pub Lays : {T : Type 0} → Result Nodes LineReason → Tree → Tree → Result T LineError → Type 0
-Lays wanted old new (Ok x) = (wanted ≡ Ok (nodes new.rows)) × (new.clock ≡ old.clock)
+Lays wanted old new (Ok x) = (wanted ≡ Ok (nodes new.rows)) × ((new.clock ≡ old.clock) × ParksNone old new)
 Lays wanted old new (Err e) = Refuses wanted e × Stays old new
 
 -- what is said, seen so, is the wanted thing

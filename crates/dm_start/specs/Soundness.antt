@@ -3,11 +3,14 @@ use Rattle.std.specs.Prelude.{◌≡◌, ◌≤◌, ◌<◌, ◌⊎◌, true, le
 use Rattle.std.specs.List.{AllByRecursion}
 use Rattle.dm_base.specs.Fields.{is_short}
 use Rattle.dm_tree.specs.Devices.{IsDeviceTree}
+use Rattle.dm_tree.specs.Rows.{IsNoneParked}
 use Rattle.dm_start.specs.declared.heads.Device.{Device}
 use Rattle.dm_start.specs.declared.heads.Head.{Head}
 use Rattle.dm_start.specs.declared.heads.Head.TheVariants as head
 use Rattle.dm_start.specs.declared.telling.Phase.{Phase}
 use Rattle.dm_start.specs.declared.telling.Phase.TheVariants as phase
+use Rattle.dm_start.specs.declared.reader.Place.{Place}
+use Rattle.dm_start.specs.declared.reader.Place.TheVariants as place
 use Rattle.dm_start.specs.Fields.{are_limits}
 use Rattle.dm_start.specs.Laws.{IsAccount, AreApart}
 use Rattle.dm_start.specs.Start.{Setup, Section, opening, telling}
@@ -44,3 +47,8 @@ IsSoundPhase phase.Begun told = IsKept told × (0 < length told.accounts)
 abbrev pub IsSoundSection : Section → Type 0
 IsSoundSection (opening h) = IsSoundHead h
 IsSoundSection (telling p told) = IsSoundPhase p told
+
+-- nothing is parked in the tree, where one is told
+abbrev pub HasNoneParked : Place → Type 0
+HasNoneParked (place.Opening h) = ⊤
+HasNoneParked (place.Telling p start) = IsNoneParked start.tree.rows

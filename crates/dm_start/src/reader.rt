@@ -1,9 +1,11 @@
 // The reader of a start section.
 ghost use Rattle.std.specs.Prelude.{◌≡◌, ◌⊎◌, true, false, Ok, IfOk, IfErr, OnOk, OnErr};
 ghost use Rattle.dm_base.specs.Fields.{parts};
+ghost use Rattle.dm_tree.specs.Rows.{IsNoneParked};
 ghost use Rattle.dm_start.specs.declared.heads.Head.TheVariants as head;
 ghost use Rattle.dm_start.specs.declared.telling.Phase.TheVariants as phase;
 ghost use Rattle.dm_start.specs.Laying.{Refuses, SaysAs};
+ghost use Rattle.dm_start.specs.Soundness.{HasNoneParked};
 ghost use Rattle.dm_start.specs.Start as Spec;
 ghost use Rattle.dm_start.specs.Start.{after_line as section_after, section_at, told_of, is_begun, Reads};
 ghost use Rattle.dm_start.specs.Laws.{IsStart};
@@ -35,13 +37,13 @@ pub struct StartReader {
 impl Model for StartReader {
     ghost use Rattle.dm_start.specs.declared.reader.Place.{Place};
     ghost use Rattle.dm_start.specs.Start.{section_at};
-    ghost use Rattle.dm_start.specs.Soundness.{IsSoundSection};
+    ghost use Rattle.dm_start.specs.Soundness.{IsSoundSection, HasNoneParked};
 
     ghost Value = { Place };
 
     ghost view = { λ r. r.place };
 
-    ghost invariant = { λ r. IsSoundSection (section_at r.place) };
+    ghost invariant = { λ r. IsSoundSection (section_at r.place) × HasNoneParked r.place };
 }
 
 const FIRST_STAMP: Stamp = Stamp {
@@ -55,7 +57,8 @@ fn started(
     limits: Limits,
     clock: Stamp,
 ) -> Result<Place, LineError>
-    ensures { SaysAs section_at (Ok (Spec.started version device.now limits clock)) result }
+    ensures read { SaysAs section_at (Ok (Spec.started version device.now limits clock)) result }
+    ensures parked { IfOk result HasNoneParked }
 {
     Ok(Place::Telling(
         Phase::Accounts,
@@ -69,7 +72,8 @@ fn started(
 }
 
 fn after_first(line: &[u8]) -> Result<Place, LineError>
-    ensures { SaysAs section_at (Spec.after_opening head.First line.now) result }
+    ensures read { SaysAs section_at (Spec.after_opening head.First line.now) result }
+    ensures parked { IfOk result HasNoneParked }
 {
     match version_in(line) {
         Some(version) => Ok(Place::Opening(Head::Device(version))),
@@ -78,7 +82,8 @@ fn after_first(line: &[u8]) -> Result<Place, LineError>
 }
 
 fn after_device(alloc: Global, version: u8, line: &[u8]) -> Result<Place, LineError>
-    ensures { SaysAs section_at (Spec.after_opening (head.Device version) line.now) result }
+    ensures read { SaysAs section_at (Spec.after_opening (head.Device version) line.now) result }
+    ensures parked { IfOk result HasNoneParked }
 {
     if !begins_with(b"device", line) {
         return Err(BAD_WORD);
@@ -95,7 +100,8 @@ fn behind_limits(
     device: &Device,
     limits: Limits,
 ) -> Result<Place, LineError>
-    ensures { SaysAs section_at (Ok (Spec.behind_limits version device.now limits)) result }
+    ensures read { SaysAs section_at (Ok (Spec.behind_limits version device.now limits)) result }
+    ensures parked { IfOk result HasNoneParked }
 {
     if version == 2 {
         Ok(Place::Opening(Head::Clock(device.copy(alloc)?, limits)))
@@ -110,7 +116,8 @@ fn after_limits(
     device: &Device,
     line: &[u8],
 ) -> Result<Place, LineError>
-    ensures { SaysAs section_at (Spec.after_opening (head.Limits version device.now) line.now) result }
+    ensures read { SaysAs section_at (Spec.after_opening (head.Limits version device.now) line.now) result }
+    ensures parked { IfOk result HasNoneParked }
 {
     if !begins_with(b"limits", line) {
         return Err(BAD_WORD);
@@ -127,7 +134,8 @@ fn after_clock(
     limits: Limits,
     line: &[u8],
 ) -> Result<Place, LineError>
-    ensures { SaysAs section_at (Spec.after_opening (head.Clock device.now limits) line.now) result }
+    ensures read { SaysAs section_at (Spec.after_opening (head.Clock device.now limits) line.now) result }
+    ensures parked { IfOk result HasNoneParked }
 {
     if !begins_with(b"clock", line) {
         return Err(BAD_WORD);
@@ -139,7 +147,8 @@ fn after_clock(
 }
 
 fn after_opening(alloc: Global, opening: &Head, line: &[u8]) -> Result<Place, LineError>
-    ensures { SaysAs section_at (Spec.after_opening opening.now line.now) result }
+    ensures read { SaysAs section_at (Spec.after_opening opening.now line.now) result }
+    ensures parked { IfOk result HasNoneParked }
 {
     match opening {
         Head::First => after_first(line),
@@ -152,8 +161,9 @@ fn after_opening(alloc: Global, opening: &Head, line: &[u8]) -> Result<Place, Li
 #[tactic(auto, unfolding(crate::specs::Start::after_line))]
 fn after_line(alloc: Global, place: &mut Place, line: &[u8]) -> Result<bool, LineError>
     requires { is_begun (section_at place.old) ≡ false }
-    ensures { Reads (section_after (section_at place.old) line.now) (section_at place.old) (section_at place.new)
+    ensures read { Reads (section_after (section_at place.old) line.now) (section_at place.old) (section_at place.new)
         result }
+    ensures parked { HasNoneParked place.old → HasNoneParked place.new }
 {
     match place {
         Place::Opening(opening) => {
@@ -211,6 +221,7 @@ impl StartReader {
         requires { is_begun (section_at self) ≡ true }
         ensures told { section_at self ≡ Spec.telling phase.Begun (told_of result) }
         ensures sound { IsStart (told_of result) }
+        ensures parked { IsNoneParked result.tree.rows }
     {
         match self.place {
             Place::Telling(_, start) => start,

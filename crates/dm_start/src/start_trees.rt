@@ -3,7 +3,7 @@ ghost use Rattle.std.specs.Prelude.{◌≡◌, ◌∷◌, [], true, IfOk, IsTrue
 ghost use Rattle.dm_uri.specs.Names.{is_name};
 ghost use Rattle.dm_tree.specs.declared.nodes.Role.TheVariants.{Plain};
 ghost use Rattle.dm_tree.specs.Devices.{device_path};
-ghost use Rattle.dm_tree.specs.Rows.{nodes};
+ghost use Rattle.dm_tree.specs.Rows.{nodes, IsNoneParked};
 ghost use Rattle.dm_start.specs.Growing as Spec;
 ghost use Rattle.dm_start.specs.Laying.{Lays, Lengthens, SaysAs};
 
@@ -21,6 +21,7 @@ use std::alloc::Global;
 // The root alone.
 fn bare_tree(alloc: Global, clock: Stamp) -> Result<Tree, Memory>
     ensures nodes { IfOk result (λ tree. nodes tree.rows ≡ Spec.bare_tree clock) }
+    ensures parked { IfOk result (λ tree. IsNoneParked tree.rows) }
     ensures clock { IfOk result (λ tree. tree.clock ≡ clock) }
 {
     lists_that_are_read_are_short();
@@ -71,6 +72,7 @@ fn add_device_leaf(
 pub(crate) fn start_tree(alloc: Global, clock: Stamp, device: &Device) -> Result<Tree, LineError>
     ensures nodes { SaysAs (λ tree. nodes tree.rows)
         (Spec.with_all clock (Spec.bare_tree clock) (Spec.device_part device.now)) result }
+    ensures parked { IfOk result (λ tree. IsNoneParked tree.rows) }
     ensures clock { IfOk result (λ tree. tree.clock ≡ clock) }
 {
     let mut tree = bare_tree(alloc, clock)?;

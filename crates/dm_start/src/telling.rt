@@ -1,4 +1,5 @@
 // The lines behind the first ones: accounts, what tells of the tree, and `begin`.
+ghost use Rattle.dm_start.specs.Laying.{ParksNone};
 ghost use Rattle.dm_start.specs.Start as Spec;
 ghost use Rattle.dm_start.specs.Start.{told_of, Tells};
 
@@ -33,7 +34,8 @@ pub enum Phase {
 const ACCOUNT_LIMIT: usize = 16;
 
 fn account_line(alloc: Global, start: &mut Start, line: &[u8]) -> Result<Phase, LineError>
-    ensures { Tells (Spec.account_line (told_of start.old) line.now) start.old start.new result }
+    ensures told { Tells (Spec.account_line (told_of start.old) line.now) start.old start.new result }
+    ensures parked { ParksNone start.old.tree start.new.tree }
 {
     let Some(account) = account_in(alloc, line)? else {
         return Err(BAD_FIELDS);
@@ -48,7 +50,8 @@ fn account_line(alloc: Global, start: &mut Start, line: &[u8]) -> Result<Phase, 
 }
 
 fn later_line(alloc: Global, start: &mut Start, line: &[u8]) -> Result<Phase, LineError>
-    ensures { Tells (Spec.later_line (told_of start.old) line.now) start.old start.new result }
+    ensures told { Tells (Spec.later_line (told_of start.old) line.now) start.old start.new result }
+    ensures parked { ParksNone start.old.tree start.new.tree }
 {
     if !begins_with(b"begin", line) {
         nodes_after(alloc, &mut start.tree, line)?;
@@ -68,7 +71,8 @@ pub(crate) fn after_telling(
     start: &mut Start,
     line: &[u8],
 ) -> Result<Phase, LineError>
-    ensures { Tells (Spec.after_telling phase (told_of start.old) line.now) start.old start.new result }
+    ensures told { Tells (Spec.after_telling phase (told_of start.old) line.now) start.old start.new result }
+    ensures parked { ParksNone start.old.tree start.new.tree }
 {
     match phase {
         Phase::Accounts if begins_with(b"account", line) => account_line(alloc, start, line),

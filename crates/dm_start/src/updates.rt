@@ -7,7 +7,7 @@ ghost use Rattle.dm_tree.specs.Rows.{nodes};
 ghost use Rattle.dm_undo.specs.Trees.{Maps};
 ghost use Rattle.dm_start.specs.Fields.{is_leaf_format};
 ghost use Rattle.dm_start.specs.Growing as Spec;
-ghost use Rattle.dm_start.specs.Laying.{Lays, SaysAs, GoesBackTo};
+ghost use Rattle.dm_start.specs.Laying.{Lays, ParksNone, SaysAs, GoesBackTo};
 
 use crate::errors::{BAD_TREE, LineError};
 use crate::new_nodes::{add, below, copy_path, interior_node, new_node, value_of};
@@ -138,6 +138,7 @@ fn put_update(
     ensures said { SaysAs (λ _. nodes tree.new.rows)
         (Spec.with_all tree.old.clock (nodes tree.old.rows) (Spec.update_part path.now)) result }
     ensures back { (m : Maps) → GoesBackTo m journal.old tree.old.rows → GoesBackTo m journal.new tree.new.rows }
+    ensures parked { ParksNone tree.old tree.new }
     ensures clock { tree.new.clock ≡ tree.old.clock }
 {
     put_interior(alloc, tree, journal, path, Role::Plain)?;

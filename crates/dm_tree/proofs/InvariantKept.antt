@@ -10,7 +10,9 @@ use Rattle.dm_tree.proofs.Common.{IsTaken, set, get_or-set_same, set-get_or, Ent
 use Rattle.dm_tree.proofs.SubtreeCuts.{live_attached}
 use Rattle.dm_tree.proofs.LiveRows.{stay_live}
 use Rattle.dm_tree.proofs.RootTree.{root_row, not_attached}
-use Rattle.dm_tree.proofs.NodeEdits.{live_row, nodes-with_node, ids-with_node}
+use Rattle.dm_tree.specs.Rows.{IsNoneParked}
+use Rattle.dm_tree.proofs.Common.{length-set}
+use Rattle.dm_tree.proofs.NodeEdits.{live_row, of_both, nodes-with_node, ids-with_node}
 use Rattle.dm_tree.proofs.TreeEdits.{isnt_root}
 use Rattle.dm_tree.proofs.IndexEdits.{index-with_node}
 use Rattle.dm_tree.proofs.RowCounts.{sized-alike, alike-with_node, alike-with_name, alike-without_content}
@@ -28,12 +30,25 @@ kept-node inner rows new k n e live f tree kept sizes h =
       sizes = sized-alike rows (with_node rows k n) (alike-with_node rows k n l) sizes was.sizes;
     })
 
+-- what is parked was
+parked_node : (rows : List Row) (k : ℕ) (n : Node) → k < length rows → IsNoneParked rows
+    → IsNoneParked (with_node rows k n)
+parked_node rows k n l none j p =
+    let r = record (row_at rows k) { node = n } in
+    none j (record {
+      below_root = p.below_root;
+      inside = let inside = p.inside in rw length-set at inside;
+      out = sym (of_both rows k r (λ s. s.attached) refl j l) ∙ p.out;
+      held = sym (of_both rows k r (λ s. s.given_up) refl j l) ∙ p.held;
+    })
+
 -- and that is all that has changed
 pub record IsLaid (rows new : List Row) (k : ℕ) (n : Node) (kept : List ChildList) (sizes : List ℕ) : Type 0 where
   pub invariant : IsKept new kept sizes
   pub at_path : nodes new ≡ insert (nodes rows) (path_of rows k) n
   pub same_ids : ids new ≡ ids rows
   pub stays : StayLive rows new
+  pub parked : IsNoneParked rows → IsNoneParked new
 
 pub laid : (inner rows new : List Row) (k : ℕ) (n : Node) → inner ≡ rows → IsLive rows k → new ≡ with_node rows k n
     → IsTree (with_node rows k n)
@@ -46,6 +61,7 @@ laid inner rows new k n e live f tree kept sizes h =
       at_path = ap nodes f ∙ nodes-with_node rows shape k live n;
       same_ids = same;
       stays = stay_live rows new shape same;
+      parked = λ none. rw f (parked_node rows k n (live_row rows shape k live) none);
     }
 
 -- a name and a node are changed

@@ -71,6 +71,10 @@ pub record IsParkedTop (rows : List Row) (top : ℕ) : Type 0 where
   pub out : (row_at rows top).attached ≡ false
   pub held : (row_at rows top).given_up ≡ false
 
+-- no subtree was taken out that an Undo still holds
+abbrev pub IsNoneParked : List Row → Type 0
+IsNoneParked rows = (k : ℕ) → IsParkedTop rows k → ⊥
+
 -- a node of such a subtree has this number
 abbrev pub IsParked : List Row → ℕ → Type 0
 IsParked rows k = (top : ℕ) × IsParkedTop rows top × (p : Path) × (path_below rows top k ≡ Some p)

@@ -8,7 +8,7 @@ ghost use Rattle.dm_tree.specs.declared.rows.Change.TheVariants as change;
 ghost use Rattle.dm_tree.specs.declared.edits.TreeError.TheVariants as error;
 ghost use Rattle.dm_tree.specs.Nodes.{made as made_node, changed, counted, with_value, with_bytes};
 ghost use Rattle.dm_tree.specs.Nodes.{with_acl, with_title, IsNewNode, IsValue, IsReadAgain, tree_order};
-ghost use Rattle.dm_tree.specs.Rows.{nodes, ids, row_at, node_of, path_of, IsLive, IsTree, IsParkedTop, StayLive};
+ghost use Rattle.dm_tree.specs.Rows.{nodes, ids, row_at, node_of, path_of, IsLive, IsTree, IsParkedTop, IsNoneParked, StayLive};
 ghost use Rattle.dm_tree.specs.Index.{IsIndex, IsSized, IsKept};
 ghost use Rattle.dm_tree.specs.Edits.{with_node, attached_as, new_row as new_row_below, pruned, without_content};
 ghost use Rattle.dm_tree.specs.Fields.{with_field, change_of, IsField};
@@ -193,6 +193,7 @@ impl Tree {
         ensures live { IfOk result (λ r. IsLive self.new.rows r.0
             × (path_of self.new.rows r.0 ≡ path_of self.old.rows parent ++ name ∷ [])) }
         ensures edit { IfOk result (λ r. TakesEditBack r.1 self.old.rows self.new.rows) }
+        ensures parked { IsNoneParked self.old.rows → IsNoneParked self.new.rows }
         ensures clock { self.new.clock ≡ self.old.clock }
         ensures full { (result ≡ Err error.Full) ↔ (map.len (nodes self.old.rows) ≡ node_limit) }
         ensures err { OnErr result (self.new ≡ self.old) }

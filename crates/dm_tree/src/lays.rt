@@ -2,7 +2,7 @@
 ghost use Rattle.std.specs.Prelude.{◌≡◌, ◌<◌, ◌≤◌, ◌^◌, [], true, length, Some, IfSome};
 ghost use Rattle.std.specs.FinMap as map;
 ghost use Rattle.dm_tree.specs.Nodes.{above, with_acl, with_title, with_mark, counted, IsReadAgain, IsStamp};
-ghost use Rattle.dm_tree.specs.Rows.{nodes, ids, node_of, path_of, IsLive, StayLive};
+ghost use Rattle.dm_tree.specs.Rows.{nodes, ids, node_of, path_of, IsLive, StayLive, IsNoneParked};
 ghost use Rattle.dm_tree.specs.Edits.{with_node};
 ghost use Rattle.dm_tree.specs.Fields.{with_field, IsField};
 
@@ -54,6 +54,7 @@ impl Tree {
             (with_field (node_of self.old.rows id) field) }
         ensures ids { ids self.new.rows ≡ ids self.old.rows }
         ensures stays { StayLive self.old.rows self.new.rows }
+        ensures parked { IsNoneParked self.old.rows → IsNoneParked self.new.rows }
         ensures clock { self.new.clock ≡ self.old.clock }
     {
         lay(&mut self.rows, id.row(), field);
@@ -67,6 +68,7 @@ impl Tree {
             (with_acl (node_of self.old.rows id) (Some acl)) }
         ensures ids { ids self.new.rows ≡ ids self.old.rows }
         ensures stays { StayLive self.old.rows self.new.rows }
+        ensures parked { IsNoneParked self.old.rows → IsNoneParked self.new.rows }
         ensures clock { self.new.clock ≡ self.old.clock }
     {
         self.lay_field(id, Field::Acl(Some(acl)));
@@ -80,6 +82,7 @@ impl Tree {
             (with_title (node_of self.old.rows id) title) }
         ensures ids { ids self.new.rows ≡ ids self.old.rows }
         ensures stays { StayLive self.old.rows self.new.rows }
+        ensures parked { IsNoneParked self.old.rows → IsNoneParked self.new.rows }
         ensures clock { self.new.clock ≡ self.old.clock }
     {
         self.lay_field(id, Field::Title(title));
@@ -94,6 +97,7 @@ impl Tree {
             (with_mark (node_of self.old.rows id)) }
         ensures ids { ids self.new.rows ≡ ids self.old.rows }
         ensures stays { StayLive self.old.rows self.new.rows }
+        ensures parked { IsNoneParked self.old.rows → IsNoneParked self.new.rows }
         ensures clock { self.new.clock ≡ self.old.clock }
     {
         set_mark(&mut self.rows, id.row());
@@ -106,6 +110,7 @@ impl Tree {
             (counted (node_of self.old.rows id) verno stamp) }
         ensures ids { ids self.new.rows ≡ ids self.old.rows }
         ensures stays { StayLive self.old.rows self.new.rows }
+        ensures parked { IsNoneParked self.old.rows → IsNoneParked self.new.rows }
         ensures clock { self.new.clock ≡ self.old.clock }
     {
         set_counts(&mut self.rows, id.row(), verno, stamp);

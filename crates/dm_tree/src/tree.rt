@@ -6,7 +6,7 @@ ghost use Rattle.std.specs.FinMap as map;
 ghost use Rattle.dm_uri.specs.Names.{printed_path};
 ghost use Rattle.dm_tree.specs.Nodes.{first_stamp, root_node, above, last_name, tree_order, Nodes, IsReadAgain};
 ghost use Rattle.dm_tree.specs.Nodes.{IsStamp, IsWellFormed};
-ghost use Rattle.dm_tree.specs.Rows.{nodes, ids, node_of, path_of, IsLive, IsTree};
+ghost use Rattle.dm_tree.specs.Rows.{nodes, ids, node_of, path_of, IsLive, IsTree, IsNoneParked};
 ghost use Rattle.dm_tree.specs.Rights.{effective_path, allows};
 ghost use Rattle.dm_tree.specs.Views.{shown};
 
@@ -79,6 +79,7 @@ impl Tree {
         requires { IsReadAgain root_acl }
         ensures nodes { IfOk result (λ tree.
             nodes tree.rows ≡ map.insert map.empty [] (root_node root_acl)) }
+        ensures parked { IfOk result (λ tree. IsNoneParked tree.rows) }
         ensures clock { IfOk result (λ tree. tree.clock ≡ first_stamp) }
     {
         // No one sees the root's name.

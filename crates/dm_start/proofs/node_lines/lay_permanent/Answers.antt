@@ -13,5 +13,5 @@ returns-in_default-parent c =
       not_markable rows c.args.path.now
           (subst (λ p. None ≡ option_and_then (λ _. get (ids rows) (above p)) (last_name p)) c.in-Some.ensures.live.1
           (sym c.in_default-parent.is ∙ c.parent.ensures.found)),
-      record { nodes_are = refl; clock = refl },
+      record { nodes_are = refl; clock = refl; parked = λ none. none },
     )

@@ -1,5 +1,5 @@
-use Rattle.std.proofs.Common.{◌∙◌, ap}
-use Rattle.dm_tree.specs.Rows.{nodes}
+use Rattle.std.proofs.Common.{◌∙◌, ap, subst, sym}
+use Rattle.dm_tree.specs.Rows.{Tree, nodes, IsNoneParked}
 use Rattle.dm_start.proofs.Twice.{bare_is, start_is}
 use Rattle.dm_start.proofs.start_trees.bare_tree.Goals as goal
 
@@ -11,3 +11,8 @@ returns-clause-nodes c =
     (ap (λ t. nodes t.rows) c.set_clock.ensures ∙ c.in_ok-tree.ensures.nodes) c.root-root.ensures.live.1
     c.root-root.ensures.id
     (start_is acl c.in-Ok.ensures)
+
+pub returns-clause-parked : goal.returns-clause-parked
+returns-clause-parked c =
+    c.reload.ensures.parked
+    (subst (λ (t : Tree). IsNoneParked t.rows) (sym c.set_clock.ensures) c.in_ok-tree.ensures.parked)

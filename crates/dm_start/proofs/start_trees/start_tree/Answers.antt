@@ -16,3 +16,11 @@ returns-clause-nodes c =
     let on5 = goes_on on4 c.add_device_leaf-4.new.tree _ refl c.in_ok-add_device_leaf-4.ensures in
     let on6 = goes_on on5 c.add_device_leaf-5.new.tree _ refl c.in_ok-add_device_leaf-5.ensures in
     on6.rest_is
+
+pub returns-clause-parked : goal.returns-clause-parked
+returns-clause-parked c =
+    c.in_ok-add_device_leaf-5.ensures.1.1
+    (c.in_ok-add_device_leaf-4.ensures.1.1
+    (c.in_ok-add_device_leaf-3.ensures.1.1
+    (c.in_ok-add_device_leaf-2.ensures.1.1
+    (c.in_ok-add_device_leaf.ensures.1.1 (c.in_ok-add_device_node.ensures.1.1 c.in_ok-tree.ensures.parked)))))

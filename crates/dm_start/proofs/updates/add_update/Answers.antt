@@ -2,6 +2,7 @@ use Rattle.std.proofs.Common.{ap, sym, ◌∙◌}
 use Rattle.dm_tree.specs.Rows.{nodes}
 use Rattle.dm_undo.specs.Trees.{maps_of, tree_at}
 use Rattle.dm_start.proofs.Laid.{first_update, goes_back_at_first, first_mark, refuses_same}
+use Rattle.dm_start.proofs.Laid.{nothing_to_hold, nothing_held}
 use Rattle.dm_start.proofs.updates.add_update.Goals as goal
 
 pub unwind-requires-clause-sound : goal.unwind-requires-clause-sound
@@ -38,5 +39,7 @@ returns c =
             (c.unwind.ensures.there ∙ ap (tree_at c.put_update.new.journal.entries c.put_update.new.tree.rows) at
             ∙ back.first);
         clock = c.unwind.ensures.clock ∙ c.put_update.ensures.clock;
+        parked = λ none. nothing_held _ _ (c.unwind.ensures.entries.1 ∙ at)
+            (c.unwind.ensures.parked (nothing_to_hold _ _ (c.put_update.ensures.parked none)));
       },
     )

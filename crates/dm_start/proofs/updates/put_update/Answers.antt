@@ -102,3 +102,49 @@ returns-clause-back c =
     (c.put_leaf-3.ensures.back m
     (c.put_interior-2.ensures.back m
     (c.put_leaf-2.ensures.back m (c.put_leaf.ensures.back m (c.put_interior.ensures.back m h)))))
+
+-- ---- nothing is left over
+
+pub returns-in_err-put_leaf-clause-parked : goal.returns-in_err-put_leaf-clause-parked
+returns-in_err-put_leaf-clause-parked c =
+    λ none. c.in_err-put_leaf.ensures.added.1.parked
+    (c.in_ok-put_interior.ensures.added.1.1 none)
+
+pub returns-in_err-put_leaf-2-clause-parked : goal.returns-in_err-put_leaf-2-clause-parked
+returns-in_err-put_leaf-2-clause-parked c =
+    λ none. c.in_err-put_leaf-2.ensures.added.1.parked
+    (c.in_ok-put_leaf.ensures.added.1.1 (c.in_ok-put_interior.ensures.added.1.1 none))
+
+pub returns-in_err-put_interior-2-clause-parked : goal.returns-in_err-put_interior-2-clause-parked
+returns-in_err-put_interior-2-clause-parked c =
+    λ none. c.in_err-put_interior-2.ensures.added.1.parked
+    (c.in_ok-put_leaf-2.ensures.added.1.1
+    (c.in_ok-put_leaf.ensures.added.1.1 (c.in_ok-put_interior.ensures.added.1.1 none)))
+
+pub returns-in_err-put_leaf-3-clause-parked : goal.returns-in_err-put_leaf-3-clause-parked
+returns-in_err-put_leaf-3-clause-parked c =
+    λ none. c.in_err-put_leaf-3.ensures.added.1.parked
+    (c.in_ok-put_interior-2.ensures.added.1.1
+    (c.in_ok-put_leaf-2.ensures.added.1.1
+    (c.in_ok-put_leaf.ensures.added.1.1 (c.in_ok-put_interior.ensures.added.1.1 none))))
+
+pub returns-in_err-put_leaf-4-clause-parked : goal.returns-in_err-put_leaf-4-clause-parked
+returns-in_err-put_leaf-4-clause-parked c =
+    λ none. c.in_err-put_leaf-4.ensures.added.1.parked
+    (c.in_ok-put_leaf-3.ensures.added.1.1
+    (c.in_ok-put_interior-2.ensures.added.1.1
+    (c.in_ok-put_leaf-2.ensures.added.1.1
+    (c.in_ok-put_leaf.ensures.added.1.1 (c.in_ok-put_interior.ensures.added.1.1 none)))))
+
+pub returns-in_err-update-clause-parked : goal.returns-in_err-update-clause-parked
+returns-in_err-update-clause-parked c =
+    λ none. c.in_ok-put_leaf-2.ensures.added.1.1
+    (c.in_ok-put_leaf.ensures.added.1.1 (c.in_ok-put_interior.ensures.added.1.1 none))
+
+pub returns-clause-parked : goal.returns-clause-parked
+returns-clause-parked c =
+    λ none. c.in_ok-put_leaf-4.ensures.added.1.1
+    (c.in_ok-put_leaf-3.ensures.added.1.1
+    (c.in_ok-put_interior-2.ensures.added.1.1
+    (c.in_ok-put_leaf-2.ensures.added.1.1
+    (c.in_ok-put_leaf.ensures.added.1.1 (c.in_ok-put_interior.ensures.added.1.1 none)))))

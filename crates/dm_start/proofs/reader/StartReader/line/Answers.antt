@@ -10,10 +10,13 @@ reads : (c : goal.After-after_line)
     (section_at c.after_line.new.place) c.after_line.result
 reads c =
     subst (λ p. Reads (after_line (section_at p) c.args.text.now) (section_at p) (section_at c.after_line.new.place)
-    c.after_line.result) c.self.view_is c.after_line.ensures
+    c.after_line.result) c.self.view_is c.after_line.ensures.read
 
 pub invariant_of-self : goal.invariant_of-self
-invariant_of-self c = sound_read _ _ _ c.after_line.result c.self.invariant c.after_line.ensures
+invariant_of-self c = (
+  sound_read _ _ _ c.after_line.result c.self.invariant.0 c.after_line.ensures.read,
+  c.after_line.ensures.parked c.self.invariant.1,
+)
 
 pub returns-clause-read : goal.returns-clause-read
 returns-clause-read c = when_read _ _ _ c.after_line.result (reads c)

@@ -1,5 +1,5 @@
 use Rattle.dm_tree.specs.Nodes.{made}
-use Rattle.dm_tree.proofs.Common.{◌≡◌, ◌∙◌, sym, subst, ap, refl, arith, ◌∷◌, ◌++◌, [], ℕ, List, true, false, Node, Row}
+use Rattle.dm_tree.proofs.Common.{inl, inr, ◌≡◌, ◌∙◌, sym, subst, ap, refl, arith, ◌∷◌, ◌++◌, [], ℕ, List, true, false, Node, Row}
 use Rattle.dm_tree.proofs.Common.{IsStamp, Tree, IsTree, path_of, new_row, IsPlaced}
 use Rattle.dm_tree.proofs.EqualTrees.{tree_kept}
 use Rattle.dm_tree.proofs.RowMaps.{get_nodes, none_of}
@@ -73,6 +73,12 @@ returns-clause-edit c =
     rw c.of-2.ensures
     (arrives (goal.at.returns-clause-edit c).After-new_row-row c.place_row.new.rows.items c.in_ok-id.id
     c.in_ok-id.ensures.ok).edit
+
+pub returns-clause-parked : goal.returns-clause-parked
+returns-clause-parked c none k top =
+    let edit = (arrives (goal.at.returns-clause-parked c).After-new_row-row c.place_row.new.rows.items c.in_ok-id.id
+    c.in_ok-id.ensures.ok).edit in
+    elim (edit.only k top) [ inl was ↦ none k was | inr held ↦ cc ]
 
 pub returns-clause-live : goal.returns-clause-live
 returns-clause-live c =

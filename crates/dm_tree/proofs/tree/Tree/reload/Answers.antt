@@ -34,5 +34,6 @@ returns c = record {
   nodes = (is_laid c).at_path;
   ids = (is_laid c).same_ids;
   stays = (is_laid c).stays;
+  parked = (is_laid c).parked;
   clock = ap (λ (t : Tree). t.clock) c.self.view_is;
 }
