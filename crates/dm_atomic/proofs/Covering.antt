@@ -1,5 +1,5 @@
 -- What the tasks of a command cover, the command covers.
-use Rattle.std.proofs.Common.{◌≡◌, ℕ, suc, ◌<◌, Bool, true, false, List, [], ◌∷◌, length, get_or, refl, sym, ◌∙◌, ap}
+use Rattle.std.proofs.Common.{◌≡◌, ℕ, suc, Bool, true, false, List, [], ◌∷◌, refl, sym, ◌∙◌, ap}
 use Rattle.std.specs.Prelude.{◌||◌}
 use Rattle.std.specs.List.{list_any}
 use Rattle.std.proofs.lemmas.List.Folds.{list_any-append}
@@ -14,11 +14,11 @@ use Rattle.syncml_types.specs.declared.command.SeqMember.TheVariants as seq
 use Rattle.dm_tree.specs.Nodes.{Path}
 use Rattle.dm_atomic.specs.declared.tasks.Origin.{Origin}
 use Rattle.dm_atomic.specs.declared.tasks.Task.{Task}
-use Rattle.dm_atomic.specs.Tasks.{item_task, item_tasks, member_tasks, members_tasks}
+use Rattle.dm_atomic.specs.Tasks.{item_tasks, plain_tasks, member_tasks, members_tasks}
 use Rattle.dm_atomic.specs.Marks.{Whole as AllOf}
 use Rattle.dm_atomic.specs.Stays.{item_covers, plain_covers, member_covers, seq_member_covers, covers, task_covers}
 use Rattle.dm_atomic.specs.Stays.{work_covers, tasks_cover, StayBut}
-use Rattle.dm_atomic.proofs.Staying.{stay_then, stay_within, none_at}
+use Rattle.dm_atomic.proofs.Staying.{stay_then, stay_within}
 
 parts-false : (a b : Bool) → a || b ≡ false → (a ≡ false) × (b ≡ false)
 parts-false true b e = absurd (cc)
@@ -48,18 +48,32 @@ members-cover origin b (m ∷ ms) p e =
     ∙ both-false (tasks_cover (member_tasks origin b m) p) _ (member-cover origin b m p parts.0)
     (members-cover origin b ms p parts.1)
 
+-- tasks that cover no more than a command does
+pub record IsWithin (command : Plain) (ts : List Task) : Type 0 where
+  pub each : (p : Path) → plain_covers p command ≡ false → tasks_cover ts p ≡ false
+
+pub all_within : (origin : Origin) (command : Plain) → IsWithin command (plain_tasks origin false command)
+all_within origin command = record { each = items-cover origin false command 0 command.items }
+
+one-within : (command : Plain) (ahead left : List Task) (t : Task) → IsWithin command ahead → ahead ≡ t ∷ left
+    → (p : Path) → plain_covers p command ≡ false → (work_covers t.work p ≡ false) × (tasks_cover left p ≡ false)
+one-within command ahead left t i e p u =
+    parts-false (work_covers t.work p) (tasks_cover left p) (ap (λ ts. tasks_cover ts p) (sym e) ∙ i.each p u)
+
+pub left_within : (command : Plain) (ahead left : List Task) (t : Task) → IsWithin command ahead → ahead ≡ t ∷ left
+    → IsWithin command left
+left_within command ahead left t i e = record { each = λ p u. (one-within command ahead left t i e p u).1 }
+
 -- ---- so nodes stay that the command doesn't cover
 
-pub item_stays : (origin : Origin) (command : Plain) (shown : List Item) (k : ℕ) (item : Item) (v w x : AllOf)
-    → shown ≡ command.items → k < length shown → item ≡ get_or shown k item
-    → StayBut (covers (commands.Plain command)) v w
-    → StayBut (work_covers (item_task origin false command k item).work) w x
+pub task_stays : (command : Plain) (ahead left : List Task) (t : Task) (v w x : AllOf) → IsWithin command ahead
+    → ahead ≡ t ∷ left → StayBut (covers (commands.Plain command)) v w → StayBut (work_covers t.work) w x
     → StayBut (covers (commands.Plain command)) v x
 unfolding covers
-item_stays origin command shown k item v w x e l is a b =
+task_stays command ahead left t v w x i e a b =
     stay_then (λ p. plain_covers p command) v w x a
-    (stay_within (work_covers (item_task origin false command k item).work) (λ p. plain_covers p command) w x
-    (λ p u. none_at (item_covers command p) shown k item l is (ap (list_any (item_covers command p)) e ∙ u)) b)
+    (stay_within (work_covers t.work) (λ p. plain_covers p command) w x
+    (λ p u. (one-within command ahead left t i e p u).0) b)
 
 pub one_stays : (m : Member) (command : Plain) (v w : AllOf) → m ≡ member.One command
     → StayBut (covers (commands.Plain command)) v w → StayBut (λ p. member_covers p m) v w
@@ -82,8 +96,9 @@ block_stay m block v w is a =
     stay_within (λ p. list_any (member_covers p) block.members) (λ p. seq_member_covers p m) v w
     (λ p u. ap (seq_member_covers p) (sym is) ∙ u) a
 
-pub sequence_stay : (block : Block SeqMember) (v w : AllOf)
-    → StayBut (λ p. list_any (seq_member_covers p) block.members) v w
-    → StayBut (covers (commands.Sequence block)) v w
+pub sequence_stay : (block : Block SeqMember) (ms : List SeqMember) (v w : AllOf) → ms ≡ block.members
+    → StayBut (λ p. list_any (seq_member_covers p) ms) v w → StayBut (covers (commands.Sequence block)) v w
 unfolding covers
-sequence_stay block v w a = a
+sequence_stay block ms v w is a =
+    stay_within (λ p. list_any (seq_member_covers p) ms) (λ p. list_any (seq_member_covers p) block.members) v w
+    (λ p u. ap (list_any (seq_member_covers p)) is ∙ u) a

@@ -2,7 +2,6 @@
 use Rattle.std.proofs.Common.{◌≡◌, ℕ, suc, ◌+◌, ◌<◌, ◌≤◌, false, List, [], ◌∷◌, ◌++◌, length, drop, get_or, refl}
 use Rattle.std.proofs.Common.{sym, ◌∙◌, ap, subst, append_assoc, add-one, drop-cons}
 use Rattle.std.proofs.lemmas.List.{append-nil, drop_all}
-use Rattle.syncml_types.specs.declared.values.Item.{Item}
 use Rattle.syncml_types.specs.declared.command.Command.{Command}
 use Rattle.syncml_types.specs.declared.command.Block.{Block}
 use Rattle.syncml_types.specs.declared.command.Plain.{Plain}
@@ -13,11 +12,10 @@ use Rattle.dm_atomic.specs.declared.tasks.Task.{Task}
 use Rattle.dm_atomic.specs.declared.reports.Report.{Report}
 use Rattle.dm_atomic.specs.declared.engine.Engine.{Engine}
 use Rattle.dm_atomic.specs.Made.{Made, Status, reported, told, notice, IsInFront}
-use Rattle.dm_atomic.specs.Tasks.{item_task, item_tasks, container_post}
+use Rattle.dm_atomic.specs.Tasks.{item_tasks, container_post}
 use Rattle.dm_atomic.specs.Run.{State, Running, Next, quietly, one_step, breaks_first, one_alone, in_sequence}
 use Rattle.dm_atomic.specs.Run.{run_member, run_members, run_sequence}
 use Rattle.dm_atomic.specs.Engine.{state_of, running, Gives, Runs}
-use Rattle.dm_atomic.proofs.TasksAhead.{next_item}
 use Rattle.dm_atomic.proofs.Tried.{running_stays}
 use Rattle.dm_atomic.proofs.Telling.{told_both, some_more}
 
@@ -76,42 +74,27 @@ goes-on one every step s next xs k x whole before now after i l is h =
     (ap (every s) behind ∙ step s x (drop (k + 1) xs)
     ∙ ap (λ y. then_gives (one s x) (every y (drop (k + 1) xs))) (sym h.state_is)) h.told_is
 
-pub items_go_on : (r : Running) (origin : Origin) (command : Plain) (s next : State) (shown : List Item) (k : ℕ)
-    (item : Item) (whole : Next) (before now after : List Command)
-    → IsGiving (in_sequence r s (item_tasks origin false command k (drop k command.items))) whole before now
-    → shown ≡ command.items → k < length shown → item ≡ get_or shown k item
-    → Gives (one_alone r s (item_task origin false command k item)) next now after
-    → IsGiving (in_sequence r next (item_tasks origin false command (k + 1) (drop (k + 1) command.items))) whole before
-    after
-items_go_on r origin command s next shown k item whole before now after i e l is h =
-    let t = item_task origin false command k item in
-    let left = item_tasks origin false command (k + 1) (drop (k + 1) command.items) in
-    giving-on (in_sequence r s (item_tasks origin false command k (drop k command.items))) (one_alone r s t)
-    (in_sequence r next left) whole before now after i
-    (ap (λ xs. in_sequence r s (item_tasks origin false command k (drop k xs))) (sym e)
-    ∙ ap (in_sequence r s) (next_item origin false command shown k item l is)
-    ∙ ap (λ xs. in_sequence r s (t ∷ item_tasks origin false command (k + 1) (drop (k + 1) xs))) e
-    ∙ ap (λ y. then_gives (one_alone r s t) (in_sequence r y left)) (sym h.state_is)) h.told_is
+pub tasks_go_on : (r : Running) (s next : State) (ahead left : List Task) (t : Task) (whole : Next)
+    (before now after : List Command) → IsGiving (in_sequence r s ahead) whole before now → ahead ≡ t ∷ left
+    → Gives (one_alone r s t) next now after → IsGiving (in_sequence r next left) whole before after
+tasks_go_on r s next ahead left t whole before now after i e h =
+    giving-on (in_sequence r s ahead) (one_alone r s t) (in_sequence r next left) whole before now after i
+    (ap (in_sequence r s) e ∙ ap (λ y. then_gives (one_alone r s t) (in_sequence r y left)) (sym h.state_is)) h.told_is
 
-pub members_go_on : (r : Running) (origin : Origin) (s next : State) (ms shown : List SeqMember) (k : ℕ) (m : SeqMember)
+pub members_go_on : (r : Running) (origin : Origin) (s next : State) (ms : List SeqMember) (k : ℕ) (m : SeqMember)
     (whole : Next) (before now after : List Command) → IsGiving (run_members r origin s (drop k ms)) whole before now
-    → shown ≡ ms → k < length shown → m ≡ get_or shown k m → Gives (run_member r origin s m) next now after
+    → k < length ms → m ≡ get_or ms k m → Gives (run_member r origin s m) next now after
     → IsGiving (run_members r origin next (drop (k + 1) ms)) whole before after
-members_go_on r origin s next ms shown k m whole before now after i e l is h =
-    subst (λ xs. IsGiving (run_members r origin next (drop (k + 1) xs)) whole before after) e
-    (goes-on (run_member r origin) (run_members r origin) (λ s m ms. refl) s next shown k m whole before now after
-    (subst (λ xs. IsGiving (run_members r origin s (drop k xs)) whole before now) (sym e) i) l is h)
+members_go_on r origin = goes-on (run_member r origin) (run_members r origin) (λ s m ms. refl)
 
-pub items_over : (r : Running) (origin : Origin) (command : Plain) (s : State) (shown : List Item) (k : ℕ)
-    → shown ≡ command.items → length shown ≤ k
+pub items_over : (r : Running) (origin : Origin) (command : Plain) (s : State) (k : ℕ) → length command.items ≤ k
     → in_sequence r s (item_tasks origin false command k (drop k command.items)) ≡ quietly s
-items_over r origin command s shown k e l =
-    ap (λ xs. in_sequence r s (item_tasks origin false command k (drop k xs))) (sym e)
-    ∙ ap (λ xs. in_sequence r s (item_tasks origin false command k xs)) (drop_all k shown l)
+items_over r origin command s k l =
+    ap (λ xs. in_sequence r s (item_tasks origin false command k xs)) (drop_all k command.items l)
 
-pub members_over : (r : Running) (origin : Origin) (s : State) (ms shown : List SeqMember) (k : ℕ) → shown ≡ ms
-    → length shown ≤ k → run_members r origin s (drop k ms) ≡ quietly s
-members_over r origin s ms shown k e l = rw (sym e) (ap (run_members r origin s) (drop_all k shown l))
+pub members_over : (r : Running) (origin : Origin) (s : State) (ms : List SeqMember) (k : ℕ) → length ms ≤ k
+    → run_members r origin s (drop k ms) ≡ quietly s
+members_over r origin s ms k l = ap (run_members r origin s) (drop_all k ms l)
 
 -- ---- with the engine's clock and greatest object, which stay
 

@@ -221,12 +221,11 @@ tasks_go_on e m f ts k t l is a b =
     stay_then (tasks_cover ts) (whole_of e) (whole_of m) (whole_of f) a
     (one_of_tasks ts k t (whole_of m) (whole_of f) l is b)
 
-pub members_go_on : (e m f : Engine) (ms shown : List SeqMember) (k : ℕ) (member : SeqMember) → shown ≡ ms
-    → k < length shown → member ≡ get_or shown k member
-    → StayBut (λ p. list_any (seq_member_covers p) ms) (whole_of e) (whole_of m)
+pub members_go_on : (e m f : Engine) (ms : List SeqMember) (k : ℕ) (member : SeqMember) → k < length ms
+    → member ≡ get_or ms k member → StayBut (λ p. list_any (seq_member_covers p) ms) (whole_of e) (whole_of m)
     → StayBut (λ p. seq_member_covers p member) (whole_of m) (whole_of f)
     → StayBut (λ p. list_any (seq_member_covers p) ms) (whole_of e) (whole_of f)
-members_go_on e m f ms shown k member same l is a b =
+members_go_on e m f ms k member l is a b =
     stay_then (λ p. list_any (seq_member_covers p) ms) (whole_of e) (whole_of m) (whole_of f) a
     (stay_within (λ p. seq_member_covers p member) (λ p. list_any (seq_member_covers p) ms) (whole_of m) (whole_of f)
-    (λ p u. none_at (seq_member_covers p) shown k member l is (ap (list_any (seq_member_covers p)) same ∙ u)) b)
+    (λ p u. none_at (seq_member_covers p) ms k member l is u) b)

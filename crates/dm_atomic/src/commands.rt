@@ -18,7 +18,7 @@ ghost use Rattle.dm_atomic.specs.Updates.{clock_of, max_obj_of};
 
 use crate::engine::Engine;
 use crate::entries::{put_own_report, put_status};
-use crate::task_lists::{alert_task, container_post, item_task, members_tasks};
+use crate::task_lists::{alert_task, container_post, members_tasks, take_members, take_task};
 use crate::tasks::{Named, Origin, Task, Work};
 use dm_base::{List, Memory};
 use syncml_types::{AlertCmd, Block, Command, Member, Plain, SeqMember};
@@ -76,22 +76,22 @@ impl Engine {
         &mut self,
         caller: &[u8],
         origin: Origin,
-        command: &Plain,
+        command: &mut Plain,
         out: &mut List<Command>,
     ) -> Result<(), Memory>
         requires sound { IsSoundEngine self.old }
         ensures gives { OnOk result (Gives
-            (sequence_of (running self.old caller.now) (state_of self.old) (plain_tasks origin false command.now))
+            (sequence_of (running self.old caller.now) (state_of self.old) (plain_tasks origin false command.old))
             (state_of self.new) out.old out.new) }
         ensures err { OnErr result (IsInFront out.old out.new) }
         ensures clock { self.new.tree.clock ≡ self.old.tree.clock }
         ensures max_obj { self.new.inbox.max_obj ≡ self.old.inbox.max_obj }
-        ensures ids { StayBut (covers (commands.Plain command.now)) (whole_of self.old) (whole_of self.new) }
+        ensures ids { StayBut (covers (commands.Plain command.old)) (whole_of self.old) (whole_of self.new) }
         ensures marks { Holds self.old self.new }
         ensures sound { IsSoundEngine self.new }
     {
-        for (place, item) in command.items.as_slice().iter().enumerate() {
-            let mut task = item_task(self.alloc, origin, false, command, place, item)?;
+        for place in 0..command.items.len() {
+            let mut task = take_task(self.alloc, origin, false, command, place)?;
             self.one_alone(caller, &mut task, out)?;
         }
         Ok(())
@@ -126,17 +126,17 @@ impl Engine {
         &mut self,
         caller: &[u8],
         origin: Origin,
-        member: &Member,
+        member: &mut Member,
         out: &mut List<Command>,
     ) -> Result<(), Memory>
         requires sound { IsSoundEngine self.old }
         ensures gives { OnOk result (Gives
-            (sequence_of (running self.old caller.now) (state_of self.old) (member_tasks origin false member.now))
+            (sequence_of (running self.old caller.now) (state_of self.old) (member_tasks origin false member.old))
             (state_of self.new) out.old out.new) }
         ensures err { OnErr result (IsInFront out.old out.new) }
         ensures clock { self.new.tree.clock ≡ self.old.tree.clock }
         ensures max_obj { self.new.inbox.max_obj ≡ self.old.inbox.max_obj }
-        ensures ids { StayBut (λ p. member_covers p member.now) (whole_of self.old) (whole_of self.new) }
+        ensures ids { StayBut (λ p. member_covers p member.old) (whole_of self.old) (whole_of self.new) }
         ensures marks { Holds self.old self.new }
         ensures sound { IsSoundEngine self.new }
     {
@@ -151,25 +151,26 @@ impl Engine {
         &mut self,
         caller: &[u8],
         origin: Origin,
-        block: &Block<Member>,
+        block: &mut Block<Member>,
         out: &mut List<Command>,
     ) -> Result<(), Memory>
         requires sound { IsSoundEngine self.old }
         ensures gives { OnOk result (Gives
-            (atomic_of (running self.old caller.now) origin (state_of self.old) block.now) (state_of self.new)
+            (atomic_of (running self.old caller.now) origin (state_of self.old) block.old) (state_of self.new)
             out.old out.new) }
         ensures err { OnErr result (IsInFront out.old out.new) }
         ensures clock { self.new.tree.clock ≡ self.old.tree.clock }
         ensures max_obj { self.new.inbox.max_obj ≡ self.old.inbox.max_obj }
-        ensures ids { StayBut (covers (commands.Atomic block.now)) (whole_of self.old) (whole_of self.new) }
+        ensures ids { StayBut (covers (commands.Atomic block.old)) (whole_of self.old) (whole_of self.new) }
         ensures committed { OnOk result (IsSome (attempt (running self.old caller.now) (state_of self.old)
-            (members_tasks_of origin true block.now.members))
+            (members_tasks_of origin true block.old.members))
             → (whole_of self.new).ids ≡ committed_ids (whole_of self.old)) }
         ensures marks { Holds self.old self.new }
         ensures sound { IsSoundEngine self.new }
     {
-        let mut tasks = members_tasks(self.alloc, origin, true, &block.members)?.into_vec();
         let post = container_post(origin, block.id, block.no_resp, Named::Atomic);
+        let mut members = take_members(self.alloc, block);
+        let mut tasks = members_tasks(self.alloc, origin, true, members.as_mut_slice())?.into_vec();
         self.atomic(caller, post, tasks.as_mut_slice(), out)?;
         Ok(())
     }
@@ -179,17 +180,17 @@ impl Engine {
         &mut self,
         caller: &[u8],
         origin: Origin,
-        member: &SeqMember,
+        member: &mut SeqMember,
         out: &mut List<Command>,
     ) -> Result<(), Memory>
         requires sound { IsSoundEngine self.old }
         ensures gives { OnOk result (Gives
-            (member_of (running self.old caller.now) origin (state_of self.old) member.now) (state_of self.new)
+            (member_of (running self.old caller.now) origin (state_of self.old) member.old) (state_of self.new)
             out.old out.new) }
         ensures err { OnErr result (IsInFront out.old out.new) }
         ensures clock { self.new.tree.clock ≡ self.old.tree.clock }
         ensures max_obj { self.new.inbox.max_obj ≡ self.old.inbox.max_obj }
-        ensures ids { StayBut (λ p. seq_member_covers p member.now) (whole_of self.old) (whole_of self.new) }
+        ensures ids { StayBut (λ p. seq_member_covers p member.old) (whole_of self.old) (whole_of self.new) }
         ensures marks { Holds self.old self.new }
         ensures sound { IsSoundEngine self.new }
     {
@@ -204,23 +205,23 @@ impl Engine {
         &mut self,
         caller: &[u8],
         origin: Origin,
-        members: &List<SeqMember>,
+        members: &mut [SeqMember],
         out: &mut List<Command>,
     ) -> Result<(), Memory>
         requires sound { IsSoundEngine self.old }
         ensures gives { OnOk result (Gives
-            (members_of (running self.old caller.now) origin (state_of self.old) members.now) (state_of self.new)
+            (members_of (running self.old caller.now) origin (state_of self.old) members.old) (state_of self.new)
             out.old out.new) }
         ensures err { OnErr result (IsInFront out.old out.new) }
         ensures clock { self.new.tree.clock ≡ self.old.tree.clock }
         ensures max_obj { self.new.inbox.max_obj ≡ self.old.inbox.max_obj }
-        ensures ids { StayBut (λ p. list_any (seq_member_covers p) members.now) (whole_of self.old)
+        ensures ids { StayBut (λ p. list_any (seq_member_covers p) members.old) (whole_of self.old)
             (whole_of self.new) }
         ensures marks { Holds self.old self.new }
         ensures sound { IsSoundEngine self.new }
     {
-        for member in members.as_slice() {
-            self.run_member(caller, origin, member, out)?;
+        for place in 0..members.len() {
+            self.run_member(caller, origin, &mut members[place], out)?;
         }
         Ok(())
     }
@@ -230,48 +231,50 @@ impl Engine {
         &mut self,
         caller: &[u8],
         origin: Origin,
-        block: &Block<SeqMember>,
+        block: &mut Block<SeqMember>,
         out: &mut List<Command>,
     ) -> Result<(), Memory>
         requires sound { IsSoundEngine self.old }
         ensures gives { OnOk result (Gives
-            (whole_sequence_of (running self.old caller.now) origin (state_of self.old) block.now) (state_of self.new)
+            (whole_sequence_of (running self.old caller.now) origin (state_of self.old) block.old) (state_of self.new)
             out.old out.new) }
         ensures err { OnErr result (IsInFront out.old out.new) }
         ensures clock { self.new.tree.clock ≡ self.old.tree.clock }
         ensures max_obj { self.new.inbox.max_obj ≡ self.old.inbox.max_obj }
-        ensures ids { StayBut (covers (commands.Sequence block.now)) (whole_of self.old) (whole_of self.new) }
+        ensures ids { StayBut (covers (commands.Sequence block.old)) (whole_of self.old) (whole_of self.new) }
         ensures marks { Holds self.old self.new }
         ensures sound { IsSoundEngine self.new }
     {
         let post = container_post(origin, block.id, block.no_resp, Named::Sequence);
         put_status(self.alloc, &post, 200, out)?;
-        self.run_members(caller, origin, &block.members, out)?;
+        let mut members = take_members(self.alloc, block);
+        self.run_members(caller, origin, members.as_mut_slice(), out)?;
         Ok(())
     }
 
     /// Runs one command of a message's body: what it comes to is put behind `out`, or waits where it joins a group that
-    /// stays open. Statuses and Results aren't commands to run. After `Memory` a part may be told, and the state may be
-    /// anywhere on the way: go back to a mark.
+    /// stays open. Statuses and Results aren't commands to run. The command's texts and values are moved out of it, and
+    /// what is left of it is open. After `Memory` a part may be told, and the state may be anywhere on the way: go back
+    /// to a mark.
     #[tactic(auto, unfolding(crate::specs::Run::run_command), using(crate::proofs::Frames::staying, crate::proofs::Held::holds_self, crate::proofs::Giving::gives_quietly, crate::proofs::Telling::nothing_more))]
     pub fn run(
         &mut self,
         caller: &[u8],
         origin: Origin,
-        command: &Command,
+        command: &mut Command,
         out: &mut List<Command>,
     ) -> Result<(), Memory>
         requires sound { IsSoundEngine self.old }
         ensures gives { OnOk result (Gives
-            (run_command (running self.old caller.now) origin (state_of self.old) command.now) (state_of self.new)
+            (run_command (running self.old caller.now) origin (state_of self.old) command.old) (state_of self.new)
             out.old out.new) }
         ensures err { OnErr result (IsInFront out.old out.new) }
         ensures clock { clock_of self.new ≡ clock_of self.old }
         ensures max_obj { max_obj_of self.new ≡ max_obj_of self.old }
-        ensures ids { StayBut (covers command.now) (whole_of self.old) (whole_of self.new) }
+        ensures ids { StayBut (covers command.old) (whole_of self.old) (whole_of self.new) }
         ensures kept { (state_of self.old).group ≡ None
-            → KeepIdsBut (covers command.now) (whole_of self.old).ids (whole_of self.new).ids }
-        ensures failed { OnOk result (IfAtomic command.now (λ b. IsSome (attempt (running self.old caller.now)
+            → KeepIdsBut (covers command.old) (whole_of self.old).ids (whole_of self.new).ids }
+        ensures failed { OnOk result (IfAtomic command.old (λ b. IsSome (attempt (running self.old caller.now)
             (state_of self.old) (members_tasks_of origin true b.members))
             → (whole_of self.new).ids ≡ committed_ids (whole_of self.old))) }
         ensures marks { Holds self.old self.new }

@@ -19,6 +19,7 @@ impl Engine {
         ensures ended { self.new.ended.items
             ≡ self.old.ended.items ++ record { mark = self.old.mark; parts = self.old.parts } ∷ [] }
         ensures empty { self.new.parts ≡ [] }
+        ensures capacity { vec_capacity self.new.ended ≡ vec_capacity self.old.ended }
     {
         let parts = mem::replace(&mut self.parts, List::new(self.alloc));
         let mark = self.mark;

@@ -35,7 +35,7 @@ fn size_in(meta: &Option<Boxed<Meta>>) -> Option<u64>
     }
 }
 
-/// A copy of the Format that the item's own Meta gives, or else its command's.
+/// A copy of the Format that the item's own Meta gives, or else of its command's.
 pub fn format_of(
     alloc: Global,
     own: &Option<Boxed<Meta>>,
@@ -49,7 +49,7 @@ pub fn format_of(
     }
 }
 
-/// A copy of the Type that the item's own Meta gives, or else its command's.
+/// A copy of the Type that the item's own Meta gives, or else of its command's.
 pub fn media_of(
     alloc: Global,
     own: &Option<Boxed<Meta>>,
@@ -58,6 +58,59 @@ pub fn media_of(
     ensures { IfOk result (λ media. media ≡ child_of_either (λ (m : AMeta). m.media) own.now command.now) }
 {
     match media_in(alloc, own)? {
+        Some(media) => Ok(Some(media)),
+        None => media_in(alloc, command),
+    }
+}
+
+// Moves the Format out.
+fn format_out_of(meta: &mut Option<Boxed<Meta>>) -> Option<Bytes>
+    ensures format { result ≡ option_and_then (λ (m : AMeta). m.format) meta.old }
+    ensures media { option_and_then (λ (m : AMeta). m.media) meta.new
+        ≡ option_and_then (λ (m : AMeta). m.media) meta.old }
+{
+    match meta {
+        None => None,
+        Some(meta) => meta.inner.format.take(),
+    }
+}
+
+// Moves the Type out.
+fn media_out_of(meta: &mut Option<Boxed<Meta>>) -> Option<Bytes>
+    ensures { result ≡ option_and_then (λ (m : AMeta). m.media) meta.old }
+{
+    match meta {
+        None => None,
+        Some(meta) => meta.inner.media.take(),
+    }
+}
+
+/// The Format that the item's own Meta gives, which is moved out of it, or else a copy of its command's.
+pub fn take_format(
+    alloc: Global,
+    own: &mut Option<Boxed<Meta>>,
+    command: &Option<Boxed<Meta>>,
+) -> Result<Option<Bytes>, Memory>
+    ensures format { IfOk result (λ format. format
+        ≡ child_of_either (λ (m : AMeta). m.format) own.old command.now) }
+    ensures media { option_and_then (λ (m : AMeta). m.media) own.new
+        ≡ option_and_then (λ (m : AMeta). m.media) own.old }
+{
+    match format_out_of(own) {
+        Some(format) => Ok(Some(format)),
+        None => format_in(alloc, command),
+    }
+}
+
+/// The Type that the item's own Meta gives, which is moved out of it, or else a copy of its command's.
+pub fn take_media(
+    alloc: Global,
+    own: &mut Option<Boxed<Meta>>,
+    command: &Option<Boxed<Meta>>,
+) -> Result<Option<Bytes>, Memory>
+    ensures { IfOk result (λ media. media ≡ child_of_either (λ (m : AMeta). m.media) own.old command.now) }
+{
+    match media_out_of(own) {
         Some(media) => Ok(Some(media)),
         None => media_in(alloc, command),
     }

@@ -94,6 +94,7 @@ impl Engine {
         requires room { vec_len self.old.starts < vec_capacity self.old.starts }
         ensures same { self.new ≡ record self.old { started = next; starts = self.new.starts } }
         ensures starts { self.new.starts.items ≡ self.old.starts.items ++ self.old.started ∷ [] }
+        ensures capacity { vec_capacity self.new.starts ≡ vec_capacity self.old.starts }
     {
         let old = mem::replace(&mut self.started, next);
         self.starts.push_reserved(old);

@@ -14,14 +14,16 @@ use syncml_types::Command;
 // How many Replaces the stored run has.
 const FEW: u32 = 20;
 
-// The time of one message.
+// The time of one message. What is run is a copy, since its values are moved out of it; the copy is made, and what is
+// left of it given up, outside that time.
 fn time_of(rt: &HostRuntime, device: &mut Device, command: &Command) -> io::Result<u128>
     requires { IsSoundEngine device.old.engine }
     ensures { OnOk result (IsSoundEngine device.new.engine) }
 {
     device.out.cut_to(0);
+    let mut copied = command.copy(rt.alloc()).map_err(of_memory)?;
     let start = Instant::now(rt)?;
-    match run_message(&mut device.engine, 2, command, &mut device.out) {
+    match run_message(&mut device.engine, 2, &mut copied, &mut device.out) {
         Ok(()) => {}
         Err(memory) => return Err(of_memory(memory)),
     }

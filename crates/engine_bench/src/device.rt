@@ -21,11 +21,11 @@ pub struct Device {
     pub out: List<Command>,
 }
 
-/// Runs a command as one message does: what came before it can't be gone back to.
+/// Runs a command as one message does: what came before it can't be gone back to. Its values are moved out of it.
 pub fn run_message(
     engine: &mut Engine,
     msg: u32,
-    command: &Command,
+    command: &mut Command,
     out: &mut List<Command>,
 ) -> Result<(), Memory>
     requires sound { IsSoundEngine engine.old }
@@ -43,8 +43,8 @@ impl Device {
     {
         let mut engine = Engine::new(alloc, bare_tree(alloc)?, MAX_OBJ)?;
         let mut out = List::new(alloc);
-        let leaves = all_leaves(alloc)?;
-        run_message(&mut engine, 1, &leaves, &mut out)?;
+        let mut leaves = all_leaves(alloc)?;
+        run_message(&mut engine, 1, &mut leaves, &mut out)?;
         Ok(Device {
             engine,
             out: List::new(alloc),

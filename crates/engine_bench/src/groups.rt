@@ -60,12 +60,15 @@ fn with(sums: Sums, place: usize, count: usize, time: u128) -> Sums {
     sums
 }
 
+// The time of one part. What is run is a copy, since its values are moved out of it; the copy is made, and what is left
+// of it given up, outside that time.
 fn time_of(rt: &HostRuntime, device: &mut Device, command: &Command) -> io::Result<u128>
     requires { IsSoundEngine device.old.engine }
     ensures { OnOk result (IsSoundEngine device.new.engine) }
 {
+    let mut copied = command.copy(rt.alloc()).map_err(of_memory)?;
     let start = Instant::now(rt)?;
-    match run_message(&mut device.engine, 2, command, &mut device.out) {
+    match run_message(&mut device.engine, 2, &mut copied, &mut device.out) {
         Ok(()) => {}
         Err(memory) => return Err(of_memory(memory)),
     }

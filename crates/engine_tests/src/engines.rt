@@ -62,7 +62,7 @@ fn called(
 {
     let origin = Origin { msg, quiet: false };
     match command(alloc, call)? {
-        Some(command) => engine.run(b"s1", origin, &command, out),
+        Some(mut command) => engine.run(b"s1", origin, &mut command, out),
         None => engine.still(out),
     }
 }

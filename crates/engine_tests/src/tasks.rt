@@ -106,7 +106,7 @@ fn called(
         quiet: matches!(call, Call::Silent(_)),
     };
     match command(alloc, call)? {
-        Some(command) => engine.run(b"s1", origin, &command, out),
+        Some(mut command) => engine.run(b"s1", origin, &mut command, out),
         None => engine.still(out),
     }
 }

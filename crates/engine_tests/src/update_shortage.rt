@@ -27,8 +27,13 @@ fn exec_twice(alloc: Global) -> Option<Command> {
     }
 }
 
-// Starts the update by this Exec, and once more where memory ran out.
-fn start_twice(engine: &mut Engine, exec: &Command, out: &mut List<Command>) -> Option<()>
+// Starts the update by this Exec, and by another one like it where memory ran out.
+fn start_twice(
+    engine: &mut Engine,
+    exec: &mut Command,
+    again: &mut Command,
+    out: &mut List<Command>,
+) -> Option<()>
     requires sound { IsSoundEngine engine.old }
     ensures sound { IsSoundEngine engine.new }
 {
@@ -38,7 +43,17 @@ fn start_twice(engine: &mut Engine, exec: &Command, out: &mut List<Command>) -> 
         return Some(());
     }
     engine.back(mark);
-    run(engine, exec, out)
+    run(engine, again, out)
+}
+
+// Starts the update, though memory runs out once.
+fn started_twice(alloc: Global, engine: &mut Engine) -> Option<()>
+    requires sound { IsSoundEngine engine.old }
+    ensures sound { IsSoundEngine engine.new }
+{
+    let mut exec = exec_twice(alloc)?;
+    let mut again = exec_twice(alloc)?;
+    start_twice(engine, &mut exec, &mut again, &mut List::new(alloc))
 }
 
 // Gives the update its result, and once more where memory ran out.
@@ -58,8 +73,7 @@ fn finish_twice(engine: &mut Engine, ok: bool) -> Option<()>
 // How it stands when it is started, and after its result.
 fn updated_twice(alloc: Global, ok: bool) -> Option<(Shown, Shown)> {
     let mut engine = ready_twice(alloc)?;
-    let exec = exec_twice(alloc)?;
-    start_twice(&mut engine, &exec, &mut List::new(alloc))?;
+    started_twice(alloc, &mut engine)?;
     let first = shown(&engine)?;
     finish_twice(&mut engine, ok)?;
     Some((first, shown(&engine)?))

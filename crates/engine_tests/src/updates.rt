@@ -48,7 +48,7 @@ pub(crate) fn exec(alloc: Global) -> Result<Command, Memory> {
     }))
 }
 
-pub(crate) fn run(engine: &mut Engine, command: &Command, out: &mut List<Command>) -> Option<()>
+pub(crate) fn run(engine: &mut Engine, command: &mut Command, out: &mut List<Command>) -> Option<()>
     requires sound { IsSoundEngine engine.old }
     ensures marks { Holds engine.old engine.new }
     ensures sound { IsSoundEngine engine.new }
@@ -62,9 +62,9 @@ fn start(alloc: Global, engine: &mut Engine) -> Option<Bytes>
     ensures marks { Holds engine.old engine.new }
     ensures sound { IsSoundEngine engine.new }
 {
-    let command = exec(alloc).ok()?;
+    let mut command = exec(alloc).ok()?;
     let mut out = List::new(alloc);
-    run(engine, &command, &mut out)?;
+    run(engine, &mut command, &mut out)?;
     told(alloc, out.as_slice())
 }
 

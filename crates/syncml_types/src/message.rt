@@ -84,6 +84,13 @@ impl Message {
         &self.body
     }
 
+    /// The commands, which aren't copied. The header is given up.
+    pub fn into_body(self) -> List<Command>
+        ensures { result ≡ self.body }
+    {
+        self.body
+    }
+
     /// Whether no message of its package follows.
     pub fn last(&self) -> bool
         ensures { result ≡ self.now.last }

@@ -5,7 +5,7 @@ use Rattle.dm_atomic.specs.Engine.{state_of, running}
 use Rattle.dm_atomic.proofs.Engines.{only_then}
 use Rattle.dm_atomic.proofs.Held.{holds_then}
 use Rattle.dm_atomic.proofs.Staying.{tasks_go_on}
-use Rattle.dm_atomic.proofs.TasksAhead.{same_task, same_rest}
+use Rattle.dm_atomic.proofs.TasksAhead.{same_next, same_rest}
 use Rattle.dm_atomic.proofs.Tried.{stopped_left, ended_left}
 use Rattle.dm_atomic.proofs.Tried.{runs_still, trying_breaks, trying_is_cut, trying_goes_on, trying_stops, trying_ends}
 use Rattle.dm_atomic.proofs.engine.Engine.try_all.Goals as goal
@@ -32,7 +32,7 @@ returns-then-not-is_success-clause-tried c =
     (trying_stops (running e c.args.caller.now) (state_of e) (state_of m) next c.args.tasks.now c.loop-place.place t
     report c.loop-place.done c.args.out.now c.loop-place.out c.one_step.new.out c.loop-place.invariant.trying
     c.loop-place-test.true
-    (same_task c.loop-place.tasks c.args.tasks.now c.loop-place.place t c.loop-place.invariant.left
+    (same_next c.loop-place.tasks c.args.tasks.now c.loop-place.place t c.loop-place.invariant.left
     (ap (get_or c.loop-place.tasks c.loop-place.place) c.index-tasks-place.is))
     (runs_still e m c.args.caller.now (state_of m) next t report c.loop-place.out c.one_step.new.out
     c.loop-place.invariant.only c.in_ok-report.ensures.ok) (sym c.is_success.ensures ∙ c.if-not-is_success.true))
@@ -57,7 +57,7 @@ loop-place-preserved c =
     let f = c.one_step.new.self in
     let t = get_or c.loop-place.tasks c.loop-place.place c.index-tasks-place.result in
     let report = c.in_ok-report.report in
-    let is = same_task c.loop-place.tasks c.args.tasks.now c.loop-place.place t c.loop-place.invariant.left
+    let is = same_next c.loop-place.tasks c.args.tasks.now c.loop-place.place t c.loop-place.invariant.left
     (ap (get_or c.loop-place.tasks c.loop-place.place) c.index-tasks-place.is) in
     record {
       trying = trying_goes_on (running e c.args.caller.now) (state_of e) (state_of m) (state_of f) c.args.tasks.now
@@ -96,7 +96,7 @@ returns-in_err-report-clause-ids c =
     let t = get_or c.loop-place.tasks c.loop-place.place c.index-tasks-place.result in
     tasks_go_on c.args.self.now c.loop-place.self c.one_step.new.self c.args.tasks.now c.loop-place.place t
     c.loop-place-test.true
-    (same_task c.loop-place.tasks c.args.tasks.now c.loop-place.place t c.loop-place.invariant.left
+    (same_next c.loop-place.tasks c.args.tasks.now c.loop-place.place t c.loop-place.invariant.left
     (ap (get_or c.loop-place.tasks c.loop-place.place) c.index-tasks-place.is))
     c.loop-place.invariant.ids c.one_step.ensures.ids
 
@@ -105,7 +105,7 @@ returns-then-not-is_success-clause-ids c =
     let t = get_or c.loop-place.tasks c.loop-place.place c.index-tasks-place.result in
     tasks_go_on c.args.self.now c.loop-place.self c.one_step.new.self c.args.tasks.now c.loop-place.place t
     c.loop-place-test.true
-    (same_task c.loop-place.tasks c.args.tasks.now c.loop-place.place t c.loop-place.invariant.left
+    (same_next c.loop-place.tasks c.args.tasks.now c.loop-place.place t c.loop-place.invariant.left
     (ap (get_or c.loop-place.tasks c.loop-place.place) c.index-tasks-place.is))
     c.loop-place.invariant.ids c.one_step.ensures.ids
 
@@ -114,7 +114,7 @@ returns-in_err-push-clause-ids c =
     let t = get_or c.loop-place.tasks c.loop-place.place c.index-tasks-place.result in
     tasks_go_on c.args.self.now c.loop-place.self c.one_step.new.self c.args.tasks.now c.loop-place.place t
     c.loop-place-test.true
-    (same_task c.loop-place.tasks c.args.tasks.now c.loop-place.place t c.loop-place.invariant.left
+    (same_next c.loop-place.tasks c.args.tasks.now c.loop-place.place t c.loop-place.invariant.left
     (ap (get_or c.loop-place.tasks c.loop-place.place) c.index-tasks-place.is))
     c.loop-place.invariant.ids c.one_step.ensures.ids
 
