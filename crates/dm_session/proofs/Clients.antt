@@ -11,7 +11,7 @@ use Rattle.dm_pack.specs.Entries.{Entry}
 use Rattle.dm_atomic.specs.declared.engine.Engine.{Engine}
 use Rattle.dm_atomic.specs.Run.{State, abandoned}
 use Rattle.dm_atomic.specs.Engine.{state_of, IsSoundEngine}
-use Rattle.dm_atomic.specs.Marks.{whole_of, past_of, no_past}
+use Rattle.dm_atomic.specs.Marks.{whole_of, past_of, no_past, LeavesNone}
 use Rattle.dm_atomic.specs.Marks as engine
 use Rattle.dm_atomic.specs.Updates.{clock_of, max_obj_of, TellsStarted}
 use Rattle.dm_ends.specs.declared.farewells.LastMessage.{LastMessage}
@@ -179,14 +179,15 @@ clocked_next e f q r w =
 
 pub clocked_sound : (e f : Engine) (q : List Entry) (r : Rest)
     → inside.IsSound (record { engine = e; queue = q; rest = r }) → IsSoundEngine f → max_obj_of f ≡ max_obj_of e
-    → whole_of f ≡ whole_of e → past_of f ≡ past_of e → IsStamp (clock_of f)
+    → whole_of f ≡ whole_of e → past_of f ≡ past_of e → LeavesNone f → IsStamp (clock_of f)
     → inside.IsSound (record { engine = f; queue = q; rest = r })
-clocked_sound e f q r s sound m w p stamp = record {
+clocked_sound e f q r s sound m w p none_left stamp = record {
   goes_on = next_goes_on f q r (inside.machine_of e q r) (events.clock (clock_of f)) sound (m ∙ s.goes_on.max_obj)
       (clocked_next e f q r w) s.goes_on.ready stamp;
   sent = s.sent;
   farewell = s.farewell;
   settled = p ∙ s.settled;
+  none_left = none_left;
   told = subst (λ (x : engine.Whole). TellsStarted x.state) (sym w) s.told;
   closed = λ h. ap (λ (x : engine.Whole). x.state.group) w ∙ s.closed h;
 }
@@ -280,9 +281,9 @@ pub begun_lives : (g : Engine) (q : List Entry) (r x : Rest) (number : ℕ) (fir
     (kind : Kind)
     → x ≡ begun_rest r number first → IsSoundEngine g → max_obj_of g ≡ r.limits.max_obj → IsSpelled first.sent
     → inside.machine_of g q (begun_rest r number first) ≡ begins c account kind number → IsReadyMachine c
-    → account < length c.accounts → number < 2 ^ 32 → past_of g ≡ no_past → TellsStarted (state_of g)
+    → account < length c.accounts → number < 2 ^ 32 → past_of g ≡ no_past → LeavesNone g → TellsStarted (state_of g)
     → inside.IsSound (record { engine = g; queue = q; rest = x })
-begun_lives g q r x number first c account kind e s m spelled is ready low small settled tells =
+begun_lives g q r x number first c account kind e s m spelled is ready low small settled none_left tells =
     subst (λ y. inside.IsSound (record { engine = g; queue = q; rest = y })) (sym e)
     (record {
       goes_on = record {
@@ -293,6 +294,7 @@ begun_lives g q r x number first c account kind e s m spelled is ready low small
       sent = spelled;
       farewell = tt;
       settled = settled;
+      none_left = none_left;
       told = tells;
       closed = λ h. absurd (cc);
     })
@@ -321,9 +323,10 @@ pub drafted_lives : (f g : Engine) (q : List Entry) (r x : Rest) (at : ℕ) (d :
     → whole_of g ≡ whole_of f → clock_of g ≡ clock_of f → IsSoundEngine g → max_obj_of g ≡ r.limits.max_obj
     → IsReadyMachine c → IsReadyMessage m nonce → IsNextSpelled d.next
     → IfSome r.session (λ (y : Held). IsSpelled y.sent)
-    → IfSome r.farewell IsSpelled → past_of g ≡ no_past → IsSteady c
+    → IfSome r.farewell IsSpelled → past_of g ≡ no_past → LeavesNone g → IsSteady c
     → inside.IsSound (record { engine = g; queue = q; rest = x })
-drafted_lives f g q r x at d c s m nonce e t o is w k sound obj ready event spelled sent farewell settled steady =
+drafted_lives f g q r x at d c s m nonce e t o is w k sound obj ready event spelled sent farewell settled none_left
+    steady =
     subst (λ y. inside.IsSound (record { engine = g; queue = q; rest = y })) (sym e)
     (record {
       goes_on = next_goes_on g q (drafted r at d) c (message (Ok m) nonce) sound (obj ∙ limits_stay d.next) goes
@@ -334,6 +337,7 @@ drafted_lives f g q r x at d c s m nonce e t o is w k sound obj ready event spel
           farewell_spelled r (account_behind r.accounts at d.account) (option_or d.resp_uri r.resp_uri) d.next spelled
           farewell;
       settled = settled;
+      none_left = none_left;
       told = subst (λ (y : Machine). TellsStarted y.engine) (sym goes)
           (stays_steady c (message (Ok m) nonce) steady).started;
       closed = λ h. ap (λ (y : engine.Whole). y.state.group) w

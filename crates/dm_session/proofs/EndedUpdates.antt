@@ -8,7 +8,7 @@ use Rattle.dm_tree.specs.declared.nodes.Stamp.{Stamp}
 use Rattle.dm_atomic.specs.declared.engine.Engine.{Engine}
 use Rattle.dm_atomic.specs.Run.{State}
 use Rattle.dm_atomic.specs.Engine.{state_of, IsSoundEngine}
-use Rattle.dm_atomic.specs.Marks.{Whole, whole_of, past_of, no_past}
+use Rattle.dm_atomic.specs.Marks.{Whole, whole_of, past_of, no_past, LeavesNone}
 use Rattle.dm_atomic.specs.Updates.{clock_of, max_obj_of, update_finished, TellsStarted}
 use Rattle.dm_machine.specs.declared.progress.UpdateResult.{UpdateResult}
 use Rattle.dm_machine.specs.Machine.{Machine}
@@ -55,8 +55,8 @@ module _ (e f : Engine) (q : List Entry) (r : Rest) (results : List UpdateResult
       ∙ ap (λ x. whole_client (record { engine = e; queue = q; rest = with_results r x })) is
 
   pub still_sound : IsSound (record { engine = e; queue = q; rest = r }) → max_obj_of f ≡ max_obj_of e → IsSoundEngine f
-      → past_of f ≡ past_of e → IsSound (record { engine = f; queue = q; rest = with_results r results })
-  still_sound s m sound past = record {
+      → past_of f ≡ past_of e → LeavesNone f → IsSound (record { engine = f; queue = q; rest = with_results r results })
+  still_sound s m sound past none_left = record {
     goes_on = record {
       engine = sound;
       max_obj = m ∙ s.goes_on.max_obj;
@@ -65,6 +65,7 @@ module _ (e f : Engine) (q : List Entry) (r : Rest) (results : List UpdateResult
     sent = s.sent;
     farewell = s.farewell;
     settled = past ∙ s.settled;
+    none_left = none_left;
     told = subst (λ (x : Whole). TellsStarted x.state) (sym w) s.told;
     closed = λ h. ap (λ (x : Whole). x.state.group) w ∙ s.closed h;
   }
@@ -96,8 +97,8 @@ module _ (e f : Engine) (q : List Entry) (r : Rest) (results : List UpdateResult
   ended_next = acts_so ∙ next_if _ (machine_of e q r) (after (machine_of e q r) (act ok)) takes_it
 
   pub ended_sound : IsSound (record { engine = e; queue = q; rest = r }) → max_obj_of f ≡ max_obj_of e → IsSoundEngine f
-      → past_of f ≡ no_past → IsSound (record { engine = f; queue = q; rest = with_results r results })
-  ended_sound s m sound settled = record {
+      → past_of f ≡ no_past → LeavesNone f → IsSound (record { engine = f; queue = q; rest = with_results r results })
+  ended_sound s m sound settled none_left = record {
     goes_on = record {
       engine = sound;
       max_obj = m ∙ s.goes_on.max_obj;
@@ -106,6 +107,7 @@ module _ (e f : Engine) (q : List Entry) (r : Rest) (results : List UpdateResult
     sent = s.sent;
     farewell = s.farewell;
     settled = settled;
+    none_left = none_left;
     told = subst (λ (x : Machine). TellsStarted x.engine) (sym ended_next)
         (stays_steady (machine_of e q r) (act ok) (steady_of (record { engine = e; queue = q; rest = r }) s)).started;
     closed = λ h. ap (λ (x : State). x.group) state ∙ s.closed h;

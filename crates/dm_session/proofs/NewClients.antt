@@ -13,7 +13,7 @@ use Rattle.dm_atomic.specs.declared.reports.Started.{Started}
 use Rattle.dm_atomic.specs.declared.engine.Engine.{Engine}
 use Rattle.dm_atomic.specs.Run.{State, Running}
 use Rattle.dm_atomic.specs.Engine.{state_of, running, IsSoundEngine}
-use Rattle.dm_atomic.specs.Marks.{whole_of, past_of, no_past}
+use Rattle.dm_atomic.specs.Marks.{whole_of, past_of, no_past, LeavesNone}
 use Rattle.dm_atomic.specs.Updates.{clock_of, is_updating, begun, TellsStarted}
 use Rattle.dm_atomic.proofs.Staying.{base_closed}
 use Rattle.dm_atomic.proofs.Tellings.{begins_telling}
@@ -88,10 +88,10 @@ module _ (e : Engine) (q : List Entry) (alloc : Global) (limits : Limits) (place
   pub new_base : (whole_of e).base_ids ≡ None
   new_base = base_closed e (ap (λ (s : State). s.group) state ∙ no_group m)
 
-  pub new_sound : IsSoundEngine e → past_of e ≡ no_past → IsReadyLimits limits → IsStamp clock → IsDevice m
-      → AllByRecursion IsReadyAccount accounts
+  pub new_sound : IsSoundEngine e → past_of e ≡ no_past → LeavesNone e → IsReadyLimits limits → IsStamp clock
+      → IsDevice m → AllByRecursion IsReadyAccount accounts
       → IsSound (record { engine = e; queue = q; rest = new_rest alloc limits place accounts results })
-  new_sound sound settled ready stamp device accounts_ready = record {
+  new_sound sound settled none_left ready stamp device accounts_ready = record {
     goes_on = record {
       engine = sound;
       max_obj = ap (λ (r : Running). r.max_obj) (runs []);
@@ -108,6 +108,7 @@ module _ (e : Engine) (q : List Entry) (alloc : Global) (limits : Limits) (place
     sent = tt;
     farewell = tt;
     settled = settled;
+    none_left = none_left;
     told = subst TellsStarted (sym state) (begins_telling m device.formed device.device.update);
     closed = λ h. ap (λ (s : State). s.group) state ∙ no_group m;
   }

@@ -283,11 +283,16 @@ pub heard_front : (front : List Command) (header : Header) (heard : hearing.Hear
 heard_front front header heard a h m nonce is e same =
     e ∙ ap (λ x. header_answer x heard.code nonce) same ∙ ap (λ x. header_answer m.header x nonce) (sym is.code)
 
-abbrev or_ends : Engine → List Entry → Rest → Parts → ℕ → Progress → Account → List Command → List Command → Outcome
-or_ends f q r m code p a front made =
-    cond (is_over m code (q ++ map whole_entry made)) (ends (finished (machine_of f q r)) Finished)
+-- the session is finished where the message has nothing more and no entry waits
+abbrev pub or_ends_if : Bool → Engine → List Entry → Rest → Progress → Account → List Command → List Command → Outcome
+or_ends_if nothing_more f q r p a front made =
+    cond (nothing_more && length (q ++ map whole_entry made) == 0) (ends (finished (machine_of f q r)) Finished)
     (goes_on (sends (machine_of f (map whole_entry front ++ (q ++ map whole_entry made)) r)
     (moved_by p (length front)) a))
+
+abbrev or_ends : Engine → List Entry → Rest → Parts → ℕ → Progress → Account → List Command → List Command → Outcome
+or_ends f q r m code p a front made =
+    or_ends_if (passes code && m.last && list_all is_report m.body) f q r p a front made
 
 pub or_ends_heard : (f : Engine) (q : List Entry) (r : Rest) (m : Parts) (heard : hearing.Heard) (a : Account)
     (h : Heard)

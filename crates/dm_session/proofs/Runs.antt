@@ -31,23 +31,19 @@ giving-on rest first left whole before now after i e t = record {
       ∙ i.goes_on;
 }
 
-pub run_goes_on : (r : Running) (o : Origin) (s next : State) (cs shown : List Command) (k : ℕ) (c : Command)
-    (whole : Next)
-    (before now after : List Command) → IsGiving (run_all r o s (drop k cs)) whole before now → shown ≡ cs
-    → k < length shown
-    → c ≡ get_or shown k c → Gives (run_command r o s c) next now after
+pub run_goes_on : (r : Running) (o : Origin) (s next : State) (cs : List Command) (k : ℕ) (c : Command) (whole : Next)
+    (before now after : List Command) → IsGiving (run_all r o s (drop k cs)) whole before now → k < length cs
+    → c ≡ get_or cs k c → Gives (run_command r o s c) next now after
     → IsGiving (run_all r o next (drop (k + 1) cs)) whole before after
-run_goes_on r o s next cs shown k c whole before now after i e l is h =
-    subst (λ xs. IsGiving (run_all r o next (drop (k + 1) xs)) whole before after) e
-    (giving-on (run_all r o s (drop k shown)) (run_command r o s c) (run_all r o next (drop (k + 1) shown)) whole before
-    now after
-    (subst (λ xs. IsGiving (run_all r o s (drop k xs)) whole before now) (sym e) i)
+run_goes_on r o s next cs k c whole before now after i l is h =
+    giving-on (run_all r o s (drop k cs)) (run_command r o s c) (run_all r o next (drop (k + 1) cs)) whole before now
+    after i
     (ap (run_all r o s) behind
-    ∙ ap (λ y. then_gives (run_command r o s c) (run_all r o y (drop (k + 1) shown))) (sym h.state_is))
-    h.told_is)
+    ∙ ap (λ y. then_gives (run_command r o s c) (run_all r o y (drop (k + 1) cs))) (sym h.state_is))
+    h.told_is
   where
-    behind : drop k shown ≡ c ∷ drop (k + 1) shown
-    behind = rw (add-one k) (drop-cons shown k c l ∙ ap (λ y. y ∷ drop (suc k) shown) (sym is))
+    behind : drop k cs ≡ c ∷ drop (k + 1) cs
+    behind = rw (add-one k) (drop-cons cs k c l ∙ ap (λ y. y ∷ drop (suc k) cs) (sym is))
 
 pub run_still : (e f : Engine) (caller : List ℕ) (o : Origin) (s next : State) (c : Command)
     (before after : List Command)

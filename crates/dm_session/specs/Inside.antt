@@ -5,7 +5,7 @@ use Rattle.syncml_types.specs.Canonical.{canonical}
 use Rattle.dm_pack.specs.Entries.{Entry}
 use Rattle.dm_atomic.specs.declared.engine.Engine.{Engine}
 use Rattle.dm_atomic.specs.Engine.{state_of, IsSoundEngine}
-use Rattle.dm_atomic.specs.Marks.{whole_of, past_of, no_past}
+use Rattle.dm_atomic.specs.Marks.{whole_of, past_of, no_past, LeavesNone}
 use Rattle.dm_atomic.specs.Updates.{clock_of, max_obj_of, TellsStarted}
 use Rattle.dm_ends.specs.declared.farewells.LastMessage.{LastMessage}
 use Rattle.dm_machine.specs.Machine.{Machine, Session}
@@ -59,6 +59,8 @@ pub record IsSound (c : Inside) : Type 0 where
   pub farewell : IfSome c.rest.farewell IsSpelled
   -- nothing is known of what stood before, so nothing piles up
   pub settled : past_of c.engine ≡ no_past
+  -- no subtree is left over that nothing would ever free
+  pub none_left : LeavesNone c.engine
   -- what was started is what the tree tells
   pub told : TellsStarted (state_of c.engine)
   -- a group is open only while a session is

@@ -1,10 +1,12 @@
 // What a message that is accepted is answered.
-ghost use Rattle.std.specs.Prelude.{◌≡◌, ◌≤◌, ◌<◌, ◌+◌, ◌^◌, ◌++◌, List as ListOf, ℕ, Option as OptionOf, Some};
+ghost use Rattle.std.specs.Prelude.{◌≡◌, ◌==◌, ◌&&◌, ◌≤◌, ◌<◌, ◌+◌, ◌^◌, ◌++◌, List as ListOf, ℕ};
+ghost use Rattle.std.specs.Prelude.{Option as OptionOf, Some};
 ghost use Rattle.std.specs.Prelude.{[], if◌then◌else◌, length, map, IfOk, OnErr};
-ghost use Rattle.std.specs.List.{AllByRecursion};
+ghost use Rattle.std.specs.List.{AllByRecursion, list_all};
 ghost use Rattle.std.specs.Option.{option_to_list};
 ghost use Rattle.dm_base.specs.Limits.{least_room, message_limit};
 ghost use Rattle.dm_auth.specs.declared.accounts.Account.{Account as AnAccount};
+ghost use Rattle.dm_headers.specs.Checks.{passes as passing};
 ghost use Rattle.dm_headers.specs.Standings as Standings;
 ghost use Rattle.dm_tree.specs.Devices.{IsUpdateInOrder};
 ghost use Rattle.dm_pack.specs.Entries.{whole_entry, IsReady};
@@ -131,15 +133,18 @@ fn queued_again(
     Ok((again, next))
 }
 
-// A message with Final that holds nothing to execute, where no entry waits.
-fn is_over(message: &Message, code: u32, queue: &Queue, made: &List<Command>) -> bool
-    ensures { result ≡ Spec.is_over message.now code (queue.now ++ map whole_entry made.now) }
+// Whether a message passes, has Final, and holds nothing to execute.
+fn has_nothing_more(message: &Message, code: u32) -> bool
+    ensures { result ≡ (passing code && message.now.last && list_all Spec.is_report message.now.body) }
 {
-    passes(code)
-        && message.last()
-        && all_reports(message.body().as_slice())
-        && queue.len() == 0
-        && made.is_empty()
+    passes(code) && message.last() && all_reports(message.body().as_slice())
+}
+
+// Such a message, where no entry waits.
+fn is_over(nothing_more: bool, queue: &Queue, made: &List<Command>) -> bool
+    ensures { result ≡ (nothing_more && length (queue.now ++ map whole_entry made.now) == 0) }
+{
+    nothing_more && queue.len() == 0 && made.is_empty()
 }
 
 // The commands of a message that passes: what they come to.
@@ -148,16 +153,16 @@ fn run(
     alloc: Global,
     engine: &mut Engine,
     account: &Account,
-    message: &Message,
+    message: Message,
     code: u32,
 ) -> Result<List<Command>, Memory>
     requires sound { IsSoundEngine engine.old }
     ensures ran { IfOk result (λ made. (c : AMachine) → c.engine ≡ state_of engine.old → c.clock ≡ clock_of engine.old
         → c.limits.max_obj ≡ max_obj_of engine.old
-        → Ran (Spec.run_of c account.now message.now code) (state_of engine.new) made) }
+        → Ran (Spec.run_of c account.now message code) (state_of engine.new) made) }
     ensures clock { clock_of engine.new ≡ clock_of engine.old }
     ensures max_obj { max_obj_of engine.new ≡ max_obj_of engine.old }
-    ensures ids { StayBut (body_covers message.now.body) (whole_of engine.old) (whole_of engine.new) }
+    ensures ids { StayBut (body_covers message.body) (whole_of engine.old) (whole_of engine.new) }
     ensures marks { Holds engine.old engine.new }
     ensures sound { IsSoundEngine engine.new }
 {
@@ -203,7 +208,8 @@ fn answer_again(
     Ok(Next::GoesOn(session))
 }
 
-// The answer, or the end of the session where nothing is left on either side.
+// The answer, or the end of the session where nothing is left on either side: the message has nothing more, and no
+// entry waits.
 #[tactic(auto, using(dm_atomic::proofs::Staying::stay_self))]
 fn answer_or_end(
     engine: &mut Engine,
@@ -211,8 +217,7 @@ fn answer_or_end(
     rest: &Rest,
     account: &Account,
     progress: &Progress,
-    message: &Message,
-    code: u32,
+    nothing_more: bool,
     status: Option<Command>,
     made: List<Command>,
 ) -> Result<Next, Memory>
@@ -227,7 +232,7 @@ fn answer_or_end(
     requires room { (least_room ≤ progress.now.standing.room) × (progress.now.standing.room ≤ message_limit) }
     ensures state { IfOk result (λ next. (accounts : ListOf AnAccount) (uri : OptionOf (ListOf ℕ))
         → outcome (machine_of engine.new queue.new (rest_behind (told rest.now accounts uri) next)) next
-        ≡ (if Spec.is_over message.now code (queue.old ++ map whole_entry made)
+        ≡ (if nothing_more && length (queue.old ++ map whole_entry made) == 0
         then ends (Spec.finished (machine_of engine.old queue.old (told rest.now accounts uri))) Finished
         else goes_on (sends (machine_of engine.old
         (map whole_entry (option_to_list status) ++ (queue.old ++ map whole_entry made))
@@ -241,7 +246,7 @@ fn answer_or_end(
     ensures marks { Holds engine.old engine.new }
     ensures sound { IsSoundEngine engine.new }
 {
-    if is_over(message, code, queue, &made) {
+    if is_over(nothing_more, queue, &made) {
         close(engine, queue);
         return Ok(Next::Ends(End::Finished, None));
     }
@@ -257,7 +262,7 @@ pub(crate) fn answered(
     rest: &Rest,
     account: &Account,
     progress: &Progress,
-    message: &Message,
+    message: Message,
     nonce: &Nonce,
     heard: &Heard,
 ) -> Result<Next, Memory>
@@ -266,19 +271,19 @@ pub(crate) fn answered(
     requires account { IsReadyAccount account.now }
     requires own { progress.now.standing.own + 1 < 2 ^ 32 }
     requires code { heard.now.code < 2 ^ 32 }
-    requires message { IsReadyMessage message.now nonce.now.bytes }
+    requires message { IsReadyMessage message nonce.now.bytes }
     ensures state { IfOk result (λ next. (accounts : ListOf AnAccount) (uri : OptionOf (ListOf ℕ)) (p : AProgress)
         (h : Standings.Heard) → HeardAs heard.now account.now h → record p { standing = h.standing } ≡ progress.now
         → outcome (machine_of engine.new queue.new (rest_behind (told rest.now accounts uri) next)) next
         ≡ Spec.answered (machine_of engine.old queue.old (told rest.now accounts uri))
-        (Spec.waits_after (machine_of engine.old queue.old (told rest.now accounts uri)) p h) message.now h
+        (Spec.waits_after (machine_of engine.old queue.old (told rest.now accounts uri)) p h) message h
         nonce.now.bytes
-        (Spec.run_of (machine_of engine.old queue.old (told rest.now accounts uri)) h.account message.now h.code)) }
+        (Spec.run_of (machine_of engine.old queue.old (told rest.now accounts uri)) h.account message h.code)) }
     ensures spelled { IfOk result IsNextSpelled }
     ensures err { OnErr result (queue.new ≡ queue.old) }
     ensures clock { clock_of engine.new ≡ clock_of engine.old }
     ensures max_obj { max_obj_of engine.new ≡ max_obj_of engine.old }
-    ensures ids { StayBut (body_covers message.now.body) (whole_of engine.old) (whole_of engine.new) }
+    ensures ids { StayBut (body_covers message.body) (whole_of engine.old) (whole_of engine.new) }
     ensures marks { Holds engine.old engine.new }
     ensures sound { IsSoundEngine engine.new }
 {
@@ -289,9 +294,17 @@ pub(crate) fn answered(
         let next = answer_again(engine, queue, rest, account, again, status, made)?;
         return Ok(next);
     }
+    let nothing_more = has_nothing_more(&message, heard.code);
     let made = run(rest.alloc, engine, account, message, heard.code)?;
     let next = answer_or_end(
-        engine, queue, rest, account, progress, message, heard.code, status, made,
+        engine,
+        queue,
+        rest,
+        account,
+        progress,
+        nothing_more,
+        status,
+        made,
     )?;
     Ok(next)
 }

@@ -7,7 +7,7 @@ ghost use Rattle.std.specs.Option.{option_copied};
 ghost use Rattle.syncml_types.specs.Message.{Parts};
 ghost use Rattle.syncml_types.specs.Canonical.{canonical};
 ghost use Rattle.syncml_codec.specs.Decoding.{read_of};
-ghost use Rattle.dm_tree.specs.Rows.{nodes, ids};
+ghost use Rattle.dm_tree.specs.Rows.{nodes, ids, IsNoneParked};
 ghost use Rattle.dm_tree.specs.Nodes.{IsStamp};
 ghost use Rattle.dm_tree.specs.Devices.{IsDeviceTree};
 ghost use Rattle.dm_commands.specs.Promises.{KeepIdsBut, none_moved};
@@ -102,6 +102,7 @@ impl Client {
     ) -> Result<Client, Memory>
         requires accounts { AllByRecursion IsReadyAccount accounts }
         requires device { IsDeviceTree (nodes tree.rows) }
+        requires parked { IsNoneParked tree.rows }
         requires limits { IsReadyLimits limits }
         ensures machine { IfOk result (λ client. client.machine ≡ record {
           limits = limits;
@@ -174,14 +175,14 @@ impl Client {
     }
 
     // A message that is new.
-    fn accept(&mut self, message: &Message, nonce: &Nonce) -> Result<Answer, Memory>
-        requires takes { takes self.old.machine (came (Good message.now) nonce.now.bytes) ≡ true }
-        requires message { IsReadyMessage message.now nonce.now.bytes }
+    fn accept(&mut self, message: Message, nonce: &Nonce) -> Result<Answer, Memory>
+        requires takes { takes self.old.machine (came (Good message) nonce.now.bytes) ≡ true }
+        requires message { IsReadyMessage message nonce.now.bytes }
         ensures answer { IfOk result (λ a. Tells a self.new.machine
-            (answer_now self.old.machine (came (Good message.now) nonce.now.bytes))) }
-        ensures ok { OnOk result (self.new.machine ≡ next self.old.machine (came (Good message.now) nonce.now.bytes)) }
+            (answer_now self.old.machine (came (Good message) nonce.now.bytes))) }
+        ensures ok { OnOk result (self.new.machine ≡ next self.old.machine (came (Good message) nonce.now.bytes)) }
         ensures err { OnErr result (self.new ≡ self.old) }
-        ensures ids { StayBut (body_covers message.now.body) (engine_in self.old) (engine_in self.new) }
+        ensures ids { StayBut (body_covers message.body) (engine_in self.old) (engine_in self.new) }
     {
         let progress = match &self.rest.session {
             None => return Ok(Answer::NoSession),
@@ -208,17 +209,17 @@ impl Client {
     }
 
     // A message, which is answered and no more where it isn't new.
-    fn take(&mut self, message: &Message, nonce: &Nonce) -> Result<Answer, Memory>
-        requires message { IsReadyMessage message.now nonce.now.bytes }
-        ensures untaken { takes self.old.machine (came (Good message.now) nonce.now.bytes) ≡ false
+    fn take(&mut self, message: Message, nonce: &Nonce) -> Result<Answer, Memory>
+        requires message { IsReadyMessage message nonce.now.bytes }
+        ensures untaken { takes self.old.machine (came (Good message) nonce.now.bytes) ≡ false
             → self.new ≡ self.old }
         ensures answer { IfOk result (λ a. Tells a self.new.machine
-            (answer_now self.old.machine (came (Good message.now) nonce.now.bytes))) }
-        ensures ok { OnOk result (self.new.machine ≡ next self.old.machine (came (Good message.now) nonce.now.bytes)) }
+            (answer_now self.old.machine (came (Good message) nonce.now.bytes))) }
+        ensures ok { OnOk result (self.new.machine ≡ next self.old.machine (came (Good message) nonce.now.bytes)) }
         ensures err { OnErr result (self.new ≡ self.old) }
-        ensures ids { StayBut (body_covers message.now.body) (engine_in self.old) (engine_in self.new) }
+        ensures ids { StayBut (body_covers message.body) (engine_in self.old) (engine_in self.new) }
     {
-        match answer_to_old(&self.rest.session, message) {
+        match answer_to_old(&self.rest.session, &message) {
             Some(answer) => Ok(answer),
             None => self.accept(message, nonce),
         }
@@ -246,9 +247,7 @@ impl Client {
                 // They tell that the message is fit, and the nonce whole.
                 let _ = message.header();
                 whole(nonce);
-                let answer = self.take(&message, &nonce);
-                drop(message);
-                answer
+                self.take(message, &nonce)
             }
         }
     }

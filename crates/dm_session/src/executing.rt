@@ -21,40 +21,41 @@ fn run_all(
     engine: &mut Engine,
     caller: &[u8],
     origin: Origin,
-    body: &[Command],
+    body: &mut [Command],
     out: &mut List<Command>,
 ) -> Result<(), Memory>
     requires sound { IsSoundEngine engine.old }
-    ensures gives { OnOk result (Gives (run_all (running engine.old caller.now) origin (state_of engine.old) body.now)
+    ensures gives { OnOk result (Gives (run_all (running engine.old caller.now) origin (state_of engine.old) body.old)
         (state_of engine.new) out.old out.new) }
     ensures clock { clock_of engine.new ≡ clock_of engine.old }
     ensures max_obj { max_obj_of engine.new ≡ max_obj_of engine.old }
-    ensures ids { StayBut (body_covers body.now) (whole_of engine.old) (whole_of engine.new) }
+    ensures ids { StayBut (body_covers body.old) (whole_of engine.old) (whole_of engine.new) }
     ensures marks { Holds engine.old engine.new }
     ensures sound { IsSoundEngine engine.new }
 {
-    for command in body {
-        engine.run(caller, origin, command, out)?;
+    for place in 0..body.len() {
+        engine.run(caller, origin, &mut body[place], out)?;
     }
     Ok(())
 }
 
 /// Executes a message's commands in document order, and breaks what it leaves unfinished where it is quiet. What they
-/// come to is put behind `out`. After `Memory` the engine may be anywhere on the way: go back to a mark.
-#[tactic(auto, using(crate::proofs::Runs::noisy_gives, dm_atomic::proofs::Held::holds_then, dm_atomic::proofs::Staying::then_none))]
+/// come to is put behind `out`. Their texts and values are moved out of them. After `Memory` the engine may be anywhere
+/// on the way: go back to a mark.
+#[tactic(auto, using(dm_atomic::proofs::Held::holds_then, dm_atomic::proofs::Staying::then_none))]
 pub(crate) fn execute(
     engine: &mut Engine,
     caller: &[u8],
-    message: &Message,
+    message: Message,
     out: &mut List<Command>,
 ) -> Result<(), Memory>
     requires sound { IsSoundEngine engine.old }
-    ensures gives { OnOk result (Gives (Spec.quiet_after message.now
-        (run_all (running engine.old caller.now) (origin_of message.now) (state_of engine.old) message.now.body))
+    ensures gives { OnOk result (Gives (Spec.quiet_after message
+        (run_all (running engine.old caller.now) (origin_of message) (state_of engine.old) message.body))
         (state_of engine.new) out.old out.new) }
     ensures clock { clock_of engine.new ≡ clock_of engine.old }
     ensures max_obj { max_obj_of engine.new ≡ max_obj_of engine.old }
-    ensures ids { StayBut (body_covers message.now.body) (whole_of engine.old) (whole_of engine.new) }
+    ensures ids { StayBut (body_covers message.body) (whole_of engine.old) (whole_of engine.new) }
     ensures marks { Holds engine.old engine.new }
     ensures sound { IsSoundEngine engine.new }
 {
@@ -63,8 +64,10 @@ pub(crate) fn execute(
         msg: header.msg,
         quiet: header.no_resp,
     };
-    run_all(engine, caller, origin, message.body().as_slice(), out)?;
-    if is_quiet(message) {
+    let quiet = is_quiet(&message);
+    let mut body = message.into_body().into_vec();
+    run_all(engine, caller, origin, body.as_mut_slice(), out)?;
+    if quiet {
         engine.still(out)?;
     }
     Ok(())

@@ -72,7 +72,7 @@ fn by_header(
     rest: &Rest,
     account: &Account,
     progress: &Progress,
-    message: &Message,
+    message: Message,
     nonce: &Nonce,
     heard: &Heard,
 ) -> Result<Next, Memory>
@@ -81,23 +81,23 @@ fn by_header(
     requires account { IsReadyAccount account.now }
     requires own { progress.now.standing.own + 1 < 2 ^ 32 }
     requires code { heard.now.code < 2 ^ 32 }
-    requires message { IsReadyMessage message.now nonce.now.bytes }
+    requires message { IsReadyMessage message nonce.now.bytes }
     ensures state { IfOk result (λ next. (accounts : ListOf AnAccount) (uri : OptionOf (ListOf ℕ)) (p : AProgress)
         (h : Standings.Heard) → HeardAs heard.now account.now h → record p { standing = h.standing } ≡ progress.now
         → outcome (machine_of engine.new queue.new
         (rest_behind (told rest.now (set accounts p.account account.now) uri) next)) next
-        ≡ Spec.by_header (machine_of engine.old queue.old (told rest.now accounts uri)) p message.now nonce.now.bytes
+        ≡ Spec.by_header (machine_of engine.old queue.old (told rest.now accounts uri)) p message nonce.now.bytes
         h) }
     ensures spelled { IfOk result IsNextSpelled }
     ensures err { OnErr result (queue.new ≡ queue.old) }
     ensures clock { clock_of engine.new ≡ clock_of engine.old }
     ensures max_obj { max_obj_of engine.new ≡ max_obj_of engine.old }
-    ensures ids { StayBut (body_covers message.now.body) (whole_of engine.old) (whole_of engine.new) }
+    ensures ids { StayBut (body_covers message.body) (whole_of engine.old) (whole_of engine.new) }
     ensures marks { Holds engine.old engine.new }
     ensures sound { IsSoundEngine engine.new }
 {
     if heard.second {
-        let farewell = denial(engine, rest, account, progress, message, nonce, heard.code)?;
+        let farewell = denial(engine, rest, account, progress, &message, nonce, heard.code)?;
         close(engine, queue);
         return Ok(Next::Ends(End::Denied, Some(farewell)));
     }
@@ -128,20 +128,20 @@ pub(crate) fn accept(
     queue: &mut Queue,
     rest: &Rest,
     progress: &Progress,
-    message: &Message,
+    message: Message,
     nonce: &Nonce,
 ) -> Result<Draft, Memory>
     requires goes_on { CanGoOn engine.old queue.old rest.now }
     requires progress { IsReadyProgress (machine_of engine.old queue.old rest.now) progress.now }
-    requires message { IsReadyMessage message.now nonce.now.bytes }
+    requires message { IsReadyMessage message nonce.now.bytes }
     ensures state { IfOk result
         (λ draft. outcome (machine_of engine.new queue.new (drafted rest.now progress.now.account draft)) draft.next
-        ≡ Spec.accepts (machine_of engine.old queue.old rest.now) progress.now message.now nonce.now.bytes) }
+        ≡ Spec.accepts (machine_of engine.old queue.old rest.now) progress.now message nonce.now.bytes) }
     ensures spelled { IfOk result (λ draft. IsNextSpelled draft.next) }
     ensures err { OnErr result (queue.new ≡ queue.old) }
     ensures clock { clock_of engine.new ≡ clock_of engine.old }
     ensures max_obj { max_obj_of engine.new ≡ max_obj_of engine.old }
-    ensures ids { StayBut (body_covers message.now.body) (whole_of engine.old) (whole_of engine.new) }
+    ensures ids { StayBut (body_covers message.body) (whole_of engine.old) (whole_of engine.new) }
     ensures marks { Holds engine.old engine.new }
     ensures sound { IsSoundEngine engine.new }
 {
@@ -160,7 +160,7 @@ pub(crate) fn accept(
         Side::Server,
         account,
         &progress.standing,
-        message,
+        &message,
         nonce,
     )?;
     let behind = Progress {

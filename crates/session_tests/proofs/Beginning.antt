@@ -6,6 +6,7 @@ use Rattle.std.specs.Prelude.{◌&&◌, nat_le}
 use Rattle.std.specs.List.{AllByRecursion}
 use Rattle.dm_auth.specs.declared.accounts.Account.{Account}
 use Rattle.dm_machine.specs.Ready.{IsReadyAccount, IsReadyLimits}
+use Rattle.dm_tree.specs.Rows.{IsNoneParked}
 use Rattle.dm_start.specs.declared.telling.Start.{Start}
 use Rattle.dm_start.specs.Fields.{are_limits}
 use Rattle.dm_start.specs.Start.{told_of}
@@ -35,10 +36,11 @@ limits_ready max_msg max_obj h =
     below max_msg 65536 (and_parts (nat_le 2048 max_msg) (nat_le max_msg 65536) inner.0).1 in
     record { max_msg = omega (arith, low); max_obj = below max_obj 4194304 outer.1 }
 
-pub may_begin : (start : Start) → IsStart (told_of start) → MayBegin start
-may_begin start is = record {
+pub may_begin : (start : Start) → IsStart (told_of start) → IsNoneParked start.tree.rows → MayBegin start
+may_begin start is none = record {
   some = is.some;
   accounts = accounts_ready start.accounts is.accounts;
   device = is.device;
+  parked = none;
   limits = limits_ready start.limits.max_msg start.limits.max_obj is.limits;
 }

@@ -1,8 +1,7 @@
-use Rattle.std.proofs.Common.{◌++◌, ◌+◌, ◌∙◌, ap, length, map}
+use Rattle.std.proofs.Common.{◌++◌, ◌∙◌, ap, length, map}
 use Rattle.std.specs.Option.{option_to_list}
 use Rattle.dm_pack.specs.Entries.{whole_entry}
 use Rattle.dm_pack.specs.Filling.{fill}
-use Rattle.dm_machine.specs.declared.progress.Progress.{Progress}
 use Rattle.dm_machine.specs.Sending.{moved_on}
 use Rattle.dm_session.specs.Working.{told}
 use Rattle.dm_session.proofs.Machines.{moved_by, sent_machine}

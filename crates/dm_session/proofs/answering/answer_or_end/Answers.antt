@@ -1,5 +1,4 @@
-use Rattle.std.proofs.Common.{◌++◌, ◌∙◌, map, sym}
-use Rattle.dm_pack.specs.Entries.{whole_entry}
+use Rattle.std.proofs.Common.{◌∙◌, sym}
 use Rattle.dm_session.proofs.Outcomes.{goes_unless}
 use Rattle.dm_session.proofs.answering.answer_or_end.Goals as goal
 

@@ -11,7 +11,8 @@ use Rattle.dm_machine.proofs.StaysSending.{apart}
 use Rattle.dm_machine.proofs.StaysWaiting.{run_ready}
 use Rattle.dm_session.specs.Inside.{machine_of}
 use Rattle.dm_session.specs.Working as Working
-use Rattle.dm_session.proofs.Outcomes.{again_answered, answered_or_ended, heard_front, heard_run, or_ends_heard}
+use Rattle.dm_session.proofs.Outcomes.{again_answered, answered_or_ended, heard_front, heard_run, or_ends_if}
+use Rattle.dm_session.proofs.Outcomes.{or_ends_heard}
 use Rattle.dm_session.proofs.Sendable.{again_waits, answer_waits}
 use Rattle.dm_session.proofs.answering.answered.Goals as goal
 
@@ -19,7 +20,7 @@ pub answer_again-requires-clause-device : goal.answer_again-requires-clause-devi
 answer_again-requires-clause-device c =
     let before = machine_of c.args.engine.now c.args.queue.now c.args.rest.now in
     let ran = c.in_ok-made.ensures.ran before refl refl (sym c.requires.goes_on.max_obj) in
-    let next = run_ready before c.args.account.now c.args.message.now c.args.nonce.now.bytes c.args.heard.now.code
+    let next = run_ready before c.args.account.now c.args.message c.args.nonce.now.bytes c.args.heard.now.code
     (apart before c.requires.goes_on.ready) c.requires.message in
     subst IsDevice (sym (ap (λ (s : State). s.tree) ran.state_is)) next.state.tree
 
@@ -30,7 +31,7 @@ answer_again-requires-clause-ready c =
     let w : Waits = record { progress = c.in_ok-again.again.1; queue = c.in_ok-again.again.0 } in
     let waits = again_waits before c.args.progress.now w c.requires.goes_on.ready c.requires.progress
     (c.in_ok-again.ensures.again before refl refl) in
-    answer_waits before c.args.account.now c.args.message.now c.args.nonce.now.bytes c.args.heard.now.code
+    answer_waits before c.args.account.now c.args.message c.args.nonce.now.bytes c.args.heard.now.code
     c.in_ok-again.again.0
     (option_to_list c.in_ok-status.status) c.in_ok-made.made c.requires.goes_on.ready c.requires.message c.requires.code
     waits.queue
@@ -67,7 +68,7 @@ returns-then-is_denied-clause-state c accounts uri p h is at =
     let e = c.args.engine.now in
     let q = c.args.queue.now in
     let r = Working.told c.args.rest.now accounts uri in
-    let m = c.args.message.now in
+    let m = c.args.message in
     let before = machine_of e q r in
     let ran = c.in_ok-made.ensures.ran before refl refl (sym c.requires.goes_on.max_obj) in
     let run = run_of before h.account m h.code in
@@ -90,7 +91,7 @@ pub answer_or_end-requires-clause-device : goal.answer_or_end-requires-clause-de
 answer_or_end-requires-clause-device c =
     let before = machine_of c.args.engine.now c.args.queue.now c.args.rest.now in
     let ran = c.in_ok-made-2.ensures.ran before refl refl (sym c.requires.goes_on.max_obj) in
-    let next = run_ready before c.args.account.now c.args.message.now c.args.nonce.now.bytes c.args.heard.now.code
+    let next = run_ready before c.args.account.now c.args.message c.args.nonce.now.bytes c.args.heard.now.code
     (apart before c.requires.goes_on.ready) c.requires.message in
     subst IsDevice (sym (ap (λ (s : State). s.tree) ran.state_is)) next.state.tree
 
@@ -98,7 +99,7 @@ pub answer_or_end-requires-clause-ready : goal.answer_or_end-requires-clause-rea
 answer_or_end-requires-clause-ready c =
     let before = machine_of c.args.engine.now c.args.queue.now c.args.rest.now in
     let ran = c.in_ok-made-2.ensures.ran before refl refl (sym c.requires.goes_on.max_obj) in
-    answer_waits before c.args.account.now c.args.message.now c.args.nonce.now.bytes c.args.heard.now.code
+    answer_waits before c.args.account.now c.args.message c.args.nonce.now.bytes c.args.heard.now.code
     c.args.queue.now
     (option_to_list c.in_ok-status.status) c.in_ok-made-2.made c.requires.goes_on.ready c.requires.message
     c.requires.code
@@ -112,7 +113,7 @@ returns-clause-state c accounts uri p h is at =
     let e = c.args.engine.now in
     let q = c.args.queue.now in
     let r = Working.told c.args.rest.now accounts uri in
-    let m = c.args.message.now in
+    let m = c.args.message in
     let before = machine_of e q r in
     let ran = c.in_ok-made-2.ensures.ran before refl refl (sym c.requires.goes_on.max_obj) in
     let run = run_of before h.account m h.code in
@@ -122,6 +123,8 @@ returns-clause-state c accounts uri p h is at =
     heard_front front c.header.result.now c.args.heard.now c.args.account.now h m c.args.nonce.now.bytes is
     c.in_ok-status.ensures c.header.ensures.value in
     c.in_ok-next-2.ensures.state accounts uri
+    ∙ ap (λ b. or_ends_if b c.run-2.new.engine q r c.args.progress.now c.args.account.now front c.in_ok-made-2.made)
+    c.has_nothing_more-nothing_more.ensures
     ∙ or_ends_heard c.run-2.new.engine q r m c.args.heard.now c.args.account.now h p c.args.progress.now front
     c.in_ok-made-2.made is at
     ∙ answered_or_ended e c.run-2.new.engine q r p m h c.args.nonce.now.bytes c.args.account.now run front

@@ -1,16 +1,34 @@
-use Rattle.std.proofs.Common.{rules, sym, ◌∙◌}
+use Rattle.std.proofs.Common.{sym, ◌∙◌, subst}
+use Rattle.syncml_types.specs.declared.values.Header.{Header}
 use Rattle.dm_atomic.specs.Run.{run_all}
 use Rattle.dm_atomic.specs.Engine.{state_of, running, Gives}
 use Rattle.dm_ends.specs.Commands.{origin_of}
-use Rattle.dm_machine.specs.Messages as Spec
-use Rattle.dm_session.proofs.Runs.{quiet_gives}
+use Rattle.dm_session.proofs.Runs.{noisy_gives, quiet_gives}
 use Rattle.dm_session.proofs.executing.execute.Goals as goal
+use Rattle.dm_session.proofs.executing.execute.Goals.{then-quiet+in_ok-still, else-quiet}
 
-pub returns-in_ok-still-clause-gives : goal.returns-in_ok-still-clause-gives
-returns-in_ok-still-clause-gives c =
-    let e = c.args.engine.now in
-    let m = c.args.message.now in
-    let run = run_all (running e c.args.caller.now) (origin_of m) (state_of e) m.body in
-    let first : Gives run (state_of c.run_all.new.engine) c.args.out.now c.run_all.new.out = search rules in
-    quiet_gives m run (state_of c.run_all.new.engine) (state_of c.still.new.self) c.args.out.now c.run_all.new.out
-    c.still.new.out (sym c.is_quiet.ensures ∙ c.if-is_quiet.true) first c.in_ok-still.ensures.gives
+pub returns-clause-gives : goal.returns-clause-gives
+returns-clause-gives c =
+    let r = running c.args.engine.now c.args.caller.now in
+    let s = state_of c.args.engine.now in
+    let m = c.args.message in
+    let run = run_all r (origin_of m) s m.body in
+    let out = c.args.out.now in
+    let next = state_of c.run_all.new.engine in
+    let first : Gives run next out c.run_all.new.out =
+    subst (λ b. Gives (run_all r (origin_of m) s b) next out c.run_all.new.out)
+    (c.as_mut_slice.ensures.value ∙ c.into_vec-body.ensures ∙ c.into_body.ensures)
+    (subst
+    (λ (h : Header).
+    Gives (run_all r (record { msg = h.msg; quiet = h.no_resp }) s c.as_mut_slice.result.now) next out
+    c.run_all.new.out)
+    c.header-header.ensures.value c.in_ok-run_all.ensures.gives) in
+    elim c.if-quiet.branch [
+      | then-quiet+in_ok-still w ↦
+          rw (w.engine-is, w.out-is)
+          (quiet_gives m run next (state_of w.still.new.self) out c.run_all.new.out w.still.new.out
+          (sym c.is_quiet-quiet.ensures ∙ w.if-quiet.true) first w.in_ok-still.ensures.gives)
+      | else-quiet w ↦
+          rw (w.engine-is, w.out-is)
+          (noisy_gives m run next out c.run_all.new.out (sym c.is_quiet-quiet.ensures ∙ w.if-quiet.false) first)
+    ]

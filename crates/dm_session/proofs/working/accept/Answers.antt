@@ -18,7 +18,7 @@ pub returns-then-progress-clause-state : goal.returns-then-progress-clause-state
 returns-then-progress-clause-state c =
     accepted_last c.args.engine.now c.close.new.engine c.args.queue.now c.close.new.queue c.args.rest.now
     c.args.progress.now
-    c.args.message.now c.args.nonce.now.bytes c.in_ok-resp_uri.resp_uri
+    c.args.message c.args.nonce.now.bytes c.in_ok-resp_uri.resp_uri
     (eq-eqb c.args.progress.now.standing.own 4294967295 c.if-progress.true) c.close.ensures.state c.close.ensures.clock
     c.close.ensures.queue (c.in_ok-resp_uri.ensures ∙ ap (λ (h : Header). h.resp_uri) c.header.ensures.value)
 
@@ -26,7 +26,7 @@ pub by_header-requires-clause-progress : goal.by_header-requires-clause-progress
 by_header-requires-clause-progress c =
     let before = machine_of c.args.engine.now c.args.queue.now c.args.rest.now in
     let p = c.args.progress.now in
-    let m = c.args.message.now in
+    let m = c.args.message in
     let account = c.index-as_slice-progress.result in
     let is = account_is before.accounts _ p.account account no_account c.as_slice.ensures c.index-as_slice-progress.is
     c.requires.progress.account in
@@ -46,7 +46,7 @@ by_header-requires-clause-account c =
     let ready = subst IsReadyAccount (sym is)
     (account_ready before p.account c.requires.goes_on.ready.accounts c.requires.progress.account) in
     let heard =
-    hears_ready Server account p.standing c.args.message.now c.args.nonce.now.bytes ready c.requires.progress.room in
+    hears_ready Server account p.standing c.args.message c.args.nonce.now.bytes ready c.requires.progress.room in
     subst IsReadyAccount (sym (c.renewed_by-renewed.ensures ∙ c.in_ok-heard.ensures.tells.account_is)) heard.account
 
 pub by_header-requires-clause-own : goal.by_header-requires-clause-own
@@ -59,7 +59,7 @@ by_header-requires-clause-own c =
     let ready = subst IsReadyAccount (sym is)
     (account_ready before p.account c.requires.goes_on.ready.accounts c.requires.progress.account) in
     let heard =
-    hears_ready Server account p.standing c.args.message.now c.args.nonce.now.bytes ready c.requires.progress.room in
+    hears_ready Server account p.standing c.args.message c.args.nonce.now.bytes ready c.requires.progress.room in
     let stands = ap (λ (x : Standing). x.own) c.in_ok-heard.ensures.tells.standing ∙ heard.own in
     let low = c.requires.progress.own in
     let last = c.if-progress.false in
@@ -75,7 +75,7 @@ by_header-requires-clause-code c =
     let ready = subst IsReadyAccount (sym is)
     (account_ready before p.account c.requires.goes_on.ready.accounts c.requires.progress.account) in
     let heard =
-    hears_ready Server account p.standing c.args.message.now c.args.nonce.now.bytes ready c.requires.progress.room in
+    hears_ready Server account p.standing c.args.message c.args.nonce.now.bytes ready c.requires.progress.room in
     subst (λ n. n < 2 ^ 32) (sym c.in_ok-heard.ensures.tells.code) heard.code
 
 pub returns-clause-state : goal.returns-clause-state
@@ -85,7 +85,7 @@ returns-clause-state c =
     let account = c.index-as_slice-progress.result in
     let is = account_is before.accounts _ p.account account no_account c.as_slice.ensures c.index-as_slice-progress.is
     c.requires.progress.account in
-    let m = c.args.message.now in
+    let m = c.args.message in
     let nonce = c.args.nonce.now.bytes in
     let h = hears Server account p.standing m nonce in
     let heard = c.in_ok-heard.ensures.tells in

@@ -17,7 +17,7 @@ returns-then-heard-clause-state c accounts uri p h is at =
     let r = Working.told c.args.rest.now (set accounts p.account account) uri in
     let before = machine_of e q (Working.told c.args.rest.now accounts uri) in
     let sent = c.in_ok-farewell.farewell.message in
-    denied_is before _ p c.args.progress.now c.args.message.now c.args.nonce.now.bytes h account c.args.heard.now.code
+    denied_is before _ p c.args.progress.now c.args.message c.args.nonce.now.bytes h account c.args.heard.now.code
     sent
     (is.second ∙ c.if-heard.true) is.account_is is.code at
     (c.in_ok-farewell.ensures.message (record before { accounts = set before.accounts p.account h.account }) refl refl)

@@ -30,6 +30,7 @@ invariant_of-self c =
       farewell = c.self.invariant.farewell;
       settled = c.back.ensures.past ∙ c.accept.ensures.marks.pasts c.mark-mark.result c.mark-mark.ensures.recalls.held
           ∙ c.mark-mark.ensures.past ∙ c.self.invariant.settled;
+      none_left = c.back.ensures.parked (c.accept.ensures.marks.parked c.self.invariant.none_left);
       told = subst (λ (w : Marks.Whole). TellsStarted w.state) (sym (c.back.ensures.whole (whole_of e) recalled))
           c.self.invariant.told;
       closed =
@@ -42,17 +43,19 @@ invariant_of-self-in-Ok c =
     let e = c.self.inside.engine in
     let r = c.self.inside.rest in
     let old = ap (λ (w : Whole). w.machine) c.self.view_is in
-    let came = message (Ok c.args.message.now) c.args.nonce.now.bytes in
+    let came = message (Ok c.args.message) c.args.nonce.now.bytes in
     drafted_lives c.accept.new.engine c.settle.new.self c.accept.new.queue r c.take_up.new.self
     c.in-Some.session.progress.account c.in-Ok.draft (machine_of e c.self.inside.queue r) (session_in c.in-Some.session)
-    c.args.message.now c.args.nonce.now.bytes c.take_up.ensures.rest
+    c.args.message c.args.nonce.now.bytes c.take_up.ensures.rest
     (subst (λ x. takes x came ≡ true) (sym old) c.requires.takes) (ap (option_map session_in) c.in-Some.is)
     c.in-Ok.ensures.state
     c.settle.ensures.whole c.settle.ensures.clock c.settle.ensures.sound
     (c.settle.ensures.max_obj ∙ c.accept.ensures.max_obj ∙ c.self.invariant.goes_on.max_obj)
     c.self.invariant.goes_on.ready
     c.requires.message c.in-Ok.ensures.spelled c.self.invariant.sent c.self.invariant.farewell
-    c.settle.ensures.past (steady_of c.self.inside c.self.invariant)
+    c.settle.ensures.past
+    (c.settle.ensures.parked (c.accept.ensures.marks.parked c.self.invariant.none_left))
+    (steady_of c.self.inside c.self.invariant)
 
 pub returns-in-Err-clause-err : goal.returns-in-Err-clause-err
 returns-in-Err-clause-err c =
@@ -65,7 +68,7 @@ returns-in-Err-clause-err c =
 pub returns-in-Err-clause-ids : goal.returns-in-Err-clause-ids
 returns-in-Err-clause-ids c =
     let e = c.self.inside.engine in
-    let covered = body_covers c.args.message.now.body in
+    let covered = body_covers c.args.message.body in
     let recalled = c.accept.ensures.marks.marks c.mark-mark.result (whole_of e) c.mark-mark.ensures.recalls in
     seen_stay covered c.self.inside c.args.self.now (whole_of c.back.new.self) c.self.view_is
     (stay_is covered (whole_of e) (whole_of c.back.new.self) (c.back.ensures.whole (whole_of e) recalled))
@@ -73,7 +76,7 @@ returns-in-Err-clause-ids c =
 pub returns-in-Ok-clause-ids : goal.returns-in-Ok-clause-ids
 returns-in-Ok-clause-ids c =
     let e = c.self.inside.engine in
-    let covered = body_covers c.args.message.now.body in
+    let covered = body_covers c.args.message.body in
     seen_stay covered c.self.inside c.args.self.now (whole_of c.settle.new.self) c.self.view_is
     (stay_settled covered (whole_of e) (whole_of c.accept.new.engine) (whole_of c.settle.new.self)
     c.settle.ensures.whole c.accept.ensures.ids)

@@ -45,6 +45,7 @@ invariant_of-self c =
       farewell = c.self.invariant.farewell;
       settled = c.back.ensures.past ∙ c.abandon.ensures.marks.pasts c.mark-mark.result c.mark-mark.ensures.recalls.held
           ∙ c.mark-mark.ensures.past ∙ c.self.invariant.settled;
+      none_left = c.back.ensures.parked (c.abandon.ensures.marks.parked c.self.invariant.none_left);
       told = subst (λ (w : Marks.Whole). TellsStarted w.state) (sym (c.back.ensures.whole (whole_of e) recalled))
           c.self.invariant.told;
       closed =
@@ -67,6 +68,7 @@ invariant_of-self-in-Ok c =
     c.self.invariant.goes_on.ready
     (subst (λ (w : Whole). c.args.account < length w.machine.accounts) (sym c.self.view_is) c.requires)
     c.ranges.session.fits c.settle.ensures.past
+    (c.settle.ensures.parked (c.abandon.ensures.marks.parked c.self.invariant.none_left))
     (subst (λ (w : Marks.Whole). TellsStarted w.state) (sym c.settle.ensures.whole)
     (subst TellsStarted (sym c.abandon.ensures.state) (quiet_keeps (state_of e) c.self.invariant.told).1))
 

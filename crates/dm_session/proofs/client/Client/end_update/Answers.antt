@@ -25,6 +25,7 @@ invariant_of-self-in-Err c =
     c.self.invariant (c.back.ensures.max_obj ∙ c.finish_update.ensures.max_obj) c.back.ensures.sound
     (c.back.ensures.past ∙ c.finish_update.ensures.marks.pasts c.mark-mark.result c.mark-mark.ensures.recalls.held
     ∙ c.mark-mark.ensures.past)
+    (c.back.ensures.parked (c.finish_update.ensures.marks.parked c.self.invariant.none_left))
 
 pub returns-in-Err-clause-err : goal.returns-in-Err-clause-err
 returns-in-Err-clause-err c =
@@ -46,6 +47,7 @@ invariant_of-self-in-Ok c =
     (c.settle.ensures.clock ∙ c.finish_update.ensures.clock)
     (c.in_ok-correlator.ensures ∙ ap correlator_of c.started.ensures) c.in_ok-push.ensures.ok c.self.invariant
     (c.settle.ensures.max_obj ∙ c.finish_update.ensures.max_obj) c.settle.ensures.sound c.settle.ensures.past
+    (c.settle.ensures.parked (c.finish_update.ensures.marks.parked c.self.invariant.none_left))
 
 pub returns-in-Ok-clause-ok : goal.returns-in-Ok-clause-ok
 returns-in-Ok-clause-ok c =

@@ -15,17 +15,17 @@ pub returns-in-Some-clause-answer : goal.returns-in-Some-clause-answer
 returns-in-Some-clause-answer c =
     let old = c.in-Some.ensures.old c.args.self.now.machine c.args.nonce.now.bytes
     (ap (λ (w : Whole). w.machine.session) (sym c.self.view_is)) in
-    old_answer c.args.self.now.machine (message (Ok c.args.message.now) c.args.nonce.now.bytes) c.in-Some.answer old.0
+    old_answer c.args.self.now.machine (message (Ok c.args.message) c.args.nonce.now.bytes) c.in-Some.answer old.0
     old.1
 
 pub returns-in-Some-clause-ok : goal.returns-in-Some-clause-ok
 returns-in-Some-clause-ok c =
     let old = c.in-Some.ensures.old c.args.self.now.machine c.args.nonce.now.bytes
     (ap (λ (w : Whole). w.machine.session) (sym c.self.view_is)) in
-    old_next c.args.self.now.machine (message (Ok c.args.message.now) c.args.nonce.now.bytes) old.0
+    old_next c.args.self.now.machine (message (Ok c.args.message) c.args.nonce.now.bytes) old.0
 
 pub returns-in-Some-clause-ids : goal.returns-in-Some-clause-ids
-returns-in-Some-clause-ids c = stay_self (body_covers c.args.message.now.body) (engine_in c.args.self.now)
+returns-in-Some-clause-ids c = stay_self (body_covers c.args.message.body) (engine_in c.args.self.now)
 
 pub returns-in-None-clause-untaken : goal.returns-in-None-clause-untaken
 returns-in-None-clause-untaken c old =
