@@ -6,6 +6,7 @@ use Rattle.std.specs.List.{AllByRecursion}
 use Rattle.dm_base.specs.Fields.{is_short, is_id}
 use Rattle.dm_auth.specs.declared.accounts.Account.{Account}
 use Rattle.dm_machine.specs.Ready.{IsReadyAccount}
+use Rattle.dm_tree.specs.Rows.{IsNoneParked}
 use Rattle.dm_start.specs.declared.telling.Start.{Start}
 use Rattle.dm_start.specs.Fields.{are_limits}
 use Rattle.dm_start.specs.Laws.{IsAccount, IsStart}
@@ -26,10 +27,11 @@ within_32 max_msg max_obj h = grind (arith, common_steps)
 within_most : (max_msg max_obj : ℕ) → are_limits max_msg max_obj ≡ true → max_obj ≤ 4194304
 within_most max_msg max_obj h = grind (arith, common_steps)
 
-pub can_begin : (start : Start) → IsStart (told_of start) → CanBegin start
-can_begin start sound = record {
+pub can_begin : (start : Start) → IsStart (told_of start) → IsNoneParked start.tree.rows → CanBegin start
+can_begin start sound none = record {
   accounts = ready_accounts start.accounts sound.accounts;
   device = sound.device;
+  parked = none;
   limits = record {
     max_msg = within_32 start.limits.max_msg start.limits.max_obj sound.limits;
     max_obj = within_most start.limits.max_msg start.limits.max_obj sound.limits;

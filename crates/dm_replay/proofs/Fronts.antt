@@ -18,7 +18,7 @@ use Rattle.dm_replay.specs.Trace.{bad, too_long, stopped, tail_stop, whole, end_
 use Rattle.dm_replay.specs.From.{OfInput, Between, Leads, stop_at, ending_at, OfStop, HaltsAsking, halt_after}
 use Rattle.dm_replay.proofs.Splits.{not_lt, is_lt, input_line, input_cut, input_past, input_led, input_long}
 
-pub line_leads : (a b : Option (List ℕ)) (r r' : ℕ) (line : List ℕ) → ReadsLine r a b (Ok (line_out.Line line))
+pub line_leads : (a b : Option (List ℕ)) (r r' : ℕ) (line : List ℕ) → ReadsLine r a b line (Ok line_out.Line)
     → r' + (length line + 1) ≡ r → Between (option_map (input_of r) a) (option_map (input_of r') b)
     (λ i j. Leads line i j)
 line_leads None b r r' line h e = tt
@@ -57,27 +57,27 @@ end_tail_short n tail more short =
     (not_lt 8400000 (length tail) short)
 
 -- a property of the input holds at a bad line, where it holds at the front of a line and at each long one
-bad_front : (a b : Option (List ℕ)) (r : ℕ) (why : LineReason) (P : LineReason → Input → Type 0)
+bad_front : (a b : Option (List ℕ)) (r : ℕ) (last : List ℕ) (why : LineReason) (P : LineReason → Input → Type 0)
     → ((tail : List ℕ) → 0 < length tail → length tail ≤ 8400000
     → P reason.Cut (record { lines = []; tail = tail; more = false }))
     → ((line : List ℕ) (lines : List (List ℕ)) (tail : List ℕ) (more : Bool) → 8400000 < length line
     → P reason.Long (input_led line lines tail more))
-    → ReadsLine r a b (Ok (line_out.Bad why)) → OfInput (option_map (input_of r) a) (P why)
-bad_front None b r why P cut long h = tt
-bad_front (Some xs) b r reason.Cut P cut long h =
+    → ReadsLine r a b last (Ok (line_out.Bad why)) → OfInput (option_map (input_of r) a) (P why)
+bad_front None b r last why P cut long h = tt
+bad_front (Some xs) b r last reason.Cut P cut long h =
     subst (P reason.Cut) (sym (input_cut r xs h.1.feedless h.1.seen)) (cut xs h.1.some h.1.short)
-bad_front (Some xs) b r reason.Long P cut long h =
+bad_front (Some xs) b r last reason.Long P cut long h =
     let k = r - length h.1.0 in
     let s = split (take k h.1.1) in
     subst (P reason.Long)
     (sym (ap (input_of r) h.1.2 ∙ input_long r k h.1.0 h.1.1 h.1.3 (let e = h.1.5 in omega (arith, e))))
     (long h.1.0 s.lines s.tail (nat_lt r (length (h.1.0 ++ h.1.1))) h.1.4)
-bad_front (Some xs) b r reason.Word P cut long h = absurd h
-bad_front (Some xs) b r reason.Fields P cut long h = absurd h
-bad_front (Some xs) b r reason.Account P cut long h = absurd h
-bad_front (Some xs) b r reason.Tree P cut long h = absurd h
-bad_front (Some xs) b r reason.Extra P cut long h = absurd h
-bad_front (Some xs) b r reason.Message P cut long h = absurd h
+bad_front (Some xs) b r last reason.Word P cut long h = absurd h
+bad_front (Some xs) b r last reason.Fields P cut long h = absurd h
+bad_front (Some xs) b r last reason.Account P cut long h = absurd h
+bad_front (Some xs) b r last reason.Tree P cut long h = absurd h
+bad_front (Some xs) b r last reason.Extra P cut long h = absurd h
+bad_front (Some xs) b r last reason.Message P cut long h = absurd h
 
 longer : (a b : List ℕ) → 8400000 < length a → 8400000 < length (a ++ b)
 longer a b h = let e = length-append a b in omega (arith, e, h)
@@ -100,21 +100,23 @@ end_cut n (b ∷ tail) some short =
     end_tail_short n (b ∷ tail) false short
     ∙ ap (λ c. if c then whole else stopped (bad n reason.Extra)) (ne_eqb (length (b ∷ tail)) 0 (λ e. omega (arith, e)))
 
-pub bad_stops : (a b : Option (List ℕ)) (r n : ℕ) (why : LineReason) → ReadsLine r a b (Ok (line_out.Bad why))
+pub bad_stops : (a b : Option (List ℕ)) (r n : ℕ) (last : List ℕ) (why : LineReason)
+    → ReadsLine r a b last (Ok (line_out.Bad why))
     → OfInput (option_map (input_of r) a) (λ i. stop_at n i ≡ Some (bad n why))
-bad_stops a b r n why h =
-    bad_front a b r why (λ w i. stop_at n i ≡ Some (bad n w))
+bad_stops a b r n last why h =
+    bad_front a b r last why (λ w i. stop_at n i ≡ Some (bad n w))
     (λ tail some short. ap Some (tail_short n tail false short))
     (λ line lines tail more. stop_long n line lines tail more) h
 
-pub bad_behind : (a b : Option (List ℕ)) (r n : ℕ) (why : LineReason) → ReadsLine r a b (Ok (line_out.Bad why))
+pub bad_behind : (a b : Option (List ℕ)) (r n : ℕ) (last : List ℕ) (why : LineReason)
+    → ReadsLine r a b last (Ok (line_out.Bad why))
     → OfInput (option_map (input_of r) a) (λ i. ending_at n i ≡ stopped (bad n reason.Extra))
-bad_behind a b r n why h =
-    bad_front a b r why (λ w i. ending_at n i ≡ stopped (bad n reason.Extra))
+bad_behind a b r n last why h =
+    bad_front a b r last why (λ w i. ending_at n i ≡ stopped (bad n reason.Extra))
     (λ tail some short. end_cut n tail some short)
     (λ line lines tail more. end_long n line lines tail more) h
 
-pub line_behind : (a b : Option (List ℕ)) (r n : ℕ) (line : List ℕ) → ReadsLine r a b (Ok (line_out.Line line))
+pub line_behind : (a b : Option (List ℕ)) (r n : ℕ) (line : List ℕ) → ReadsLine r a b line (Ok line_out.Line)
     → OfInput (option_map (input_of r) a) (λ i. ending_at n i ≡ stopped (bad n reason.Extra))
 line_behind None b r n line h = tt
 line_behind (Some xs) None r n line h = absurd h.3
@@ -133,21 +135,23 @@ nothing r = input_cut r [] (λ k below is. absurd (omega (arith, below))) (omega
 short_front : (r : ℕ) (xs : List ℕ) → r ≤ 8400000 → length (take r xs) ≤ 8400000
 short_front r xs h = let e = length-take r xs in omega (arith, e, h)
 
-pub error_stops : (a b : Option (List ℕ)) (r n : ℕ) (error : TakeError) → ReadsLine r a b (Err error)
+pub error_stops : (a b : Option (List ℕ)) (r n : ℕ) (last : List ℕ) (error : TakeError)
+    → ReadsLine r a b last (Err error)
     → OfInput (option_map (input_of r) a) (λ i. OfStop (halt_after error) (λ stop. stop_at n i ≡ Some stop))
-error_stops None b r n error h = tt
-error_stops (Some xs) b r n take_error.Read h = tt
-error_stops (Some xs) b r n take_error.Memory h = tt
-error_stops (Some xs) b r n take_error.TooLong h =
+error_stops None b r n last error h = tt
+error_stops (Some xs) b r n last take_error.Read h = tt
+error_stops (Some xs) b r n last take_error.Memory h = tt
+error_stops (Some xs) b r n last take_error.TooLong h =
     ap (stop_at n) (input_past r xs h.feedless h.more)
     ∙ ap Some (tail_short n (take r xs) true (short_front r xs h.short))
 
-pub error_behind : (a b : Option (List ℕ)) (r n : ℕ) (error : TakeError) → ReadsLine r a b (Err error)
+pub error_behind : (a b : Option (List ℕ)) (r n : ℕ) (last : List ℕ) (error : TakeError)
+    → ReadsLine r a b last (Err error)
     → OfInput (option_map (input_of r) a) (λ i. OfStop (halt_after error) (λ stop. ending_at n i ≡ stopped stop))
-error_behind None b r n error h = tt
-error_behind (Some xs) b r n take_error.Read h = tt
-error_behind (Some xs) b r n take_error.Memory h = tt
-error_behind (Some xs) b r n take_error.TooLong h =
+error_behind None b r n last error h = tt
+error_behind (Some xs) b r n last take_error.Read h = tt
+error_behind (Some xs) b r n last take_error.Memory h = tt
+error_behind (Some xs) b r n last take_error.TooLong h =
     ap (ending_at n) (input_past r xs h.feedless h.more) ∙ end_tail_short n (take r xs) true (short_front r xs h.short)
 
 pub asked_halts : (pending : List ℕ) (error : TakeError) → AskedForMore pending (Err error)

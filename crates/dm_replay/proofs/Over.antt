@@ -77,7 +77,7 @@ of_taken a (Some xs) z Q R step q = (q.0, q.1, step _ q.2)
 
 -- what was pending and what was taken are the line and what is pending then
 pub line_over : (a b : LinesState) (x y : Option (List ℕ)) (line : List ℕ)
-    → ReadsLine (room a) (ahead a x) (ahead b y) (Ok (line_out.Line line))
+    → ReadsLine (room a) (ahead a x) (ahead b y) line (Ok line_out.Line)
     → CountsTaken x y a.taken b.taken → room b + (length line + 1) ≡ room a
     → OverTaken a b x y (λ i j. Leads line i j)
 line_over a b None y line read taken less = tt
@@ -121,7 +121,7 @@ no_lines r xs none =
 
 -- where the source failed, no line is whole in what was pending and what was taken
 pub none_whole : (a b : LinesState) (x y : Option (List ℕ)) (error : TakeError)
-    → ReadsLine (room a) (ahead a x) (ahead b y) (Err error) → CountsTaken x y a.taken b.taken
+    → ReadsLine (room a) (ahead a x) (ahead b y) b.line (Err error) → CountsTaken x y a.taken b.taken
     → LeavesNoLine (b.pending ++ b.past) (Err error)
     → halt_after error ≡ halt.Read → OfTaken a x y (λ i. i.lines ≡ [])
 none_whole a b x y take_error.TooLong read taken none is = cc

@@ -9,7 +9,6 @@ use Rattle.std.specs.Io.KnownBytes.{Appends, Keeps}
 use Rattle.dm_machine.specs.Machine.{Machine}
 use Rattle.dm_machine.specs.Events.{Event as Happening}
 use Rattle.dm_machine.specs.History.{answer_now, next, answers_from, state_from}
-use Rattle.dm_base.specs.declared.outside.Fault.TheVariants as fault
 use Rattle.dm_tree.specs.Nodes.{Nodes}
 use Rattle.dm_exit.specs.declared.exit.Exit.{Exit}
 use Rattle.dm_exit.specs.declared.exit.Exit.TheVariants as exit
@@ -141,12 +140,6 @@ due_breaks (Some i) v s t due old new e h =
     ends_part (due ++ trace_text v s (t i)) (ending_exit (t i).ending) old new e
     (front_breaks old new due (trace_text v s (t i)) e h)
 
--- nothing of it was put
-pub due_stays : (a : Option Input) (v : ℕ) (s : Machine) (t : Input → Trace) (due : List ℕ) (old : Option (List ℕ))
-    → EndsDue a v s t due old old exit.NoMemory
-due_stays None v s t due old = tt
-due_stays (Some i) v s t due old = prefix_none old old (due ++ trace_text v s (t i)) (keeps_same old)
-
 -- it was put, and then the run ended at its `end` line
 pub end_ends : (a b : Option Input) (v : ℕ) (s : Machine) (t : Input → Trace) (ending : Input → Ending) (due : List ℕ)
     (old new : Option (List ℕ)) (e : Exit)
@@ -189,6 +182,12 @@ pub halt_ends : (a : Option Input) (v : ℕ) (s : Machine) (t : Input → Trace)
     → EndsDue a v s t due old new e
 halt_ends None v s t h due old new e is p = tt
 halt_ends (Some i) v s t h due old new e is p = due_halted v s (t i) h due old new e is p
+
+-- want of memory says nothing of a trace
+pub memory_stops : (a : Option Input) (t : Input → Trace)
+    → OfInput a (λ i. OfStop halt.Memory (λ stop. t i ≡ no_events (stopped stop)))
+memory_stops None t = tt
+memory_stops (Some i) t = tt
 
 -- such an end is a fault of the source where its count rose, and else none
 end_source : (text : List ℕ) (good : Exit) (old new : Option (List ℕ)) (before now : ℕ) (e : Exit)

@@ -6,7 +6,6 @@ use Rattle.dm_base.specs.declared.lines.LineReason.{LineReason}
 use Rattle.dm_base.specs.declared.lines.LineReason.TheVariants as reason
 use Rattle.dm_start.specs.declared.heads.Head.TheVariants.{First}
 use Rattle.dm_start.specs.declared.telling.Phase.TheVariants as phase
-use Rattle.dm_start.specs.declared.errors.LineError.TheVariants as line_error
 use Rattle.dm_start.specs.Start.{Setup, Section, opening, telling, after_line, is_begun, Reads}
 use Rattle.dm_replay.specs.Input.{Input}
 use Rattle.dm_replay.specs.Trace.{bad, began, unbegun, is_long, start_line, behind_begin, told_in}

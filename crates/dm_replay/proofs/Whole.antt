@@ -61,7 +61,7 @@ events_replay bytes n told i old new e is h =
     (sym (text_by_state told.version (client_of told) (trace_of n told i) (refl, refl))) h)
 
 abbrev pub fresh_lines : LinesState
-fresh_lines = record { pending = []; past = []; taken = 0 }
+fresh_lines = record { line = []; pending = []; past = []; taken = 0 }
 
 whole_input : (left : Option (List ℕ)) → seen fresh_lines left ≡ option_map (input_of 67108864) left
 whole_input None = refl

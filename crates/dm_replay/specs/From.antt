@@ -11,7 +11,7 @@ use Rattle.dm_base.specs.declared.outside.TakeError.{TakeError}
 use Rattle.dm_base.specs.declared.outside.TakeError.TheVariants as take_error
 use Rattle.dm_base.specs.Lines.{IsFeedless, LinesState, ahead, room}
 use Rattle.dm_tree.specs.Devices.{IsDeviceTree}
-use Rattle.dm_tree.specs.Rows.{nodes}
+use Rattle.dm_tree.specs.Rows.{nodes, IsNoneParked}
 use Rattle.dm_machine.specs.Machine.{Machine}
 use Rattle.dm_machine.specs.Events.{Event as Happening}
 use Rattle.dm_machine.specs.History.{answers_from}
@@ -80,8 +80,8 @@ OfTaken a left rest P =
     OfKnown left (λ _. (taken : List ℕ) × Consumes left rest taken × OfInput (seen a (Some taken)) P)
 
 -- a line leads what comes, whatever stands behind what was taken; where the source failed, that holds no whole line
-abbrev pub LeadsOver : LinesState → LinesState → Option (List ℕ) → Option (List ℕ) → Result (List ℕ) Halt → Type 0
-LeadsOver a b left rest (Ok line) = OverTaken a b left rest (λ i j. Leads line i j)
+abbrev pub LeadsOver : LinesState → LinesState → Option (List ℕ) → Option (List ℕ) → Result (Unit {0}) Halt → Type 0
+LeadsOver a b left rest (Ok u) = OverTaken a b left rest (λ i j. Leads b.line i j)
 LeadsOver a b left rest (Err h) = h ≡ halt.Read → OfTaken a left rest (λ i. i.lines ≡ [])
 
 -- ---- the rest of each phase
@@ -145,6 +145,7 @@ StartsOver a b left rest n s (Err h) = h ≡ halt.Read → OfTaken a left rest (
 pub record CanBegin (s : Start) : Type 0 where
   pub accounts : AllByRecursion IsReadyAccount s.accounts
   pub device : IsDeviceTree (nodes s.tree.rows)
+  pub parked : IsNoneParked s.tree.rows
   pub limits : IsReadyLimits s.limits
 
 -- the events from here, by what was read of them: one comes next, or the `end` line, or the trace stops

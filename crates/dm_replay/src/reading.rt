@@ -53,20 +53,21 @@ fn halt_at(number: u64, error: LineError) -> Halt
     }
 }
 
-fn next_line<S: Source>(lines: &mut Lines, src: &mut S, number: u64) -> Result<Bytes, Halt>
-    ensures line { IfOk result (λ line. Between (seen lines.old (S.left src.old))
-        (seen lines.new (S.left src.new)) (λ i j. Leads line i j)) }
+// Brings the next line in.
+fn next_line<S: Source>(lines: &mut Lines, src: &mut S, number: u64) -> Result<(), Halt>
+    ensures line { OnOk result (Between (seen lines.old (S.left src.old)) (seen lines.new (S.left src.new))
+        (λ i j. Leads lines.new.line i j)) }
     ensures halt { IfErr result (λ h. OfInput (seen lines.old (S.left src.old))
         (λ i. OfStop h (λ stop. stop_at number i ≡ Some stop))) }
     ensures asked { IfErr result (HaltsAsking lines.old.pending) }
     ensures over { LeadsOver lines.old lines.new (S.left src.old) (S.left src.new) result }
-    ensures room { IfOk result (λ line. room lines.new + (length line + 1) ≡ room lines.old) }
+    ensures room { OnOk result (room lines.new + (length lines.new.line + 1) ≡ room lines.old) }
     ensures taken { CountsTaken (S.left src.old) (S.left src.new) lines.old.taken lines.new.taken }
     ensures limit { lines.new.taken ≤ 67108865 }
     ensures count { HaltCounts (S.faults src.old) (S.faults src.new) result }
 {
     match lines.next(src) {
-        Ok(LineOut::Line(line)) => Ok(line),
+        Ok(LineOut::Line) => Ok(()),
         Ok(LineOut::Bad(reason)) => Err(Halt::Bad { number, reason }),
         Ok(LineOut::End) => Err(Halt::Bad {
             number,
@@ -95,11 +96,11 @@ pub(crate) fn read_start<S: Source>(
     let mut reader = StartReader::new(alloc);
     let mut number = 1u64;
     'lines: loop {
-        let line = match next_line(lines, src, number) {
-            Ok(line) => line,
+        match next_line(lines, src, number) {
+            Ok(()) => {}
             Err(halt) => return Err(halt),
-        };
-        match reader.line(line.as_slice()) {
+        }
+        match reader.line(lines.line()) {
             Ok(false) => number += 1,
             Ok(true) => {
                 return Ok(Started {
@@ -125,7 +126,7 @@ pub(crate) fn read_end<S: Source>(lines: &mut Lines, src: &mut S, number: u64) -
 {
     match lines.next(src) {
         Ok(LineOut::End) => Ok(()),
-        Ok(LineOut::Line(_)) => Err(Halt::Bad {
+        Ok(LineOut::Line) => Err(Halt::Bad {
             number,
             reason: LineReason::Extra,
         }),
@@ -157,11 +158,11 @@ pub(crate) fn next_event<S: Source>(
     ensures limit { lines.new.taken ≤ 67108865 }
     ensures count { HaltCounts (S.faults src.old) (S.faults src.new) result }
 {
-    let line = match next_line(lines, src, number) {
-        Ok(line) => line,
+    match next_line(lines, src, number) {
+        Ok(()) => {}
         Err(halt) => return Err(halt),
-    };
-    let event = match read_event(alloc, line.as_slice(), version, ids) {
+    }
+    let event = match read_event(alloc, lines.line(), version, ids) {
         Ok(event) => event,
         Err(error) => return Err(halt_at(number, error)),
     };

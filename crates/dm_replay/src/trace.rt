@@ -1,5 +1,5 @@
 // A trace, read and answered line by line.
-ghost use Rattle.std.specs.Prelude.{◌≡◌, ◌≢◌, ◌<◌, ◌≤◌, ◌+◌, ◌++◌, ◌^◌, length, IfOk, IfSome, OnOk};
+ghost use Rattle.std.specs.Prelude.{◌≡◌, ◌≢◌, ◌<◌, ◌≤◌, ◌+◌, ◌++◌, ◌^◌, length, IfOk, IfSome, OnOk, OnErr};
 ghost use Rattle.dm_base.specs.Outside.{OfKnown};
 ghost use Rattle.dm_base.specs.Lines.{room, CountsTaken};
 ghost use Rattle.dm_machine.specs.History.{answer_now, next};
@@ -14,7 +14,7 @@ ghost use Rattle.dm_replay.specs.From.{seen, OfInput, EndsTrace, EndsEvents, Put
 use crate::answers::step;
 use crate::endings::{put_due, put_due_and_halt, put_end, put_halt};
 use crate::events::Event;
-use crate::reading::{Started, next_event, read_start};
+use crate::reading::{Halt, Started, next_event, read_start};
 use dm_auth::Account;
 use dm_base::{Bytes, Lines, List, Memory, Sink, Source};
 use dm_exit::Exit;
@@ -53,6 +53,7 @@ fn answer(alloc: Global, client: &mut Client, due: &mut Bytes, event: &Event) ->
         (λ e. due.new ≡ due.old ++ answer_text (answer_now client.old.machine e))) }
     ensures state { OnOk result (IfSome (happening_of event.now)
         (λ e. client.new.machine ≡ next client.old.machine e)) }
+    ensures err { OnErr result (due.new ≡ due.old) }
 {
     let line = line_of(alloc, client, event)?;
     due.extend(line.as_slice())
@@ -109,7 +110,7 @@ fn answer_events<S: Source, K: Sink>(
         };
         match answer(alloc, client, &mut due, &event) {
             Ok(()) => number += 1,
-            Err(_) => return Exit::NoMemory,
+            Err(_) => return put_due_and_halt(alloc, out, due.as_slice(), Halt::Memory),
         }
     }
 }

@@ -33,7 +33,7 @@ returns-in-Ok-true-clause-start c =
     (ap told_in c.finish.ensures.told)
 
 pub returns-in-Ok-true-clause-client : goal.returns-in-Ok-true-clause-client
-returns-in-Ok-true-clause-client c = can_begin c.finish.result c.finish.ensures.sound
+returns-in-Ok-true-clause-client c = can_begin c.finish.result c.finish.ensures.sound c.finish.ensures.parked
 
 pub returns-in-Err-line-clause-halt : goal.returns-in-Err-line-clause-halt
 returns-in-Err-line-clause-halt c =

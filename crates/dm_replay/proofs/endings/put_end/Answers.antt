@@ -1,4 +1,3 @@
-use Rattle.std.proofs.Common.{◌≡◌}
 use Rattle.dm_exit.specs.declared.exit.Exit.TheVariants as exit
 use Rattle.dm_replay.specs.From.{ending_at}
 use Rattle.dm_replay.proofs.Faults.{part_is_no_fault, end_is_no_fault, fault_behind}

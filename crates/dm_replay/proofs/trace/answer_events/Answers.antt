@@ -1,12 +1,12 @@
 use Rattle.std.proofs.Common.{◌+◌, arith, sym, ◌∙◌}
 use Rattle.dm_base.proofs.Pending.{taken_more}
-use Rattle.dm_exit.specs.declared.exit.Exit.TheVariants as exit
+use Rattle.dm_replay.specs.declared.reading.Halt.TheVariants as halt
 use Rattle.dm_replay.specs.From.{ending_at, events_at}
 use Rattle.dm_replay.proofs.Accounts.{said_many}
 use Rattle.dm_replay.proofs.Asked.{answered_put, answered_said, answered_all, ended_over, due_fault, due_none}
 use Rattle.dm_replay.proofs.Faults.{part_is_no_fault}
 use Rattle.dm_replay.proofs.Fronts.{feedless_at_read}
-use Rattle.dm_replay.proofs.Running.{so_far_ends, so_far_put, said_more, due_breaks, due_stays, end_ends, halt_ends}
+use Rattle.dm_replay.proofs.Running.{so_far_ends, so_far_put, said_more, due_breaks, memory_stops, end_ends, halt_ends}
 use Rattle.dm_replay.proofs.Running.{due_source}
 use Rattle.dm_replay.proofs.trace.answer_events.Goals as goal
 
@@ -103,10 +103,10 @@ pub returns-in-Err-answer-clause-output : goal.returns-in-Err-answer-clause-outp
 returns-in-Err-answer-clause-output g c =
     let so_far = so_far_put _ _ _ _ _ c.args.version _ _ _ c.events.number _ c.events.due c.put_due.new.due
     c.events.invariant.so_far c.in-Ok.ensures.bytes in
-    let put = g.K.Sink.got c.put_due.new.out in
-    so_far_ends _ _ _ put put c.args.version _ _ _ c.events.number _ c.put_due.new.due exit.NoMemory so_far
-    (due_stays _ c.args.version c.events.client.machine
-    (events_at c.args.version c.args.ids.now c.events.number) c.put_due.new.due put)
+    let trace = events_at c.args.version c.args.ids.now c.events.number in
+    so_far_ends _ _ _ _ _ c.args.version _ _ _ c.events.number _ c.put_due.new.due _ so_far
+    (halt_ends _ c.args.version _ trace halt.Memory c.put_due.new.due _ _ _ (memory_stops _ trace)
+    (rw (c.as_slice-in-Err-answer.ensures, c.in-Err-answer.ensures.err) at c.put_due_and_halt-in-Err-answer.ensures.bytes))
 
 pub returns-in-Err-answer-clause-taken : goal.returns-in-Err-answer-clause-taken
 returns-in-Err-answer-clause-taken g c =
@@ -146,4 +146,6 @@ returns-in-Err-next_event-clause-answered g c = λ is.
     (c.in-Err-next_event.ensures.over fault.0) (due_none _ _ c.put_due.new.due none fault.1)
 
 pub returns-in-Err-answer-clause-answered : goal.returns-in-Err-answer-clause-answered
-returns-in-Err-answer-clause-answered g c = λ is. cc
+returns-in-Err-answer-clause-answered g c = λ is.
+    let fault = due_fault _ halt.Memory _ _ _ c.put_due_and_halt-in-Err-answer.ensures.bytes is in
+    absurd (let same = fault.0 in cc)
