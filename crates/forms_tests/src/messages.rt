@@ -260,43 +260,24 @@ fn no_piece_is_taken_behind_a_refusal(rt: HostRuntime) -> Result<(), Fail> {
 }
 
 #[test]
-fn faults_are_answered(rt: HostRuntime) -> Result<(), Fail> {
+fn faults_of_the_source_are_answered(rt: HostRuntime) -> Result<(), Fail> {
     let second = Faults {
         source: &[2],
         ..NONE
     };
+    let show = (Form::Show, Input::Get, Exit::ReadFault, "");
+    let check = (Form::Check, Input::Get, Exit::ReadFault, "");
+    assert!(rt; passes(rt.alloc(), show, 64, second)?);
+    assert!(rt; passes(rt.alloc(), check, 73, second)?);
+    Ok(())
+}
+
+#[test]
+fn faults_of_the_sink_are_answered(rt: HostRuntime) -> Result<(), Fail> {
     let first = Faults { sink: &[1], ..NONE };
-    assert!(rt;
-        passes(
-            rt.alloc(),
-            (Form::Show, Input::Get, Exit::ReadFault, ""),
-            64,
-            second
-        )?
-    );
-    assert!(rt;
-        passes(
-            rt.alloc(),
-            (Form::Check, Input::Get, Exit::ReadFault, ""),
-            73,
-            second
-        )?
-    );
-    assert!(rt;
-        passes(
-            rt.alloc(),
-            (Form::Show, Input::Get, Exit::WriteFault, ""),
-            64,
-            first
-        )?
-    );
-    assert!(rt;
-        passes(
-            rt.alloc(),
-            (Form::Check, Input::Cut(20), Exit::WriteFault, ""),
-            64,
-            first
-        )?
-    );
+    let show = (Form::Show, Input::Get, Exit::WriteFault, "");
+    let check = (Form::Check, Input::Cut(20), Exit::WriteFault, "");
+    assert!(rt; passes(rt.alloc(), show, 64, first)?);
+    assert!(rt; passes(rt.alloc(), check, 64, first)?);
     Ok(())
 }
