@@ -14,8 +14,8 @@ use syncml_types::Command;
 // How many Replaces the stored run has.
 const FEW: u32 = 20;
 
-// The time of one message. What is run is a copy, since its values are moved out of it; the copy is made, and what is
-// left of it given up, outside that time.
+// The time of one message. What is run is a copy, since its values are moved out of it: it is made outside that time,
+// and what is left of its members is given up inside it.
 fn time_of(rt: &HostRuntime, device: &mut Device, command: &Command) -> io::Result<u128>
     requires { IsSoundEngine device.old.engine }
     ensures { OnOk result (IsSoundEngine device.new.engine) }

@@ -60,8 +60,8 @@ fn with(sums: Sums, place: usize, count: usize, time: u128) -> Sums {
     sums
 }
 
-// The time of one part. What is run is a copy, since its values are moved out of it; the copy is made, and what is left
-// of it given up, outside that time.
+// The time of one part. What is run is a copy, since its values are moved out of it: it is made outside that time, and
+// what is left of its members is given up inside it.
 fn time_of(rt: &HostRuntime, device: &mut Device, command: &Command) -> io::Result<u128>
     requires { IsSoundEngine device.old.engine }
     ensures { OnOk result (IsSoundEngine device.new.engine) }
