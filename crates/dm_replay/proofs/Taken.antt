@@ -6,7 +6,8 @@ use Rattle.dm_base.proofs.Pending.{taken_more}
 use Rattle.dm_replay.specs.Input.{TakesOnePast}
 
 -- what was counted from nothing on
-pub one_past : (a b : Option (List ℕ)) (new last : LinesState) → new ≡ record { line = []; pending = []; past = []; taken = 0 }
+pub one_past : (a b : Option (List ℕ)) (new last : LinesState)
+    → new ≡ record { line = []; pending = []; past = []; taken = 0 }
     → CountsTaken a b new.taken last.taken → last.taken ≤ 67108865 → TakesOnePast a b
 one_past a b new last fresh taken limit =
     let none = ap (λ (s : LinesState). s.taken) fresh in (taken.0, taken.1, omega (arith, none, taken.2, limit))

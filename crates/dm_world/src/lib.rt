@@ -1,5 +1,5 @@
-//! Both ends of the protocol on every schedule of openings, deliveries, repeats and losses, as definitions, and what
-//! holds of them.
+//! Both ends of the protocol on every schedule of openings, deliveries, repeats, losses, clock moves, ends of updates
+//! and want of memory, as definitions, and what holds of them.
 #![tactic(auto)]
 
 ghost use Rattle.dm_world.specs.Lockstep.{TakesTurns, Understands};

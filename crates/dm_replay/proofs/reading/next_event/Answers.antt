@@ -20,13 +20,13 @@ returns-in-Err-read_event-clause-over g c =
 pub returns-then-not-is_end-clause-over : goal.returns-then-not-is_end-clause-over
 returns-then-not-is_end-clause-over g c =
     event_over c.args.lines.now c.next_line.new.lines (g.S.Source.left c.args.src.now)
-    (g.S.Source.left c.next_line.new.src) c.args.version c.args.ids.now c.args.number c.next_line.new.lines.line c.line.result.now
-    c.in-Ok-read_event.event c.line.ensures c.in-Ok-read_event.ensures
+    (g.S.Source.left c.next_line.new.src) c.args.version c.args.ids.now c.args.number
+    c.next_line.new.lines.line c.line.result.now c.in-Ok-read_event.event c.line.ensures c.in-Ok-read_event.ensures
     (sym c.is_end.ensures ∙ c.if-not-is_end.true) c.in-Ok.ensures.over
 
 pub returns-clause-over : goal.returns-clause-over
 returns-clause-over g c =
     end_over c.args.lines.now c.next_line.new.lines (g.S.Source.left c.args.src.now)
-    (g.S.Source.left c.next_line.new.src) c.args.version c.args.ids.now c.args.number c.next_line.new.lines.line c.line.result.now
-    c.in-Ok-read_event.event c.line.ensures c.in-Ok-read_event.ensures
+    (g.S.Source.left c.next_line.new.src) c.args.version c.args.ids.now c.args.number
+    c.next_line.new.lines.line c.line.result.now c.in-Ok-read_event.event c.line.ensures c.in-Ok-read_event.ensures
     (sym c.is_end.ensures ∙ c.if-not-is_end.false) c.in-Ok.ensures.over

@@ -9,7 +9,8 @@ returns-in-Ok-Line-clause-line g c =
 
 pub returns-in-Ok-Bad-clause-halt : goal.returns-in-Ok-Bad-clause-halt
 returns-in-Ok-Bad-clause-halt g c =
-    bad_stops _ _ _ c.args.number c.next.new.self.line c.in-Ok-Bad.reason (rw c.in-Ok-Bad.field-0-is at c.in-Ok-Bad.ensures.line)
+    bad_stops _ _ _ c.args.number c.next.new.self.line c.in-Ok-Bad.reason
+    (rw c.in-Ok-Bad.field-0-is at c.in-Ok-Bad.ensures.line)
 
 pub returns-in-Err-clause-halt : goal.returns-in-Err-clause-halt
 returns-in-Err-clause-halt g c =

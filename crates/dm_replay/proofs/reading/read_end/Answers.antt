@@ -8,7 +8,8 @@ returns-in-Ok-Line-clause-ending g c =
 
 pub returns-in-Ok-Bad-clause-ending : goal.returns-in-Ok-Bad-clause-ending
 returns-in-Ok-Bad-clause-ending g c =
-    bad_behind _ _ _ c.args.number c.next.new.self.line c.in-Ok-Bad.field-0-0 (rw c.in-Ok-Bad.field-0-is at c.in-Ok-Bad.ensures.line)
+    bad_behind _ _ _ c.args.number c.next.new.self.line c.in-Ok-Bad.field-0-0
+    (rw c.in-Ok-Bad.field-0-is at c.in-Ok-Bad.ensures.line)
 
 pub returns-in-Err-clause-ending : goal.returns-in-Err-clause-ending
 returns-in-Err-clause-ending g c =

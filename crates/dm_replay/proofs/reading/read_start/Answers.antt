@@ -15,12 +15,12 @@ lines-preserved g c =
       few = omega (arith, few, room);
       open_ = sym read.last;
       section = section_more _ _ _ c.lines.number (section_at c.lines.reader)
-          (section_at c.line-in-lines.new.self) c.next_line.new.lines.line c.line.result.now c.line.ensures
-          (read.read, read.last) c.lines.invariant.section c.in-Ok.ensures.line;
+          (section_at c.line-in-lines.new.self) c.next_line.new.lines.line c.line.result.now
+          c.line.ensures (read.read, read.last) c.lines.invariant.section c.in-Ok.ensures.line;
       over = section_goes c.args.lines.now c.lines.lines c.next_line.new.lines (g.S.Source.left c.args.src.now)
           (g.S.Source.left c.lines.src) (g.S.Source.left c.next_line.new.src) c.lines.number
-          (section_at c.lines.reader) (section_at c.line-in-lines.new.self) c.next_line.new.lines.line c.line.result.now c.line.ensures
-          (read.read, read.last) c.lines.invariant.over c.in-Ok.ensures.over;
+          (section_at c.lines.reader) (section_at c.line-in-lines.new.self) c.next_line.new.lines.line c.line.result.now
+          c.line.ensures (read.read, read.last) c.lines.invariant.over c.in-Ok.ensures.over;
       taken = taken_more _ _ _ _ c.lines.lines.taken _ c.lines.invariant.taken c.in-Ok.ensures.taken;
       count = c.in-Ok.ensures.count ∙ c.lines.invariant.count;
     }
@@ -51,8 +51,8 @@ returns-in-Ok-true-clause-over g c =
     let read = rw c.in-Ok-true.field-0-test at c.in-Ok-true.ensures in
     section_comes c.args.lines.now c.lines.lines c.next_line.new.lines (g.S.Source.left c.args.src.now)
     (g.S.Source.left c.lines.src) (g.S.Source.left c.next_line.new.src) c.lines.number (section_at c.lines.reader)
-    (section_at c.line-in-lines.new.self) (told_of c.finish.result) c.next_line.new.lines.line c.line.result.now c.line.ensures
-    (read.read, read.last) c.finish.ensures.told c.lines.invariant.over c.in-Ok.ensures.over
+    (section_at c.line-in-lines.new.self) (told_of c.finish.result) c.next_line.new.lines.line c.line.result.now
+    c.line.ensures (read.read, read.last) c.finish.ensures.told c.lines.invariant.over c.in-Ok.ensures.over
 
 pub returns-in-Err-line-clause-over : goal.returns-in-Err-line-clause-over
 returns-in-Err-line-clause-over g c =

@@ -106,7 +106,8 @@ returns-in-Err-answer-clause-output g c =
     let trace = events_at c.args.version c.args.ids.now c.events.number in
     so_far_ends _ _ _ _ _ c.args.version _ _ _ c.events.number _ c.put_due.new.due _ so_far
     (halt_ends _ c.args.version _ trace halt.Memory c.put_due.new.due _ _ _ (memory_stops _ trace)
-    (rw (c.as_slice-in-Err-answer.ensures, c.in-Err-answer.ensures.err) at c.put_due_and_halt-in-Err-answer.ensures.bytes))
+    (rw (c.as_slice-in-Err-answer.ensures, c.in-Err-answer.ensures.err)
+    at c.put_due_and_halt-in-Err-answer.ensures.bytes))
 
 pub returns-in-Err-answer-clause-taken : goal.returns-in-Err-answer-clause-taken
 returns-in-Err-answer-clause-taken g c =
