@@ -2,4 +2,5 @@ pub mod Known
 pub mod Numbers
 pub mod Pending
 mod FieldValues
-mod Digits
+mod HexDigits
+mod Lanes

@@ -8,12 +8,9 @@ ghost use Rattle.dm_base.specs.Fields.{field_of, parts, is_form, is_visible, is_
 ghost use Rattle.dm_base.specs.Fields.{is_hex, is_numeral, num_of, nonce_of, hex_of, hex_text};
 
 use crate::bytes::{Bytes, Memory};
+use crate::digits::put_digits;
 use crate::values::Nonce;
-use hex::encode_to_slice;
 use std::alloc::Global;
-
-// How many bytes are made digits at a time, on the stack.
-const CHUNK: usize = 256;
 
 /// The forms that a field may have.
 #[derive(Clone, Copy, Debug, PartialEq, Eq)]
@@ -165,26 +162,6 @@ pub fn hex_bytes(alloc: Global, text: &[u8]) -> Result<Option<Bytes>, Memory>
         Err(hex::FromHexError::OutOfMemory) => Err(Memory),
         Err(_) => Ok(None),
     }
-}
-
-// Two digits for each byte, into room that is taken once.
-fn put_digits(out: &mut Bytes, bytes: &[u8]) -> Result<(), Memory>
-    ensures ok { OnOk result (out.new ≡ out.old ++ encode_lower bytes.now) }
-    ensures front { take (length out.old) out.new ≡ out.old }
-{
-    out.reserve(bytes.len().saturating_mul(2))?;
-    let mut digits = [0u8; 2 * CHUNK];
-    let mut rest = bytes;
-    while !rest.is_empty() {
-        let (chunk, behind) = rest.split_at(rest.len().min(CHUNK));
-        let room = &mut digits[..2 * chunk.len()];
-        match encode_to_slice(chunk, room) {
-            Ok(()) => out.extend(room)?,
-            Err(_) => unreachable!(),
-        }
-        rest = behind;
-    }
-    Ok(())
 }
 
 /// Appends the lower-case `Hex` of the bytes: two digits a byte, or `-` for no byte. After `Memory` the list is as

@@ -4,6 +4,7 @@
 
 pub mod boxed;
 pub mod bytes;
+mod digits;
 pub mod fields;
 pub mod laws;
 pub mod lines;

@@ -1,6 +1,6 @@
 use Rattle.std.proofs.Common.{◌≡◌, ◌++◌, length, take}
 use Rattle.hex.specs.Hex.{encode_lower}
-use Rattle.dm_base.proofs.fields.put_digits.Given as goal
+use Rattle.dm_base.proofs.digits.put_digits.Given as goal
 
 abbrev pub invariant-loop-rest : goal.invariant-loop-rest
 invariant-loop-rest l = record {
