@@ -4,3 +4,4 @@ pub mod Pending
 mod FieldValues
 mod HexDigits
 mod Lanes
+mod HexReading

@@ -21,6 +21,7 @@ impl<T> Model for Boxed<T> {
 
 impl<T: Drop> Boxed<T> {
     /// The value in a box of its own.
+    #[inline(always)]
     pub fn new(alloc: Global, value: T) -> Result<Boxed<T>, Memory>
         ensures { IfOk result (λ b. b ≡ value) }
     {

@@ -8,7 +8,7 @@ ghost use Rattle.dm_base.specs.Fields.{field_of, parts, is_form, is_visible, is_
 ghost use Rattle.dm_base.specs.Fields.{is_hex, is_numeral, num_of, nonce_of, hex_of, hex_text};
 
 use crate::bytes::{Bytes, Memory};
-use crate::digits::put_digits;
+use crate::digits::{block_bytes, many_bytes, put_digits, short_bytes};
 use crate::values::Nonce;
 use std::alloc::Global;
 
@@ -140,10 +140,12 @@ pub fn num(text: &[u8]) -> Option<u64>
 pub fn nonce(text: &[u8]) -> Option<Nonce>
     ensures { result ≡ nonce_of text.now }
 {
-    let mut bytes = [0u8; 16];
-    match hex::decode_to_slice(text, &mut bytes) {
-        Ok(()) => Some(Nonce { bytes }),
-        Err(_) => None,
+    if text.len() != 32 {
+        return None;
+    }
+    match block_bytes(text) {
+        Some(bytes) => Some(Nonce { bytes }),
+        None => None,
     }
 }
 
@@ -157,10 +159,13 @@ pub fn hex_bytes(alloc: Global, text: &[u8]) -> Result<Option<Bytes>, Memory>
     if text.is_empty() {
         return Ok(None);
     }
-    match hex::decode(alloc, text) {
-        Ok(bytes) => Ok(Some(Bytes::of_vec(bytes))),
-        Err(hex::FromHexError::OutOfMemory) => Err(Memory),
-        Err(_) => Ok(None),
+    if text.len() % 2 == 1 {
+        return Ok(None);
+    }
+    if text.len() <= 32 {
+        short_bytes(alloc, text)
+    } else {
+        many_bytes(alloc, text)
     }
 }
 

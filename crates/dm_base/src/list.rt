@@ -1,6 +1,6 @@
 // A list of values, which contracts see as a list.
 ghost use Rattle.std.specs.Prelude.{◌≡◌, ◌==◌, ◌<◌, ◌≤◌, ◌+◌, ◌∷◌, ◌++◌, [], length, take, drop, OnOk, OnErr, IfNone};
-ghost use Rattle.std.specs.Prelude.{MatchOption};
+ghost use Rattle.std.specs.Prelude.{MatchOption, ◌*◌, max, vec_len, vec_capacity};
 
 use crate::bytes::Memory;
 use std::alloc::Global;
@@ -18,6 +18,18 @@ impl<T> Model for List<T> {
     ghost Value = { Values T };
 
     ghost view = { λ b. b.items.items };
+}
+
+// Twice the room of a full vector, so that the moves of all pushes are fewer than the values that were pushed. A list of
+// one takes room for one, not for the four that a vector begins with.
+fn double_room<T>(items: &mut Vec<T>) -> Result<(), Memory>
+    requires full { vec_len items.old ≡ vec_capacity items.old }
+    ensures same { items.new.items ≡ items.old.items }
+    ensures len { vec_len items.new ≡ vec_len items.old }
+    ensures doubles { OnOk result (vec_capacity items.new ≡ max 1 (2 * vec_capacity items.old)) }
+{
+    items.reserve_exact(items.len().max(1))?;
+    Ok(())
 }
 
 impl<T> List<T> {
@@ -105,15 +117,15 @@ impl<T> List<T> {
 }
 
 impl<T: Drop> List<T> {
-    /// Adds a value at the end. After `Memory` the value is given up.
+    /// Adds a value at the end. After `Memory` the value is given up. Where there is no room left, room doubles.
+    #[inline(always)]
     pub fn push(&mut self, value: T) -> Result<(), Memory>
         ensures ok { OnOk result (self.new ≡ self.old ++ value ∷ []) }
         ensures err { OnErr result (self.new ≡ self.old) }
     {
-        // Room first: a vector's own push hands the value back inside its error, which moves it twice. A list of one
-        // takes room for one, not for the four that a vector begins with; then room doubles.
+        // Room first: a vector's own push hands the value back inside its error, which moves it twice.
         if self.items.len() == self.items.capacity() {
-            self.items.reserve_exact(self.items.len().max(1))?;
+            double_room(&mut self.items)?;
         }
         self.items.push_reserved(value);
         Ok(())
