@@ -50,12 +50,12 @@ failed_task r s task e = work-leaves r s task.post task.work e
 
 pub refused_right_leaves : RefusedRightLeavesTree
 unfolding one_step
-refused_right_leaves r s task piece step text uri is_piece is_whole target reads is_no =
+refused_right_leaves r s task piece step text uri asked is_piece is_whole target reads asks is_no =
     let g = gather r.max_obj s.object piece in
     let after = record s { object = g.object } in
     let same : by_work r s task.post task.work ≡ whole_step r after task.post g.broken step =
     ap (by_work r s task.post) is_piece ∙ ap (by_what r after task.post g.broken) is_whole in
-    let h = refused_right r.setting s.tree step text uri target reads is_no in
+    let h = refused_right r.setting s.tree step text uri asked target reads asks is_no in
     subst (λ ran. (is_success ran.report.code ≡ false) × LeavesTree s ran) (sym same) (
       h.code,
       piece-leaves s (whole_step r after task.post g.broken step) piece r

@@ -1,5 +1,6 @@
 -- What execution means, over the definitions alone.
-use Rattle.std.specs.Prelude.{◌≡◌, ⊤, ℕ, Bool, true, false, List, [], All, Option, None, Some, is_some, Ok}
+use Rattle.std.specs.Prelude.{◌≡◌, ⊤, ℕ, Bool, true, false, List, [], ◌∷◌, ◌++◌, All, Option, None, Some, is_some, Ok}
+use Rattle.syncml_types.specs.declared.command.AlertCmd.{AlertCmd}
 use Rattle.syncml_types.specs.declared.command.Member.{Member}
 use Rattle.syncml_types.specs.declared.command.Block.{Block}
 use Rattle.syncml_types.specs.declared.command.Command.{Command}
@@ -7,6 +8,7 @@ use Rattle.syncml_types.specs.declared.command.Command.TheVariants as commands
 use Rattle.syncml_types.specs.declared.command.Step.{Step}
 use Rattle.dm_uri.specs.declared.uri.Uri.{Uri}
 use Rattle.dm_uri.specs.Reading.{parse_of}
+use Rattle.dm_acl.specs.declared.values.Right.{Right}
 use Rattle.dm_tree.specs.Rights.{allows}
 use Rattle.dm_objects.specs.declared.object.Object.TheVariants.{Nothing}
 use Rattle.dm_objects.specs.declared.piece.Piece.{Piece}
@@ -20,7 +22,8 @@ use Rattle.dm_atomic.specs.declared.tasks.Task.{Task}
 use Rattle.dm_atomic.specs.declared.tasks.Work.{Work}
 use Rattle.dm_atomic.specs.declared.tasks.Work.TheVariants as work
 use Rattle.dm_atomic.specs.declared.reports.Report.{Report}
-use Rattle.dm_atomic.specs.Run.{Group, State, Running, Ran, one_step, break_group, tried, opens, join_or_break}
+use Rattle.dm_atomic.specs.declared.reports.Part.{Part}
+use Rattle.dm_atomic.specs.Run.{Group, State, Running, Ran, one_step, break_group, tried, opens, joins, join_or_break}
 use Rattle.dm_atomic.specs.Run.{atomically, run_atomic, run_command, run_all, still, committed, abandoned}
 use Rattle.dm_objects.specs.Inside.{is_buffering_inside}
 use Rattle.dm_atomic.specs.Posts.{NoneLost, all_asked}
@@ -58,6 +61,17 @@ BrokenGroupRestores = (s : State) → ((break_group s).state.tree ≡ committed 
 
 abbrev pub QuietRestores : Type 0
 QuietRestores = (s : State) → ((still s).state.tree ≡ committed s) × ((still s).state.group ≡ None)
+
+-- an Atomic that joins a group and leaves it open leaves its base, and adds one part
+abbrev pub JoiningKeepsTheBase : Type 0
+JoiningKeepsTheBase = (r : Running) (s : State) (post : Post) (ts : List Task) (g h : Group) → s.group ≡ Some g
+    → joins s ts ≡ true → (atomically r s post ts).state.group ≡ Some h
+    → (h.base ≡ g.base) × ((part : Part) × (h.parts ≡ g.parts ++ part ∷ []))
+
+-- an Alert leaves all
+abbrev pub AlertsLeaveAll : Type 0
+AlertsLeaveAll =
+    (r : Running) (origin : Origin) (s : State) (a : AlertCmd) → (run_command r origin s (commands.Alert a)).state ≡ s
 
 -- ---- a group is open exactly while an object that was begun in an Atomic is being buffered
 
@@ -106,8 +120,8 @@ FailedTaskLeavesTree = (r : Running) (s : State) (task : Task) → is_success (o
 -- a step that is whole is no success, where the right that its verb asks for is refused on the node that it asks it on
 abbrev pub RefusedRightLeavesTree : Type 0
 RefusedRightLeavesTree =
-    (r : Running) (s : State) (task : Task) (piece : Piece) (step : Step) (text : List ℕ) (uri : Uri)
+    (r : Running) (s : State) (task : Task) (piece : Piece) (step : Step) (text : List ℕ) (uri : Uri) (asked : Right)
     → task.work ≡ work.Piece piece → (gather r.max_obj s.object piece).what ≡ Whole step
-    → step.target ≡ Some text → parse_of text ≡ Ok uri
-    → allows s.tree (asked_place s.tree uri.path uri.query step.verb) r.setting.caller (asked_right step.verb) ≡ false
+    → step.target ≡ Some text → parse_of text ≡ Ok uri → asked_right step.verb ≡ Some asked
+    → allows s.tree (asked_place s.tree uri.path uri.query step.verb) r.setting.caller asked ≡ false
     → (is_success (one_step r s task).report.code ≡ false) × LeavesTree s (one_step r s task)

@@ -90,7 +90,7 @@ idle_is_state = refl
 
 -- ---- a code, or an effect
 
-unless_is : (P : Nodes → Type 0) (o : Option ℕ) (m : Nodes) (effect : Done) → P m → (o ≡ None → P effect.tree)
+pub unless_is : (P : Nodes → Type 0) (o : Option ℕ) (m : Nodes) (effect : Done) → P m → (o ≡ None → P effect.tree)
     → P (unless o m effect).tree
 unless_is P None m effect same then = then refl
 unless_is P (Some code) m effect same then = same

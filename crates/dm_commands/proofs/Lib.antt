@@ -14,3 +14,4 @@ pub mod Refusals
 pub mod UpdateParts
 pub mod Ended
 pub mod Acts
+pub mod Leaving

@@ -1,7 +1,7 @@
 -- What is refused changes nothing, whatever the verb is.
 use Rattle.std.proofs.Common.{◌≡◌, ℕ, Bool, true, false, cond, List, [], ◌∷◌, Option, None, Some, Ok, Err, refl, sym}
 use Rattle.std.proofs.Common.{◌∙◌, ap, subst}
-use Rattle.std.specs.Prelude.{◌&&◌, ◌||◌, not, Result}
+use Rattle.std.specs.Prelude.{◌&&◌, ◌||◌, ◌==◌, ⊤, not, Result}
 use Rattle.std.specs.List.{list_any, list_all}
 use Rattle.syncml_types.specs.declared.command.Step.{Step}
 use Rattle.syncml_types.specs.declared.command.Verb.{Verb}
@@ -15,8 +15,9 @@ use Rattle.dm_uri.specs.declared.uri.Uri.{Uri}
 use Rattle.dm_uri.specs.declared.uri.UriError.{UriError}
 use Rattle.dm_uri.specs.declared.uri.UriError.TheVariants as uri_error
 use Rattle.dm_uri.specs.Reading.{parse_of}
+use Rattle.dm_acl.specs.declared.values.Right.{Right}
 use Rattle.dm_acl.specs.declared.values.Right.TheVariants as right
-use Rattle.dm_tree.specs.Nodes.{Nodes, above}
+use Rattle.dm_tree.specs.Nodes.{Path, Nodes, above}
 use Rattle.dm_tree.specs.Rights.{allows}
 use Rattle.dm_commands.specs.Outcomes.{Setting, Done, refused, first_refusal, first_of, unless, no_node, node_at}
 use Rattle.dm_commands.specs.Outcomes.{is_success}
@@ -25,7 +26,8 @@ use Rattle.dm_commands.specs.Table.{value_refusals, acl_refusals, acl_decider, n
 use Rattle.dm_commands.specs.Table.{replace_other, replace_prop, replace, delete_refusals, uri_or_code, by_verb}
 use Rattle.dm_commands.specs.Table.{target_in, target_unless, target_of, at_target, act}
 use Rattle.dm_commands.specs.Laws.{asked_place, asked_right, replace_place, ChangesNothing, RefusedRightChangesNothing}
-use Rattle.dm_commands.specs.Laws.{RefusedStepChangesNothing, NothingStartsInAtomic}
+use Rattle.dm_commands.specs.Laws.{RefusedStepChangesNothing, NothingStartsInAtomic, IsDenied}
+use Rattle.dm_commands.specs.Laws.{OnlyRefusedRightsAreDenied}
 
 -- the tree is as before, the code is no success, and there is nothing else
 pub record IsNothing (m : Nodes) (d : Done) : Type 0 where
@@ -62,6 +64,11 @@ refuses (r ∷ rs) m effect all any =
     ] refl
 
 -- ---- a right that is refused
+
+-- a right is asked for, and refused
+abbrev IsRefusedAt : Nodes → Path → List ℕ → Option Right → Type 0
+IsRefusedAt m p caller None = ⊥
+IsRefusedAt m p caller (Some right) = allows m p caller right ≡ false
 
 second : (a x rest : Bool) → x ≡ false → a || (not x || rest) ≡ true
 second true x rest e = refl
@@ -110,7 +117,7 @@ module _ (s : Setting) (m : Nodes) (step : Step) (uri : Uri) where
   replace_refused query.Struct is_no = other_refused
   replace_refused query.StructData is_no = other_refused
 
-  verb_refused : (v : Verb) → allows m (asked_place m uri.path uri.query v) s.caller (asked_right v) ≡ false
+  verb_refused : (v : Verb) → IsRefusedAt m (asked_place m uri.path uri.query v) s.caller (asked_right v)
       → IsNothing m (by_verb s m step uri v)
   verb_refused verb.Copy is_no = nothing m 406 refl
   verb_refused verb.Exec is_no =
@@ -142,14 +149,15 @@ nothing_changed s m step n = record { tree = n.tree; code = n.code; found = n.fo
 
 pub refused_right : RefusedRightChangesNothing
 unfolding act
-refused_right s m step text uri target reads is_no =
+refused_right s m step text uri asked target reads asks is_no =
     nothing_changed s m step (by_target (IsNothing m) s m step by_place)
   where
     at_uri : IsNothing m (at_target s m step (target_in step.target))
     at_uri =
         subst (λ t. IsNothing m (at_target s m step (target_in t))) (sym target)
         (subst (λ r. IsNothing m (at_target s m step (uri_or_code r))) (sym reads)
-        (verb_refused s m step uri step.verb is_no))
+        (verb_refused s m step uri step.verb
+        (subst (IsRefusedAt m (asked_place m uri.path uri.query step.verb) s.caller) (sym asks) is_no)))
 
     by_place : (a b : Bool) → is_copy step.verb ≡ a → is_exec step.verb && step.in_atomic ≡ b
         → IsNothing m (at_target s m step (target_unless (cond a (Some 406) (cond b (Some 405) None)) step))
@@ -283,3 +291,168 @@ nothing_in_atomic s m step inside = by_target (λ d. d.started ≡ false) s m st
     by_place false true x y = refl
     by_place false false x y =
         target_starts_not s m step (no_exec (is_exec step.verb) step.in_atomic inside y) (target_in step.target)
+
+-- ---- 425 comes from a refused right alone
+
+-- of these refusals none has 425 but where x is false
+abbrev Blames : Bool → List (Bool × ℕ) → Type 0
+Blames x [] = ⊤
+Blames x (r ∷ rs) = ((r.1 == 425) ≡ true → r.0 ≡ true → x ≡ false) × Blames x rs
+
+denied_first : (rs : List (Bool × ℕ)) (m : Nodes) (effect : Done) (x : Bool) → Blames x rs
+    → (effect.code == 425) ≡ false → ((first_of rs m effect).code == 425) ≡ true → x ≡ false
+denied_first [] m effect x b is_no h = absurd (cc)
+denied_first (r ∷ rs) m effect x b is_no h =
+    elim r.0 as (λ c. r.0 ≡ c → ((unless (cond c (Some r.1) (first_refusal rs)) m effect).code == 425) ≡ true
+    → x ≡ false) [
+      | true ↦ λ e k. b.0 k e
+      | false ↦ λ e k. denied_first rs m effect x b.1 is_no k
+    ] refl h
+
+module _ (s : Setting) (m : Nodes) (step : Step) (uri : Uri) where
+  denied_other : (x : Bool) → ((replace_other m uri).code == 425) ≡ true → x ≡ false
+  denied_other x =
+      elim (no_node m uri.path) as (λ b. ((unless (cond b (Some 404) None) m (refused m 405)).code == 425) ≡ true
+      → x ≡ false) [
+        | true ↦ λ h. absurd (cc)
+        | false ↦ λ h. absurd (cc)
+      ]
+
+  denied_prop : (p : Prop) → ((replace_prop s m step uri p).code == 425) ≡ true
+      → allows m (replace_place m uri.path (query.Prop p)) s.caller right.Replace ≡ false
+  denied_prop prop.Acl =
+      denied_first (acl_refusals s m step uri) m _ (allows m (acl_decider m uri.path) s.caller right.Replace)
+      (λ e h. absurd (cc), (λ e h. to_false _ h, (λ e h. absurd (cc), (λ e h. absurd (cc), tt)))) refl
+  denied_prop prop.Name =
+      denied_first (name_refusals s m step uri) m _ (allows m uri.path s.caller right.Replace) (
+        λ e h. absurd (cc),
+        (
+          λ e h. to_false _ h,
+          (
+            λ e h. absurd (cc),
+            (
+              λ e h. absurd (cc),
+              (
+                λ e h. absurd (cc),
+                (λ e h. absurd (cc), (λ e h. absurd (cc), tt)),
+              ),
+            ),
+          ),
+        ),
+      ) refl
+  denied_prop prop.Title =
+      denied_first (title_refusals s m step uri) m _ (allows m uri.path s.caller right.Replace)
+      (λ e h. absurd (cc), (λ e h. to_false _ h, (λ e h. absurd (cc), tt))) refl
+  denied_prop prop.Format = denied_other _
+  denied_prop prop.Size = denied_other _
+  denied_prop prop.Media = denied_other _
+  denied_prop prop.VerNo = denied_other _
+  denied_prop prop.TStamp = denied_other _
+
+  denied_replace : (q : Query) → ((replace s m step uri q).code == 425) ≡ true
+      → allows m (replace_place m uri.path q) s.caller right.Replace ≡ false
+  denied_replace query.Plain =
+      denied_first (value_refusals s m step uri) m _ (allows m uri.path s.caller right.Replace) (
+        λ e h. absurd (cc),
+        (
+          λ e h. to_false _ h,
+          (
+            λ e h. absurd (cc),
+            (
+              λ e h. absurd (cc),
+              (
+                λ e h. absurd (cc),
+                (λ e h. absurd (cc), tt),
+              ),
+            ),
+          ),
+        ),
+      ) refl
+  denied_replace (query.Prop p) = denied_prop p
+  denied_replace query.Struct = denied_other _
+  denied_replace query.StructData = denied_other _
+
+  denied_verb : (v : Verb) → ((by_verb s m step uri v).code == 425) ≡ true
+      → IsRefusedAt m (asked_place m uri.path uri.query v) s.caller (asked_right v)
+  denied_verb verb.Copy h = absurd (cc)
+  denied_verb verb.Exec h =
+      denied_first (exec_refusals s m step uri) m _ (allows m uri.path s.caller right.Exec) (
+        λ e h. absurd (cc),
+        (
+          λ e h. absurd (cc),
+          (
+            λ e h. to_false _ h,
+            (
+              λ e h. absurd (cc),
+              (
+                λ e h. absurd (cc),
+                (λ e h. absurd (cc), tt),
+              ),
+            ),
+          ),
+        ),
+      ) refl h
+  denied_verb verb.Get h =
+      denied_first (get_refusals s m uri) m _ (allows m uri.path s.caller right.Get)
+      (λ e h. absurd (cc), (λ e h. to_false _ h, (λ e h. absurd (cc), tt))) refl h
+  denied_verb verb.Add h =
+      denied_first (add_refusals s m step uri) m _ (allows m (above uri.path) s.caller right.Add) (
+        λ e h. absurd (cc),
+        (
+          λ e h. absurd (cc),
+          (
+            λ e h. absurd (cc),
+            (
+              λ e h. absurd (cc),
+              (
+                λ e h. to_false _ h,
+                (λ e h. absurd (cc), (λ e h. absurd (cc), (λ e h. absurd (cc), (λ e h. absurd (cc), tt)))),
+              ),
+            ),
+          ),
+        ),
+      ) refl h
+  denied_verb verb.Replace h = denied_replace uri.query h
+  denied_verb verb.Delete h =
+      denied_first (delete_refusals s m uri) m _ (allows m uri.path s.caller right.Delete)
+      (λ e h. absurd (cc), (λ e h. absurd (cc), (λ e h. to_false _ h, (λ e h. absurd (cc), tt)))) refl h
+
+denied_uri : (s : Setting) (m : Nodes) (step : Step) (text : List ℕ) → step.target ≡ Some text
+    → (r : Result Uri UriError) → parse_of text ≡ r → ((at_target s m step (uri_or_code r)).code == 425) ≡ true
+    → IsDenied s m step
+denied_uri s m step text target (Ok uri) reads h =
+    by_right (asked_right step.verb) refl (denied_verb s m step uri step.verb h)
+  where
+    by_right : (o : Option Right) → asked_right step.verb ≡ o
+        → IsRefusedAt m (asked_place m uri.path uri.query step.verb) s.caller o → IsDenied s m step
+    by_right None asks is_no = absurd is_no
+    by_right (Some asked) asks is_no = record {
+      text = text;
+      uri = uri;
+      asked = asked;
+      target = target;
+      reads = reads;
+      asks = asks;
+      right = is_no;
+    }
+denied_uri s m step text target (Err uri_error.Malformed) reads h = absurd (cc)
+denied_uri s m step text target (Err uri_error.TooLong) reads h = absurd (cc)
+denied_uri s m step text target (Err uri_error.UnknownQuery) reads h = absurd (cc)
+denied_uri s m step text target (Err uri_error.Memory) reads h = absurd (cc)
+
+denied_target : (s : Setting) (m : Nodes) (step : Step) (t : Option (List ℕ)) → step.target ≡ t
+    → ((at_target s m step (target_in t)).code == 425) ≡ true → IsDenied s m step
+denied_target s m step None target h = absurd (cc)
+denied_target s m step (Some text) target h = denied_uri s m step text target (parse_of text) refl h
+
+pub only_refused : OnlyRefusedRightsAreDenied
+unfolding act
+only_refused s m step e =
+    by_target (λ d. (d.code == 425) ≡ true → IsDenied s m step) s m step by_place (ap (λ c. c == 425) e)
+  where
+    by_place : (a b : Bool) → is_copy step.verb ≡ a → is_exec step.verb && step.in_atomic ≡ b
+        → ((at_target s m step (target_unless (cond a (Some 406) (cond b (Some 405) None)) step)).code == 425) ≡ true
+        → IsDenied s m step
+    by_place true b x y h = absurd (cc)
+    by_place false true x y h = absurd (cc)
+    by_place false false x y h = denied_target s m step step.target refl h
