@@ -25,3 +25,4 @@ pub mod Covering
 pub mod Anchors
 pub mod Starting
 pub mod Tellings
+pub mod Committed

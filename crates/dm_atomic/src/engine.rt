@@ -2,7 +2,7 @@
 ghost use Rattle.std.specs.Prelude.{◌≡◌, ◌≤◌, is_some};
 ghost use Rattle.dm_tree.specs.Rows.{nodes, ids};
 ghost use Rattle.dm_atomic.specs.Engine.{state_of, IsSoundEngine};
-ghost use Rattle.dm_atomic.specs.Updates.{clock_of, max_obj_of};
+ghost use Rattle.dm_atomic.specs.Updates.{clock_of, max_obj_of, is_updating, TellsStarted};
 ghost use Rattle.dm_atomic.specs.Marks.{whole_of, past_of, Holds};
 
 use crate::reports::{Part, Started};
@@ -55,9 +55,11 @@ impl Engine {
         self.is_open
     }
 
-    /// The update that was started and hasn't ended.
+    /// The update that was started and hasn't ended. None exactly where State isn't 60, in every state that an engine
+    /// comes to from a tree of its own: `BeginsTelling` and the laws beside it say that such a state tells its update.
     pub fn started(&self) -> &Option<Started>
-        ensures { result.now ≡ (state_of self.now).started }
+        ensures started { result.now ≡ (state_of self.now).started }
+        ensures none { TellsStarted (state_of self.now) → is_some result.now ≡ is_updating (state_of self.now).tree }
     {
         &self.started
     }

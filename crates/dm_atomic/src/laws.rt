@@ -3,6 +3,7 @@ ghost use Rattle.dm_atomic.specs.Updates.{BegunWithItsUpdate, RunsWhereStarted, 
 ghost use Rattle.dm_atomic.specs.Updates.{QuietKeepsTelling, ResultKeepsTelling};
 ghost use Rattle.dm_atomic.specs.Laws.{OneStatusEach, NoneLostInQuiet, FailedAtomicRestores, BrokenGroupRestores};
 ghost use Rattle.dm_atomic.specs.Laws.{QuietRestores, CommandKeepsOpen, QuietEndsBoth, TasksStartNothing};
+ghost use Rattle.dm_atomic.specs.Laws.{JoiningKeepsTheBase, AlertsLeaveAll};
 ghost use Rattle.dm_atomic.specs.Laws.{AtomicStartsNothing, FailedTaskLeavesTree, RefusedRightLeavesTree};
 
 /// Law: each step and each container of executed commands has exactly one Status made, suppressed or not: at once, or
@@ -12,11 +13,14 @@ pub fn one_status_each()
     ensures quiet { NoneLostInQuiet }
 {}
 
-/// Law: after a failed Atomic the tree before its first part stands again, and so it does after a group that is broken.
+/// Law: after a failed Atomic the tree before its first part stands again, and so it does after a group that is broken
+/// and after a quiet message: it is the base of the group, which a part that joins it leaves, as an Alert does.
 pub fn failed_atomic_restores()
     ensures failed { FailedAtomicRestores }
     ensures broken { BrokenGroupRestores }
     ensures quiet { QuietRestores }
+    ensures joining { JoiningKeepsTheBase }
+    ensures alert { AlertsLeaveAll }
 {}
 
 /// Law: a group is open exactly while an object that was begun in an Atomic is being buffered, and neither is left

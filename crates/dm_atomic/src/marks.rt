@@ -4,6 +4,8 @@ ghost use Rattle.dm_atomic.specs.Engine.{state_of, IsSoundEngine};
 ghost use Rattle.dm_atomic.specs.Updates.{clock_of, max_obj_of};
 ghost use Rattle.dm_atomic.specs.Marks.{Whole, whole_of, past_of, past_at, no_past, groups, no_group, IsHeld};
 ghost use Rattle.dm_atomic.specs.Marks.{IsEarlier, Recalls, LeavesNone};
+ghost use Rattle.dm_atomic.specs.Run.{committed};
+ghost use Rattle.dm_atomic.specs.Stays.{committed_ids};
 ghost use Rattle.dm_atomic.specs.declared.marks.EngineMark.{EngineMark as AMark};
 
 use crate::engine::{EndedGroup, Engine};
@@ -67,6 +69,41 @@ impl Engine {
         );
         self.parts.cut_to(mark.parts);
         self.is_open = mark.is_open;
+    }
+
+    /// Makes the tree the one that counts if nothing more comes: that before an open group. It takes no memory. Until
+    /// the mark is handed to `hide_committed` only `tree` is to be called.
+    #[tactic(auto, using(crate::proofs::Committed::closed_tree, crate::proofs::Committed::open_tree, crate::proofs::Committed::closed_ids, crate::proofs::Held::holds_self))]
+    pub fn show_committed(&mut self) -> EngineMark
+        requires sound { IsSoundEngine self.old }
+        ensures tree { (state_of self.new).tree ≡ committed (state_of self.old) }
+        ensures ids { (whole_of self.new).ids ≡ committed_ids (whole_of self.old) }
+        ensures recalls { Recalls self.new result (whole_of self.old) }
+        ensures past { past_at self.new result ≡ past_of self.old }
+        ensures clock { clock_of self.new ≡ clock_of self.old }
+        ensures max_obj { max_obj_of self.new ≡ max_obj_of self.old }
+        ensures parked { LeavesNone self.old → LeavesNone self.new }
+        ensures sound { IsSoundEngine self.new }
+    {
+        let mark = self.mark();
+        if self.is_open {
+            self.roll_back();
+        }
+        mark
+    }
+
+    /// Gives the working tree back, as it was when `show_committed` gave the mark. It takes no memory.
+    pub fn hide_committed(&mut self, mark: EngineMark)
+        requires sound { IsSoundEngine self.old }
+        requires held { IsHeld self.old mark }
+        ensures whole { (w : Whole) → Recalls self.old mark w → whole_of self.new ≡ w }
+        ensures past { past_of self.new ≡ past_at self.old mark }
+        ensures clock { clock_of self.new ≡ clock_of self.old }
+        ensures max_obj { max_obj_of self.new ≡ max_obj_of self.old }
+        ensures parked { LeavesNone self.old → LeavesNone self.new }
+        ensures sound { IsSoundEngine self.new }
+    {
+        self.back(mark);
     }
 
     // The oldest place that is needed further.

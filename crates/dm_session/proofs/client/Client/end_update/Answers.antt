@@ -45,7 +45,7 @@ invariant_of-self-in-Ok c =
     c.in_ok-correlator.correlator (ap (λ (x : Whole). takes x.machine (act c.args.ok)) c.self.view_is ∙ c.requires)
     (ap (λ w. w.state) c.settle.ensures.whole ∙ c.in-Ok.ensures.ok)
     (c.settle.ensures.clock ∙ c.finish_update.ensures.clock)
-    (c.in_ok-correlator.ensures ∙ ap correlator_of c.started.ensures) c.in_ok-push.ensures.ok c.self.invariant
+    (c.in_ok-correlator.ensures ∙ ap correlator_of c.started.ensures.started) c.in_ok-push.ensures.ok c.self.invariant
     (c.settle.ensures.max_obj ∙ c.finish_update.ensures.max_obj) c.settle.ensures.sound c.settle.ensures.past
     (c.settle.ensures.parked (c.finish_update.ensures.marks.parked c.self.invariant.none_left))
 
@@ -56,7 +56,7 @@ returns-in-Ok-clause-ok c =
     c.in_ok-correlator.correlator (ap (λ (x : Whole). takes x.machine (act c.args.ok)) c.self.view_is ∙ c.requires)
     (ap (λ w. w.state) c.settle.ensures.whole ∙ c.in-Ok.ensures.ok)
     (c.settle.ensures.clock ∙ c.finish_update.ensures.clock)
-    (c.in_ok-correlator.ensures ∙ ap correlator_of c.started.ensures) c.in_ok-push.ensures.ok
+    (c.in_ok-correlator.ensures ∙ ap correlator_of c.started.ensures.started) c.in_ok-push.ensures.ok
     ∙ ap (λ (x : Whole). next x.machine (act c.args.ok)) c.self.view_is
 
 pub returns-in-Err-clause-ids : goal.returns-in-Err-clause-ids

@@ -6,5 +6,5 @@ use Rattle.dm_session.proofs.client.Client.is_updating.Goals as goal
 
 pub returns : goal.returns
 returns c =
-    c.is_some.ensures ∙ ap is_some c.started.ensures ∙ c.self.invariant.told.told
+    c.is_some.ensures ∙ ap is_some c.started.ensures.started ∙ c.self.invariant.told.told
     ∙ ap (λ (w : Whole). is_updating w.machine.engine.tree) c.self.view_is
