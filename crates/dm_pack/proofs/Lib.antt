@@ -21,3 +21,4 @@ pub mod Fixtures
 pub mod Asking
 pub mod Moving
 pub mod Listed
+pub mod TakenMost

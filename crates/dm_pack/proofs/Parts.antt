@@ -154,7 +154,7 @@ only_changed_last f (x ∷ y ∷ z ∷ xs) =
     only_next x y (last_changed f (z ∷ xs)) ∙ only_changed_last f (y ∷ z ∷ xs)
     ∙ ap (last_changed f) (sym (only_next x y (z ∷ xs)))
 
-item_alone : (c : Command) → cut_item (last_alone c) ≡ cut_item c
+pub item_alone : (c : Command) → cut_item (last_alone c) ≡ cut_item c
 item_alone (command.Plain c) = refl
 item_alone (command.Alert c) = refl
 item_alone (command.Atomic b) = ap (option_and_then member_item) (last_of_only b.members)

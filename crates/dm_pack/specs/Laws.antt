@@ -1,18 +1,36 @@
 -- What a message promises: what it doesn't hold is left, can still be sent, and each message gets on.
-use Rattle.std.specs.Prelude.{◌≡◌, ◌⊎◌, ◌<◌, ◌≤◌, ℕ, Bool, List, ◌∷◌, length}
+use Rattle.std.specs.Prelude.{◌≡◌, ◌⊎◌, ◌<◌, ◌≤◌, ℕ, suc, Bool, true, false, List, [], ◌∷◌, ◌++◌, length, take}
 use Rattle.std.specs.List.{AllByRecursion}
 use Rattle.dm_base.specs.Limits.{least_room}
 use Rattle.wbxml_tokens.specs.Spelling.{spelled}
 use Rattle.syncml_types.specs.declared.values.Header.{Header}
 use Rattle.syncml_types.specs.Canonical.{command_tokens}
 use Rattle.syncml_parts.specs.Numbering.{with_numbers}
-use Rattle.dm_pack.specs.Entries.{Entry, IsReady}
-use Rattle.dm_pack.specs.Filling.{Filling, fill, left_after, IsReadyHeader}
+use Rattle.syncml_parts.specs.Packing.{cut_data}
+use Rattle.dm_pack.specs.Entries.{Entry, IsReady, part_of, rest_of}
+use Rattle.dm_pack.specs.Filling.{Filling, fill, fits, taken, commands_of, greatest, left_after, IsReadyHeader}
 
 -- the whole entries and the part that a message tells of, taken off, leave what it leaves
 abbrev pub TheRestIsLeft : Type 0
 TheRestIsLeft = (es : List Entry) (h : Header) (room : ℕ) (heard : Bool)
     → left_after es (fill es h room heard).whole (fill es h room heard).cut ≡ (fill es h room heard).left
+
+-- as many entries as fit are taken: the message fits with each number of them up to that one, and not with one more
+abbrev pub TakesTheMost : Type 0
+TakesTheMost = (h : Header) (room : ℕ) (es : List Entry)
+    → ((k : ℕ) → 0 < k → k ≤ taken h room [] es → fits h room (commands_of (take k es)) ≡ true)
+    × (taken h room [] es < length es → fits h room (commands_of (take (suc (taken h room [] es)) es)) ≡ false)
+
+-- a cut is the greatest: its number passes, where it isn't 0, and no greater one up to the most does
+abbrev pub CutsTheMost : Type 0
+CutsTheMost = (passes : ℕ → Bool) (most : ℕ)
+    → (0 < greatest passes most → passes (greatest passes most) ≡ true)
+    × ((k : ℕ) → greatest passes most < k → k ≤ most → passes k ≡ false)
+
+-- the Data of a part and that of the rest are the whole Data
+abbrev pub CutDataIsJoined : Type 0
+CutDataIsJoined = (e : Entry) (n : ℕ)
+    → cut_data (part_of e n) ++ cut_data (rest_of e n).command ≡ cut_data e.command
 
 -- what is left of entries that can be sent can be sent
 abbrev pub WhatIsLeftIsReady : Type 0
