@@ -22,3 +22,4 @@ pub mod OwnFarewells
 pub mod StaysSending
 pub mod StaysWaiting
 pub mod StaysReady
+pub mod Counting

@@ -1,6 +1,7 @@
 -- What holds of the machine's runs and of its messages, over the definitions alone.
 use Rattle.std.specs.Prelude.{◌≡◌, ◌<◌, ◌≤◌, length, IfSome, ◌⊎◌, ℕ, false, List, [], ◌∷◌, Option, Some, None, Result}
-use Rattle.std.specs.Prelude.{Ok, Err, ⊤}
+use Rattle.std.specs.Prelude.{Ok, Err, ⊤, IsSome}
+use Rattle.dm_machine.specs.declared.kinds.End.TheVariants.{Finished, Aborted, Denied}
 use Rattle.dm_base.specs.Limits.{least_room}
 use Rattle.syncml_types.specs.Message.{Parts}
 use Rattle.syncml_types.specs.Canonical.{canonical}
@@ -109,6 +110,16 @@ Leaves before (ends c end) = GivesUp before c
 
 abbrev pub EndsGiveUp : Type 0
 EndsGiveUp = (c : Machine) (p : Progress) (m : Parts) (nonce : List ℕ) → Leaves c.engine (accepts c p m nonce)
+
+-- a session that is denied ends with a farewell
+abbrev pub HasFarewell : Outcome → Type 0
+HasFarewell (goes_on c) = ⊤
+HasFarewell (ends c Denied) = IsSome c.farewell
+HasFarewell (ends c Finished) = ⊤
+HasFarewell (ends c Aborted) = ⊤
+
+abbrev pub DeniedHasAFarewell : Type 0
+DeniedHasAFarewell = (c : Machine) (p : Progress) (m : Parts) (nonce : List ℕ) → HasFarewell (accepts c p m nonce)
 
 -- ---- what can be sent
 

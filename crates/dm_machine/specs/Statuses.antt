@@ -1,6 +1,6 @@
 -- Over a run: which Statuses are owed for what is executed, which are made, and which are given up.
 use Rattle.std.specs.Prelude.{◌≡◌, ◌+◌, ◌&&◌, ℕ, Bool, not, if◌then◌else◌, List, [], ◌∷◌, ◌++◌, Option, None, Some}
-use Rattle.std.specs.Prelude.{Result, Ok, Err}
+use Rattle.std.specs.Prelude.{Result, Ok, Err, ⊤}
 use Rattle.std.specs.List.{list_any, sum_by}
 use Rattle.syncml_types.specs.Message.{Parts}
 use Rattle.wbxml_tokens.specs.declared.reason.Refusal.{Refusal}
@@ -9,7 +9,7 @@ use Rattle.dm_headers.specs.Checks.{passes}
 use Rattle.dm_headers.specs.Standings.{Heard, hears}
 use Rattle.dm_atomic.specs.declared.tasks.Post.{Post}
 use Rattle.dm_atomic.specs.Posts.{all_asked, made_posts, waiting_posts}
-use Rattle.dm_atomic.specs.Run.{Group, Next, quietly}
+use Rattle.dm_atomic.specs.Run.{Group, State, Next, quietly}
 use Rattle.dm_machine.specs.declared.progress.Progress.{Progress}
 use Rattle.dm_machine.specs.Machine.{Machine, Session}
 use Rattle.dm_machine.specs.Messages.{Outcome, goes_on, ends, account_at, execute, is_abort, is_last_own}
@@ -82,3 +82,14 @@ OneStatusEachInRuns = (c : Machine) (es : List Event) (weight : Post → ℕ)
     → sum_by weight (waiting_posts c.engine.group) + sum_by weight (asked_in_run c (fresh c es))
     ≡ sum_by weight (made_in_run c (fresh c es)) + (sum_by weight (given_up_in_run c (fresh c es))
     + sum_by weight (waiting_posts (reached c (fresh c es)).engine.group))
+
+-- ---- what is counted is what the machine runs
+
+abbrev pub GoesOnWith : State → Outcome → Type 0
+GoesOnWith s (goes_on c) = c.engine ≡ s
+GoesOnWith s (ends c end) = ⊤
+
+-- where the session goes on, the machine has the state that the counted commands leave
+abbrev pub CountsWhatRuns : Type 0
+CountsWhatRuns = (c : Machine) (p : Progress) (m : Parts) (nonce : List ℕ)
+    → GoesOnWith (executed c p m (hears Server (account_at c p.account) p.standing m nonce)).state (accepts c p m nonce)

@@ -1,7 +1,8 @@
 // What holds of the machine, over its definition alone.
 ghost use Rattle.dm_machine.specs.Laws.{StateIsEnough, AcceptedNumbersRise, OneStatusEach, ExecutesNothing, EndsGiveUp};
 ghost use Rattle.dm_machine.specs.Laws.{AccountsStay, StaysSteady, StaysReady, SendsWithinRoom};
-ghost use Rattle.dm_machine.specs.Statuses.{OneStatusEachInRuns};
+ghost use Rattle.dm_machine.specs.Laws.{DeniedHasAFarewell};
+ghost use Rattle.dm_machine.specs.Statuses.{OneStatusEachInRuns, CountsWhatRuns};
 
 /// Law: a client that keeps the message which it sent last answers every list of events as its whole history says.
 pub fn state_is_enough()
@@ -34,7 +35,8 @@ pub fn one_status_each()
 /// Law: over all events that act, each step and each container that is executed has exactly one Status made, in its
 /// message or later, unless it still waits for its group's close, or waited for it where its session ended.
 pub fn one_status_each_in_runs()
-    ensures { OneStatusEachInRuns }
+    ensures runs { OneStatusEachInRuns }
+    ensures counted { CountsWhatRuns }
 {}
 
 /// Law: of a message that doesn't pass the checks of its header nothing is executed, and nothing is made.
@@ -45,7 +47,8 @@ pub fn unaccepted_executes_nothing()
 /// Law: where a message ends its session, nothing waits then, no object and no group is unfinished, and the tree is
 /// that before the group that was open.
 pub fn ends_give_up()
-    ensures { EndsGiveUp }
+    ensures given_up { EndsGiveUp }
+    ensures farewell { DeniedHasAFarewell }
 {}
 
 /// Law: at each event that a client may meet, a machine that has nothing to send but what can be sent stays one. Its
