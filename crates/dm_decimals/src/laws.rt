@@ -1,0 +1,12 @@
+// What decimal digits and the numbers that are read of them have to do with each other.
+ghost use Rattle.dm_decimals.specs.Decimals.{WrittenIsRead, ReadIsWritten};
+
+/// Law: what is written of a number of 64 bits in decimal is read as that number.
+pub fn written_is_read()
+    ensures { WrittenIsRead }
+{}
+
+/// Law: a text that is read as a number is what is written of it.
+pub fn read_is_written()
+    ensures { ReadIsWritten }
+{}
