@@ -1,13 +1,13 @@
-//! Tests of jobs by public calls alone.
+//! Tests of jobs by public calls alone. What a job comes to at a device is told by the cases of both ends.
 #![tactic(auto)]
 
 #[cfg(test)]
-mod errors;
+mod answers;
 #[cfg(test)]
-mod jobs;
+mod correlators;
+#[cfg(test)]
+mod errors;
 #[cfg(test)]
 mod limits;
 #[cfg(test)]
 mod refusals;
-#[cfg(test)]
-mod texts;

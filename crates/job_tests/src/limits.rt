@@ -1,162 +1,87 @@
 // Long texts, at their limits and just past them.
-use dm_base::{Bytes, LineReason, Memory};
-use dm_job::{Job, JobError};
+use crate::answers::{Answer, HEAD, answer_of};
+use dm_base::{LineReason, Memory};
 use std::alloc::Global;
 use std::test::Fail;
 
-const HEAD: &[u8] = b"dm-job 1
-server s1 - - - - -
-limits 16384 4194304
-";
+const MEMBER: &[u8] = b"get ./0123456789012345678901234567890123456789\n";
 
-fn put_many(out: &mut Bytes, piece: &[u8], times: usize) -> Result<(), Memory> {
-    for _ in 0..times {
-        out.extend(piece)?;
-    }
-    Ok(())
-}
+// 2,048 bytes in hexadecimal.
+const BYTES: &[u8] = &[b'5'; 4096];
 
-// How many packages a text has, or the first line that is refused.
-#[derive(Clone, Copy, PartialEq, Eq)]
-enum Answer {
-    Packages(usize),
-    Bad(u64, LineReason),
-}
+const WORDS: &[u8] = &[b'x'; 3200];
 
-fn answer_to(alloc: Global, text: &Bytes) -> Result<Answer, Memory> {
-    match Job::parse(alloc, text.as_slice()) {
-        Ok(job) => Ok(Answer::Packages(job.packages.len())),
-        Err(JobError::Bad { line, reason }) => Ok(Answer::Bad(line, reason)),
-        Err(JobError::Memory) => Err(Memory),
-    }
-}
+// The pieces of a text, each so many times, and what it is answered.
+type Row = (&'static [(&'static [u8], usize)], Answer);
 
-#[derive(Drop)]
-struct Container {
-    opens: &'static [u8],
-    last: &'static [u8],
-    // What stands behind the URI.
-    tail: &'static [u8],
-    // How many bytes the last member's URI has where the container has 1,000 beside its Data.
-    bytes: usize,
-}
-
-const CONTAINERS: [Container; 5] = [
-    Container {
-        opens: b"atomic\n",
-        last: b"get ",
-        tail: b"\n",
-        bytes: 168,
-    },
-    Container {
-        opens: b"sequence\n",
-        last: b"get ",
-        tail: b"\n",
-        bytes: 168,
-    },
-    Container {
-        opens: b"sequence\n",
-        last: b"exec ",
-        tail: b" c7\n",
-        bytes: 162,
-    },
-    Container {
-        opens: b"atomic\n",
-        last: b"replace ",
-        tail: b" - - 616161616161616161616161616161616161616161616161616161\n",
-        bytes: 168,
-    },
-    Container {
-        opens: b"sequence\n",
-        last: b"add ",
-        tail: b" chr - 616161616161616161616161616161616161616161616161616161\n",
-        bytes: 157,
-    },
+// A container has 1,000 bytes at most beside its last member's Data.
+#[rattlefmt::skip]
+const CONTAINERS: [Row; 10] = [
+    (&[(HEAD, 1), (b"atomic\n", 1), (MEMBER, 12), (b"get ", 1), (b"u", 168), (b"\n", 1), (b"close\nend\n", 1)], Answer::Packages(1)),
+    (&[(HEAD, 1), (b"atomic\n", 1), (MEMBER, 12), (b"get ", 1), (b"u", 169), (b"\n", 1), (b"close\nend\n", 1)], Answer::Bad(18, LineReason::Fields)),
+    (&[(HEAD, 1), (b"sequence\n", 1), (MEMBER, 12), (b"get ", 1), (b"u", 168), (b"\n", 1), (b"close\nend\n", 1)], Answer::Packages(1)),
+    (&[(HEAD, 1), (b"sequence\n", 1), (MEMBER, 12), (b"get ", 1), (b"u", 169), (b"\n", 1), (b"close\nend\n", 1)], Answer::Bad(18, LineReason::Fields)),
+    (&[(HEAD, 1), (b"sequence\n", 1), (MEMBER, 12), (b"exec ", 1), (b"u", 162), (b" c7\n", 1), (b"close\nend\n", 1)], Answer::Packages(1)),
+    (&[(HEAD, 1), (b"sequence\n", 1), (MEMBER, 12), (b"exec ", 1), (b"u", 163), (b" c7\n", 1), (b"close\nend\n", 1)], Answer::Bad(18, LineReason::Fields)),
+    (&[(HEAD, 1), (b"atomic\n", 1), (MEMBER, 12), (b"replace ", 1), (b"u", 168), (b" - - 616161616161616161616161616161616161616161616161616161\n", 1), (b"close\nend\n", 1)], Answer::Packages(1)),
+    (&[(HEAD, 1), (b"atomic\n", 1), (MEMBER, 12), (b"replace ", 1), (b"u", 169), (b" - - 616161616161616161616161616161616161616161616161616161\n", 1), (b"close\nend\n", 1)], Answer::Bad(18, LineReason::Fields)),
+    (&[(HEAD, 1), (b"sequence\n", 1), (MEMBER, 12), (b"add ", 1), (b"u", 157), (b" chr - 616161616161616161616161616161616161616161616161616161\n", 1), (b"close\nend\n", 1)], Answer::Packages(1)),
+    (&[(HEAD, 1), (b"sequence\n", 1), (MEMBER, 12), (b"add ", 1), (b"u", 158), (b" chr - 616161616161616161616161616161616161616161616161616161\n", 1), (b"close\nend\n", 1)], Answer::Bad(18, LineReason::Fields)),
 ];
 
-fn closed(alloc: Global, row: &Container, bytes: usize) -> Result<Answer, Memory> {
-    let mut text = Bytes::of_slice(alloc, HEAD)?;
-    text.extend(row.opens)?;
-    put_many(
-        &mut text,
-        b"get ./0123456789012345678901234567890123456789\n",
-        12,
-    )?;
-    text.extend(row.last)?;
-    put_many(&mut text, b"u", bytes)?;
-    text.extend(row.tail)?;
-    text.extend(b"close\nend\n")?;
-    answer_to(alloc, &text)
+// A Replace of 4,194,304 bytes, a line of 8,400,000, and one byte more.
+#[rattlefmt::skip]
+const LONG: [Row; 6] = [
+    (&[(HEAD, 1), (b"replace ./A - - ", 1), (BYTES, 2048), (b"\nend\n", 1)], Answer::Packages(1)),
+    (&[(HEAD, 1), (b"replace ./A - - ", 1), (BYTES, 2048), (b"5a\nend\n", 1)], Answer::Bad(4, LineReason::Fields)),
+    (&[(HEAD, 1), (WORDS, 2625), (b"\n", 1)], Answer::Bad(4, LineReason::Word)),
+    (&[(HEAD, 1), (WORDS, 2625), (b"x\n", 1)], Answer::Bad(4, LineReason::Long)),
+    (&[(HEAD, 1), (WORDS, 2625)], Answer::Bad(4, LineReason::Cut)),
+    (&[(HEAD, 1), (WORDS, 2625), (b"x", 1)], Answer::Bad(4, LineReason::Long)),
+];
+
+// 60,000 commands in packages of two, each of one container of two members.
+#[rattlefmt::skip]
+const MANY: [Row; 1] = [
+    (&[(HEAD, 1), (b"get ./A\nsequence\nget ./B\nreplace ./C - - 61\nclose\npackage\n", 15_000), (b"end\n", 1)], Answer::Packages(15_000)),
+];
+
+// A container of 200,000 members is refused where it ends.
+#[rattlefmt::skip]
+const LONG_CONTAINER: [Row; 1] = [
+    (&[(HEAD, 1), (b"atomic\n", 1), (b"get ./A\n", 200_000), (b"close\nend\n", 1)], Answer::Bad(200_005, LineReason::Fields)),
+];
+
+// The number of the first row that is answered otherwise.
+fn wrong_row(alloc: Global, rows: &[Row]) -> Result<Option<usize>, Memory> {
+    for (number, (pieces, answer)) in rows.iter().enumerate() {
+        if answer_of(alloc, pieces)? != *answer {
+            return Ok(Some(number));
+        }
+    }
+    Ok(None)
 }
 
 #[test]
 fn containers_have_1000_bytes_at_most(rt: HostRuntime) -> Result<(), Fail> {
-    let alloc = rt.alloc();
-    for row in &CONTAINERS {
-        assert!(rt; closed(alloc, row, row.bytes)? == Answer::Packages(1));
-        let more = row.bytes.saturating_add(1);
-        assert!(rt; closed(alloc, row, more)? == Answer::Bad(18, LineReason::Fields));
-    }
+    assert_eq!(rt; wrong_row(rt.alloc(), &CONTAINERS)?, None);
     Ok(())
-}
-
-const DIGITS: [u8; 4096] = [b'5'; 4096];
-
-const WORDS: [u8; 3200] = [b'x'; 3200];
-
-// A Replace of 4,194,304 bytes, and those that are added.
-fn replaced(alloc: Global, more: &[u8]) -> Result<Answer, Memory> {
-    let mut text = Bytes::of_slice(alloc, HEAD)?;
-    text.extend(b"replace ./A - - ")?;
-    put_many(&mut text, &DIGITS, 2048)?;
-    text.extend(more)?;
-    text.extend(b"\nend\n")?;
-    answer_to(alloc, &text)
-}
-
-// A line of 8,400,000 bytes, and those that are added.
-fn lined(alloc: Global, more: &[u8]) -> Result<Answer, Memory> {
-    let mut text = Bytes::of_slice(alloc, HEAD)?;
-    put_many(&mut text, &WORDS, 2625)?;
-    text.extend(more)?;
-    answer_to(alloc, &text)
 }
 
 #[test]
 fn objects_and_lines_have_their_limits(rt: HostRuntime) -> Result<(), Fail> {
-    let alloc = rt.alloc();
-    assert!(rt; replaced(alloc, b"")? == Answer::Packages(1));
-    assert!(rt; replaced(alloc, b"5a")? == Answer::Bad(4, LineReason::Fields));
-    assert!(rt; lined(alloc, b"\n")? == Answer::Bad(4, LineReason::Word));
-    assert!(rt; lined(alloc, b"x\n")? == Answer::Bad(4, LineReason::Long));
-    assert!(rt; lined(alloc, b"")? == Answer::Bad(4, LineReason::Cut));
-    assert!(rt; lined(alloc, b"x")? == Answer::Bad(4, LineReason::Long));
+    assert_eq!(rt; wrong_row(rt.alloc(), &LONG)?, None);
     Ok(())
 }
 
-// 60,000 commands in packages of two, each of one container of two members.
 #[test]
 fn many_commands_are_read(rt: HostRuntime) -> Result<(), Fail> {
-    let alloc = rt.alloc();
-    let mut text = Bytes::of_slice(alloc, HEAD)?;
-    put_many(
-        &mut text,
-        b"get ./A\nsequence\nget ./B\nreplace ./C - - 61\nclose\npackage\n",
-        15_000,
-    )?;
-    text.extend(b"end\n")?;
-    assert!(rt; answer_to(alloc, &text)? == Answer::Packages(15_000));
+    assert_eq!(rt; wrong_row(rt.alloc(), &MANY)?, None);
     Ok(())
 }
 
-// A container of 200,000 members is refused where it ends.
 #[test]
 fn long_containers_are_refused_at_their_end(rt: HostRuntime) -> Result<(), Fail> {
-    let alloc = rt.alloc();
-    let mut text = Bytes::of_slice(alloc, HEAD)?;
-    text.extend(b"atomic\n")?;
-    put_many(&mut text, b"get ./A\n", 200_000)?;
-    text.extend(b"close\nend\n")?;
-    assert!(rt; answer_to(alloc, &text)? == Answer::Bad(200_005, LineReason::Fields));
+    assert_eq!(rt; wrong_row(rt.alloc(), &LONG_CONTAINER)?, None);
     Ok(())
 }

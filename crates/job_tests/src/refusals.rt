@@ -1,14 +1,8 @@
 // Each reason at its line: the first that holds.
-use dm_base::{Bytes, LineReason, Memory};
-use dm_job::{Job, JobError};
+use crate::answers::{Answer, HEAD, answer_of};
+use dm_base::{LineReason, Memory};
 use std::alloc::Global;
 use std::test::Fail;
-
-// Lines 1 to 3.
-const HEAD: &[u8] = b"dm-job 1
-server s1 - - - - -
-limits 16384 4194304
-";
 
 // A text, and the line and the reason of its refusal.
 type Row = (&'static [u8], u64, LineReason);
@@ -102,34 +96,19 @@ const BODIES: [Row; 34] = [
     (b"end\nend\n", 5, LineReason::Extra),
 ];
 
-fn refusal_of(
-    alloc: Global,
-    head: &[u8],
-    rest: &[u8],
-) -> Result<Option<(u64, LineReason)>, Memory> {
-    let mut text = Bytes::of_slice(alloc, head)?;
-    text.extend(rest)?;
-    match Job::parse(alloc, text.as_slice()) {
-        Ok(_) => Ok(None),
-        Err(JobError::Bad { line, reason }) => Ok(Some((line, reason))),
-        Err(JobError::Memory) => Err(Memory),
+// The number of the first row that is answered otherwise, where this stands before each.
+fn wrong_row(alloc: Global, head: &[u8], rows: &[Row]) -> Result<Option<usize>, Memory> {
+    for (number, (text, line, reason)) in rows.iter().enumerate() {
+        if answer_of(alloc, &[(head, 1), (text, 1)])? != Answer::Bad(*line, *reason) {
+            return Ok(Some(number));
+        }
     }
+    Ok(None)
 }
 
 #[test]
-fn openings_are_refused(rt: HostRuntime) -> Result<(), Fail> {
-    let alloc = rt.alloc();
-    for (text, line, reason) in &OPENINGS {
-        assert!(rt; refusal_of(alloc, b"", text)? == Some((*line, *reason)));
-    }
-    Ok(())
-}
-
-#[test]
-fn lines_behind_the_opening_are_refused(rt: HostRuntime) -> Result<(), Fail> {
-    let alloc = rt.alloc();
-    for (text, line, reason) in &BODIES {
-        assert!(rt; refusal_of(alloc, HEAD, text)? == Some((*line, *reason)));
-    }
+fn lines_are_refused(rt: HostRuntime) -> Result<(), Fail> {
+    assert_eq!(rt; wrong_row(rt.alloc(), b"", &OPENINGS)?, None);
+    assert_eq!(rt; wrong_row(rt.alloc(), HEAD, &BODIES)?, None);
     Ok(())
 }
