@@ -3,9 +3,8 @@ use dm_base::{
     TakeError, field, hex_bytes, hex_into, is_field, nonce, num, put_all, take_all,
 };
 use std::alloc::{AllocError, Global};
+use std::fmt::Display;
 use std::test::Fail;
-
-// Each of the helpers below that looks for a wrong row answers the text of the first, for the test to show.
 
 struct NumberRow {
     text: &'static str,
@@ -39,13 +38,13 @@ const NUMBERS: [NumberRow; 6] = [
     },
 ];
 
-fn wrong_number() -> Option<&'static str> {
+fn numbers_are_read() -> bool {
     for row in &NUMBERS {
         if num(row.text.as_bytes()) != row.want {
-            return Some(row.text);
+            return false;
         }
     }
-    None
+    true
 }
 
 struct FormRow {
@@ -112,13 +111,13 @@ const FORMS: [FormRow; 11] = [
     },
 ];
 
-fn wrong_form() -> Option<&'static str> {
+fn forms_are_known() -> bool {
     for row in &FORMS {
         if is_field(row.form, row.text.as_bytes()) != row.want {
-            return Some(row.text);
+            return false;
         }
     }
-    None
+    true
 }
 
 struct HexRow {
@@ -126,7 +125,8 @@ struct HexRow {
     want: Option<&'static [u8]>,
 }
 
-const HEX: [HexRow; 5] = [
+// Texts on both sides of 32 digits, which are read at once, and of 64.
+const HEX: [HexRow; 9] = [
     HexRow {
         text: "0A",
         want: Some(b"\n"),
@@ -147,88 +147,55 @@ const HEX: [HexRow; 5] = [
         text: "0g",
         want: None,
     },
+    HexRow {
+        text: "303132333435363738396162636465665A",
+        want: Some(b"0123456789abcdefZ"),
+    },
+    HexRow {
+        text: "303132333435363738396162636465665/",
+        want: None,
+    },
+    HexRow {
+        text: "30313233343536373839616263646566303132333435363738394a4B4C4d4E4f7f",
+        want: Some(b"0123456789abcdef0123456789JKLMNO\x7f"),
+    },
+    HexRow {
+        text: "303132333435363738396162636465663031323334353637383@4a4B4C4d4E4f7f",
+        want: None,
+    },
 ];
 
-fn is_hex_row(alloc: Global, row: &HexRow) -> bool {
-    match (hex_bytes(alloc, row.text.as_bytes()), row.want) {
-        (Ok(Some(bytes)), Some(want)) => bytes.as_slice() == want,
-        (Ok(None), None) => true,
+fn is_hex_row(alloc: Global, row: &HexRow) -> Result<bool, Memory> {
+    let bytes = hex_bytes(alloc, row.text.as_bytes())?;
+    Ok(match (&bytes, row.want) {
+        (Some(bytes), Some(want)) => bytes.as_slice() == want,
+        (None, None) => true,
         _ => false,
-    }
+    })
 }
 
-fn wrong_hex(alloc: Global) -> Option<&'static str> {
+fn digits_are_read(alloc: Global) -> Result<bool, Memory> {
     for row in &HEX {
-        if !is_hex_row(alloc, row) {
-            return Some(row.text);
+        if !is_hex_row(alloc, row)? {
+            return Ok(false);
         }
     }
-    None
+    Ok(true)
 }
 
-enum AnyError {
-    Memory(Memory),
-    Failed(Failed),
-    Fault(Fault),
-    Take(TakeError),
+fn is_put(alloc: Global, bytes: &[u8], digits: &[u8]) -> Result<bool, Memory> {
+    let mut text = Bytes::new(alloc);
+    hex_into(&mut text, bytes)?;
+    Ok(text.as_slice() == digits)
 }
 
-struct ErrorRow {
-    error: AnyError,
-    text: &'static str,
-}
-
-const ERRORS: [ErrorRow; 7] = [
-    ErrorRow {
-        error: AnyError::Memory(Memory),
-        text: "out of memory",
-    },
-    ErrorRow {
-        error: AnyError::Failed(Failed),
-        text: "a fault of what is outside",
-    },
-    ErrorRow {
-        error: AnyError::Fault(Fault::Failed),
-        text: "a fault of what is outside",
-    },
-    ErrorRow {
-        error: AnyError::Fault(Fault::Memory),
-        text: "out of memory",
-    },
-    ErrorRow {
-        error: AnyError::Take(TakeError::Read),
-        text: "the source failed",
-    },
-    ErrorRow {
-        error: AnyError::Take(TakeError::TooLong),
-        text: "more bytes than are taken",
-    },
-    ErrorRow {
-        error: AnyError::Take(TakeError::Memory),
-        text: "out of memory",
-    },
-];
-
-fn error_text(alloc: Global, error: &AnyError) -> Result<String, AllocError> {
-    match error {
-        AnyError::Memory(error) => format!(in alloc; "{error}"),
-        AnyError::Failed(error) => format!(in alloc; "{error}"),
-        AnyError::Fault(error) => format!(in alloc; "{error}"),
-        AnyError::Take(error) => format!(in alloc; "{error}"),
-    }
-}
-
-fn wrong_error(alloc: Global) -> Result<Option<&'static str>, AllocError> {
-    for row in &ERRORS {
-        if error_text(alloc, &row.error)?.as_str() != row.text {
-            return Ok(Some(row.text));
-        }
-    }
-    Ok(None)
+fn is_told<E: Display>(alloc: Global, error: &E, text: &str) -> Result<bool, AllocError> {
+    let told = format!(in alloc; "{error}")?;
+    Ok(told.as_str() == text)
 }
 
 // A source of the bytes, three at a time, whose call with the number `failing` fails.
-fn source(alloc: Global, bytes: &[u8], failing: u64) -> Result<MemSource, Fail> {
+fn source(alloc: Global, bytes: &[u8], failing: u64) -> Result<MemSource, Memory> {
     let mut fails = List::new(alloc);
     fails.push(failing)?;
     Ok(MemSource::new(Bytes::of_slice(alloc, bytes)?, 3, fails))
@@ -245,107 +212,117 @@ fn is_line(lines: &Lines, answer: Result<LineOut, TakeError>, text: &str) -> boo
     }
 }
 
-fn wrong_answer(
-    lines: &mut Lines,
-    src: &mut MemSource,
-    wants: &[&'static str],
-) -> Option<&'static str> {
+fn all_lines(lines: &mut Lines, src: &mut MemSource, wants: &[&'static str]) -> bool {
     for want in wants {
         let answer = lines.next(src);
         if !is_line(lines, answer, want) {
-            return Some(want);
+            return false;
         }
     }
-    None
+    true
 }
 
-fn wrong_line(
-    alloc: Global,
-    bytes: &[u8],
-    wants: &[&'static str],
-) -> Result<Option<&'static str>, Fail> {
+fn are_lines(alloc: Global, bytes: &[u8], wants: &[&'static str]) -> Result<bool, Memory> {
     let mut src = source(alloc, bytes, 2)?;
     let mut lines = Lines::new(alloc);
-    let wrong = wrong_answer(&mut lines, &mut src, wants);
-    drop(lines);
-    drop(src);
-    Ok(wrong)
+    Ok(all_lines(&mut lines, &mut src, wants))
 }
 
-fn taken(alloc: Global, limit: u64, failing: u64) -> Result<Option<TakeError>, Fail> {
+fn is_taken(
+    alloc: Global,
+    limit: u64,
+    failing: u64,
+    want: Option<TakeError>,
+) -> Result<bool, Memory> {
     let mut src = source(alloc, b"abcd", failing)?;
-    Ok(take_all(alloc, &mut src, limit).err())
+    Ok(take_all(alloc, &mut src, limit).err() == want)
 }
 
-fn three_bytes(alloc: Global) -> Result<Bytes, Memory> {
+fn is_kept(alloc: Global) -> Result<bool, Memory> {
     let mut bytes = Bytes::new(alloc);
     bytes.extend(b"ab")?;
     bytes.push(b'c')?;
-    Ok(bytes)
-}
-
-#[test]
-fn keeps_bytes(rt: HostRuntime) -> Result<(), Fail> {
-    let mut bytes = three_bytes(rt.alloc())?.copy(rt.alloc())?;
-    assert_eq!(rt; bytes.as_slice(), b"abc".as_slice());
+    let mut bytes = bytes.copy(alloc)?;
     bytes.drop_front(1);
+    let front = bytes.as_slice() == b"bc".as_slice();
     bytes.cut_to(1);
-    assert_eq!(rt; bytes.as_slice(), b"b".as_slice());
-    Ok(())
+    Ok(front && bytes.as_slice() == b"b".as_slice())
 }
 
-fn grow(list: &mut List<u8>) -> Result<(), Memory> {
-    list.push(8)?;
-    list.push_front(4)
+fn grown(alloc: Global) -> Result<List<u8>, Memory> {
+    let mut list = List::with_room(alloc, 1)?;
+    list.push(5)?;
+    list.push(6)?;
+    list.push_front(4)?;
+    Ok(list)
 }
 
 #[test]
 fn keeps_lists(rt: HostRuntime) -> Result<(), Fail> {
-    let mut list = List::of_vec(vec![in rt.alloc(); 5u8, 6, 7]?);
-    grow(&mut list)?;
-    assert!(rt; list.len() == 5);
-    list.take_out(2, 2);
-    assert_eq!(rt; list.pop(), Some(8));
-    assert_eq!(rt; list.pop(), Some(5));
-    assert_eq!(rt; list.pop(), Some(4));
-    assert_eq!(rt; list.pop(), None);
+    assert!(rt; is_kept(rt.alloc())?);
+    let mut list = grown(rt.alloc())?;
+    assert!(rt; list.len() == 3);
+    list.take_out(1, 1);
+    assert!(rt; list.as_slice() == b"\x04\x06".as_slice());
     Ok(())
 }
 
 #[test]
 fn reads_fields(rt: HostRuntime) -> Result<(), Fail> {
-    assert_eq!(rt; field(b"a b", 1).unwrap_or(b""), b"b".as_slice());
+    assert!(rt; field(b"a b", 1).unwrap_or(b"") == b"b".as_slice());
     assert!(rt; field(b"a b", 2).is_none());
-    assert_eq!(rt; wrong_number(), None);
-    assert_eq!(rt; wrong_form(), None);
-    assert_eq!(rt; wrong_hex(rt.alloc()), None);
+    assert!(rt; numbers_are_read());
+    assert!(rt; forms_are_known());
     assert!(rt; nonce(b"-").is_none());
     let ones = nonce(b"01010101010101010101010101010101");
     assert!(rt; ones.map_or(false, |nonce| nonce.bytes == [1u8; 16]));
-    let mut text = Bytes::new(rt.alloc());
-    hex_into(&mut text, b"")?;
-    hex_into(&mut text, b"\n")?;
-    assert_eq!(rt; text.as_slice(), b"-0a".as_slice());
     Ok(())
 }
 
 #[test]
-fn takes_and_puts(rt: HostRuntime) -> Result<(), Fail> {
-    let mut sink = MemSink::new(rt.alloc(), List::new(rt.alloc()));
+fn reads_and_puts_digits(rt: HostRuntime) -> Result<(), Fail> {
+    let alloc = rt.alloc();
+    assert!(rt; digits_are_read(alloc)?);
+    assert!(rt; is_put(alloc, b"", b"-")?);
+    assert!(rt;
+        is_put(
+            alloc,
+            b"0123456789:JOZaz\n",
+            b"303132333435363738393a4a4f5a617a0a"
+        )?
+    );
+    Ok(())
+}
+
+fn puts(alloc: Global) -> Result<bool, Fault> {
+    let mut sink = MemSink::new(alloc, List::new(alloc));
     put_all(&mut sink, b"abc")?;
-    assert_eq!(rt; sink.bytes(), b"abc".as_slice());
-    assert_eq!(rt; taken(rt.alloc(), 2, 0)?, Some(TakeError::TooLong));
-    assert_eq!(rt; taken(rt.alloc(), 9, 2)?, Some(TakeError::Read));
-    assert_eq!(rt; taken(rt.alloc(), 4, 0)?, None);
-    assert_eq!(rt; taken(rt.alloc(), u64::MAX, 0)?, None);
+    Ok(sink.bytes() == b"abc".as_slice())
+}
+
+#[test]
+fn takes_and_puts(rt: HostRuntime) -> Result<(), Fail> {
+    let alloc = rt.alloc();
+    assert!(rt; puts(alloc)?);
+    assert!(rt; is_taken(alloc, 2, 0, Some(TakeError::TooLong))?);
+    assert!(rt; is_taken(alloc, 9, 2, Some(TakeError::Read))?);
+    assert!(rt; is_taken(alloc, 4, 0, None)?);
+    assert!(rt; is_taken(alloc, u64::MAX, 0, None)?);
     let wants = ["ab", "Read", "", "Cut", "Cut"];
-    assert_eq!(rt; wrong_line(rt.alloc(), b"ab\n\ncd", &wants)?, None);
-    assert_eq!(rt; wrong_line(rt.alloc(), b"", &["End"])?, None);
+    assert!(rt; are_lines(alloc, b"ab\n\ncd", &wants)?);
+    assert!(rt; are_lines(alloc, b"", &["End"])?);
     Ok(())
 }
 
 #[test]
 fn errors_are_told(rt: HostRuntime) -> Result<(), Fail> {
-    assert_eq!(rt; wrong_error(rt.alloc())?, None);
+    let alloc = rt.alloc();
+    assert!(rt; is_told(alloc, &Memory, "out of memory")?);
+    assert!(rt; is_told(alloc, &Failed, "a fault of what is outside")?);
+    assert!(rt; is_told(alloc, &Fault::Failed, "a fault of what is outside")?);
+    assert!(rt; is_told(alloc, &Fault::Memory, "out of memory")?);
+    assert!(rt; is_told(alloc, &TakeError::Read, "the source failed")?);
+    assert!(rt; is_told(alloc, &TakeError::TooLong, "more bytes than are taken")?);
+    assert!(rt; is_told(alloc, &TakeError::Memory, "out of memory")?);
     Ok(())
 }
