@@ -1,7 +1,10 @@
 -- Digits are read by pairs: pair by pair, text behind text, and block by block.
-use Rattle.std.proofs.Common.{None, Some, Ok, Err, Bool, true, false, cond, ◌&&◌, ◌≡◌, ◌<◌, ◌+◌, ◌-◌, ◌*◌, ◌/◌, ◌%◌, ◌^◌}
-use Rattle.std.proofs.Common.{ℕ, zero, suc, T, eqb, eqb→eq, leb, List, [], ◌∷◌, ◌++◌, refl, sym, ap, ◌∙◌, subst, length, map}
-use Rattle.std.proofs.Common.{get_or, replicate, bit_or, arith, Result, w8, Fits, inl, inr, eq-zero-or-pos, le-leb, take, eqb-true}
+use Rattle.std.proofs.Common.{None, Some, Ok, Err, Bool, true, false, cond, ◌&&◌, ◌≡◌, ◌<◌, ◌+◌, ◌-◌, ◌*◌, ◌/◌, ◌%◌}
+use Rattle.std.proofs.Common.{◌^◌}
+use Rattle.std.proofs.Common.{ℕ, zero, suc, T, eqb, eqb→eq, leb, List, [], ◌∷◌, ◌++◌, refl, sym, ap, ◌∙◌, subst, length}
+use Rattle.std.proofs.Common.{map}
+use Rattle.std.proofs.Common.{get_or, replicate, bit_or, arith, Result, w8, Fits, inl, inr, eq-zero-or-pos, le-leb}
+use Rattle.std.proofs.Common.{take, eqb-true}
 use Rattle.std.proofs.Common.{drop, append_assoc, length-append}
 use Rattle.std.specs.Prelude.{nat_le, Option, option_map, unwrap_or}
 use Rattle.std.specs.List.{list_all}
@@ -17,7 +20,8 @@ use lib.Ieee.Fits.{and_l, and_r}
 use lib.Lanes.{zip2, sel_l, mask_l, top, Each1}
 use Rattle.hex.specs.Hex.{decode_of, decode_sized, decode_pairs, digit_or_error, hex_digit_value, is_hex_digit, ◌>>=◌}
 use Rattle.hex.specs.declared.error.FromHexError.{FromHexError}
-use Rattle.hex.proofs.HexLemmas.{decode_of-even, decode_pairs-ok, decode_pairs-digits, decode_sized-ok, decode_sized-twice}
+use Rattle.hex.proofs.HexLemmas.{decode_of-even, decode_pairs-ok, decode_pairs-digits, decode_sized-ok}
+use Rattle.hex.proofs.HexLemmas.{decode_sized-twice}
 
 -- ---- pair by pair
 
@@ -273,7 +277,8 @@ front_read text front behind o even even_behind digits is read_of =
 
 -- ---- block by block
 
-join_more : (out bytes : List ℕ) (o : Option (List ℕ)) → joined (Some (out ++ bytes)) o ≡ joined (Some out) (joined (Some bytes) o)
+join_more : (out bytes : List ℕ) (o : Option (List ℕ))
+    → joined (Some (out ++ bytes)) o ≡ joined (Some out) (joined (Some bytes) o)
 join_more out bytes (Some ys) = ap Some (append_assoc out bytes ys)
 join_more out bytes None = refl
 

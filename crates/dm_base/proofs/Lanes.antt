@@ -1,11 +1,10 @@
 -- Blocks of sixteen bytes, lane by lane.
-use Rattle.std.proofs.Common.{◌≡◌, ℕ, zero, suc, ◌+◌, ◌-◌, ◌*◌, ◌/◌, ◌%◌, ◌^◌, ◌<◌, T, List, [], ◌∷◌, ◌++◌, map, length}
-use Rattle.std.proofs.Common.{get_or, replicate, bit_and, refl, sym, ap, ◌∙◌, arith, w8, Fits, eqb, eqb→eq, Bool, true}
-use Rattle.std.proofs.Common.{◌&&◌, subst, inl, inr, eq-zero-or-pos}
-use lib.Ieee.Fits.{and_l, and_r}
+use Rattle.std.proofs.Common.{◌≡◌, ℕ, zero, suc, ◌+◌, ◌*◌, ◌/◌, ◌%◌, ◌^◌, ◌<◌, List, [], ◌∷◌, ◌++◌, map, length}
+use Rattle.std.proofs.Common.{get_or, replicate, bit_and, refl, sym, ap, ◌∙◌, arith, w8, Fits}
 use Rattle.std.proofs.lemmas.List.{get_or-map, length-map, ext_get_or}
 use Rattle.std.proofs.lemmas.Nat.{and_le_r, and_mask}
-use Rattle.std.proofs.lemmas.Simd.{Each1-all, Each1-weaker, Each1-zip2, Each2-splat, below_from_Fits, length-zip2, swz_l}
+use Rattle.std.proofs.lemmas.Simd.{Each1-all, Each1-weaker, Each1-zip2, Each2-splat, below_from_Fits, length-zip2}
+use Rattle.std.proofs.lemmas.Simd.{swz_l}
 use Rattle.std.proofs.lemmas.Simd.{SwzOk, SwzOk-from_below, length-swz_l, get_or-swz_l_below}
 use Rattle.std.specs.Prelude.{slice_index, slice_index_or}
 use lib.Lanes.{zip2, Each1}

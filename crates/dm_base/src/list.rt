@@ -20,8 +20,8 @@ impl<T> Model for List<T> {
     ghost view = { λ b. b.items.items };
 }
 
-// Twice the room of a full vector, so that the moves of all pushes are fewer than the values that were pushed. A list of
-// one takes room for one, not for the four that a vector begins with.
+// Twice the room of a full vector, so that growing moves fewer values in all than were pushed. A list of one takes room
+// for one, not for the four that a vector begins with.
 fn double_room<T>(items: &mut Vec<T>) -> Result<(), Memory>
     requires full { vec_len items.old ≡ vec_capacity items.old }
     ensures same { items.new.items ≡ items.old.items }

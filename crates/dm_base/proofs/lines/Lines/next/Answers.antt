@@ -1,7 +1,7 @@
 use Rattle.std.proofs.Common.{arith, ap, ◌∙◌, length}
 use Rattle.dm_base.proofs.Pending.{filled_within, filled_clear, filled_ahead, filled_taken, filled_room, found_at}
-use Rattle.dm_base.proofs.Pending.{none_found, asked_for_more, feed_missed, line_given, long_line, line_stops}
-use Rattle.dm_base.proofs.Pending.{taken_at_error, asked_last}
+use Rattle.dm_base.proofs.Pending.{none_found, feed_missed, long_line, line_stops}
+use Rattle.dm_base.proofs.Pending.{taken_at_error}
 use Rattle.dm_base.proofs.lines.Lines.next.Goals as goal
 
 pub pieces-preserved : goal.pieces-preserved
