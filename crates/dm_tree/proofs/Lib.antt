@@ -12,6 +12,7 @@ pub mod PrintedPaths
 pub mod LiveRows
 pub mod EqualTrees
 pub mod DecidingLists
+pub mod NearestLists
 pub mod RootTree
 pub mod TreeEdits
 pub mod CutTrees

@@ -1,7 +1,8 @@
 -- Laws over the definitions alone.
-use Rattle.std.specs.Prelude.{◌≡◌, ◌⊎◌, ℕ, false, IsTrue, IsSome, List, [], ◌∷◌, ◌++◌, codes, Some, None}
+use Rattle.std.specs.Prelude.{◌≡◌, ◌⊎◌, ◌↔◌, ℕ, true, false, IsTrue, IsSome, List, [], ◌∷◌, ◌++◌, codes, Some, None}
 use Rattle.std.specs.FinMap.{get, insert}
 use Rattle.dm_base.specs.Fields.{is_short}
+use Rattle.dm_acl.specs.declared.values.Right.{Right}
 use Rattle.dm_acl.specs.declared.values.Entries.{Entries}
 use Rattle.dm_tree.specs.declared.nodes.Node.{Node}
 use Rattle.dm_tree.specs.Nodes.{Path, Nodes, above, is_below, IsWellFormed}
@@ -9,6 +10,7 @@ use Rattle.dm_tree.specs.Edits.{pruned, renamed}
 use Rattle.dm_tree.specs.Devices.{is_of_update, update_node, pkg_data, state_node, HasUpdate, IsText, IsDeviceTree}
 use Rattle.dm_tree.specs.Devices.{StaysAlike, StaysForUpdate, KeepsDevice, KeepsUpdate, bare_device}
 use Rattle.dm_tree.specs.Order.{behind, below}
+use Rattle.dm_tree.specs.Rights.{names, effective_path, allows, IsNearest, Allows}
 
 -- a subtree begins with its top
 abbrev pub SubtreeBegins : Type 0
@@ -17,6 +19,23 @@ SubtreeBegins = (m : Nodes) (top : Path) → IsSome (get m top) → below m top 
 -- each path is below itself
 abbrev pub TopIsBelow : Type 0
 TopIsBelow = (p : Path) → IsTrue (is_below p p)
+
+-- ---- rights
+
+-- a right is decided by the nearest access list upwards that names it
+abbrev pub NearestDecides : Type 0
+NearestDecides = (m : Nodes) (p : Path) (right : Right) (q : Path)
+    → (effective_path m p right ≡ Some q) ↔ IsNearest m p right q
+
+-- and by none exactly where none upwards names it
+abbrev pub NoneDecides : Type 0
+NoneDecides = (m : Nodes) (p : Path) (right : Right)
+    → (effective_path m p right ≡ None) ↔ ((q : Path) → is_below q p ≡ true → names m q right ≡ false)
+
+-- a server may do what that list's entry for the right allows it
+abbrev pub NearestAllows : Type 0
+NearestAllows = (m : Nodes) (p : Path) (server : List ℕ) (right : Right)
+    → (allows m p server right ≡ true) ↔ Allows m p server right
 
 -- ---- the update part
 

@@ -1,14 +1,14 @@
 -- Whom a tree allows what. Each command is decided by itself, by the nearest node upwards whose access list names it.
-use Rattle.std.specs.Prelude.{ℕ, zero, suc, Bool, false, if◌then◌else◌, IsTrue, List, [], length, take, Option, Some}
-use Rattle.std.specs.Prelude.{None}
+use Rattle.std.specs.Prelude.{◌≡◌, ◌≤◌, ℕ, zero, suc, Bool, true, false, if◌then◌else◌, List, [], length, take, Option}
+use Rattle.std.specs.Prelude.{Some, None}
 use Rattle.std.specs.Option.{option_and_then, option_map_or}
 use Rattle.std.specs.FinMap.{get}
 use Rattle.dm_acl.specs.declared.values.Right.{Right}
 use Rattle.dm_acl.specs.declared.values.Entries.{Entries}
 use Rattle.dm_acl.specs.declared.values.Servers.{Servers}
-use Rattle.dm_acl.specs.Grammar.{entry_of, has_entry, allowed_in}
+use Rattle.dm_acl.specs.Grammar.{entry_of, has_entry, allowed, allowed_in}
 use Rattle.dm_tree.specs.declared.nodes.Node.{Node}
-use Rattle.dm_tree.specs.Nodes.{Path, Nodes}
+use Rattle.dm_tree.specs.Nodes.{Path, Nodes, is_below}
 
 -- the access list of the node at a path, where it has one
 abbrev pub acl_at : Nodes → Path → Option Entries
@@ -37,5 +37,16 @@ effective m p right =
 abbrev pub allows : Nodes → Path → List ℕ → Right → Bool
 allows m p server right = allowed_in (effective m p right) server
 
-abbrev pub Allows : Nodes → Path → List ℕ → Right → Type 0
-Allows m p server right = IsTrue (allows m p server right)
+-- of the paths that p goes through, p among them, q is the longest whose node's access list names the right
+pub record IsNearest (m : Nodes) (p : Path) (right : Right) (q : Path) : Type 0 where
+  pub through : is_below q p ≡ true
+  pub named : names m q right ≡ true
+  pub longest : (r : Path) → is_below r p ≡ true → names m r right ≡ true → length r ≤ length q
+
+-- the nearest access list upwards that names the right has an entry for it that names everybody or the server
+pub record Allows (m : Nodes) (p : Path) (server : List ℕ) (right : Right) : Type 0 where
+  pub nearest : Path
+  pub decides : IsNearest m p right nearest
+  pub acl : Entries
+  pub there : acl_at m nearest ≡ Some acl
+  pub allowed : allowed acl server right ≡ true

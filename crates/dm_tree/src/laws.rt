@@ -1,5 +1,6 @@
 // What holds of trees, over the definitions alone.
-ghost use Rattle.dm_tree.specs.Laws.{SubtreeBegins, TopIsBelow, ChangedKeepsUpdate, AddedKeepsUpdate};
+ghost use Rattle.dm_tree.specs.Laws.{SubtreeBegins, TopIsBelow, NearestDecides, NoneDecides, NearestAllows};
+ghost use Rattle.dm_tree.specs.Laws.{ChangedKeepsUpdate, AddedKeepsUpdate};
 ghost use Rattle.dm_tree.specs.Laws.{PrunedKeepsUpdate, RenamedKeepsUpdate, ChangedKeepsDevice, AddedKeepsDevice};
 ghost use Rattle.dm_tree.specs.Laws.{PrunedKeepsDevice, RenamedKeepsDevice, BareDeviceIsDevice, UpdateIsFound};
 
@@ -13,6 +14,15 @@ pub fn subtree_begins()
 #[tactic(auto, using(crate::proofs::Paths::below_self))]
 pub fn top_is_below()
     ensures { TopIsBelow }
+{}
+
+/// A right is decided by the nearest node upwards, itself first, whose access list names it, and by none exactly where
+/// no list upwards does. Allowed is what that list's entry says.
+#[tactic(auto, using(crate::proofs::NearestLists::nearest_decides, crate::proofs::NearestLists::none_decides, crate::proofs::NearestLists::nearest_allows))]
+pub fn the_nearest_decides()
+    ensures nearest { NearestDecides }
+    ensures none { NoneDecides }
+    ensures allows { NearestAllows }
 {}
 
 /// What an edit leaves of the update part: it stays where it is and in order, as long as its nodes stay for what they
