@@ -1,14 +1,15 @@
 -- What was put of a text that stands between others, and how a run ends then.
-use Rattle.std.proofs.Common.{None, Some, ◌∙◌, ◌+◌, ℕ, inl, inr, List, [], ◌++◌, sym, subst}
+use Rattle.std.proofs.Common.{None, Some, ◌≢◌, ◌∙◌, ◌+◌, ℕ, inl, inr, List, [], ◌++◌, sym, subst}
 use Rattle.std.proofs.Common.{length, arith, append-nil}
 use Rattle.std.proofs.lemmas.Bool.{cases_lt}
 use Rattle.std.proofs.lemmas.List.{take-append-le, take_all}
 use Rattle.std.proofs.Math.Seq.{take-append_seam, take-append-add}
 use Rattle.std.proofs.KnownBytes.{Appends-trans}
 use Rattle.std.specs.declared.option.Option.{Option}
-use Rattle.std.specs.Io.KnownBytes.{Appends, Keeps}
+use Rattle.std.specs.Io.KnownBytes.{Appends, Keeps, IsAtEnd}
 use Rattle.dm_exit.specs.declared.exit.Exit.{Exit}
 use Rattle.dm_exit.specs.declared.exit.Exit.TheVariants as exit
+use Rattle.dm_exit.specs.Answers.{IsOfText, DoneAtEnd}
 use Rattle.dm_exit.specs.Puts.{PutsPrefix, PutsPart, PutsEnd, Ends}
 
 -- ---- a part of a text
@@ -48,22 +49,14 @@ pub front_breaks : (old new : Option (List ℕ)) (front rest : List ℕ) (e : Ex
     → PutsPart old new (front ++ rest) e
 front_breaks old new front rest exit.WriteFault h = prefix_of_front old new front rest h
 front_breaks old new front rest exit.NoMemory h = prefix_of_front old new front rest h
-front_breaks old new front rest exit.Done h = absurd h
-front_breaks old new front rest exit.Usage h = absurd h
-front_breaks old new front rest exit.BadInput h = absurd h
-front_breaks old new front rest exit.ReadFault h = absurd h
-front_breaks old new front rest exit.TooLong h = absurd h
+front_breaks old new front rest other h = absurd h
 
 -- what follows the front breaks
 pub rest_breaks : (old mid new : Option (List ℕ)) (front rest : List ℕ) (e : Exit) → Appends old mid front
     → PutsPart mid new rest e → PutsPart old new (front ++ rest) e
 rest_breaks old mid new front rest exit.WriteFault put h = prefix_behind old mid new front rest put h
 rest_breaks old mid new front rest exit.NoMemory put h = prefix_behind old mid new front rest put h
-rest_breaks old mid new front rest exit.Done put h = absurd h
-rest_breaks old mid new front rest exit.Usage put h = absurd h
-rest_breaks old mid new front rest exit.BadInput put h = absurd h
-rest_breaks old mid new front rest exit.ReadFault put h = absurd h
-rest_breaks old mid new front rest exit.TooLong put h = absurd h
+rest_breaks old mid new front rest other put h = absurd h
 
 -- ---- the end of a run
 
@@ -71,11 +64,7 @@ pub ends_part : (text : List ℕ) (good : Exit) (old new : Option (List ℕ)) (e
     → Ends text good old new e
 ends_part text good old new exit.WriteFault h = h
 ends_part text good old new exit.NoMemory h = h
-ends_part text good old new exit.Done h = absurd h
-ends_part text good old new exit.Usage h = absurd h
-ends_part text good old new exit.BadInput h = absurd h
-ends_part text good old new exit.ReadFault h = absurd h
-ends_part text good old new exit.TooLong h = absurd h
+ends_part text good old new other h = absurd h
 
 pub ends_after : (done text : List ℕ) (good : Exit) (old mid new : Option (List ℕ)) (e : Exit) → Appends old mid done
     → Ends text good mid new e
@@ -86,7 +75,7 @@ ends_after done text good old mid new exit.TooLong put h = (Appends-trans old mi
 ends_after done text good old mid new exit.ReadFault put h = prefix_behind old mid new done text put h
 ends_after done text good old mid new exit.WriteFault put h = prefix_behind old mid new done text put h
 ends_after done text good old mid new exit.NoMemory put h = prefix_behind old mid new done text put h
-ends_after done text good old mid new exit.Usage put h = absurd h
+ends_after done text good old mid new other put h = absurd h
 
 -- for an answer whose end is the whole text, what puts it ends so
 pub ends_put : (text : List ℕ) (good : Exit) (old new : Option (List ℕ)) (e : Exit)
@@ -98,3 +87,36 @@ ends_put text good old new e full h =
           (full put.0)
       | inr part ↦ ends_part text good old new e part
     ]
+
+-- ---- the answers of a text
+
+-- a text that is put in part has an answer of texts, which isn't Done
+pub part_of_text : (text : List ℕ) (old new : Option (List ℕ)) (e : Exit) → PutsPart old new text e → IsOfText e
+part_of_text text old new exit.WriteFault h = tt
+part_of_text text old new exit.NoMemory h = tt
+part_of_text text old new other h = absurd h
+
+pub part_not_done : (text : List ℕ) (old new : Option (List ℕ)) (e : Exit) → PutsPart old new text e
+    → e ≢ exit.Done
+part_not_done text old new e h is = subst (PutsPart old new text) is h
+
+-- a text and then its answer
+pub end_of_text : (text : List ℕ) (good : Exit) (old new : Option (List ℕ)) (e : Exit) → IsOfText good
+    → PutsEnd text good old new e → IsOfText e
+end_of_text text good old new e is h =
+    elim h [ inl put ↦ subst IsOfText (sym put.1) is | inr part ↦ part_of_text text old new e part ]
+
+pub end_not_done : (text : List ℕ) (good : Exit) (old new : Option (List ℕ)) (e : Exit) → good ≢ exit.Done
+    → PutsEnd text good old new e → e ≢ exit.Done
+end_not_done text good old new e other h is =
+    elim h [ inl put ↦ other (sym put.1 ∙ is) | inr part ↦ part_not_done text old new e part is ]
+
+-- a part of a text is no good end of it, wherever the source is
+pub part_at_end : (text : List ℕ) (old new left rest : Option (List ℕ)) (e : Exit) → PutsPart old new text e
+    → DoneAtEnd left rest e
+part_at_end text old new left rest e h is = absurd (part_not_done text old new e h is)
+
+-- where the source is at its end, a run may end well
+pub at_end_done : (old new : Option (List ℕ)) (e : Exit) → IsAtEnd new → DoneAtEnd old new e
+at_end_done None new e h is = tt
+at_end_done (Some bytes) new e h is = h

@@ -12,11 +12,7 @@ PutsPrefix old new text = (n : ℕ) × Appends old new (take n text)
 abbrev pub PutsPart : Option (List ℕ) → Option (List ℕ) → List ℕ → Exit → Type 0
 PutsPart old new text exit.WriteFault = PutsPrefix old new text
 PutsPart old new text exit.NoMemory = PutsPrefix old new text
-PutsPart old new text exit.Done = ⊥
-PutsPart old new text exit.Usage = ⊥
-PutsPart old new text exit.BadInput = ⊥
-PutsPart old new text exit.ReadFault = ⊥
-PutsPart old new text exit.TooLong = ⊥
+PutsPart old new text other = ⊥
 
 -- a text and then its answer: no answer but this one, a write fault and want of memory
 abbrev pub PutsEnd : List ℕ → Exit → Option (List ℕ) → Option (List ℕ) → Exit → Type 0
@@ -30,4 +26,4 @@ Ends text good old new exit.TooLong = Appends old new text × (good ≡ exit.Too
 Ends text good old new exit.ReadFault = PutsPrefix old new text
 Ends text good old new exit.WriteFault = PutsPrefix old new text
 Ends text good old new exit.NoMemory = PutsPrefix old new text
-Ends text good old new exit.Usage = ⊥
+Ends text good old new other = ⊥

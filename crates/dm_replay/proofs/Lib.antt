@@ -13,3 +13,4 @@ pub mod Back
 pub mod Faults
 pub mod Over
 pub mod Asked
+pub mod Ended

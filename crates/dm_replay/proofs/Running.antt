@@ -66,11 +66,7 @@ pub part_source : (text : List ℕ) (old new : Option (List ℕ)) (before now : 
     → now ≡ before → SourceCause before now e
 part_source text old new before now exit.WriteFault h is = is
 part_source text old new before now exit.NoMemory h is = is
-part_source text old new before now exit.Done h is = absurd h
-part_source text old new before now exit.Usage h is = absurd h
-part_source text old new before now exit.BadInput h is = absurd h
-part_source text old new before now exit.ReadFault h is = absurd h
-part_source text old new before now exit.TooLong h is = absurd h
+part_source text old new before now other h is = absurd h
 
 -- ---- behind a start section
 
@@ -273,11 +269,7 @@ pub last_breaks : (old mid new : Option (List ℕ)) (text last : List ℕ) (e : 
     → PutsPart mid new last e → PutsEnd (text ++ last) exit.Done old new e
 last_breaks old mid new text last exit.WriteFault put h = inr (prefix_behind old mid new text last put h)
 last_breaks old mid new text last exit.NoMemory put h = inr (prefix_behind old mid new text last put h)
-last_breaks old mid new text last exit.Done put h = absurd h
-last_breaks old mid new text last exit.Usage put h = absurd h
-last_breaks old mid new text last exit.BadInput put h = absurd h
-last_breaks old mid new text last exit.ReadFault put h = absurd h
-last_breaks old mid new text last exit.TooLong put h = absurd h
+last_breaks old mid new text last other put h = absurd h
 
 -- ---- an event
 

@@ -42,7 +42,7 @@ replays bytes old new exit.TooLong h = h
 replays bytes old new exit.ReadFault h = h
 replays bytes old new exit.WriteFault h = h
 replays bytes old new exit.NoMemory h = h
-replays bytes old new exit.Usage h = h
+replays bytes old new other h = h
 
 begun_replays : (bytes : List ℕ) (b : Begun) (old new : Option (List ℕ)) (e : Exit)
     → begun_at 1 (opening First) (input_of 67108864 bytes) ≡ b

@@ -152,7 +152,7 @@ Replays bytes old new exit.TooLong = PutsWhole bytes old new exit.TooLong
 Replays bytes old new exit.ReadFault = PutsPrefix old new (replay_text bytes)
 Replays bytes old new exit.WriteFault = PutsPrefix old new (replay_text bytes)
 Replays bytes old new exit.NoMemory = PutsPrefix old new (replay_text bytes)
-Replays bytes old new exit.Usage = ⊥
+Replays bytes old new other = ⊥
 
 -- ---- what was answered where the source failed
 

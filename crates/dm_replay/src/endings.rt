@@ -1,8 +1,9 @@
 // What a run puts, and how it ends.
-ghost use Rattle.std.specs.Prelude.{◌≡◌, ◌≢◌, ◌<◌, ◌≤◌, ◌++◌, [], length, IfOk, OnOk, MatchResult};
+ghost use Rattle.std.specs.Prelude.{◌≡◌, ◌<◌, ◌≤◌, ◌++◌, [], length, IfOk, OnOk, MatchResult};
 ghost use Rattle.std.specs.Io.KnownBytes.{Appends};
 ghost use Rattle.dm_base.specs.Lines.{CountsTaken, IsFeedless, HasFeed};
 ghost use Rattle.dm_tree.specs.Rows.{nodes};
+ghost use Rattle.dm_exit.specs.Answers.{IsOfText, DoneAtEnd};
 ghost use Rattle.dm_exit.specs.Causes.{SourceCause, SinkCause};
 ghost use Rattle.dm_exit.specs.Puts.{PutsPart, PutsEnd, Ends};
 ghost use Rattle.dm_replay.specs.Output as Spec;
@@ -152,7 +153,8 @@ pub(crate) fn put_end<S: Source, K: Sink>(
     ensures output { OfInput (seen lines.old (S.left src.old)) (λ i. Ends
         (due.now ++ ending_text version (nodes tree.now.rows) (ending_at number i))
         (ending_exit (ending_at number i)) (K.got out.old) (K.got out.new) result) }
-    ensures usage { result ≢ Exit.Usage }
+    ensures kind { IsOfText result }
+    ensures ended { DoneAtEnd (S.left src.old) (S.left src.new) result }
     ensures answered { result ≡ Exit.ReadFault → Appends (K.got out.old) (K.got out.new) due.now }
     ensures taken { CountsTaken (S.left src.old) (S.left src.new) lines.old.taken lines.new.taken }
     ensures limit { lines.new.taken ≤ 67108865 }

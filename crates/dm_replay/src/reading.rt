@@ -1,5 +1,7 @@
 // The lines of a trace, read one by one.
 ghost use Rattle.std.specs.Prelude.{◌≡◌, ◌<◌, ◌≤◌, ◌+◌, ◌^◌, [], Some, IfOk, IfSome, OnOk, IfErr, length};
+ghost use Rattle.std.specs.Io.KnownBytes.{IsAtEnd};
+ghost use Rattle.dm_base.specs.Outside.{OfKnown};
 ghost use Rattle.dm_base.specs.Lines.{room, CountsTaken};
 ghost use Rattle.dm_start.specs.declared.heads.Head.TheVariants.{First};
 ghost use Rattle.dm_start.specs.Start.{opening};
@@ -116,6 +118,7 @@ pub(crate) fn read_start<S: Source>(
 /// Reads that nothing stands behind the `end` line. The source isn't asked behind a line that stands there.
 pub(crate) fn read_end<S: Source>(lines: &mut Lines, src: &mut S, number: u64) -> Result<(), Halt>
     ensures ending { EndsAs (seen lines.old (S.left src.old)) number result }
+    ensures ended { OnOk result (OfKnown (S.left src.old) (λ _. IsAtEnd (S.left src.new))) }
     ensures asked { IfErr result (HaltsAsking lines.old.pending) }
     ensures none { IfErr result (λ h. h ≡ halt.Read
         → OfTaken lines.old (S.left src.old) (S.left src.new) (λ i. i.lines ≡ [])) }

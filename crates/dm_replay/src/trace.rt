@@ -1,8 +1,9 @@
 // A trace, read and answered line by line.
-ghost use Rattle.std.specs.Prelude.{◌≡◌, ◌≢◌, ◌<◌, ◌≤◌, ◌+◌, ◌++◌, ◌^◌, length, IfOk, IfSome, OnOk, OnErr};
+ghost use Rattle.std.specs.Prelude.{◌≡◌, ◌<◌, ◌≤◌, ◌+◌, ◌++◌, ◌^◌, length, IfOk, IfSome, OnOk, OnErr};
 ghost use Rattle.dm_base.specs.Outside.{OfKnown};
 ghost use Rattle.dm_base.specs.Lines.{room, CountsTaken};
 ghost use Rattle.dm_machine.specs.History.{answer_now, next};
+ghost use Rattle.dm_exit.specs.Answers.{IsOfText, DoneAtEnd};
 ghost use Rattle.dm_exit.specs.Causes.{SourceCause, SinkCause};
 ghost use Rattle.dm_replay.specs.Events.{IsOf, happening_of};
 ghost use Rattle.dm_replay.specs.Trace as Spec;
@@ -78,7 +79,8 @@ fn answer_events<S: Source, K: Sink>(
         (events_at version ids.now first i) (K.got out.old) (K.got out.new) result) }
     ensures answered { result ≡ Exit.ReadFault → PutsEvents client.old.machine (events_at version ids.now first)
         lines.old (S.left src.old) (S.left src.new) (K.got out.old) (K.got out.new) }
-    ensures usage { result ≢ Exit.Usage }
+    ensures kind { IsOfText result }
+    ensures ended { DoneAtEnd (S.left src.old) (S.left src.new) result }
     ensures taken { CountsTaken (S.left src.old) (S.left src.new) lines.old.taken lines.new.taken }
     ensures limit { lines.new.taken ≤ 67108865 }
     ensures source { SourceCause (S.faults src.old) (S.faults src.new) result }
@@ -130,7 +132,8 @@ fn answer_all<S: Source, K: Sink>(
     ensures answered { result ≡ Exit.ReadFault → PutsEvents (client_of (told_of started.start))
         (Spec.trace_of started.number (told_of started.start))
         lines.old (S.left src.old) (S.left src.new) (K.got out.old) (K.got out.new) }
-    ensures usage { result ≢ Exit.Usage }
+    ensures kind { IsOfText result }
+    ensures ended { DoneAtEnd (S.left src.old) (S.left src.new) result }
     ensures taken { CountsTaken (S.left src.old) (S.left src.new) lines.old.taken lines.new.taken }
     ensures limit { lines.new.taken ≤ 67108865 }
     ensures source { SourceCause (S.faults src.old) (S.faults src.new) result }
@@ -161,7 +164,8 @@ fn answer_all<S: Source, K: Sink>(
 pub fn replay<S: Source, K: Sink>(alloc: Global, src: &mut S, out: &mut K) -> Exit
     ensures output { OfKnown (S.left src.old) (λ bytes. Replays bytes (K.got out.old) (K.got out.new) result) }
     ensures answered { AnswersTaken (S.left src.old) (S.left src.new) (K.got out.old) (K.got out.new) result }
-    ensures usage { result ≢ Exit.Usage }
+    ensures kind { IsOfText result }
+    ensures ended { DoneAtEnd (S.left src.old) (S.left src.new) result }
     ensures taken { TakesOnePast (S.left src.old) (S.left src.new) }
     ensures source { SourceCause (S.faults src.old) (S.faults src.new) result }
     ensures sink { SinkCause (K.faults out.old) (K.faults out.new) result }

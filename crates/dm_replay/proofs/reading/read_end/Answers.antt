@@ -1,3 +1,4 @@
+use Rattle.dm_replay.proofs.Ended.{source_ended}
 use Rattle.dm_replay.proofs.Fronts.{line_behind, bad_behind, error_behind, asked_halts}
 use Rattle.dm_replay.proofs.Over.{none_whole}
 use Rattle.dm_replay.proofs.reading.read_end.Goals as goal
@@ -23,3 +24,9 @@ returns-in-Err-clause-none g c =
     rw c.halt_of.ensures (none_whole c.args.lines.now c.next.new.self (g.S.Source.left c.args.src.now)
     (g.S.Source.left c.next.new.src) c.in-Err.error c.in-Err.ensures.line c.in-Err.ensures.taken
     c.in-Err.ensures.no_line)
+
+pub returns-in-Ok-End-clause-ended : goal.returns-in-Ok-End-clause-ended
+returns-in-Ok-End-clause-ended g c =
+    let line = rw c.in-Ok-End.field-0-is at c.in-Ok-End.ensures.line in
+    source_ended c.args.lines.now c.next.new.self (g.S.Source.left c.args.src.now) (g.S.Source.left c.next.new.src)
+    line.0 line.1

@@ -2,8 +2,10 @@ use Rattle.std.proofs.Common.{◌+◌, arith, sym, ◌∙◌}
 use Rattle.dm_base.proofs.Pending.{taken_more}
 use Rattle.dm_replay.specs.declared.reading.Halt.TheVariants as halt
 use Rattle.dm_replay.specs.From.{ending_at, events_at}
+use Rattle.dm_exit.proofs.Parts.{part_of_text, part_at_end}
 use Rattle.dm_replay.proofs.Accounts.{said_many}
 use Rattle.dm_replay.proofs.Asked.{answered_put, answered_said, answered_all, ended_over, due_fault, due_none}
+use Rattle.dm_replay.proofs.Ended.{due_of_text, due_not_done, ended_later}
 use Rattle.dm_replay.proofs.Faults.{part_is_no_fault}
 use Rattle.dm_replay.proofs.Fronts.{feedless_at_read}
 use Rattle.dm_replay.proofs.Running.{so_far_ends, so_far_put, said_more, due_breaks, memory_stops, end_ends, halt_ends}
@@ -150,3 +152,32 @@ pub returns-in-Err-answer-clause-answered : goal.returns-in-Err-answer-clause-an
 returns-in-Err-answer-clause-answered g c = λ is.
     let fault = due_fault _ halt.Memory _ _ _ c.put_due_and_halt-in-Err-answer.ensures.bytes is in
     absurd (let same = fault.0 in cc)
+
+pub returns-in-Err-clause-kind : goal.returns-in-Err-clause-kind
+returns-in-Err-clause-kind g c = part_of_text c.events.due _ _ c.in-Err.exit c.in-Err.ensures.bytes
+
+pub returns-in-Err-clause-ended : goal.returns-in-Err-clause-ended
+returns-in-Err-clause-ended g c = part_at_end c.events.due _ _ _ _ c.in-Err.exit c.in-Err.ensures.bytes
+
+pub returns-in-Ok-None-clause-ended : goal.returns-in-Ok-None-clause-ended
+returns-in-Ok-None-clause-ended g c =
+    ended_later _ (g.S.Source.left c.next_event.new.src) _ c.args.lines.now.taken c.next_event.new.lines.taken
+    c.put_end.result
+    (taken_more _ _ _ _ c.events.lines.taken _ c.events.invariant.taken c.in-Ok-None.ensures.taken)
+    c.put_end.ensures.ended
+
+pub returns-in-Err-next_event-clause-kind : goal.returns-in-Err-next_event-clause-kind
+returns-in-Err-next_event-clause-kind g c =
+    due_of_text _ c.in-Err-next_event.halt _ _ _ c.put_due_and_halt.ensures.bytes
+
+pub returns-in-Err-next_event-clause-ended : goal.returns-in-Err-next_event-clause-ended
+returns-in-Err-next_event-clause-ended g c = λ is.
+    absurd (due_not_done _ c.in-Err-next_event.halt _ _ _ c.put_due_and_halt.ensures.bytes is)
+
+pub returns-in-Err-answer-clause-kind : goal.returns-in-Err-answer-clause-kind
+returns-in-Err-answer-clause-kind g c =
+    due_of_text _ halt.Memory _ _ _ c.put_due_and_halt-in-Err-answer.ensures.bytes
+
+pub returns-in-Err-answer-clause-ended : goal.returns-in-Err-answer-clause-ended
+returns-in-Err-answer-clause-ended g c = λ is.
+    absurd (due_not_done _ halt.Memory _ _ _ c.put_due_and_halt-in-Err-answer.ensures.bytes is)

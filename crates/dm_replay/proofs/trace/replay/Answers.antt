@@ -1,5 +1,6 @@
 use Rattle.dm_start.specs.Start.{told_of}
 use Rattle.dm_replay.proofs.Asked.{begun_puts, unbegun_puts, puts_taken, halt_fault}
+use Rattle.dm_replay.proofs.Ended.{halt_of_text, halt_not_done, ended_later}
 use Rattle.dm_replay.proofs.Whole.{all_events_replay, all_halts_replay}
 use Rattle.dm_replay.proofs.Taken.{one_past, one_past_then}
 use Rattle.dm_replay.proofs.trace.replay.Goals as goal
@@ -45,3 +46,14 @@ returns-clause-answered g c = λ is.
     (got c.put_halt.new.out) c.new-lines.ensures
     (unbegun_puts c.new-lines.result (left c.args.src.now) (left c.read_start.new.src) (got c.args.out.now)
     (got c.put_halt.new.out) fault.1 (c.in-Err.ensures.over fault.0))
+
+pub returns-in-Ok-clause-ended : goal.returns-in-Ok-clause-ended
+returns-in-Ok-clause-ended g c =
+    ended_later _ (g.S.Source.left c.read_start.new.src) _ c.new-lines.result.taken c.read_start.new.lines.taken
+    c.answer_all.result c.in-Ok.ensures.taken c.answer_all.ensures.ended
+
+pub returns-clause-kind : goal.returns-clause-kind
+returns-clause-kind g c = halt_of_text c.in-Err.halt _ _ _ c.put_halt.ensures.bytes
+
+pub returns-clause-ended : goal.returns-clause-ended
+returns-clause-ended g c = λ is. absurd (halt_not_done c.in-Err.halt _ _ _ c.put_halt.ensures.bytes is)
