@@ -3,6 +3,7 @@ ghost use Rattle.std.specs.Prelude.{◌≡◌, ◌<◌, IfOk};
 ghost use Rattle.md5.specs.Md5.{md5};
 ghost use Rattle.dm_tree.specs.Rows.{nodes as nodes_of};
 ghost use Rattle.dm_start.specs.TreeText.{tree_text as text_of};
+ghost use Rattle.dm_exit.specs.Answers.{IsOfText};
 ghost use Rattle.dm_exit.specs.Causes.{SinkCause};
 ghost use Rattle.dm_exit.specs.Puts.{PutsEnd};
 ghost use Rattle.dm_bench.specs.Running.{begun as begun_run, with_messages};
@@ -84,6 +85,7 @@ fn bench_line(alloc: Global, seed: u64, nodes: u32, messages: u32) -> Result<Byt
 pub fn bench<K: Sink>(alloc: Global, seed: u64, nodes: u32, messages: u32, out: &mut K) -> Exit
     requires { 0 < nodes }
     ensures output { PutsEnd (bench_text seed nodes messages) Exit.Done (K.got out.old) (K.got out.new) result }
+    ensures kind { IsOfText result }
     ensures sink { SinkCause (K.faults out.old) (K.faults out.new) result }
 {
     match bench_line(alloc, seed, nodes, messages) {

@@ -10,10 +10,11 @@ use Rattle.dm_exit.specs.declared.exit.Exit.{Exit}
 use Rattle.dm_exit.specs.declared.exit.Exit.TheVariants as exit
 use Rattle.dm_exit.specs.Causes.{SourceCause}
 use Rattle.dm_exit.specs.Puts.{PutsPrefix, PutsPart, PutsEnd, Ends}
-use Rattle.dm_exit.proofs.Parts.{ends_put, prefix_none}
+use Rattle.dm_exit.specs.Answers.{IsOfText, DoneAtEnd}
+use Rattle.dm_exit.proofs.Parts.{ends_put, prefix_none, end_of_text, end_not_done, at_end_done}
 use Rattle.dm_check.specs.declared.message.Received.{Received}
 use Rattle.dm_check.specs.declared.message.Received.TheVariants as received
-use Rattle.dm_check.specs.Receiving.{Receives}
+use Rattle.dm_check.specs.Receiving.{Receives, MessageAtEnd}
 use Rattle.dm_check.specs.Answers.{shown, checked, exit_of, show_text, check_text, message_exit}
 use Rattle.dm_check.specs.Kept.{read_in, checked_in}
 
@@ -99,12 +100,7 @@ part_no_read text old new e h is = subst (PutsPart old new text) is h
 
 cause_by : (e : Exit) (before now : ℕ) → (e ≡ exit.ReadFault → ⊥) → now ≡ before → SourceCause before now e
 cause_by exit.ReadFault before now other h = absurd (other refl)
-cause_by exit.Done before now other h = h
-cause_by exit.Usage before now other h = h
-cause_by exit.BadInput before now other h = h
-cause_by exit.WriteFault before now other h = h
-cause_by exit.NoMemory before now other h = h
-cause_by exit.TooLong before now other h = h
+cause_by other before now no h = h
 
 pub no_read : (r : Received) (text : List ℕ) (good : Exit) (old new : Option (List ℕ)) (e : Exit)
     → good ≡ exit_of (read_in r) → PutsEnd text good old new e → e ≡ exit.ReadFault → ⊥
@@ -118,3 +114,20 @@ pub source_cause : (r : Received) (text : List ℕ) (good : Exit) (old new : Opt
     → now ≡ before → SourceCause before now e
 source_cause r text good old new e before now is h same =
     cause_by e before now (no_read r text good old new e is h) same
+
+-- ---- answers
+
+pub answer_of_text : (r : Received) (text : List ℕ) (good : Exit) (old new : Option (List ℕ)) (e : Exit)
+    → good ≡ exit_of (read_in r) → PutsEnd text good old new e → IsOfText e
+answer_of_text (received.Message message bytes) text good old new e is h =
+    end_of_text text good old new e (subst IsOfText (sym is) tt) h
+answer_of_text (received.Refused refusal) text good old new e is h =
+    end_of_text text good old new e (subst IsOfText (sym is) tt) h
+
+-- Done is answered for a message alone
+pub answer_ended : (left rest : Option (List ℕ)) (r : Received) (text : List ℕ) (good : Exit)
+    (old new : Option (List ℕ)) (e : Exit) → MessageAtEnd rest (Ok r) → good ≡ exit_of (read_in r)
+    → PutsEnd text good old new e → DoneAtEnd left rest e
+answer_ended left rest (received.Message message bytes) text good old new e ended is h = at_end_done left rest e ended
+answer_ended left rest (received.Refused refusal) text good old new e ended is h done =
+    absurd (end_not_done text good old new e (λ same. let no = sym is ∙ same in cc) h done)

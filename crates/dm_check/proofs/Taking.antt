@@ -3,7 +3,7 @@ use Rattle.std.proofs.Common.{ℕ, ◌≡◌, ◌≤◌, ◌+◌, List, [], ◌+
 use Rattle.std.proofs.lemmas.List.{length-append, length-take}
 use Rattle.std.proofs.KnownBytes.{Consumes-nil, Consumes-kept, Consumes-trans}
 use Rattle.std.specs.Prelude.{Option, Some, None, Result, Ok, Err}
-use Rattle.std.specs.Io.KnownBytes.{Consumes, Keeps}
+use Rattle.std.specs.Io.KnownBytes.{Consumes, Keeps, IsAtEnd}
 use Rattle.dm_base.specs.Outside.{OfKnown}
 use Rattle.dm_base.specs.declared.outside.Fault.{Fault}
 use Rattle.wbxml_tokens.specs.declared.reason.Refusal.{Refusal}
@@ -15,9 +15,10 @@ use Rattle.syncml_codec.specs.Decoding.{settled, built, first_of, read_of, Tells
 use Rattle.syncml_codec.proofs.Unrefused.{sound_within}
 use Rattle.syncml_codec.proofs.Decoded.{settled_more, settled_read}
 use Rattle.dm_check.specs.declared.message.Received.{Received}
+use Rattle.dm_check.specs.declared.message.Received.TheVariants as received
 use Rattle.dm_check.specs.Kept.{answer_to}
 use Rattle.dm_base.specs.declared.outside.Fault.TheVariants as fault
-use Rattle.dm_check.specs.Receiving.{Receives, ReceiveCounts, TakesNoMore, Unsettled}
+use Rattle.dm_check.specs.Receiving.{Receives, ReceiveCounts, MessageAtEnd, TakesNoMore, Unsettled}
 
 -- ---- bytes of which nothing is refused
 
@@ -93,3 +94,15 @@ no_fault r counts is = let rose = subst (ReceiveCounts 0 0) is (counts 0) in ome
 pub none_taken : (known : Option (List ℕ)) (bytes : List ℕ) → bytes ≡ [] → Consumes known known bytes
 none_taken None bytes is = tt
 none_taken (Some xs) bytes is = ap (λ l. l ++ xs) (sym is)
+
+-- ---- the end
+
+pub message_ended : (left : Option (List ℕ)) (r : Result Received Fault) → IsAtEnd left → MessageAtEnd left r
+message_ended left (Ok (received.Message message bytes)) h = h
+message_ended left (Ok (received.Refused refusal)) h = tt
+message_ended left (Err e) h = tt
+
+pub stopped_ended : (left : Option (List ℕ)) (e : FeedError) (r : Result Received Fault) → r ≡ answer_to e
+    → MessageAtEnd left r
+stopped_ended left (errors.Refused f) r is = subst (MessageAtEnd left) (sym is) tt
+stopped_ended left errors.Memory r is = subst (MessageAtEnd left) (sym is) tt

@@ -1,6 +1,6 @@
 -- What is received of a source: what all of its bytes are, by a piece more of them at most than settles it.
 use Rattle.std.specs.Prelude.{◌≡◌, ◌≤◌, ℕ, List, ◌++◌, length, Option, None, Result, Ok, Err, ⊤}
-use Rattle.std.specs.Io.KnownBytes.{Consumes}
+use Rattle.std.specs.Io.KnownBytes.{Consumes, IsAtEnd}
 use Rattle.dm_base.specs.Outside.{Rose}
 use Rattle.dm_base.specs.declared.outside.Fault.{Fault}
 use Rattle.dm_base.specs.declared.outside.Fault.TheVariants as fault
@@ -24,6 +24,11 @@ IsReceived (received.Refused refusal) bytes = read_of bytes ≡ Err refusal
 abbrev pub Receives : Result Received Fault → List ℕ → Type 0
 Receives (Ok r) bytes = IsReceived r bytes
 Receives (Err e) bytes = ⊤
+
+-- a message is answered only where the source is at its end
+abbrev pub MessageAtEnd : Option (List ℕ) → Result Received Fault → Type 0
+MessageAtEnd left (Ok (received.Message message bytes)) = IsAtEnd left
+MessageAtEnd left other = ⊤
 
 -- what was taken: all but a last piece of it settles no refusal, and it is no more than a message may have and one byte
 abbrev pub TakesNoMore : Option (List ℕ) → Option (List ℕ) → Type 0

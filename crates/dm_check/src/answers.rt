@@ -1,6 +1,7 @@
 // What is answered to one message.
-ghost use Rattle.std.specs.Prelude.{◌≡◌, ◌≢◌};
+ghost use Rattle.std.specs.Prelude.{◌≡◌};
 ghost use Rattle.dm_base.specs.Outside.{OfKnown};
+ghost use Rattle.dm_exit.specs.Answers.{IsOfText, DoneAtEnd};
 ghost use Rattle.dm_exit.specs.Causes.{SourceCause, SinkCause};
 ghost use Rattle.dm_exit.specs.Puts.{PutsEnd, Ends};
 ghost use Rattle.dm_check.specs.Answers as Spec;
@@ -37,7 +38,8 @@ fn put_answer<K: Sink>(out: &mut K, text: &[u8], received: &Received) -> Exit
 pub fn show<S: Source, K: Sink>(alloc: Global, src: &mut S, out: &mut K) -> Exit
     ensures output { OfKnown (S.left src.old) (λ bytes. Ends (show_text bytes) (message_exit bytes) (K.got out.old)
         (K.got out.new) result) }
-    ensures usage { result ≢ Exit.Usage }
+    ensures kind { IsOfText result }
+    ensures ended { DoneAtEnd (S.left src.old) (S.left src.new) result }
     ensures taken { TakesNoMore (S.left src.old) (S.left src.new) }
     ensures asked { result ≡ Exit.ReadFault → Unsettled (S.left src.old) (S.left src.new) }
     ensures source { SourceCause (S.faults src.old) (S.faults src.new) result }
@@ -58,7 +60,8 @@ pub fn show<S: Source, K: Sink>(alloc: Global, src: &mut S, out: &mut K) -> Exit
 pub fn check<S: Source, K: Sink>(alloc: Global, src: &mut S, out: &mut K) -> Exit
     ensures output { OfKnown (S.left src.old) (λ bytes. Ends (check_text bytes) (message_exit bytes) (K.got out.old)
         (K.got out.new) result) }
-    ensures usage { result ≢ Exit.Usage }
+    ensures kind { IsOfText result }
+    ensures ended { DoneAtEnd (S.left src.old) (S.left src.new) result }
     ensures taken { TakesNoMore (S.left src.old) (S.left src.new) }
     ensures asked { result ≡ Exit.ReadFault → Unsettled (S.left src.old) (S.left src.new) }
     ensures source { SourceCause (S.faults src.old) (S.faults src.new) result }

@@ -3,7 +3,7 @@ ghost use Rattle.std.specs.Prelude.{◌≡◌, ◌++◌, ℕ, OnOk, IsErrOf};
 ghost use Rattle.dm_base.specs.declared.outside.Fault.TheVariants as fault;
 ghost use Rattle.dm_base.specs.Outside.{OfKnown};
 ghost use Rattle.syncml_codec.specs.Decoding.{settled, HasDecoded, TellsSettled};
-ghost use Rattle.dm_check.specs.Receiving.{Receives, ReceiveCounts, TakesNoMore, Unsettled};
+ghost use Rattle.dm_check.specs.Receiving.{Receives, ReceiveCounts, MessageAtEnd, TakesNoMore, Unsettled};
 ghost use Rattle.dm_check.specs.Kept.{answer_to};
 
 use dm_base::{Bytes, Failed, Fault, Source};
@@ -70,6 +70,7 @@ fn finish(decoder: Decoder, bytes: Bytes) -> Result<Received, Fault>
 /// after a fault of the source, and `Memory` at any place.
 pub fn receive<S: Source>(alloc: Global, src: &mut S) -> Result<Received, Fault>
     ensures received { OfKnown (S.left src.old) (Receives result) }
+    ensures ended { MessageAtEnd (S.left src.new) result }
     ensures taken { TakesNoMore (S.left src.old) (S.left src.new) }
     ensures asked { IsErrOf result fault.Failed → Unsettled (S.left src.old) (S.left src.new) }
     ensures count { ReceiveCounts (S.faults src.old) (S.faults src.new) result }

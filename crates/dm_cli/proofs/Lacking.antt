@@ -10,7 +10,7 @@ use Rattle.dm_words.specs.declared.forms.Form.{Form}
 use Rattle.dm_words.specs.declared.forms.Form.TheVariants as forms
 use Rattle.dm_check.specs.Receiving.{TakesNoMore}
 use Rattle.dm_check.proofs.Taking.{nothing_settled}
-use Rattle.dm_cli.specs.Forms.{Runs, TakesFor, AsksForMore}
+use Rattle.dm_cli.specs.Forms.{Runs, TakesFor, AsksForMore, ReadsToEnd}
 
 nothing : (old : Option (List ℕ)) (text : List ℕ) → PutsPrefix old old text
 nothing None text = (0, tt)
@@ -55,3 +55,17 @@ unasked (Some forms.Pair) left e = tt
 unasked (Some forms.Show) left e = λ _. ([], consumes_nothing left, nothing_settled)
 unasked (Some forms.Check) left e = λ _. ([], consumes_nothing left, nothing_settled)
 unasked (Some (forms.Bench seed nodes messages)) left e = tt
+
+-- and isn't well
+pub unended : (form : Option Form) (old new : Option (List ℕ)) → ReadsToEnd form old new exit.NoMemory
+unfolding ReadsToEnd
+unended None old new = tt
+unended (Some forms.Replay) old new = λ is. cc
+unended (Some forms.Pair) old new = λ is. cc
+unended (Some forms.Show) old new = λ is. cc
+unended (Some forms.Check) old new = λ is. cc
+unended (Some (forms.Bench seed nodes messages)) old new = tt
+
+pub formless : (old new : Option (List ℕ)) (e : Exit) → ReadsToEnd None old new e
+unfolding ReadsToEnd
+formless old new e = tt

@@ -5,6 +5,7 @@ use Rattle.dm_base.specs.Lines.{line_feed}
 use Rattle.dm_base.specs.Outside.{OfKnown}
 use Rattle.dm_exit.specs.declared.exit.Exit.{Exit}
 use Rattle.dm_exit.specs.declared.exit.Exit.TheVariants as exit
+use Rattle.dm_exit.specs.Answers.{DoneAtEnd}
 use Rattle.dm_exit.specs.Puts.{PutsPrefix, PutsEnd, Ends}
 use Rattle.dm_replay.specs.Input.{TakesOnePast}
 use Rattle.dm_replay.specs.Output.{Replays}
@@ -23,10 +24,7 @@ abbrev pub PutsUsage : Option (List ℕ) → Option (List ℕ) → Exit → Type
 PutsUsage old new exit.Usage = Appends old new usage_line
 PutsUsage old new exit.WriteFault = PutsPrefix old new usage_line
 PutsUsage old new exit.NoMemory = PutsPrefix old new usage_line
-PutsUsage old new exit.Done = ⊥
-PutsUsage old new exit.BadInput = ⊥
-PutsUsage old new exit.ReadFault = ⊥
-PutsUsage old new exit.TooLong = ⊥
+PutsUsage old new other = ⊥
 
 -- what a run puts, by the form of its words: the usage line, a text over the bytes that the source tells, or the line
 -- of a workload, over its numbers
@@ -60,7 +58,16 @@ AsksForMore (Some forms.Show) old new e = e ≡ exit.ReadFault → Unsettled old
 AsksForMore (Some forms.Check) old new e = e ≡ exit.ReadFault → Unsettled old new
 AsksForMore other old new e = ⊤
 
--- the status that the program ends with
+-- a run that reads its source ends well only where that is at its end
+unfoldable pub ReadsToEnd : Option Form → Option (List ℕ) → Option (List ℕ) → Exit → Type 0
+ReadsToEnd None old new e = ⊤
+ReadsToEnd (Some forms.Replay) old new e = DoneAtEnd old new e
+ReadsToEnd (Some forms.Pair) old new e = DoneAtEnd old new e
+ReadsToEnd (Some forms.Show) old new e = DoneAtEnd old new e
+ReadsToEnd (Some forms.Check) old new e = DoneAtEnd old new e
+ReadsToEnd (Some (forms.Bench seed nodes messages)) old new e = ⊤
+
+-- the status that the program ends with; 12 is none
 abbrev pub status_of : Exit → ℕ
 status_of exit.Done = 0
 status_of exit.Usage = 2
@@ -68,4 +75,11 @@ status_of exit.BadInput = 3
 status_of exit.ReadFault = 4
 status_of exit.WriteFault = 5
 status_of exit.NoMemory = 6
+status_of exit.GaveUp = 7
+status_of exit.Denied = 8
 status_of exit.TooLong = 9
+status_of exit.DoorFault = 10
+status_of exit.Peer = 11
+status_of exit.DiskFault = 13
+status_of exit.StoreFull = 14
+status_of exit.BadStore = 15

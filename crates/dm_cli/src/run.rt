@@ -3,11 +3,12 @@ ghost use Rattle.std.specs.Prelude.{◌≡◌, ◌≢◌, ◌<◌, ℕ, List, Op
 ghost use Rattle.std.specs.IoError.{error_kind};
 ghost use Rattle.std.specs.declared.io.ErrorKind.TheVariants.{InvalidData};
 ghost use Rattle.std.specs.Process.{exit_status};
+ghost use Rattle.dm_exit.specs.Answers.{IsOfText};
 ghost use Rattle.dm_exit.specs.Causes.{SourceCause, SinkCause};
 ghost use Rattle.dm_replay.specs.Output.{AnswersTaken};
 ghost use Rattle.dm_words.specs.declared.forms.Form.TheVariants as forms;
 ghost use Rattle.dm_words.specs.Forms.{form_of, IsWithinBounds};
-ghost use Rattle.dm_cli.specs.Forms.{Runs, TakesFor, AsksForMore, UsageMeansNoForm, status_of};
+ghost use Rattle.dm_cli.specs.Forms.{Runs, TakesFor, AsksForMore, ReadsToEnd, UsageMeansNoForm, status_of};
 
 use dm_base::{Fault, Memory, Sink, Source, put_all};
 use dm_bench::bench;
@@ -24,6 +25,7 @@ use std::process::ExitCode;
 #[tactic(auto, unfolding(crate::specs::Forms::Runs))]
 fn put_usage<K: Sink>(out: &mut K) -> Exit
     ensures output { (left : Option (List ℕ)) → Runs None left (K.got out.old) (K.got out.new) result }
+    ensures kind { result ≢ Exit.Usage → IsOfText result }
     ensures source { (faults : ℕ) → SourceCause faults faults result }
     ensures sink { SinkCause (K.faults out.old) (K.faults out.new) result }
 {
@@ -34,12 +36,13 @@ fn put_usage<K: Sink>(out: &mut K) -> Exit
     }
 }
 
-#[tactic(auto, unfolding(crate::specs::Forms::Runs, crate::specs::Forms::TakesFor, crate::specs::Forms::AsksForMore))]
+#[tactic(auto, unfolding(crate::specs::Forms::Runs, crate::specs::Forms::TakesFor, crate::specs::Forms::AsksForMore, crate::specs::Forms::ReadsToEnd))]
 fn run_replay<S: Source, K: Sink>(alloc: Global, src: &mut S, out: &mut K) -> Exit
     ensures output { Runs (Some forms.Replay) (S.left src.old) (K.got out.old) (K.got out.new) result }
     ensures answered { AnswersTaken (S.left src.old) (S.left src.new) (K.got out.old) (K.got out.new) result }
     ensures asked { AsksForMore (Some forms.Replay) (S.left src.old) (S.left src.new) result }
-    ensures usage { result ≢ Exit.Usage }
+    ensures ended { ReadsToEnd (Some forms.Replay) (S.left src.old) (S.left src.new) result }
+    ensures kind { IsOfText result }
     ensures taken { TakesFor S.left (Some forms.Replay) src.old src.new }
     ensures source { SourceCause (S.faults src.old) (S.faults src.new) result }
     ensures sink { SinkCause (K.faults out.old) (K.faults out.new) result }
@@ -47,11 +50,12 @@ fn run_replay<S: Source, K: Sink>(alloc: Global, src: &mut S, out: &mut K) -> Ex
     replay(alloc, src, out)
 }
 
-#[tactic(auto, unfolding(crate::specs::Forms::Runs, crate::specs::Forms::TakesFor, crate::specs::Forms::AsksForMore))]
+#[tactic(auto, unfolding(crate::specs::Forms::Runs, crate::specs::Forms::TakesFor, crate::specs::Forms::AsksForMore, crate::specs::Forms::ReadsToEnd))]
 fn run_pair<S: Source, K: Sink>(alloc: Global, src: &mut S, out: &mut K) -> Exit
     ensures output { Runs (Some forms.Pair) (S.left src.old) (K.got out.old) (K.got out.new) result }
     ensures asked { AsksForMore (Some forms.Pair) (S.left src.old) (S.left src.new) result }
-    ensures usage { result ≢ Exit.Usage }
+    ensures ended { ReadsToEnd (Some forms.Pair) (S.left src.old) (S.left src.new) result }
+    ensures kind { IsOfText result }
     ensures taken { TakesFor S.left (Some forms.Pair) src.old src.new }
     ensures source { SourceCause (S.faults src.old) (S.faults src.new) result }
     ensures sink { SinkCause (K.faults out.old) (K.faults out.new) result }
@@ -59,11 +63,12 @@ fn run_pair<S: Source, K: Sink>(alloc: Global, src: &mut S, out: &mut K) -> Exit
     pair(alloc, src, out)
 }
 
-#[tactic(auto, unfolding(crate::specs::Forms::Runs, crate::specs::Forms::TakesFor, crate::specs::Forms::AsksForMore))]
+#[tactic(auto, unfolding(crate::specs::Forms::Runs, crate::specs::Forms::TakesFor, crate::specs::Forms::AsksForMore, crate::specs::Forms::ReadsToEnd))]
 fn run_show<S: Source, K: Sink>(alloc: Global, src: &mut S, out: &mut K) -> Exit
     ensures output { Runs (Some forms.Show) (S.left src.old) (K.got out.old) (K.got out.new) result }
     ensures asked { AsksForMore (Some forms.Show) (S.left src.old) (S.left src.new) result }
-    ensures usage { result ≢ Exit.Usage }
+    ensures ended { ReadsToEnd (Some forms.Show) (S.left src.old) (S.left src.new) result }
+    ensures kind { IsOfText result }
     ensures taken { TakesFor S.left (Some forms.Show) src.old src.new }
     ensures source { SourceCause (S.faults src.old) (S.faults src.new) result }
     ensures sink { SinkCause (K.faults out.old) (K.faults out.new) result }
@@ -72,11 +77,12 @@ fn run_show<S: Source, K: Sink>(alloc: Global, src: &mut S, out: &mut K) -> Exit
 }
 
 // Says whether a message is canonical.
-#[tactic(auto, unfolding(crate::specs::Forms::Runs, crate::specs::Forms::TakesFor, crate::specs::Forms::AsksForMore))]
+#[tactic(auto, unfolding(crate::specs::Forms::Runs, crate::specs::Forms::TakesFor, crate::specs::Forms::AsksForMore, crate::specs::Forms::ReadsToEnd))]
 fn run_check<S: Source, K: Sink>(alloc: Global, src: &mut S, out: &mut K) -> Exit
     ensures output { Runs (Some forms.Check) (S.left src.old) (K.got out.old) (K.got out.new) result }
     ensures asked { AsksForMore (Some forms.Check) (S.left src.old) (S.left src.new) result }
-    ensures usage { result ≢ Exit.Usage }
+    ensures ended { ReadsToEnd (Some forms.Check) (S.left src.old) (S.left src.new) result }
+    ensures kind { IsOfText result }
     ensures taken { TakesFor S.left (Some forms.Check) src.old src.new }
     ensures source { SourceCause (S.faults src.old) (S.faults src.new) result }
     ensures sink { SinkCause (K.faults out.old) (K.faults out.new) result }
@@ -84,13 +90,14 @@ fn run_check<S: Source, K: Sink>(alloc: Global, src: &mut S, out: &mut K) -> Exi
     check(alloc, src, out)
 }
 
-#[tactic(auto, unfolding(crate::specs::Forms::Runs, crate::specs::Forms::AsksForMore))]
+#[tactic(auto, unfolding(crate::specs::Forms::Runs, crate::specs::Forms::AsksForMore, crate::specs::Forms::ReadsToEnd))]
 fn run_bench<K: Sink>(alloc: Global, seed: u64, nodes: u32, messages: u32, out: &mut K) -> Exit
     requires { 0 < nodes }
     ensures output { (left : Option (List ℕ)) → Runs (Some (forms.Bench seed nodes messages)) left (K.got out.old)
         (K.got out.new) result }
     ensures asked { (left : Option (List ℕ)) → AsksForMore (Some (forms.Bench seed nodes messages)) left left result }
-    ensures usage { result ≢ Exit.Usage }
+    ensures ended { (left : Option (List ℕ)) → ReadsToEnd (Some (forms.Bench seed nodes messages)) left left result }
+    ensures kind { IsOfText result }
     ensures source { (faults : ℕ) → SourceCause faults faults result }
     ensures sink { SinkCause (K.faults out.old) (K.faults out.new) result }
 {
@@ -105,7 +112,8 @@ fn run_form<S: Source, K: Sink>(alloc: Global, form: Form, src: &mut S, out: &mu
     ensures answered { form ≡ forms.Replay
         → AnswersTaken (S.left src.old) (S.left src.new) (K.got out.old) (K.got out.new) result }
     ensures asked { AsksForMore (Some form) (S.left src.old) (S.left src.new) result }
-    ensures usage { result ≢ Exit.Usage }
+    ensures ended { ReadsToEnd (Some form) (S.left src.old) (S.left src.new) result }
+    ensures kind { IsOfText result }
     ensures taken { TakesFor S.left (Some form) src.old src.new }
     ensures source { SourceCause (S.faults src.old) (S.faults src.new) result }
     ensures sink { SinkCause (K.faults out.old) (K.faults out.new) result }
@@ -127,13 +135,16 @@ fn run_form<S: Source, K: Sink>(alloc: Global, form: Form, src: &mut S, out: &mu
 /// ends it by `NoMemory` at any place; what was written is a prefix of the defined text then. Where the source of a
 /// trace fails, the answers to all lines that were taken whole were written. Words of no form and a workload take
 /// nothing of the source, of a trace and of a text for both ends at most 67,108,865 bytes are taken, and one message is
-/// taken no further than to the piece that settles its refusal, or to its end.
+/// taken no further than to the piece that settles its refusal, or to its end. A run that reads a source which tells
+/// its bytes ends by `Done` only where that is at its end.
 pub fn run<S: Source, K: Sink>(alloc: Global, words: &[String], src: &mut S, out: &mut K) -> Exit
     ensures output { Runs (form_of (map string_bytes words.now)) (S.left src.old) (K.got out.old)
         (K.got out.new) result }
     ensures answered { form_of (map string_bytes words.now) ≡ Some forms.Replay
         → AnswersTaken (S.left src.old) (S.left src.new) (K.got out.old) (K.got out.new) result }
     ensures asked { AsksForMore (form_of (map string_bytes words.now)) (S.left src.old) (S.left src.new) result }
+    ensures ended { ReadsToEnd (form_of (map string_bytes words.now)) (S.left src.old) (S.left src.new) result }
+    ensures kind { result ≢ Exit.Usage → IsOfText result }
     ensures usage { UsageMeansNoForm (form_of (map string_bytes words.now)) result }
     ensures taken { TakesFor S.left (form_of (map string_bytes words.now)) src.old src.new }
     ensures source { SourceCause (S.faults src.old) (S.faults src.new) result }
@@ -161,6 +172,9 @@ pub fn run_words<S: Source, K: Sink>(
         → AnswersTaken (S.left src.old) (S.left src.new) (K.got out.old) (K.got out.new) result) }
     ensures asked { IfOk words
         (λ w. AsksForMore (form_of (map string_bytes w.items)) (S.left src.old) (S.left src.new) result) }
+    ensures ended { IfOk words
+        (λ w. ReadsToEnd (form_of (map string_bytes w.items)) (S.left src.old) (S.left src.new) result) }
+    ensures kind { result ≢ Exit.Usage → IsOfText result }
     ensures usage { IfOk words (λ w. UsageMeansNoForm (form_of (map string_bytes w.items)) result) }
     ensures taken { IfOk words (λ w. TakesFor S.left (form_of (map string_bytes w.items)) src.old src.new) }
     ensures unread { IfErr words (λ e. error_kind e ≡ InvalidData
@@ -189,7 +203,14 @@ fn status(exit: Exit) -> u8
         Exit::ReadFault => 4,
         Exit::WriteFault => 5,
         Exit::NoMemory => 6,
+        Exit::GaveUp => 7,
+        Exit::Denied => 8,
         Exit::TooLong => 9,
+        Exit::DoorFault => 10,
+        Exit::Peer => 11,
+        Exit::DiskFault => 13,
+        Exit::StoreFull => 14,
+        Exit::BadStore => 15,
     }
 }
 

@@ -10,7 +10,8 @@ use Rattle.dm_base.specs.declared.outside.TakeError.TheVariants as take_error
 use Rattle.dm_exit.specs.declared.exit.Exit.{Exit}
 use Rattle.dm_exit.specs.declared.exit.Exit.TheVariants as exit
 use Rattle.dm_exit.specs.Puts.{PutsPart, PutsEnd, Ends}
-use Rattle.dm_exit.proofs.Parts.{ends_put, rest_breaks}
+use Rattle.dm_exit.specs.Answers.{IsOfText}
+use Rattle.dm_exit.proofs.Parts.{ends_put, rest_breaks, end_of_text}
 use Rattle.dm_pair.specs.Texts.{written, is_too_long, pair_text, pair_exit}
 use Rattle.dm_pair.specs.Seen.{exit_of}
 
@@ -87,3 +88,13 @@ pub too_long : (left rest old : Option (List ℕ)) → TakesAll left rest 671088
 too_long None rest old took = tt
 too_long (Some bytes) rest old took =
     long_ends bytes true old (many bytes (longer bytes rest took.0 took.1 took.2)) refl
+
+-- ---- the answer
+
+exit_of_text : (bad : Bool) → IsOfText (exit_of bad)
+exit_of_text true = tt
+exit_of_text false = tt
+
+pub put_of_text : (text : List ℕ) (bad : Bool) (old new : Option (List ℕ)) (e : Exit)
+    → PutsEnd text (exit_of bad) old new e → IsOfText e
+put_of_text text bad old new e h = end_of_text text (exit_of bad) old new e (exit_of_text bad) h

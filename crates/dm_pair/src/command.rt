@@ -1,7 +1,8 @@
 // The command.
-ghost use Rattle.std.specs.Prelude.{◌≡◌, ◌≢◌, ◌++◌, MatchResult};
+ghost use Rattle.std.specs.Prelude.{◌≡◌, ◌++◌, MatchResult};
 ghost use Rattle.std.specs.Io.KnownBytes.{Appends};
 ghost use Rattle.dm_base.specs.Outside.{OfKnown};
+ghost use Rattle.dm_exit.specs.Answers.{IsOfText, DoneAtEnd};
 ghost use Rattle.dm_exit.specs.Causes.{SourceCause, SinkCause};
 ghost use Rattle.dm_exit.specs.Puts.{PutsEnd, PutsPart, Ends};
 ghost use Rattle.dm_replay.specs.Input.{TakesOnePast};
@@ -65,7 +66,8 @@ fn put_out<K: Sink>(out: &mut K, written: &PairOut) -> Exit
 pub fn pair<S: Source, K: Sink>(alloc: Global, src: &mut S, out: &mut K) -> Exit
     ensures output { OfKnown (S.left src.old) (λ bytes. Ends (pair_text bytes) (pair_exit bytes) (K.got out.old)
         (K.got out.new) result) }
-    ensures usage { result ≢ Exit.Usage }
+    ensures kind { IsOfText result }
+    ensures ended { DoneAtEnd (S.left src.old) (S.left src.new) result }
     ensures taken { TakesOnePast (S.left src.old) (S.left src.new) }
     ensures source { SourceCause (S.faults src.old) (S.faults src.new) result }
     ensures sink { SinkCause (K.faults out.old) (K.faults out.new) result }

@@ -5,7 +5,7 @@ use Rattle.std.specs.Io.KnownBytes.{Consumes}
 use Rattle.syncml_codec.specs.Decoding.{settled, HasDecoded}
 use Rattle.dm_check.specs.Receiving.{ReceiveCounts}
 use Rattle.dm_check.proofs.Taking.{nothing_settled, unsettled_within, none_taken, took_none, took_piece}
-use Rattle.dm_check.proofs.Taking.{stopped_received, asked_unsettled, no_fault}
+use Rattle.dm_check.proofs.Taking.{stopped_received, asked_unsettled, no_fault, message_ended, stopped_ended}
 use Rattle.dm_check.proofs.message.receive.Goals as goal
 
 pub pieces-init : goal.pieces-init
@@ -93,3 +93,11 @@ returns-in-Err-keep-clause-asked g c = λ is. absurd (no_fault c.stopped.result 
 pub returns-in-Err-clause-asked : goal.returns-in-Err-clause-asked
 returns-in-Err-clause-asked g c = λ is.
     asked_unsettled _ _ _ c.pieces.bytes c.pieces.invariant.taken c.pieces.invariant.unsettled c.in-Err.ensures.bytes
+
+pub returns-in-Ok-eq0-clause-ended : goal.returns-in-Ok-eq0-clause-ended
+returns-in-Ok-eq0-clause-ended g c =
+    message_ended _ c.finish.result (c.in-Ok-eq0.ensures.bytes.2 c.in-Ok-eq0.field-0-is)
+
+pub returns-in-Err-keep-clause-ended : goal.returns-in-Err-keep-clause-ended
+returns-in-Err-keep-clause-ended g c =
+    stopped_ended _ c.in-Err-keep.error c.stopped.result c.stopped.ensures.received

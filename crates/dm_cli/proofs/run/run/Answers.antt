@@ -1,4 +1,4 @@
-use Rattle.dm_cli.proofs.Lacking.{lacking, untaken, unasked}
+use Rattle.dm_cli.proofs.Lacking.{lacking, untaken, unasked, unended, formless}
 use Rattle.dm_cli.proofs.run.run.Goals as goal
 
 pub returns-in-Err-clause-output : goal.returns-in-Err-clause-output
@@ -18,3 +18,9 @@ returns-in-Ok-None-clause-asked g c = unasked _ _ _
 
 pub returns-in-Err-clause-asked : goal.returns-in-Err-clause-asked
 returns-in-Err-clause-asked g c = unasked _ _ _
+
+pub returns-in-Err-clause-ended : goal.returns-in-Err-clause-ended
+returns-in-Err-clause-ended g c = unended _ _ _
+
+pub returns-in-Ok-None-clause-ended : goal.returns-in-Ok-None-clause-ended
+returns-in-Ok-None-clause-ended g c = formless _ _ _

@@ -1,7 +1,8 @@
 use Rattle.std.proofs.Common.{◌∙◌, ap}
+use Rattle.dm_exit.proofs.Parts.{at_end_done}
 use Rattle.dm_pair.specs.Texts.{written}
 use Rattle.dm_pair.specs.Seen.{text_of}
-use Rattle.dm_pair.proofs.Putting.{all_put, too_long}
+use Rattle.dm_pair.proofs.Putting.{all_put, too_long, put_of_text}
 use Rattle.dm_pair.proofs.command.pair.Goals as goal
 
 pub returns-in-Err-TooLong-clause-output : goal.returns-in-Err-TooLong-clause-output
@@ -15,3 +16,11 @@ returns-in-Ok-run_pair-clause-output g c =
     (text_of c.in-Ok-run_pair.written) c.in-Ok-run_pair.written.bad _ _ c.put_out.result c.in-Ok.ensures.bytes
     (c.in-Ok-run_pair.ensures.text ∙ ap (λ b. (written b).text) c.as_slice.ensures)
     (c.in-Ok-run_pair.ensures.bad ∙ ap (λ b. (written b).bad) c.as_slice.ensures) c.put_out.ensures.bytes
+
+pub returns-in-Ok-run_pair-clause-kind : goal.returns-in-Ok-run_pair-clause-kind
+returns-in-Ok-run_pair-clause-kind g c =
+    put_of_text (text_of c.in-Ok-run_pair.written) c.in-Ok-run_pair.written.bad _ _ c.put_out.result
+    c.put_out.ensures.bytes
+
+pub returns-in-Ok-run_pair-clause-ended : goal.returns-in-Ok-run_pair-clause-ended
+returns-in-Ok-run_pair-clause-ended g c = at_end_done _ _ c.put_out.result c.in-Ok.ensures.bytes.2
