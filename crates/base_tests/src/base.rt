@@ -257,41 +257,32 @@ fn grown(alloc: Global) -> Result<List<u8>, Memory> {
     Ok(list)
 }
 
-#[test]
-fn keeps_lists(rt: HostRuntime) -> Result<(), Fail> {
-    assert!(rt; is_kept(rt.alloc())?);
-    let mut list = grown(rt.alloc())?;
-    assert!(rt; list.len() == 3);
-    list.take_out(1, 1);
-    assert!(rt; list.as_slice() == b"\x04\x06".as_slice());
-    Ok(())
-}
+// The helpers answer by one list of truths, and a test asserts once: each assertion has an exit of its own.
 
-#[test]
-fn reads_fields(rt: HostRuntime) -> Result<(), Fail> {
-    assert!(rt; field(b"a b", 1).unwrap_or(b"") == b"b".as_slice());
-    assert!(rt; field(b"a b", 2).is_none());
-    assert!(rt; numbers_are_read());
-    assert!(rt; forms_are_known());
-    assert!(rt; nonce(b"-").is_none());
+fn are_fields() -> bool {
     let ones = nonce(b"01010101010101010101010101010101");
-    assert!(rt; ones.map_or(false, |nonce| nonce.bytes == [1u8; 16]));
-    Ok(())
+    let right = [
+        field(b"a b", 1).unwrap_or(b"") == b"b".as_slice(),
+        field(b"a b", 2).is_none(),
+        numbers_are_read(),
+        forms_are_known(),
+        nonce(b"-").is_none(),
+        ones.map_or(false, |nonce| nonce.bytes == [1u8; 16]),
+    ];
+    right == [true; 6]
 }
 
-#[test]
-fn reads_and_puts_digits(rt: HostRuntime) -> Result<(), Fail> {
-    let alloc = rt.alloc();
-    assert!(rt; digits_are_read(alloc)?);
-    assert!(rt; is_put(alloc, b"", b"-")?);
-    assert!(rt;
+fn are_digits(alloc: Global) -> Result<bool, Memory> {
+    let right = [
+        digits_are_read(alloc)?,
+        is_put(alloc, b"", b"-")?,
         is_put(
             alloc,
             b"0123456789:JOZaz\n",
-            b"303132333435363738393a4a4f5a617a0a"
-        )?
-    );
-    Ok(())
+            b"303132333435363738393a4a4f5a617a0a",
+        )?,
+    ];
+    Ok(right == [true; 3])
 }
 
 fn puts(alloc: Global) -> Result<bool, Fault> {
@@ -300,29 +291,64 @@ fn puts(alloc: Global) -> Result<bool, Fault> {
     Ok(sink.bytes() == b"abc".as_slice())
 }
 
+fn takes(alloc: Global) -> Result<bool, Memory> {
+    let right = [
+        is_taken(alloc, 2, 0, Some(TakeError::TooLong))?,
+        is_taken(alloc, 9, 2, Some(TakeError::Read))?,
+        is_taken(alloc, 4, 0, None)?,
+        is_taken(alloc, u64::MAX, 0, None)?,
+        are_lines(alloc, b"ab\n\ncd", &["ab", "Read", "", "Cut", "Cut"])?,
+        are_lines(alloc, b"", &["End"])?,
+    ];
+    Ok(right == [true; 6])
+}
+
+fn have_texts(alloc: Global) -> Result<bool, AllocError> {
+    let right = [
+        is_told(alloc, &Memory, "out of memory")?,
+        is_told(alloc, &Failed, "a fault of what is outside")?,
+        is_told(alloc, &Fault::Failed, "a fault of what is outside")?,
+        is_told(alloc, &Fault::Memory, "out of memory")?,
+        is_told(alloc, &TakeError::Read, "the source failed")?,
+        is_told(alloc, &TakeError::TooLong, "more bytes than are taken")?,
+        is_told(alloc, &TakeError::Memory, "out of memory")?,
+    ];
+    Ok(right == [true; 7])
+}
+
+#[test]
+fn keeps_bytes(rt: HostRuntime) -> Result<(), Fail> {
+    assert!(rt; is_kept(rt.alloc())?);
+    Ok(())
+}
+
+#[test]
+fn keeps_lists(rt: HostRuntime) -> Result<(), Fail> {
+    let list = grown(rt.alloc())?;
+    assert!(rt; list.as_slice() == b"\x04\x05\x06".as_slice());
+    Ok(())
+}
+
+#[test]
+fn reads_fields(rt: HostRuntime) {
+    assert!(rt; are_fields());
+}
+
+#[test]
+fn reads_and_puts_digits(rt: HostRuntime) -> Result<(), Fail> {
+    assert!(rt; are_digits(rt.alloc())?);
+    Ok(())
+}
+
 #[test]
 fn takes_and_puts(rt: HostRuntime) -> Result<(), Fail> {
-    let alloc = rt.alloc();
-    assert!(rt; puts(alloc)?);
-    assert!(rt; is_taken(alloc, 2, 0, Some(TakeError::TooLong))?);
-    assert!(rt; is_taken(alloc, 9, 2, Some(TakeError::Read))?);
-    assert!(rt; is_taken(alloc, 4, 0, None)?);
-    assert!(rt; is_taken(alloc, u64::MAX, 0, None)?);
-    let wants = ["ab", "Read", "", "Cut", "Cut"];
-    assert!(rt; are_lines(alloc, b"ab\n\ncd", &wants)?);
-    assert!(rt; are_lines(alloc, b"", &["End"])?);
+    assert!(rt; puts(rt.alloc())?);
+    assert!(rt; takes(rt.alloc())?);
     Ok(())
 }
 
 #[test]
 fn errors_are_told(rt: HostRuntime) -> Result<(), Fail> {
-    let alloc = rt.alloc();
-    assert!(rt; is_told(alloc, &Memory, "out of memory")?);
-    assert!(rt; is_told(alloc, &Failed, "a fault of what is outside")?);
-    assert!(rt; is_told(alloc, &Fault::Failed, "a fault of what is outside")?);
-    assert!(rt; is_told(alloc, &Fault::Memory, "out of memory")?);
-    assert!(rt; is_told(alloc, &TakeError::Read, "the source failed")?);
-    assert!(rt; is_told(alloc, &TakeError::TooLong, "more bytes than are taken")?);
-    assert!(rt; is_told(alloc, &TakeError::Memory, "out of memory")?);
+    assert!(rt; have_texts(rt.alloc())?);
     Ok(())
 }
