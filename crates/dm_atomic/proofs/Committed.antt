@@ -1,8 +1,7 @@
 -- The tree that counts if nothing more comes, where a group is open and where none is.
-use Rattle.std.proofs.Common.{◌≡◌, Bool, true, false, refl, sym, ◌∙◌, ap}
-use Rattle.dm_tree.specs.Nodes.{Nodes}
+use Rattle.std.proofs.Common.{◌≡◌, false, refl}
 use Rattle.dm_atomic.specs.declared.engine.Engine.{Engine}
-use Rattle.dm_atomic.specs.Run.{State, committed, opened}
+use Rattle.dm_atomic.specs.Run.{committed, opened}
 use Rattle.dm_atomic.specs.Engine.{state_of}
 use Rattle.dm_atomic.specs.Marks.{whole_of}
 use Rattle.dm_atomic.specs.Stays.{committed_ids}

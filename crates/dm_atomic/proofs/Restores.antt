@@ -2,9 +2,7 @@
 use Rattle.std.proofs.Common.{◌≡◌, Bool, true, false, cond, List, [], ◌∷◌}
 use Rattle.std.proofs.Common.{◌++◌, Option, None, Some, refl, sym, ◌∙◌, ap, subst}
 use Rattle.std.specs.Prelude.{unwrap_or}
-use Rattle.syncml_types.specs.declared.command.AlertCmd.{AlertCmd}
 use Rattle.dm_atomic.specs.declared.reports.Part.{Part}
-use Rattle.dm_atomic.specs.declared.tasks.Origin.{Origin}
 use Rattle.dm_tree.specs.Nodes.{Nodes}
 use Rattle.dm_atomic.specs.declared.tasks.Post.{Post}
 use Rattle.dm_atomic.specs.declared.tasks.Task.{Task}
