@@ -19,7 +19,7 @@ use std::process::ExitCode;
 use std::time::Instant;
 use std::{env, fs, io};
 use syncml_codec::decode;
-use syncml_types::{Message, Unfit, length};
+use syncml_types::{Message, length};
 use turn::{Way, turn};
 use wbxml_tokens::FeedError;
 use words::{Span, Work, span_of, work_of};
@@ -97,25 +97,38 @@ fn read(rt: &HostRuntime, file: &str, work_asked: Work) -> io::Result<()> {
     work(rt, job, bytes.len(), work_asked.span)
 }
 
-// The message that a file has.
-fn message_in(rt: &HostRuntime, file: &str) -> io::Result<Message> {
-    let bytes = fs::read(rt, file)?;
-    match decode(rt.alloc(), bytes.as_slice()) {
+// The message that bytes spell.
+fn message_in(rt: &HostRuntime, bytes: &[u8]) -> io::Result<Message> {
+    match decode(rt.alloc(), bytes) {
         Ok(message) => Ok(message),
         Err(error) => Err(told(error)),
     }
 }
 
-// A message of this name.
+// A message of this name, or that of a file.
 fn message_of(rt: &HostRuntime, name: &str) -> io::Result<Message> {
-    let made = match name {
-        "small" => small_commands(rt.alloc()),
-        "large" => large_data(rt.alloc()),
-        file => return message_in(rt, file),
-    };
-    match made.map_err(of_memory)? {
-        Ok(message) => Ok(message),
-        Err(_) => Err(io::Error::from(io::ErrorKind::InvalidData)),
+    match name {
+        "small" => {
+            let bytes = small_commands(rt.alloc()).map_err(of_memory)?;
+            message_in(rt, bytes.as_slice())
+        }
+        "large" => {
+            let bytes = large_data(rt.alloc()).map_err(of_memory)?;
+            message_in(rt, bytes.as_slice())
+        }
+        file => {
+            let bytes = fs::read(rt, file)?;
+            message_in(rt, bytes.as_slice())
+        }
+    }
+}
+
+fn write_message(rt: &HostRuntime, what: &str, span: Span, message: &Message) -> io::Result<()> {
+    let size = length(message) as usize;
+    match what {
+        "encode" => work(rt, Job::Encode(message), size, span),
+        "length" => work(rt, Job::Length(message), size, span),
+        _ => Err(bad_words()),
     }
 }
 
@@ -124,12 +137,7 @@ fn write(rt: &HostRuntime, what: &str, span: &str, name: &str) -> io::Result<()>
         return Err(bad_words());
     };
     let message = message_of(rt, name)?;
-    let size = length(&message) as usize;
-    match what {
-        "encode" => work(rt, Job::Encode(&message), size, span),
-        "length" => work(rt, Job::Length(&message), size, span),
-        _ => Err(bad_words()),
-    }
+    write_message(rt, what, span, &message)
 }
 
 // One turn over a document of the data, in each way, whole and byte by byte.
@@ -150,17 +158,20 @@ fn show(rt: &HostRuntime, name: &str) -> io::Result<()> {
     Ok(())
 }
 
-// One spelling of a message: its length, how many bytes come, and their sum.
+// The length of a message, how many bytes come where it is spelled, and their sum.
+fn tell_spelled(rt: &HostRuntime, name: &str, message: &Message) -> io::Result<()> {
+    let mut fold = Fold { tokens: 0, sum: 0 };
+    spell_and_fold(rt.alloc(), message, &mut fold).map_err(of_memory)?;
+    let bytes = length(message);
+    println!(rt;
+        "{name} length {bytes} spelled {} bytes sum {}",
+        fold.tokens, fold.sum
+    )
+}
+
 fn show_spelled(rt: &HostRuntime, name: &str) -> io::Result<()> {
     let message = message_of(rt, name)?;
-    let mut fold = Fold { tokens: 0, sum: 0 };
-    spell_and_fold(rt.alloc(), &message, &mut fold).map_err(of_memory)?;
-    println!(rt;
-        "{name} length {} spelled {} bytes sum {}",
-        length(&message),
-        fold.tokens,
-        fold.sum
-    )
+    tell_spelled(rt, name, &message)
 }
 
 // One decoding of a document of the data: how many commands its message has.

@@ -1,7 +1,14 @@
-// The messages that are spelled: one of many small commands, and one of a single large item.
-use dm_base::{Boxed, Bytes, List, Memory};
+// The spellings of the messages that are measured: one of many small commands, and one of a single large item.
+use dm_base::{Bytes, Memory};
+use dm_decimals::put_decimal;
 use std::alloc::Global;
-use syncml_types::{Command, Header, Item, Loc, Message, Meta, Plain, Unfit, Verb};
+use syncml_types::put_value::put_number;
+use wbxml_tables::Element;
+use wbxml_tables::Element::{
+    ECmdID, EData, EFinal, EFormat, EItem, ELocURI, EMeta, EMsgID, EReplace, ESessionID, ESource,
+    ESyncBody, ESyncHdr, ESyncML, ETarget, EType, EVerDTD, EVerProto,
+};
+use wbxml_tokens::{TokenWriter, Writer};
 
 // So many commands come to 59,948 bytes.
 const COMMANDS: u32 = 913;
@@ -9,89 +16,94 @@ const COMMANDS: u32 = 913;
 // How many bytes of Data the large item has.
 const DATA: usize = 59_000;
 
-fn place(alloc: Global, uri: &[u8]) -> Result<Loc, Memory> {
-    Ok(Loc {
-        uri: Bytes::of_slice(alloc, uri)?,
-        name: None,
-    })
+fn put_place(w: &mut TokenWriter, element: Element, uri: &[u8]) -> Result<(), Memory> {
+    w.tag(element, true)?;
+    w.leaf(ELocURI, uri)?;
+    w.end()
 }
 
-fn header(alloc: Global) -> Result<Boxed<Header>, Memory> {
-    let header = Header {
-        dtd: Bytes::of_slice(alloc, b"1.2")?,
-        proto: Bytes::of_slice(alloc, b"DM/1.2")?,
-        session: Bytes::of_slice(alloc, b"1")?,
-        msg: 1,
-        target: place(alloc, b"d")?,
-        source: place(alloc, b"b")?,
-        resp_uri: None,
-        no_resp: false,
-        cred: None,
-        meta: None,
-    };
-    Boxed::new(alloc, header)
+fn put_head(w: &mut TokenWriter) -> Result<(), Memory> {
+    w.tag(ESyncML, true)?;
+    w.tag(ESyncHdr, true)?;
+    w.leaf(EVerDTD, b"1.2")?;
+    w.leaf(EVerProto, b"DM/1.2")?;
+    w.leaf(ESessionID, b"1")?;
+    w.leaf(EMsgID, b"1")?;
+    put_place(w, ETarget, b"d")?;
+    put_place(w, ESource, b"b")?;
+    w.end()?;
+    w.tag(ESyncBody, true)
 }
 
-fn text_meta(alloc: Global) -> Result<Boxed<Meta>, Memory> {
-    let meta = Meta {
-        format: Some(Bytes::of_slice(alloc, b"chr")?),
-        media: Some(Bytes::of_slice(alloc, b"text/plain")?),
-        ..Meta::empty()
-    };
-    Boxed::new(alloc, meta)
+// Final, and the ends of the body and the message.
+fn put_foot(w: &mut TokenWriter) -> Result<(), Memory> {
+    w.tag(EFinal, false)?;
+    w.end()?;
+    w.end()
 }
 
-fn small_item(alloc: Global, at: u32) -> Result<Item, Memory> {
-    let uri = format!(in alloc; "./B/g{}/n{at}", at / 256)?;
-    let value = format!(in alloc; "{}", u64::from(at) * 7919)?;
-    Ok(Item {
-        target: Some(place(alloc, uri.as_bytes())?),
-        source: None,
-        meta: Some(text_meta(alloc)?),
-        value: Some(Bytes::of_slice(alloc, value.as_bytes())?),
-        more: false,
-    })
+fn put_meta(w: &mut TokenWriter) -> Result<(), Memory> {
+    w.tag(EMeta, true)?;
+    w.leaf(EFormat, b"chr")?;
+    w.leaf(EType, b"text/plain")?;
+    w.end()
 }
 
-fn large_item(alloc: Global) -> Result<Item, Memory> {
-    let mut value = Bytes::new(alloc);
-    for _ in 0..DATA {
-        value.push(b'a')?;
+// A Replace up to its Item's place.
+fn begin_replace(w: &mut TokenWriter, id: u32, uri: &[u8]) -> Result<(), Memory> {
+    w.tag(EReplace, true)?;
+    put_number(w, ECmdID, u64::from(id))?;
+    w.tag(EItem, true)?;
+    put_place(w, ETarget, uri)
+}
+
+fn end_replace(w: &mut TokenWriter) -> Result<(), Memory> {
+    w.end()?;
+    w.end()
+}
+
+fn put_small(w: &mut TokenWriter, at: u32, uri: &[u8]) -> Result<(), Memory> {
+    begin_replace(w, at.saturating_add(1), uri)?;
+    put_meta(w)?;
+    put_number(w, EData, u64::from(at).saturating_mul(7919))?;
+    end_replace(w)
+}
+
+fn small_uri(uri: &mut Bytes, at: u32) -> Result<(), Memory> {
+    uri.extend(b"./B/g")?;
+    put_decimal(uri, u64::from(at / 256))?;
+    uri.extend(b"/n")?;
+    put_decimal(uri, u64::from(at))
+}
+
+fn put_smalls(alloc: Global, w: &mut TokenWriter) -> Result<(), Memory> {
+    put_head(w)?;
+    for at in 0..COMMANDS {
+        let mut uri = Bytes::new(alloc);
+        small_uri(&mut uri, at)?;
+        put_small(w, at, uri.as_slice())?;
     }
-    Ok(Item {
-        target: Some(place(alloc, b"./A")?),
-        source: None,
-        meta: None,
-        value: Some(value),
-        more: false,
-    })
+    put_foot(w)
 }
 
-fn replace(alloc: Global, id: u32, item: Item) -> Result<Command, Memory> {
-    let mut items = List::new(alloc);
-    items.push(item)?;
-    Ok(Command::Plain(Plain {
-        verb: Verb::Replace,
-        id,
-        no_resp: false,
-        meta: None,
-        correlator: None,
-        items,
-    }))
+fn put_large(w: &mut TokenWriter, value: &[u8]) -> Result<(), Memory> {
+    put_head(w)?;
+    begin_replace(w, 1, b"./A")?;
+    w.leaf(EData, value)?;
+    end_replace(w)?;
+    put_foot(w)
 }
 
 /// A message of 913 Replaces with Meta and a few bytes of Data each.
-pub fn small_commands(alloc: Global) -> Result<Result<Message, Unfit>, Memory> {
-    let mut body = List::new(alloc);
-    for at in 0..COMMANDS {
-        body.push(replace(alloc, at + 1, small_item(alloc, at)?)?)?;
-    }
-    Ok(Message::new(header(alloc)?, body, true))
+pub fn small_commands(alloc: Global) -> Result<Bytes, Memory> {
+    let mut w = TokenWriter::new(alloc)?;
+    put_smalls(alloc, &mut w)?;
+    Ok(w.finish())
 }
 
 /// A message of one Replace, whose item has 59,000 bytes of Data that are a text.
-pub fn large_data(alloc: Global) -> Result<Result<Message, Unfit>, Memory> {
-    let mut body = List::new(alloc);
-    body.push(replace(alloc, 1, large_item(alloc)?)?)?;
-    Ok(Message::new(header(alloc)?, body, true))
+pub fn large_data(alloc: Global) -> Result<Bytes, Memory> {
+    let mut w = TokenWriter::new(alloc)?;
+    put_large(&mut w, &[b'a'; DATA])?;
+    Ok(w.finish())
 }
