@@ -2,7 +2,7 @@
 #![tactic(auto)]
 
 #[cfg(test)]
-mod containers;
+mod commands;
 #[cfg(test)]
 mod ints;
 #[cfg(test)]
@@ -16,6 +16,6 @@ mod takers;
 #[cfg(test)]
 mod tokens;
 #[cfg(test)]
-mod values;
+mod unfit;
 #[cfg(test)]
 mod writer;

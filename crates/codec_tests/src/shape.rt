@@ -61,11 +61,22 @@ fn push_all(alloc: Global, tokens: &mut Vec<Token>, pieces: &[Piece]) -> Result<
     Ok(())
 }
 
+fn judge_both(
+    alloc: Global,
+    tokens: &mut Vec<Token>,
+    front: &[Piece],
+    pieces: &[Piece],
+) -> Result<Verdict, Memory> {
+    push_all(alloc, tokens, front)?;
+    push_all(alloc, tokens, pieces)?;
+    judge(alloc, tokens.as_slice())
+}
+
 fn judged(alloc: Global, front: &[Piece], pieces: &[Piece]) -> Result<Verdict, Memory> {
     let mut tokens = Vec::new(alloc);
-    push_all(alloc, &mut tokens, front)?;
-    push_all(alloc, &mut tokens, pieces)?;
-    judge(alloc, tokens.as_slice())
+    let verdict = judge_both(alloc, &mut tokens, front, pieces);
+    drop(tokens);
+    verdict
 }
 
 // Whether the verdict is the wanted one, of which the place counts from behind a front.

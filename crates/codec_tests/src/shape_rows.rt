@@ -1,4 +1,6 @@
 // Each row of each element's children, in an element of its own: left out, repeated and out of order.
+ghost use Rattle.std.specs.Prelude.{◌<◌, length};
+
 use crate::shape::Piece::{self, Bare, End, Open};
 use crate::shape::{HEAD, token_of};
 use std::alloc::Global;
@@ -136,23 +138,30 @@ fn is_misplaced(outline: &mut Outline, alloc: Global, piece: Piece) -> bool {
     )
 }
 
+fn may_end(outline: &mut Outline, alloc: Global, rows: &[Row]) -> bool {
+    take_required(outline, alloc, rows) && take_all(outline, alloc, &[End])
+}
+
+// Where what is required before this row stands, neither END nor what comes behind it is taken.
+fn needs_row(outline: &mut Outline, alloc: Global, rows: &[Row], at: usize) -> bool
+    requires { at < length rows.now }
+{
+    take_required(outline, alloc, &rows[..at])
+        && is_misplaced(outline, alloc, End)
+        && !takes_any(outline, alloc, &rows[at + 1..])
+}
+
 // With all that is required it may end; without one of these, neither END nor what is required behind it may come.
 fn needs_its_children(alloc: Global, context: &Context) -> bool {
     let mut whole = begin(alloc, context);
-    if !take_required(&mut whole, alloc, context.rows) || !take_all(&mut whole, alloc, &[End]) {
-        return false;
-    }
+    let mut holds = may_end(&mut whole, alloc, context.rows);
     for (at, row) in context.rows.iter().enumerate() {
         let mut outline = begin(alloc, context);
-        if row.required
-            && !(take_required(&mut outline, alloc, &context.rows[..at])
-                && is_misplaced(&mut outline, alloc, End)
-                && !takes_any(&mut outline, alloc, &context.rows[at + 1..]))
-        {
-            return false;
+        if row.required {
+            holds = needs_row(&mut outline, alloc, context.rows, at) && holds;
         }
     }
-    true
+    holds
 }
 
 fn takes_any(outline: &mut Outline, alloc: Global, rows: &[Row]) -> bool {
@@ -165,49 +174,52 @@ fn takes_any(outline: &mut Outline, alloc: Global, rows: &[Row]) -> bool {
 }
 
 // A second child of a row is taken exactly where the row has many.
-fn repeats_by_its_rows(alloc: Global, context: &Context) -> bool {
-    for (at, row) in context.rows.iter().enumerate() {
-        let mut outline = begin(alloc, context);
-        if !take_required(&mut outline, alloc, &context.rows[..at])
-            || !take_child(&mut outline, alloc, row)
-            || take_child(&mut outline, alloc, row) != row.many
-        {
-            return false;
-        }
-    }
-    true
+fn repeats(outline: &mut Outline, alloc: Global, before: &[Row], row: &Row) -> bool {
+    take_required(outline, alloc, before)
+        && take_child(outline, alloc, row)
+        && take_child(outline, alloc, row) == row.many
 }
 
-// Behind a child of the next row none of this comes.
-fn keeps_the_order(alloc: Global, context: &Context) -> bool {
+fn repeats_by_its_rows(alloc: Global, context: &Context) -> bool {
+    let mut holds = true;
     for (at, row) in context.rows.iter().enumerate() {
         let mut outline = begin(alloc, context);
-        if at > 0
-            && !(take_required(&mut outline, alloc, &context.rows[..at])
-                && take_child(&mut outline, alloc, row)
-                && is_misplaced(
-                    &mut outline,
-                    alloc,
-                    Open(element_in(context.rows[at - 1].choice)),
-                ))
-        {
-            return false;
+        holds = repeats(&mut outline, alloc, &context.rows[..at], row) && holds;
+    }
+    holds
+}
+
+// Behind a child of a row none of the row before it comes.
+fn keeps_behind(outline: &mut Outline, alloc: Global, before: &[Row], row: &Row) -> bool {
+    match before.last() {
+        None => true,
+        Some(last) => {
+            take_required(outline, alloc, before)
+                && take_child(outline, alloc, row)
+                && is_misplaced(outline, alloc, Open(element_in(last.choice)))
         }
     }
-    true
+}
+
+fn keeps_the_order(alloc: Global, context: &Context) -> bool {
+    let mut holds = true;
+    for (at, row) in context.rows.iter().enumerate() {
+        let mut outline = begin(alloc, context);
+        holds = keeps_behind(&mut outline, alloc, &context.rows[..at], row) && holds;
+    }
+    holds
 }
 
 // An element that is left out is told as such wherever it stands, bare or not.
 fn leaves_out(alloc: Global, context: &Context) -> bool {
     let mut outline = begin(alloc, context);
+    let mut holds = true;
     for element in &LEFT_OUT {
-        if !is_left_out(&mut outline, alloc, Open(*element))
-            || !is_left_out(&mut outline, alloc, Bare(*element))
-        {
-            return false;
-        }
+        holds = is_left_out(&mut outline, alloc, Open(*element))
+            && is_left_out(&mut outline, alloc, Bare(*element))
+            && holds;
     }
-    true
+    holds
 }
 
 fn is_left_out(outline: &mut Outline, alloc: Global, piece: Piece) -> bool {

@@ -1,5 +1,4 @@
 // Documents and pieces of them, with the tokens that they give and the refusals that end them.
-use dm_base::Memory;
 use std::alloc::Global;
 use std::test::Fail;
 use wbxml_tables::Element;
@@ -125,12 +124,18 @@ fn is_refused(answer: Result<(), FeedError>, at: u64, reason: Reason) -> bool {
     answer == Err(FeedError::Refused(Refusal { at, reason }))
 }
 
+// It is refused for good.
+fn is_refused_twice(alloc: Global, row: &Refused) -> bool {
+    let mut tokens = Tokens::new(alloc);
+    let at_first = tokens.feed(row.bytes);
+    let again = tokens.feed(b"\x01");
+    is_refused(at_first, row.at, row.reason) && is_refused(again, row.at, row.reason)
+}
+
 #[test]
 fn refuses_at_the_place_and_for_the_reason(rt: HostRuntime) -> Result<(), Fail> {
     for row in &REFUSED {
-        let mut tokens = Tokens::new(rt.alloc());
-        assert!(rt; is_refused(tokens.feed(row.bytes), row.at, row.reason));
-        assert!(rt; is_refused(tokens.feed(b"\x01"), row.at, row.reason));
+        assert!(rt; is_refused_twice(rt.alloc(), row));
     }
     Ok(())
 }
@@ -167,18 +172,25 @@ fn count_of(tokens: &mut Tokens) -> u64 {
     count
 }
 
-fn count_in_pieces(alloc: Global, bytes: &[u8], piece: usize) -> Result<u64, FeedError> {
-    let mut tokens = Tokens::new(alloc);
+fn feed_all(tokens: &mut Tokens, bytes: &[u8], piece: usize) -> Result<(), FeedError> {
     for part in bytes.chunks(piece.max(1)) {
         tokens.feed(part)?;
     }
-    Ok(count_of(&mut tokens))
+    Ok(())
+}
+
+// The number of tokens of a document, where it is taken.
+fn count_in_pieces(alloc: Global, bytes: &[u8], piece: usize) -> Option<u64> {
+    let mut tokens = Tokens::new(alloc);
+    let fed = feed_all(&mut tokens, bytes, piece);
+    let count = count_of(&mut tokens);
+    if fed == Ok(()) { Some(count) } else { None }
 }
 
 #[test]
 fn one_get_has_41_tokens_in_any_pieces(rt: HostRuntime) -> Result<(), Fail> {
     for piece in [1, 2, 7, 73] {
-        assert!(rt; count_in_pieces(rt.alloc(), ONE_GET, piece) == Ok(41));
+        assert_eq!(rt; count_in_pieces(rt.alloc(), ONE_GET, piece), Some(41));
     }
     Ok(())
 }
@@ -245,8 +257,7 @@ fn page_lasts(tokens: &mut Tokens) -> bool {
 // A page switch gives no token, and the page lasts until the next one, over END too.
 #[test]
 fn a_page_lasts_until_the_next_switch(rt: HostRuntime) -> Result<(), Fail> {
-    let mut tokens = Tokens::new(rt.alloc());
-    assert!(rt; page_lasts(&mut tokens));
+    assert!(rt; page_lasts(&mut Tokens::new(rt.alloc())));
     Ok(())
 }
 
@@ -262,20 +273,21 @@ fn texts_follow(tokens: &mut Tokens) -> bool {
         && tokens.next().is_none()
 }
 
-// Texts of the table end at its first 0 or with it; a text and bytes that a piece cuts are joined.
-#[test]
-fn texts_come_whole(rt: HostRuntime) -> Result<(), Fail> {
-    let mut tokens = Tokens::new(rt.alloc());
-    let fed = is_fed(
-        &mut tokens,
+fn texts_are_joined(tokens: &mut Tokens) -> bool {
+    is_fed(
+        tokens,
         &[
             b"\x02\xa4\x01\x6a\x04A\x00BC\x6d\x83\x00\x83\x02\x83\x80\x01\x03a",
             b"b\x00\xc3\x02\x00",
             b"\x01\xc3\x00",
         ],
-    );
-    assert!(rt; fed);
-    assert!(rt; texts_follow(&mut tokens));
+    ) && texts_follow(tokens)
+}
+
+// Texts of the table end at its first 0 or with it; a text and bytes that a piece cuts are joined.
+#[test]
+fn texts_come_whole(rt: HostRuntime) -> Result<(), Fail> {
+    assert!(rt; texts_are_joined(&mut Tokens::new(rt.alloc())));
     Ok(())
 }
 
@@ -323,14 +335,17 @@ fn takes_pieces(tokens: &mut Tokens, count: u32) -> bool {
     true
 }
 
+fn is_too_long(tokens: &mut Tokens) -> bool {
+    let front =
+        b"\x03\xa4\x01\x6a\x00\x6d\x03AAAAAAAAAAAAAAAAAAAAAAAAAAAAAAAAAAAAAAAAAAAAAAAAAAAAAAAAA".as_slice();
+    tokens.feed(front) == Ok(())
+        && takes_pieces(tokens, 1023)
+        && is_refused(tokens.feed(b"\x04"), 65_536, Reason::Toolong)
+}
+
 // 65,536 bytes are taken: seven and a text of 65,529; the next byte is one too many.
 #[test]
 fn byte_65537_is_too_long(rt: HostRuntime) -> Result<(), Fail> {
-    let mut tokens = Tokens::new(rt.alloc());
-    let front =
-        b"\x03\xa4\x01\x6a\x00\x6d\x03AAAAAAAAAAAAAAAAAAAAAAAAAAAAAAAAAAAAAAAAAAAAAAAAAAAAAAAAA".as_slice();
-    assert!(rt; tokens.feed(front) == Ok(()));
-    assert!(rt; takes_pieces(&mut tokens, 1023));
-    assert!(rt; is_refused(tokens.feed(b"\x04"), 65_536, Reason::Toolong));
+    assert!(rt; is_too_long(&mut Tokens::new(rt.alloc())));
     Ok(())
 }

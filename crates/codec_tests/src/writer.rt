@@ -1,4 +1,5 @@
 // The canonical spelling of tokens, one by one.
+use dm_base::Memory;
 use std::test::Fail;
 use wbxml_tables::Element;
 use wbxml_tokens::{TokenWriter, Writer};
@@ -25,10 +26,7 @@ fn writes_into_its_room(rt: HostRuntime) -> Result<(), Fail> {
     Ok(())
 }
 
-// The page is switched before Format and back before Data, and at no END.
-#[test]
-fn switches_pages(rt: HostRuntime) -> Result<(), Fail> {
-    let mut w = TokenWriter::new(rt.alloc())?;
+fn put_item(w: &mut TokenWriter) -> Result<(), Memory> {
     w.tag(Element::EItem, true)?;
     w.tag(Element::EMeta, true)?;
     w.tag(Element::EFormat, true)?;
@@ -39,7 +37,14 @@ fn switches_pages(rt: HostRuntime) -> Result<(), Fail> {
     w.tag(Element::EData, true)?;
     w.opaque(&[0x00, 0xff])?;
     w.end()?;
-    w.end()?;
+    w.end()
+}
+
+// The page is switched before Format and back before Data, and at no END.
+#[test]
+fn switches_pages(rt: HostRuntime) -> Result<(), Fail> {
+    let mut w = TokenWriter::new(rt.alloc())?;
+    put_item(&mut w)?;
     assert_eq!(rt;
         w.finish().as_slice(),
         b"\x03\xa4\x01\x6a\x00\x54\x5a\x00\x01\x47\x03bin\x00\x01\x13\x01\
