@@ -16,6 +16,7 @@ use Rattle.dm_service.specs.Service.{Waiting, Service, entries_of}
 use Rattle.dm_server.specs.declared.held.Run.{Run}
 use Rattle.dm_server.specs.declared.held.Outbox.{Outbox}
 use Rattle.dm_server.specs.Inside.{at_work, service_of, session_with}
+use Rattle.dm_server.specs.Working.{HasMoreBehind, HasSentMore}
 
 abbrev pub filling_of : Service → Progress → Parts → Filling
 filling_of v p m = fill (entries_of v.queue) (header_for v p m) p.standing.room p.standing.heard
@@ -94,7 +95,13 @@ sent_is job run p next o now g k before m code filled runs over f is message who
 
 -- ---- what waited before it
 
-pub front_err : {X E : Type 0} (r : Result X E) (old now new : List Waiting) → take (length old) now ≡ old
-    → OnErr r (new ≡ now) → OnErr r (take (length old) new ≡ old)
-front_err (Ok x) old now new h e = tt
-front_err (Err x) old now new h e = ap (take (length old)) e ∙ h
+pub more_behind : {X E : Type 0} (r : Result X E) (o now next : Outbox) (g after : GatheredSoFar) (k known : Known)
+    → take (length o.queue) now.queue ≡ o.queue → now.sent ≡ o.sent
+    → OnErr r (HasSentMore now next g after k known) → OnErr r (HasMoreBehind o next g after k known)
+more_behind (Ok x) o now next g after k known front sent e = tt
+more_behind (Err x) o now next g after k known front sent e = record {
+  queue = ap (take (length o.queue)) e.queue ∙ front;
+  sent = subst (λ (ss : List Sent). take (length ss) next.sent ≡ ss) sent e.sent;
+  gathering = e.gathering;
+  findings = e.findings;
+}

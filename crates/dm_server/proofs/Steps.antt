@@ -33,8 +33,9 @@ use Rattle.dm_service.specs.Service.{Session, Service}
 use Rattle.dm_server.specs.declared.held.Run.{Run}
 use Rattle.dm_server.specs.declared.held.Outbox.{Outbox}
 use Rattle.dm_server.specs.declared.held.Session.{Session as Held}
+use Rattle.dm_server.specs.declared.held.Work.{Work}
 use Rattle.dm_server.specs.Inside.{at_work, session_with}
-use Rattle.dm_server.specs.Working.{by_header_after, with_account, CanAccept, CanWork, IsFaultTold}
+use Rattle.dm_server.specs.Working.{by_header_after, with_account, CanAccept, CanWork, IsFaultTold, IsReadyWork}
 
 pub if_so : {A : Type 0} (b : Bool) (x y : A) → b ≡ true → cond b x y ≡ x
 if_so true x y e = refl
@@ -162,15 +163,20 @@ accepted_is job run p next o g k before m nonce account status v e c f is =
     (session_with x o g) failed h.status) (session_with x o g) m h nonce) f
 
 -- what its header leaves can be worked with
-pub can_work : (job : Job) (run : Run) (s : Held) (m : Parts) (nonce : List ℕ) (account : Account) (standing : Standing)
-    → CanAccept job run s m.header.msg → IsReadyMessage m nonce
-    → account ≡ (heard_of job s.progress m nonce).account → standing ≡ (heard_of job s.progress m nonce).standing
-    → CanWork job account run (record s.progress { standing = standing }) s.outbox s.gathering
-can_work job run s m nonce account standing can is e f =
-    let h = hears_ready User job.account s.progress.standing m nonce can.named can.room in
+pub can_work : (w : Work) (s : Held) (standing : Standing)
+    → CanAccept w.plan.now.job w.run s w.message.now.header.msg → IsReadyWork w
+    → w.account.now ≡ (heard_of w.plan.now.job s.progress w.message.now w.nonce.now.bytes).account
+    → standing ≡ (heard_of w.plan.now.job s.progress w.message.now w.nonce.now.bytes).standing
+    → w.progress ≡ with_standing s.progress standing → CanWork w s.outbox s.gathering
+can_work w s standing can is e f next =
+    let h = hears_ready User w.plan.now.job.account s.progress.standing w.message.now w.nonce.now.bytes can.named
+    can.room in
     let own = can.own in
     let msg = is.numbers.header.msg in
     let same = ap (λ (x : Standing). x.own) f ∙ h.own in
+    let low : standing.own + 1 < 2 ^ 32 = omega (arith, own, msg, same) in
+    let room : (2048 ≤ standing.room) × (standing.room ≤ 65536) =
+    subst (λ (x : Standing). (2048 ≤ x.room) × (x.room ≤ 65536)) (sym f) h.room in
     record {
       holds = can.holds;
       max_obj = can.max_obj;
@@ -178,9 +184,9 @@ can_work job run s m nonce account standing can is e f =
       packages = can.packages;
       limits = can.limits;
       named = subst IsReadyAccount (sym e) h.account;
-      number = can.number;
-      own = omega (arith, own, msg, same);
-      room = subst (λ (x : Standing). (2048 ≤ x.room) × (x.room ≤ 65536)) (sym f) h.room;
+      number = subst (λ (p : Progress). p.number < 2 ^ 32) (sym next) can.number;
+      own = subst (λ (p : Progress). p.standing.own + 1 < 2 ^ 32) (sym next) low;
+      room = subst (λ (p : Progress). (2048 ≤ p.standing.room) × (p.standing.room ≤ 65536)) (sym next) room;
     }
 
 pub fault_is_told : (job : Job) (p : Progress) (m : Parts) (nonce : List ℕ) (code : ℕ) → IsReadyAccount job.account

@@ -1,6 +1,6 @@
 -- What a message that is taken makes of a server.
 use Rattle.std.specs.Prelude.{◌≡◌, ◌<◌, ◌≤◌, ◌+◌, ◌^◌, ◌++◌, ◌||◌, ℕ, Bool, true, false, not, if◌then◌else◌, List, []}
-use Rattle.std.specs.Prelude.{map, Option, option_map, is_some, IfSome, IsSomeAnd, unwrap_or, Ok}
+use Rattle.std.specs.Prelude.{map, length, take, Option, option_map, is_some, IfSome, IsSomeAnd, unwrap_or, Ok}
 use Rattle.std.specs.List.{filter}
 use Rattle.std.specs.Option.{option_or}
 use Rattle.dm_base.specs.Limits.{least_room, message_limit}
@@ -12,7 +12,7 @@ use Rattle.dm_auth.specs.declared.accounts.Account.{Account}
 use Rattle.dm_headers.specs.Checks.{fault_of, is_denied, passes}
 use Rattle.dm_headers.specs.Standings.{Heard}
 use Rattle.dm_ends.specs.declared.farewells.LastMessage.{LastMessage}
-use Rattle.dm_ends.specs.Ready.{IsReadyAccount, IsReadyLimits}
+use Rattle.dm_ends.specs.Ready.{IsReadyAccount, IsReadyLimits, IsReadyMessage}
 use Rattle.dm_job.specs.declared.job.Job.{Job}
 use Rattle.dm_job.specs.declared.job.JobEntry.{JobEntry}
 use Rattle.dm_job.specs.Sound.{AreNumbered}
@@ -25,7 +25,7 @@ use Rattle.dm_service.specs.Packages.{holds_number, next_package}
 use Rattle.dm_service.specs.Answers.{command_answers}
 use Rattle.dm_service.specs.Sending.{sends}
 use Rattle.dm_service.specs.Ready.{AreReadyPackages, AreReadyWaiting}
-use Rattle.dm_service.specs.Service.{Session, Service}
+use Rattle.dm_service.specs.Service.{Waiting, Session, Service}
 use Rattle.dm_service.specs.Messages.{answer_waiting, tells, in_session, by_header, accepts}
 use Rattle.dm_service.specs.Events.{Arrival, last_of, takes, after, opens, refusal, reply_of, arrival}
 use Rattle.dm_server.specs.declared.answers.Answer.{Answer}
@@ -37,11 +37,22 @@ use Rattle.dm_server.specs.declared.drafts.Draft.{Draft}
 use Rattle.dm_server.specs.declared.held.Run.{Run}
 use Rattle.dm_server.specs.declared.held.Outbox.{Outbox}
 use Rattle.dm_server.specs.declared.held.Session.{Session as Held}
-use Rattle.dm_server.specs.Inside.{at_work, message_in, IsNumberedJob, IsPlace, IsSpelled, KeepsReply}
+use Rattle.dm_server.specs.declared.held.Work.{Work}
+use Rattle.dm_server.specs.Inside.{at_work, message_in, session_with, IsNumberedJob, IsPlace, IsSpelled, KeepsReply}
 use Rattle.dm_server.specs.View.{Tells}
 
 abbrev pub with_account : Job → Account → Job
 with_account job account = record job { account = account }
+
+-- ---- what a message is worked with
+
+-- the machine, with what waits and what is known, where this message was sent last
+abbrev pub machine_in : Work → Outbox → GatheredSoFar → Known → Option Parts → Service
+machine_in w o g known before =
+    at_work (with_account w.plan.now.job w.account.now) w.run w.progress o g known before
+
+abbrev pub session_of : Work → Outbox → GatheredSoFar → Session
+session_of w o g = session_with w.progress o g
 
 -- ---- what a message meets
 
@@ -52,17 +63,26 @@ pub record Holds (job : Job) (run : Run) (o : Outbox) : Type 0 where
   pub commands : AreCommands o.sent
   pub order : AreInOrder o.sent
 
-pub record CanWork (job : Job) (account : Account) (run : Run) (p : Progress) (o : Outbox) (g : GatheredSoFar)
-    : Type 0 where
-  pub holds : Holds job run o
-  pub max_obj : g.max_obj ≡ job.limits.max_obj
+pub record CanWork (w : Work) (o : Outbox) (g : GatheredSoFar) : Type 0 where
+  pub holds : Holds w.plan.now.job w.run o
+  pub max_obj : g.max_obj ≡ w.plan.now.job.limits.max_obj
+  pub numbered : IsNumberedJob w.plan.now.job
+  pub packages : AreReadyPackages w.plan.now.job.packages
+  pub limits : IsReadyLimits w.plan.now.job.limits
+  pub named : IsReadyAccount w.account.now
+  pub number : w.progress.number < 2 ^ 32
+  pub own : w.progress.standing.own + 1 < 2 ^ 32
+  pub room : (least_room ≤ w.progress.standing.room) × (w.progress.standing.room ≤ message_limit)
+
+abbrev pub IsReadyWork : Work → Type 0
+IsReadyWork w = IsReadyMessage w.message.now w.nonce.now.bytes
+
+-- packages of a numbered job can be queued behind what waits
+pub record CanQueue (job : Job) (run : Run) (waits : List Waiting) : Type 0 where
   pub numbered : IsNumberedJob job
   pub packages : AreReadyPackages job.packages
-  pub limits : IsReadyLimits job.limits
-  pub named : IsReadyAccount account
-  pub number : p.number < 2 ^ 32
-  pub own : p.standing.own + 1 < 2 ^ 32
-  pub room : (least_room ≤ p.standing.room) × (p.standing.room ≤ message_limit)
+  pub place : IsPlace job run
+  pub queue : AreReadyWaiting waits
 
 -- a message that can be held
 pub record IsReadyBody (m : Parts) : Type 0 where
@@ -93,6 +113,29 @@ abbrev pub behind : Job → Account → Next → Outbox → GatheredSoFar → Kn
 behind job account next o g known before =
     at_work (with_account job account) next.run next.progress o g known
     (option_or (option_map message_in next.sent) before)
+
+abbrev pub left_by : Work → Next → Outbox → GatheredSoFar → Known → Option Parts → Service
+left_by w next o g known before = behind w.plan.now.job w.account.now next o g known before
+
+-- nothing of what a message may change has changed
+pub record IsAsBefore (o next : Outbox) (g after : GatheredSoFar) (k known : Known) : Type 0 where
+  pub outbox : next ≡ o
+  pub gathering : after ≡ g
+  pub findings : known ≡ k
+
+-- the same, but for what stands behind what was sent
+pub record HasSentMore (o next : Outbox) (g after : GatheredSoFar) (k known : Known) : Type 0 where
+  pub queue : next.queue ≡ o.queue
+  pub sent : take (length o.sent) next.sent ≡ o.sent
+  pub gathering : after ≡ g
+  pub findings : known ≡ k
+
+-- the same, but for what stands behind what waited, and behind what was sent
+pub record HasMoreBehind (o next : Outbox) (g after : GatheredSoFar) (k known : Known) : Type 0 where
+  pub queue : take (length o.queue) next.queue ≡ o.queue
+  pub sent : take (length o.sent) next.sent ≡ o.sent
+  pub gathering : after ≡ g
+  pub findings : known ≡ k
 
 -- a message is sent exactly where the progress says so, and its bytes spell it
 pub record IsReply (p : Progress) (sent : Option LastMessage) : Type 0 where

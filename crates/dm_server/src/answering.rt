@@ -3,132 +3,101 @@ ghost use Rattle.std.specs.Prelude.{◌≡◌, ◌++◌, [], length, map, take, 
 ghost use Rattle.std.specs.Prelude.{IfOk, OnOk, OnErr};
 ghost use Rattle.syncml_types.specs.Message.{Parts};
 ghost use Rattle.dm_auth.specs.declared.accounts.Account.{Account as AnAccount};
-ghost use Rattle.dm_ends.specs.Ready.{IsReadyMessage};
 ghost use Rattle.dm_headers.specs.Checks.{passes as passing};
 ghost use Rattle.dm_report.specs.Known.{Known as AKnown};
 ghost use Rattle.dm_service.specs.Answers.{command_answers};
 ghost use Rattle.dm_service.specs.Messages.{answer_waiting, answers_message};
 ghost use Rattle.dm_service.specs.Packages.{next_package};
-ghost use Rattle.dm_service.specs.Ready.{AreReadyPackages, AreReadyWaiting};
+ghost use Rattle.dm_service.specs.Ready.{AreReadyWaiting};
 ghost use Rattle.dm_service.specs.Service.{Session as ASession};
-ghost use Rattle.dm_server.specs.Inside.{at_work, service_of, session_with, IsNumberedJob, IsPlace, Stands};
-ghost use Rattle.dm_server.specs.Working.{answered_from, behind, with_account, CanWork, IsReadyBody, IsReply};
+ghost use Rattle.dm_server.specs.Inside.{service_of, IsPlace, Stands};
+ghost use Rattle.dm_server.specs.Working.{answered_from, left_by, machine_in, session_of, with_account};
+ghost use Rattle.dm_server.specs.Working.{CanQueue, CanWork, HasMoreBehind, IsAsBefore, IsReadyBody, IsReadyWork};
+ghost use Rattle.dm_server.specs.Working.{IsReply};
 
 use crate::bodies::answers_to;
 use crate::drafts::Next;
-use crate::held::{Outbox, Plan, Run};
+use crate::held::{Outbox, Run, Work};
 use crate::packages::queue_next;
 use crate::sending::send;
-use dm_auth::Account;
-use dm_base::{Memory, Nonce};
-use dm_headers::{Standing, header_status};
+use dm_base::Memory;
+use dm_headers::header_status;
 use dm_report::{Findings, Gathering};
-use dm_service::Progress;
 use dm_waiting::WaitingList;
-use syncml_types::Message;
 
 // Puts behind what waits what the client's commands are answered, and the next package. After `Memory` a part of it may
 // stand there.
 #[tactic(auto, using(dm_waiting::proofs::Held::front_longer, dm_waiting::proofs::Held::front_again))]
-fn queue_behind(
-    plan: &Plan,
-    run: Run,
-    standing: &Standing,
-    queue: &mut WaitingList,
-    message: &Message,
-    code: u32,
-) -> Result<Run, Memory>
-    requires job { IsNumberedJob plan.now.job }
-    requires packages { AreReadyPackages plan.now.job.packages }
-    requires place { IsPlace plan.now.job run }
-    requires queue { AreReadyWaiting queue.old }
-    requires message { IsReadyBody message.now }
+fn queue_behind(work: &Work, queue: &mut WaitingList, code: u32) -> Result<Run, Memory>
+    requires can_queue { CanQueue work.now.plan.now.job work.now.run queue.old }
+    requires message { IsReadyBody work.now.message.now }
     ensures ok { IfOk result (λ next. (account : AnAccount) (known : AKnown) (session : OptionOf ASession)
-        (sent : OptionOf Parts) → service_of (with_account plan.now.job account) next queue.new known session sent
-        ≡ next_package (service_of (with_account plan.now.job account) run
-        (queue.old ++ map answer_waiting (if passing code then command_answers message.now else [])) known session sent)
-        standing.now) }
-    ensures place { IfOk result (λ next. IsPlace plan.now.job next) }
+        (sent : OptionOf Parts)
+        → service_of (with_account work.now.plan.now.job account) next queue.new known session sent
+        ≡ next_package (service_of (with_account work.now.plan.now.job account) work.now.run
+        (queue.old ++ map answer_waiting (if passing code then command_answers work.now.message.now else []))
+        known session sent) work.now.progress.standing) }
+    ensures place { IfOk result (λ next. IsPlace work.now.plan.now.job next) }
     ensures queue { OnOk result (AreReadyWaiting queue.new) }
     ensures front { take (length queue.old) queue.new ≡ queue.old }
 {
-    queue.push_answers(answers_to(plan.alloc, message, code)?)?;
-    queue_next(plan, run, standing, queue)
+    queue.push_answers(answers_to(work.plan.alloc, work.message, code)?)?;
+    queue_next(work.plan, work.run, &work.progress.standing, queue)
 }
 
 // The answer where the Status of the message's header stands in front of what waits. After `Memory` answers and entries
 // of the job may stand behind what waited, and commands of the job behind those that were sent.
-#[tactic(auto, using(crate::proofs::Fillings::front_err))]
+#[tactic(auto, using(crate::proofs::Fillings::more_behind))]
 fn answer_behind(
-    plan: &Plan,
-    account: &Account,
-    run: Run,
-    progress: &Progress,
+    work: &Work,
     outbox: &mut Outbox,
     gathering: &mut Gathering,
     findings: &mut Findings,
-    message: &Message,
     code: u32,
 ) -> Result<Next, Memory>
-    requires can_work { CanWork plan.now.job account.now run progress.now outbox.old gathering.old }
-    requires message { IsReadyBody message.now }
+    requires can_work { CanWork work.now outbox.old gathering.old }
+    requires message { IsReadyBody work.now.message.now }
     ensures state { IfOk result (λ next. (before : OptionOf Parts)
-        → behind plan.now.job account.now next outbox.new gathering.new findings.new before
-        ≡ answered_from (at_work (with_account plan.now.job account.now) run progress.now outbox.old gathering.old
-        findings.old before) (session_with progress.now outbox.old gathering.old) message.now code) }
-    ensures stands { IfOk result (λ next. Stands plan.now.job next.run outbox.new gathering.new) }
+        → left_by work.now next outbox.new gathering.new findings.new before
+        ≡ answered_from (machine_in work.now outbox.old gathering.old findings.old before)
+        (session_of work.now outbox.old gathering.old) work.now.message.now code) }
+    ensures stands { IfOk result (λ next. Stands work.now.plan.now.job next.run outbox.new gathering.new) }
     ensures reply { IfOk result (λ next. IsReply next.progress next.sent) }
-    ensures err_queue { OnErr result (take (length outbox.old.queue) outbox.new.queue ≡ outbox.old.queue) }
-    ensures err_sent { OnErr result (take (length outbox.old.sent) outbox.new.sent ≡ outbox.old.sent) }
-    ensures err_gathering { OnErr result (gathering.new ≡ gathering.old) }
-    ensures err_findings { OnErr result (findings.new ≡ findings.old) }
+    ensures err { OnErr result
+        (HasMoreBehind outbox.old outbox.new gathering.old gathering.new findings.old findings.new) }
 {
-    let run = queue_behind(
-        plan,
-        run,
-        &progress.standing,
-        &mut outbox.queue,
-        message,
-        code,
-    )?;
-    send(
-        plan, account, run, progress, outbox, gathering, findings, message, code,
-    )
+    let queued = Work {
+        run: queue_behind(work, &mut outbox.queue, code)?,
+        ..*work
+    };
+    send(&queued, outbox, gathering, findings, code)
 }
 
 /// What is told is noted, what is asked is answered, the next package is queued, and a message is sent. After `Memory`
 /// all is as before.
 pub(crate) fn answered(
-    plan: &Plan,
-    account: &Account,
-    run: Run,
-    progress: &Progress,
+    work: &Work,
     outbox: &mut Outbox,
     gathering: &mut Gathering,
     findings: &mut Findings,
-    message: &Message,
-    nonce: &Nonce,
     code: u32,
 ) -> Result<Next, Memory>
-    requires can_work { CanWork plan.now.job account.now run progress.now outbox.old gathering.old }
-    requires message { IsReadyMessage message.now nonce.now.bytes }
+    requires can_work { CanWork work.now outbox.old gathering.old }
+    requires message { IsReadyWork work.now }
     ensures state { IfOk result (λ next. (before : OptionOf Parts)
-        → behind plan.now.job account.now next outbox.new gathering.new findings.new before
-        ≡ answers_message (at_work (with_account plan.now.job account.now) run progress.now outbox.old gathering.old
-        findings.old before) (session_with progress.now outbox.old gathering.old) message.now code nonce.now.bytes) }
-    ensures stands { IfOk result (λ next. Stands plan.now.job next.run outbox.new gathering.new) }
+        → left_by work.now next outbox.new gathering.new findings.new before
+        ≡ answers_message (machine_in work.now outbox.old gathering.old findings.old before)
+        (session_of work.now outbox.old gathering.old) work.now.message.now code work.now.nonce.now.bytes) }
+    ensures stands { IfOk result (λ next. Stands work.now.plan.now.job next.run outbox.new gathering.new) }
     ensures reply { IfOk result (λ next. IsReply next.progress next.sent) }
-    ensures err_outbox { OnErr result (outbox.new ≡ outbox.old) }
-    ensures err_gathering { OnErr result (gathering.new ≡ gathering.old) }
-    ensures err_findings { OnErr result (findings.new ≡ findings.old) }
+    ensures err { OnErr result
+        (IsAsBefore outbox.old outbox.new gathering.old gathering.new findings.old findings.new) }
 {
-    let status = header_status(plan.alloc, message.header(), code, nonce)?;
+    let status = header_status(work.plan.alloc, work.message.header(), code, work.nonce)?;
     let waiting = outbox.queue.len();
     let sent = outbox.sent.len();
     let front = outbox.queue.push_status(status)?;
-    match answer_behind(
-        plan, account, run, progress, outbox, gathering, findings, message, code,
-    ) {
+    match answer_behind(work, outbox, gathering, findings, code) {
         Ok(next) => Ok(next),
         Err(memory) => {
             outbox.queue.keep(front, waiting);

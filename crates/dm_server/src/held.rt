@@ -1,10 +1,12 @@
-// What a server keeps.
-use dm_base::List;
+// What a server keeps, and what a message is worked with.
+use dm_auth::Account;
+use dm_base::{List, Nonce};
 use dm_job::Job;
 use dm_report::Gathering;
 use dm_service::{Progress, Sent};
 use dm_waiting::WaitingList;
 use std::alloc::Global;
+use syncml_types::Message;
 
 /// The job, whose account has the nonces to use next.
 #[derive(Drop)]
@@ -37,4 +39,16 @@ pub(crate) struct Session {
     pub progress: Progress,
     pub outbox: Outbox,
     pub gathering: Gathering,
+}
+
+/// A message that is accepted, with the nonce for a challenge, and what it meets beside what it changes: the job, the
+/// account that holds from then on, and how far the job and the session are.
+#[derive(Clone, Copy)]
+pub(crate) struct Work<'a> {
+    pub plan: &'a Plan,
+    pub account: &'a Account,
+    pub run: Run,
+    pub progress: Progress,
+    pub message: &'a Message,
+    pub nonce: &'a Nonce,
 }

@@ -10,13 +10,14 @@ ghost use Rattle.dm_service.specs.declared.sent.Sent.{Sent as ASent};
 ghost use Rattle.dm_service.specs.Service.{Service};
 ghost use Rattle.dm_service.specs.Sending as Spec;
 ghost use Rattle.dm_service.specs.Laws.{AreInOrder};
-ghost use Rattle.dm_server.specs.Inside.{at_work, session_with, Stands};
-ghost use Rattle.dm_server.specs.Working.{behind, with_account, CanWork, IsReply, ToldBy};
+ghost use Rattle.dm_server.specs.Inside.{Stands};
+ghost use Rattle.dm_server.specs.Working.{left_by, machine_in, session_of, with_account, CanWork, HasSentMore};
+ghost use Rattle.dm_server.specs.Working.{IsReply, ToldBy};
 
 use crate::bodies::is_done_there;
 use crate::drafts::Next;
 use crate::headers::header_for;
-use crate::held::{Outbox, Plan, Run};
+use crate::held::{Outbox, Run, Work};
 use dm_auth::Account;
 use dm_base::{List, Memory};
 use dm_ends::{LastMessage, all_reports};
@@ -34,25 +35,18 @@ fn is_welcome(account: &Account, standing: &Standing) -> bool
 }
 
 // Whether the session is over with the message that answers one: nothing is left on either side.
-fn is_last(
-    plan: &Plan,
-    account: &Account,
-    run: Run,
-    standing: &Standing,
-    message: &Message,
-    code: u32,
-    filled: &Filled,
-) -> bool
-    ensures { (v : Service) (f : Filling) → v.job ≡ with_account plan.now.job account.now
-        → v.packages ≡ drop run.next plan.now.job.packages → filled.now.message ≡ f.message → filled.now.tail ≡ f.tail
-        → result ≡ Spec.is_last v standing.now message.now code f }
+fn is_last(work: &Work, code: u32, filled: &Filled) -> bool
+    ensures { (v : Service) (f : Filling) → v.job ≡ with_account work.now.plan.now.job work.now.account.now
+        → v.packages ≡ drop work.now.run.next work.now.plan.now.job.packages
+        → filled.now.message ≡ f.message → filled.now.tail ≡ f.tail
+        → result ≡ Spec.is_last v work.now.progress.standing work.now.message.now code f }
 {
-    standing.accepted
+    work.progress.standing.accepted
         && filled.tail == Tail::Final
         && all_reports(filled.message.body().as_slice())
-        && run.next >= plan.job.packages.len()
-        && is_done_there(message, code)
-        && is_welcome(account, standing)
+        && work.run.next >= work.plan.job.packages.len()
+        && is_done_there(work.message, code)
+        && is_welcome(work.account, &work.progress.standing)
 }
 
 // How far the session is once a message was sent.
@@ -119,33 +113,27 @@ fn tell(
 /// Notes what the client told, and sends the next message out of what waits. After `Memory` commands of the job may
 /// stand behind those that were sent; all else is as before.
 pub(crate) fn send(
-    plan: &Plan,
-    account: &Account,
-    run: Run,
-    progress: &Progress,
+    work: &Work,
     outbox: &mut Outbox,
     gathering: &mut Gathering,
     findings: &mut Findings,
-    message: &Message,
     code: u32,
 ) -> Result<Next, Memory>
-    requires can_work { CanWork plan.now.job account.now run progress.now outbox.old gathering.old }
-    requires fit { IsFit message.now.header message.now.body }
+    requires can_work { CanWork work.now outbox.old gathering.old }
+    requires fit { IsFit work.now.message.now.header work.now.message.now.body }
     ensures state { IfOk result (λ next. (before : OptionOf Parts)
-        → behind plan.now.job account.now next outbox.new gathering.new findings.new before
-        ≡ Spec.sends (at_work (with_account plan.now.job account.now) run progress.now outbox.old gathering.new
-        findings.new before) (session_with progress.now outbox.old gathering.new) message.now code) }
-    ensures told { IfOk result (λ next. ToldBy (passing code) outbox.old.sent message.now.body findings.old
+        → left_by work.now next outbox.new gathering.new findings.new before
+        ≡ Spec.sends (machine_in work.now outbox.old gathering.new findings.new before)
+        (session_of work.now outbox.old gathering.new) work.now.message.now code) }
+    ensures told { IfOk result (λ next. ToldBy (passing code) outbox.old.sent work.now.message.now.body findings.old
         findings.new gathering.old gathering.new) }
-    ensures stands { IfOk result (λ next. Stands plan.now.job next.run outbox.new gathering.new) }
+    ensures stands { IfOk result (λ next. Stands work.now.plan.now.job next.run outbox.new gathering.new) }
     ensures reply { IfOk result (λ next. IsReply next.progress next.sent) }
-    ensures err_queue { OnErr result (outbox.new.queue ≡ outbox.old.queue) }
-    ensures err_sent { OnErr result (take (length outbox.old.sent) outbox.new.sent ≡ outbox.old.sent) }
-    ensures err_gathering { OnErr result (gathering.new ≡ gathering.old) }
-    ensures err_findings { OnErr result (findings.new ≡ findings.old) }
+    ensures err { OnErr result
+        (HasSentMore outbox.old outbox.new gathering.old gathering.new findings.old findings.new) }
 {
-    let header = header_for(plan, account, progress, message)?;
-    let standing = &progress.standing;
+    let header = header_for(work.plan, work.account, &work.progress, work.message)?;
+    let standing = &work.progress.standing;
     let sent = outbox.sent.len();
     let filled = outbox.queue.fill(
         header,
@@ -154,15 +142,15 @@ pub(crate) fn send(
         standing.own + 1,
         &mut outbox.sent,
     )?;
-    tell(findings, gathering, outbox, sent, message, code)?;
-    let is_over = is_last(plan, account, run, standing, message, code, &filled);
+    tell(findings, gathering, outbox, sent, work.message, code)?;
+    let is_over = is_last(work, code, &filled);
     outbox.queue.commit(&filled);
     Ok(Next {
         run: Run {
-            runs_in: runs_in(run, progress.number, sent, &outbox.sent),
-            ..run
+            runs_in: runs_in(work.run, work.progress.number, sent, &outbox.sent),
+            ..work.run
         },
-        progress: progress_after(progress, filled.tail, is_over),
+        progress: progress_after(&work.progress, filled.tail, is_over),
         sent: Some(LastMessage {
             message: filled.message,
             bytes: filled.bytes,

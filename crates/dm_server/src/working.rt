@@ -11,14 +11,15 @@ ghost use Rattle.dm_service.specs.Messages as Spec;
 ghost use Rattle.dm_service.specs.Packages.{gives_up};
 ghost use Rattle.dm_server.specs.declared.held.Outbox.{Outbox as AnOutbox};
 ghost use Rattle.dm_server.specs.Inside.{at_work, session_in, session_with, Stands};
-ghost use Rattle.dm_server.specs.Working.{behind, by_header_after, drafted, with_account};
-ghost use Rattle.dm_server.specs.Working.{CanAccept, CanWork, IsFaultTold, IsReply};
+ghost use Rattle.dm_server.specs.Working.{behind, by_header_after, drafted, left_by, machine_in, session_of};
+ghost use Rattle.dm_server.specs.Working.{with_account, CanAccept, CanWork, IsAsBefore, IsFaultTold, IsReadyWork};
+ghost use Rattle.dm_server.specs.Working.{IsReply};
 
 use crate::answering::answered;
 use crate::drafts::{Draft, Next};
 use crate::giving_up::give_up;
 use crate::headers::header_for;
-use crate::held::{Outbox, Plan, Run, Session};
+use crate::held::{Outbox, Plan, Run, Session, Work};
 use dm_auth::Account;
 use dm_base::{Memory, Nonce};
 use dm_ends::{farewell, has_abort};
@@ -48,38 +49,29 @@ fn ended(run: Run, progress: &Progress) -> Next
 }
 
 // The session is over with a farewell.
-fn denied(
-    plan: &Plan,
-    account: &Account,
-    run: Run,
-    progress: &Progress,
-    message: &Message,
-    nonce: &Nonce,
-    code: u32,
-) -> Result<Next, Memory>
-    requires limits { IsReadyLimits plan.now.job.limits }
-    requires account { IsReadyAccount account.now }
-    requires number { progress.now.number < 2 ^ 32 }
-    requires own { progress.now.standing.own + 1 < 2 ^ 32 }
-    requires message { IsReadyMessage message.now nonce.now.bytes }
+fn denied(work: &Work, code: u32) -> Result<Next, Memory>
+    requires limits { IsReadyLimits work.now.plan.now.job.limits }
+    requires account { IsReadyAccount work.now.account.now }
+    requires number { work.now.progress.number < 2 ^ 32 }
+    requires own { work.now.progress.standing.own + 1 < 2 ^ 32 }
+    requires message { IsReadyWork work.now }
     ensures state { IfOk result (λ next. (o : AnOutbox) (g : GatheredSoFar) (known : AKnown) (before : OptionOf Parts)
-        → behind plan.now.job account.now next o g known before
-        ≡ Spec.denies (at_work (with_account plan.now.job account.now) run progress.now o g known before)
-        (session_with progress.now o g) message.now code nonce.now.bytes) }
-    ensures run { IfOk result (λ next. next.run ≡ run) }
+        → left_by work.now next o g known before ≡ Spec.denies (machine_in work.now o g known before)
+        (session_of work.now o g) work.now.message.now code work.now.nonce.now.bytes) }
+    ensures run { IfOk result (λ next. next.run ≡ work.now.run) }
     ensures reply { IfOk result (λ next. IsReply next.progress next.sent) }
 {
-    let header = header_for(plan, account, progress, message)?;
-    let farewell = farewell(plan.alloc, header, message, code, nonce)?;
-    let mut standing = progress.standing;
+    let header = header_for(work.plan, work.account, &work.progress, work.message)?;
+    let farewell = farewell(work.plan.alloc, header, work.message, code, work.nonce)?;
+    let mut standing = work.progress.standing;
     standing.own += 1;
     Ok(Next {
-        run,
+        run: work.run,
         progress: Progress {
             standing,
             answered: true,
             is_over: true,
-            ..*progress
+            ..work.progress
         },
         sent: Some(farewell),
     })
@@ -94,82 +86,67 @@ fn is_faultless(code: u32) -> bool
 
 // A message whose header was heard. After `Memory` all is as before.
 fn by_header(
-    plan: &Plan,
-    account: &Account,
-    run: Run,
-    progress: &Progress,
+    work: &Work,
     outbox: &mut Outbox,
     gathering: &mut Gathering,
     findings: &mut Findings,
-    message: &Message,
-    nonce: &Nonce,
     heard: &Heard,
 ) -> Result<Next, Memory>
-    requires can_work { CanWork plan.now.job account.now run progress.now outbox.old gathering.old }
-    requires message { IsReadyMessage message.now nonce.now.bytes }
-    requires code { IsFaultTold heard.now.code message.now }
+    requires can_work { CanWork work.now outbox.old gathering.old }
+    requires message { IsReadyWork work.now }
+    requires code { IsFaultTold heard.now.code work.now.message.now }
     ensures state { IfOk result (λ next. (before : OptionOf Parts) (h : Standings.Heard)
         → h.code ≡ heard.now.code → h.second ≡ heard.now.second
-        → behind plan.now.job account.now next outbox.new gathering.new findings.new before
-        ≡ Spec.by_header (at_work (with_account plan.now.job account.now) run progress.now outbox.old gathering.old
-        findings.old before) (session_with progress.now outbox.old gathering.old) message.now h nonce.now.bytes) }
-    ensures stands { IfOk result (λ next. Stands plan.now.job next.run outbox.new gathering.new) }
+        → left_by work.now next outbox.new gathering.new findings.new before
+        ≡ Spec.by_header (machine_in work.now outbox.old gathering.old findings.old before)
+        (session_of work.now outbox.old gathering.old) work.now.message.now h work.now.nonce.now.bytes) }
+    ensures stands { IfOk result (λ next. Stands work.now.plan.now.job next.run outbox.new gathering.new) }
     ensures reply { IfOk result (λ next. IsReply next.progress next.sent) }
-    ensures err_outbox { OnErr result (outbox.new ≡ outbox.old) }
-    ensures err_gathering { OnErr result (gathering.new ≡ gathering.old) }
-    ensures err_findings { OnErr result (findings.new ≡ findings.old) }
+    ensures err { OnErr result
+        (IsAsBefore outbox.old outbox.new gathering.old gathering.new findings.old findings.new) }
 {
     let code = heard.code;
-    if is_faultless(code) && has_abort(message.body().as_slice()) {
-        return Ok(ended(run, progress));
+    if is_faultless(code) && has_abort(work.message.body().as_slice()) {
+        return Ok(ended(work.run, &work.progress));
     }
     if heard.second {
-        return denied(plan, account, run, progress, message, nonce, code);
+        return denied(work, code);
     }
-    answered(
-        plan, account, run, progress, outbox, gathering, findings, message, nonce, code,
-    )
+    answered(work, outbox, gathering, findings, code)
 }
 
 // The same once the package that was queued last is given up.
 fn by_header_anew(
-    plan: &Plan,
-    account: &Account,
-    run: Run,
-    progress: &Progress,
+    work: &Work,
     outbox: &mut Outbox,
     gathering: &mut Gathering,
     findings: &mut Findings,
-    message: &Message,
-    nonce: &Nonce,
     heard: &Heard,
 ) -> Result<Next, Memory>
-    requires can_work { CanWork plan.now.job account.now run progress.now outbox.old gathering.old }
-    requires message { IsReadyMessage message.now nonce.now.bytes }
-    requires code { IsFaultTold heard.now.code message.now }
+    requires can_work { CanWork work.now outbox.old gathering.old }
+    requires message { IsReadyWork work.now }
+    requires code { IsFaultTold heard.now.code work.now.message.now }
     ensures state { IfOk result (λ next. (before : OptionOf Parts) (h : Standings.Heard)
         → h.code ≡ heard.now.code → h.second ≡ heard.now.second
-        → behind plan.now.job account.now next outbox.new gathering.new findings.new before
-        ≡ by_header_after (gives_up (at_work (with_account plan.now.job account.now) run progress.now outbox.old
-        gathering.old findings.old before) (session_with progress.now outbox.old gathering.old))
-        (session_with progress.now outbox.old gathering.old) message.now h nonce.now.bytes) }
-    ensures stands { IfOk result (λ next. Stands plan.now.job next.run outbox.new gathering.new) }
+        → left_by work.now next outbox.new gathering.new findings.new before
+        ≡ by_header_after (gives_up (machine_in work.now outbox.old gathering.old findings.old before)
+        (session_of work.now outbox.old gathering.old)) (session_of work.now outbox.old gathering.old)
+        work.now.message.now h work.now.nonce.now.bytes) }
+    ensures stands { IfOk result (λ next. Stands work.now.plan.now.job next.run outbox.new gathering.new) }
     ensures reply { IfOk result (λ next. IsReply next.progress next.sent) }
-    ensures err_outbox { OnErr result (outbox.new ≡ outbox.old) }
-    ensures err_gathering { OnErr result (gathering.new ≡ gathering.old) }
-    ensures err_findings { OnErr result (findings.new ≡ findings.old) }
+    ensures err { OnErr result
+        (IsAsBefore outbox.old outbox.new gathering.old gathering.new findings.old findings.new) }
 {
-    let mut left = give_up(plan, run, outbox, findings)?;
+    let mut left = give_up(work.plan, work.run, outbox, findings)?;
+    let anew = Work {
+        run: left.run,
+        ..*work
+    };
     let next = by_header(
-        plan,
-        account,
-        left.run,
-        progress,
+        &anew,
         &mut left.outbox,
         gathering,
         &mut left.findings,
-        message,
-        nonce,
         heard,
     )?;
     *outbox = left.outbox;
@@ -180,40 +157,30 @@ fn by_header_anew(
 // The same by the code of the Status for the server's last header, where the client refused a credential before or not.
 fn by_status(
     failed: bool,
-    plan: &Plan,
-    account: &Account,
-    run: Run,
-    progress: &Progress,
+    work: &Work,
     outbox: &mut Outbox,
     gathering: &mut Gathering,
     findings: &mut Findings,
-    message: &Message,
-    nonce: &Nonce,
     heard: &Heard,
 ) -> Result<Next, Memory>
-    requires can_work { CanWork plan.now.job account.now run progress.now outbox.old gathering.old }
-    requires message { IsReadyMessage message.now nonce.now.bytes }
-    requires code { IsFaultTold heard.now.code message.now }
+    requires can_work { CanWork work.now outbox.old gathering.old }
+    requires message { IsReadyWork work.now }
+    requires code { IsFaultTold heard.now.code work.now.message.now }
     ensures state { IfOk result (λ next. (before : OptionOf Parts) (h : Standings.Heard)
         → h.code ≡ heard.now.code → h.second ≡ heard.now.second
-        → behind plan.now.job account.now next outbox.new gathering.new findings.new before
-        ≡ by_header_after (Spec.after_status (at_work (with_account plan.now.job account.now) run progress.now
-        outbox.old gathering.old findings.old before) (session_with progress.now outbox.old gathering.old) failed
-        heard.now.status) (session_with progress.now outbox.old gathering.old) message.now h nonce.now.bytes) }
-    ensures stands { IfOk result (λ next. Stands plan.now.job next.run outbox.new gathering.new) }
+        → left_by work.now next outbox.new gathering.new findings.new before
+        ≡ by_header_after (Spec.after_status (machine_in work.now outbox.old gathering.old findings.old before)
+        (session_of work.now outbox.old gathering.old) failed heard.now.status)
+        (session_of work.now outbox.old gathering.old) work.now.message.now h work.now.nonce.now.bytes) }
+    ensures stands { IfOk result (λ next. Stands work.now.plan.now.job next.run outbox.new gathering.new) }
     ensures reply { IfOk result (λ next. IsReply next.progress next.sent) }
-    ensures err_outbox { OnErr result (outbox.new ≡ outbox.old) }
-    ensures err_gathering { OnErr result (gathering.new ≡ gathering.old) }
-    ensures err_findings { OnErr result (findings.new ≡ findings.old) }
+    ensures err { OnErr result
+        (IsAsBefore outbox.old outbox.new gathering.old gathering.new findings.old findings.new) }
 {
     if !failed && is_denied(heard.status) {
-        by_header_anew(
-            plan, account, run, progress, outbox, gathering, findings, message, nonce, heard,
-        )
+        by_header_anew(work, outbox, gathering, findings, heard)
     } else {
-        by_header(
-            plan, account, run, progress, outbox, gathering, findings, message, nonce, heard,
-        )
+        by_header(work, outbox, gathering, findings, heard)
     }
 }
 
@@ -255,21 +222,23 @@ pub(crate) fn accept(
         message,
         nonce,
     )?;
-    let progress = Progress {
-        standing: heard.standing,
-        ..session.progress
+    let work = Work {
+        plan,
+        account: renewed_by(&heard, &plan.job.account),
+        run,
+        progress: Progress {
+            standing: heard.standing,
+            ..session.progress
+        },
+        message,
+        nonce,
     };
     let next = by_status(
         session.progress.standing.we_failed,
-        plan,
-        renewed_by(&heard, &plan.job.account),
-        run,
-        &progress,
+        &work,
         &mut session.outbox,
         &mut session.gathering,
         findings,
-        message,
-        nonce,
         &heard,
     )?;
     session.progress = next.progress;

@@ -5,14 +5,15 @@ use Rattle.dm_server.proofs.answering.answered.Goals as goal
 
 pub answer_behind-requires-clause-can_work : goal.answer_behind-requires-clause-can_work
 answer_behind-requires-clause-can_work c =
+    let w = c.args.work.now in
     let can = c.requires.can_work in
     let low : c.args.code < 2 ^ 32 = omega (arith, c.ranges.code) in
     record {
       holds = record {
         place = can.holds.place;
         queue = subst AreReadyWaiting (sym c.in_ok-front.ensures.ok)
-            (status_waits c.in_ok-status.status c.args.message.now c.header.result.now c.args.code
-            c.args.nonce.now.bytes c.args.outbox.now.queue c.header.ensures.value c.in_ok-status.ensures low
+            (status_waits c.in_ok-status.status w.message.now c.header.result.now c.args.code
+            w.nonce.now.bytes c.args.outbox.now.queue c.header.ensures.value c.in_ok-status.ensures low
             c.requires.message can.holds.queue);
         commands = can.holds.commands;
         order = can.holds.order;

@@ -7,5 +7,5 @@ use Rattle.dm_server.proofs.answering.queue_behind.Goals as goal
 pub queue_next-requires-clause-queue : goal.queue_next-requires-clause-queue
 queue_next-requires-clause-queue c =
     subst AreReadyWaiting (sym c.in_ok-push_answers.ensures.ok)
-    (answers_wait c.args.message.now (passes c.args.code) c.in_ok-answers_to.field-0 c.args.queue.now c.requires.message
-    c.in_ok-answers_to.ensures c.requires.queue)
+    (answers_wait c.args.work.now.message.now (passes c.args.code) c.in_ok-answers_to.field-0 c.args.queue.now
+    c.requires.message c.in_ok-answers_to.ensures c.requires.can_queue.queue)

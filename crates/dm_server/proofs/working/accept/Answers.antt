@@ -1,4 +1,4 @@
-use Rattle.std.proofs.Common.{◌∙◌, ap, sym}
+use Rattle.std.proofs.Common.{◌∙◌, ap, refl, sym}
 use Rattle.dm_auth.specs.declared.accounts.Account.{Account}
 use Rattle.dm_headers.specs.declared.checks.Side.TheVariants.{User}
 use Rattle.dm_headers.specs.Standings.{hears}
@@ -8,9 +8,8 @@ use Rattle.dm_server.proofs.working.accept.Goals as goal
 
 pub by_status-requires-clause-can_work : goal.by_status-requires-clause-can_work
 by_status-requires-clause-can_work c =
-    can_work c.args.plan.now.job c.args.run c.args.session.now c.args.message.now c.args.nonce.now.bytes
-    c.renewed_by.result.now c.in_ok-heard.heard.standing c.requires.can_accept c.requires.message
-    (c.renewed_by.ensures ∙ c.in_ok-heard.ensures.tells.account_is) c.in_ok-heard.ensures.tells.standing
+    can_work _ c.args.session.now c.in_ok-heard.heard.standing c.requires.can_accept c.requires.message
+    (c.renewed_by.ensures ∙ c.in_ok-heard.ensures.tells.account_is) c.in_ok-heard.ensures.tells.standing refl
 
 pub by_status-requires-clause-code : goal.by_status-requires-clause-code
 by_status-requires-clause-code c =

@@ -8,15 +8,17 @@ use Rattle.dm_server.proofs.working.denied.Goals as goal
 
 pub farewell-requires-clause-header : goal.farewell-requires-clause-header
 farewell-requires-clause-header c =
-    header_fits c.args.plan.now.job c.args.account.now c.args.progress.now c.args.message.now c.in_ok-header.header
+    let w = c.args.work.now in
+    header_fits w.plan.now.job w.account.now w.progress w.message.now c.in_ok-header.header
     c.in_ok-header.ensures c.requires.limits c.requires.account c.requires.number c.requires.own c.requires.message.fit
 
 pub returns-clause-state : goal.returns-clause-state
 returns-clause-state c o g known before =
-    let job = with_account c.args.plan.now.job c.args.account.now in
-    let m = c.args.message.now in
-    denied_sends job c.args.run c.args.progress.now o g known before m c.args.code c.args.nonce.now.bytes
+    let w = c.args.work.now in
+    let job = with_account w.plan.now.job w.account.now in
+    let m = w.message.now in
+    denied_sends job w.run w.progress o g known before m c.args.code w.nonce.now.bytes
     c.in_ok-farewell.farewell.message
     (c.in_ok-farewell.ensures.message
-    ∙ ap (λ (h : Header). farewell h m c.args.code c.args.nonce.now.bytes)
-    (c.in_ok-header.ensures (at_work job c.args.run c.args.progress.now o g known before) refl))
+    ∙ ap (λ (h : Header). farewell h m c.args.code w.nonce.now.bytes)
+    (c.in_ok-header.ensures (at_work job w.run w.progress o g known before) refl))
