@@ -1,6 +1,6 @@
 -- What a message makes of the machine, step by step.
 use Rattle.std.proofs.Common.{◌≡◌, ◌&&◌, ◌||◌, ℕ, Bool, true, false, cond, not, List, codes, None}
-use Rattle.std.proofs.Common.{Some, refl, sym, ap, ◌∙◌, subst, if◌then◌else◌, ◌<◌, ◌≤◌, ◌+◌, ◌^◌}
+use Rattle.std.proofs.Common.{Some, refl, sym, ap, ◌∙◌, subst, ◌<◌, ◌≤◌, ◌+◌, ◌^◌}
 use Rattle.std.proofs.Common.{arith}
 use Rattle.std.specs.Prelude.{Option, is_some, unwrap_or, bytes_eq}
 use Rattle.std.specs.List.{list_any}
@@ -19,7 +19,7 @@ use Rattle.dm_headers.specs.declared.standings.Standing.{Standing}
 use Rattle.dm_headers.specs.Standings.{Heard, hears}
 use Rattle.dm_ends.specs.Commands.{is_abort}
 use Rattle.dm_ends.specs.Farewells.{farewell}
-use Rattle.dm_ends.specs.Ready.{IsReadyAccount, IsReadyLimits, IsReadyMessage}
+use Rattle.dm_ends.specs.Ready.{IsReadyAccount, IsReadyLimits}
 use Rattle.dm_ends.proofs.Hearing.{hears_ready}
 use Rattle.dm_pack.specs.Filling.{IsReadyHeader}
 use Rattle.syncml_types.specs.Fitness.{IsFit}

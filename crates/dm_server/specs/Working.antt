@@ -1,6 +1,6 @@
 -- What a message that is taken makes of a server.
 use Rattle.std.specs.Prelude.{◌≡◌, ◌<◌, ◌≤◌, ◌+◌, ◌^◌, ◌++◌, ◌||◌, ℕ, Bool, true, false, not, if◌then◌else◌, List, []}
-use Rattle.std.specs.Prelude.{map, length, take, Option, option_map, is_some, IfSome, IsSomeAnd, unwrap_or, Ok}
+use Rattle.std.specs.Prelude.{map, length, take, Option, option_map, is_some, IfSome, IsSomeAnd, unwrap_or}
 use Rattle.std.specs.List.{filter}
 use Rattle.std.specs.Option.{option_or}
 use Rattle.dm_base.specs.Limits.{least_room, message_limit}
@@ -27,7 +27,7 @@ use Rattle.dm_service.specs.Sending.{sends}
 use Rattle.dm_service.specs.Ready.{AreReadyPackages, AreReadyWaiting}
 use Rattle.dm_service.specs.Service.{Waiting, Session, Service}
 use Rattle.dm_service.specs.Messages.{answer_waiting, tells, in_session, by_header, accepts}
-use Rattle.dm_service.specs.Events.{Arrival, last_of, takes, after, opens, refusal, reply_of, arrival}
+use Rattle.dm_service.specs.Events.{last_of, takes, after, opens, refusal, reply_of, arrival}
 use Rattle.dm_server.specs.declared.answers.Answer.{Answer}
 use Rattle.dm_server.specs.declared.answers.Answer.TheVariants as answer
 use Rattle.dm_server.specs.declared.coming.Coming.{Coming}
