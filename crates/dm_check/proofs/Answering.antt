@@ -100,7 +100,7 @@ part_no_read text old new e h is = subst (PutsPart old new text) is h
 
 cause_by : (e : Exit) (before now : ℕ) → (e ≡ exit.ReadFault → ⊥) → now ≡ before → SourceCause before now e
 cause_by exit.ReadFault before now other h = absurd (other refl)
-cause_by other before now no h = h
+cause_by other before now unlike h = h
 
 pub no_read : (r : Received) (text : List ℕ) (good : Exit) (old new : Option (List ℕ)) (e : Exit)
     → good ≡ exit_of (read_in r) → PutsEnd text good old new e → e ≡ exit.ReadFault → ⊥
@@ -129,5 +129,5 @@ pub answer_ended : (left rest : Option (List ℕ)) (r : Received) (text : List �
     (old new : Option (List ℕ)) (e : Exit) → MessageAtEnd rest (Ok r) → good ≡ exit_of (read_in r)
     → PutsEnd text good old new e → DoneAtEnd left rest e
 answer_ended left rest (received.Message message bytes) text good old new e ended is h = at_end_done left rest e ended
-answer_ended left rest (received.Refused refusal) text good old new e ended is h done =
-    absurd (end_not_done text good old new e (λ same. let no = sym is ∙ same in cc) h done)
+answer_ended left rest (received.Refused refusal) text good old new e ended is h = λ done.
+    absurd (end_not_done text good old new e (λ same. let both = sym is ∙ same in cc) h done)

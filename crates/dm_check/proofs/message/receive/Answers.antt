@@ -96,7 +96,7 @@ returns-in-Err-clause-asked g c = λ is.
 
 pub returns-in-Ok-eq0-clause-ended : goal.returns-in-Ok-eq0-clause-ended
 returns-in-Ok-eq0-clause-ended g c =
-    message_ended _ c.finish.result (c.in-Ok-eq0.ensures.bytes.2 c.in-Ok-eq0.field-0-is)
+    message_ended _ c.finish.result (c.in-Ok-eq0.ensures.bytes.2 (omega (arith, c.in-Ok-eq0.field-0-test)))
 
 pub returns-in-Err-keep-clause-ended : goal.returns-in-Err-keep-clause-ended
 returns-in-Err-keep-clause-ended g c =
