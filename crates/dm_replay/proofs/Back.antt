@@ -37,7 +37,7 @@ abbrev pub AreShort : List (List ℕ) → Type 0
 AreShort [] = ⊤
 AreShort (line ∷ lines) = (length line ≤ 8400000) × AreShort lines
 
-is_short : (line : List ℕ) → is_long line ≡ false → length line ≤ 8400000
+pub is_short : (line : List ℕ) → is_long line ≡ false → length line ≤ 8400000
 is_short line h = grind arith
 
 stop_is_not_done : (stop : Stop) → stop_exit stop ≡ exit.Done → ⊥
@@ -325,11 +325,11 @@ abbrev pub AreFeedless : List (List ℕ) → Type 0
 AreFeedless [] = ⊤
 AreFeedless (line ∷ lines) = IsFeedless line × AreFeedless lines
 
-no_feed : (b : ℕ) (bs : List ℕ) → (b == 10) ≡ false → IsFeedless bs → IsFeedless (b ∷ bs)
+pub no_feed : (b : ℕ) (bs : List ℕ) → (b == 10) ≡ false → IsFeedless bs → IsFeedless (b ∷ bs)
 no_feed b bs is h zero below = eqb-false b 10 is
 no_feed b bs is h (suc k) below = h k (omega (arith, below))
 
-nothing_feedless : IsFeedless []
+pub nothing_feedless : IsFeedless []
 nothing_feedless k below = omega (arith, below)
 
 fed : (b : ℕ) (lines : List (List ℕ)) (tail : List ℕ) → (b == 10) ≡ false → AreFeedless lines
@@ -348,7 +348,7 @@ joined_if : (c : Bool) (b : ℕ) (s : Split) (bs : List ℕ) → (b == 10) ≡ c
 joined_if true b s bs is h = ap (λ xs. 10 ∷ xs) h ∙ ap (λ x. x ∷ bs) (sym (eqb-true b 10 is))
 joined_if false b s bs is h = joined_byte b s.lines s.tail bs h
 
-joined : (bytes : List ℕ) → text_of (split bytes).lines ++ (split bytes).tail ≡ bytes
+pub joined : (bytes : List ℕ) → text_of (split bytes).lines ++ (split bytes).tail ≡ bytes
 joined [] = refl
 joined (b ∷ bs) = joined_if (b == 10) b (split bs) bs refl (joined bs)
 
@@ -357,7 +357,7 @@ feedless_if : (c : Bool) (b : ℕ) (s : Split) → (b == 10) ≡ c → AreFeedle
 feedless_if true b s is h = (nothing_feedless, h)
 feedless_if false b s is h = fed b s.lines s.tail is h
 
-feedless : (bytes : List ℕ) → AreFeedless (split bytes).lines
+pub feedless : (bytes : List ℕ) → AreFeedless (split bytes).lines
 feedless [] = tt
 feedless (b ∷ bs) = feedless_if (b == 10) b (split bs) refl (feedless bs)
 

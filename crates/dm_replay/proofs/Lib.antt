@@ -14,3 +14,4 @@ pub mod Faults
 pub mod Over
 pub mod Asked
 pub mod Ended
+pub mod Refusals

@@ -51,7 +51,7 @@ split_line line rest h =
     split_lead line (10 ∷ rest) h ∙ ap (λ l. record { lines = l ∷ (split rest).lines; tail = (split rest).tail })
     (append-nil line)
 
-split_tail : (tail : List ℕ) → IsFeedless tail → split tail ≡ record { lines = []; tail = tail }
+pub split_tail : (tail : List ℕ) → IsFeedless tail → split tail ≡ record { lines = []; tail = tail }
 split_tail tail h =
     ap split (sym (append-nil tail)) ∙ split_lead tail [] h
     ∙ ap (λ l. record { lines = []; tail = l }) (append-nil tail)

@@ -4,3 +4,4 @@ pub mod Trace
 pub mod Output
 pub mod From
 pub mod Laws
+pub mod Refused

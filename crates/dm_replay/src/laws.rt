@@ -1,5 +1,6 @@
 // Laws over the definitions of a trace and of its text.
 ghost use Rattle.dm_replay.specs.Laws.{WholeTracesAreAnswered, OnlyTracesAreDone};
+ghost use Rattle.dm_replay.specs.Refused.{RefusalsAreFirst, RefusalsAreTold};
 
 /// Law: each whole trace of at most 67,108,864 bytes is answered whole. Its text is the machine's answers to its events
 /// by their whole history, the tree that those which act lead to, and `done`.
@@ -10,4 +11,15 @@ pub fn whole_traces_are_answered()
 /// Law: a run ends by `Done` over such traces alone.
 pub fn only_traces_are_done()
     ensures { OnlyTracesAreDone }
+{}
+
+/// Law: where a run stops at a line, that is the first that is refused: those before it are taken, and it, or what
+/// stands in its place, is refused for this reason.
+pub fn refusals_are_first()
+    ensures { RefusalsAreFirst }
+{}
+
+/// Law: each first line that is refused stops a run there, for its reason.
+pub fn refusals_are_told()
+    ensures { RefusalsAreTold }
 {}
