@@ -1,34 +1,11 @@
-// Access lists: what is read, what is printed of it, whom it allows what.
-use crate::access_rows::{ALLOWED, AllowRow, FAULTS, NAMED, NameRow, PRINTED, PrintRow};
+// Access lists: where the first fault is told, which lists are the same, and copies. What is printed of a list, and
+// whom it allows what, is shown by traces.
+use crate::access_rows::FAULTS;
 use crate::asserts::assert_none_wrong;
 use dm_acl::{Acl, AclError};
-use dm_base::{Bytes, Memory};
 use std::alloc::Global;
 
 // Each of the helpers below that looks for a wrong row answers the text of the first, for the test to show.
-
-fn is_printed(alloc: Global, acl: &Acl, want: &[u8]) -> bool {
-    match acl.print(alloc) {
-        Ok(text) => text.as_slice() == want,
-        Err(_) => false,
-    }
-}
-
-fn prints_as(alloc: Global, row: &PrintRow) -> bool {
-    match Acl::parse(alloc, row.text) {
-        Ok(acl) => is_printed(alloc, &acl, row.want),
-        Err(_) => false,
-    }
-}
-
-fn wrong_print(alloc: Global) -> Option<&'static [u8]> {
-    for row in &PRINTED {
-        if !prints_as(alloc, row) {
-            return Some(row.text);
-        }
-    }
-    None
-}
 
 fn refused_at(alloc: Global, text: &[u8]) -> Option<usize> {
     match Acl::parse(alloc, text) {
@@ -46,51 +23,9 @@ fn wrong_fault(alloc: Global) -> Option<&'static [u8]> {
     None
 }
 
-fn allows(alloc: Global, row: &AllowRow) -> Option<bool> {
-    match Acl::parse(alloc, row.text) {
-        Ok(acl) => Some(acl.allows(row.server, row.right)),
-        Err(_) => None,
-    }
-}
-
-fn wrong_allow(alloc: Global) -> Option<&'static [u8]> {
-    for row in &ALLOWED {
-        if allows(alloc, row) != Some(row.want) {
-            return Some(row.text);
-        }
-    }
-    None
-}
-
-fn names(alloc: Global, row: &NameRow) -> Option<bool> {
-    match Acl::parse(alloc, row.text) {
-        Ok(acl) => Some(acl.names(row.right)),
-        Err(_) => None,
-    }
-}
-
-fn wrong_name(alloc: Global) -> Option<&'static [u8]> {
-    for row in &NAMED {
-        if names(alloc, row) != Some(row.want) {
-            return Some(row.text);
-        }
-    }
-    None
-}
-
-// `Delete=` and a name `a`, 2,045 times, after as many other bytes.
-fn long_text(alloc: Global, first: &[u8]) -> Result<Bytes, Memory> {
-    let mut text = Bytes::of_slice(alloc, first)?;
-    text.extend(b"a")?;
-    for _ in 0..2044 {
-        text.extend(b"+a")?;
-    }
-    Ok(text)
-}
-
-fn long_text_is_refused_at(alloc: Global, first: &[u8]) -> Result<Option<usize>, Memory> {
-    let text = long_text(alloc, first)?;
-    Ok(refused_at(alloc, text.as_slice()))
+#[test]
+fn the_first_fault_is_told(rt: HostRuntime) {
+    assert_none_wrong(&rt, wrong_fault(rt.alloc()));
 }
 
 fn is_copied(alloc: Global, acl: &Acl) -> bool {
@@ -120,66 +55,6 @@ fn are_same(alloc: Global, text: &[u8], other: &[u8]) -> Option<bool> {
         Ok(acl) => reads_as(alloc, other, &acl),
         Err(_) => None,
     }
-}
-
-#[test]
-fn lists_are_printed_in_one_form(rt: HostRuntime) {
-    assert_none_wrong(&rt, wrong_print(rt.alloc()));
-}
-
-#[test]
-fn the_first_fault_is_told(rt: HostRuntime) {
-    assert_none_wrong(&rt, wrong_fault(rt.alloc()));
-}
-
-#[test]
-fn own_entries_allow(rt: HostRuntime) {
-    assert_none_wrong(&rt, wrong_allow(rt.alloc()));
-}
-
-#[test]
-fn an_empty_entry_names_its_command(rt: HostRuntime) {
-    assert_none_wrong(&rt, wrong_name(rt.alloc()));
-}
-
-// What comes before the names, and the byte from which on there is no list, if there is one. With the first row's bytes
-// the text has 4,096.
-struct LongRow {
-    first: &'static [u8],
-    at: Option<usize>,
-}
-
-const LONG: [LongRow; 4] = [
-    LongRow {
-        first: b"Delete=",
-        at: None,
-    },
-    LongRow {
-        first: b"Delete=a",
-        at: Some(4096),
-    },
-    LongRow {
-        first: b"?Delete=",
-        at: Some(4096),
-    },
-    LongRow {
-        first: b"delete=",
-        at: Some(0),
-    },
-];
-
-fn wrong_long_text(alloc: Global) -> Option<&'static [u8]> {
-    for row in &LONG {
-        if long_text_is_refused_at(alloc, row.first) != Ok(row.at) {
-            return Some(row.first);
-        }
-    }
-    None
-}
-
-#[test]
-fn a_text_has_at_most_4096_bytes(rt: HostRuntime) {
-    assert_none_wrong(&rt, wrong_long_text(rt.alloc()));
 }
 
 struct PairRow {

@@ -1,4 +1,4 @@
-// Large trees: one that is full, and the same gone through from its root to its last leaf.
+// Large trees: one that is full, and one that is filled and emptied again and again.
 ghost use Rattle.std.specs.Prelude.{◌≡◌, ◌++◌, ◌∷◌, [], false, IsTrue, IfSome};
 ghost use Rattle.dm_uri.specs.Names.{is_within_limits};
 ghost use Rattle.dm_tree.specs.Nodes.{IsNewNode};
@@ -8,7 +8,7 @@ use crate::rows::rows_of;
 use crate::trees::{Start, add, at, grown};
 use dm_base::Bytes;
 use dm_tree::edits::NODE_LIMIT;
-use dm_tree::{NewNode, NodeId, Role, Tree, TreeError, Value};
+use dm_tree::{NewNode, Role, Tree, TreeError, Value};
 use dm_uri::{Name, Path, parse};
 use std::alloc::Global;
 
@@ -169,50 +169,6 @@ fn a_full_tree_takes_a_node_where_one_is_given_up(rt: HostRuntime) {
     assert!(rt; tree.is_some());
     if let Some(mut tree) = tree {
         assert_holds(&rt, takes_one_for_one(alloc, &mut tree));
-    }
-}
-
-// What comes behind the node of a URI, in the order of the tree text, where that is the node that is next.
-fn past(alloc: Global, tree: &Tree, next: NodeId, uri: &[u8]) -> Option<NodeId> {
-    let id = at(alloc, tree, uri)?;
-    if next != id {
-        return None;
-    }
-    tree.next_below(tree.root(), id, false)
-}
-
-// What comes behind all leaves, where each is found, and comes in order.
-fn past_leaves(alloc: Global, tree: &Tree, first: NodeId) -> Option<NodeId> {
-    let mut next = first;
-    for leaf in 0..LEAVES {
-        if leaf % GROUP == 0 {
-            next = past(
-                alloc,
-                tree,
-                next,
-                group_uri(alloc, leaf / GROUP)?.as_bytes(),
-            )?;
-        }
-        next = past(alloc, tree, next, leaf_uri(alloc, leaf)?.as_bytes())?;
-    }
-    Some(next)
-}
-
-fn is_in_order(alloc: Global, tree: &Tree) -> Option<bool> {
-    let base = past(alloc, tree, tree.root(), b".")?;
-    let first = past(alloc, tree, base, b"./B")?;
-    let behind = past_leaves(alloc, tree, first)?;
-    Some(at(alloc, tree, b"./P") == Some(behind))
-}
-
-#[test]
-fn each_leaf_is_found_and_comes_in_order(rt: HostRuntime) {
-    let alloc = rt.alloc();
-    let tree = full(alloc);
-    assert!(rt; tree.is_some());
-    if let Some(tree) = tree {
-        assert_eq!(rt; tree.count(), NODE_LIMIT);
-        assert_holds(&rt, is_in_order(alloc, &tree));
     }
 }
 

@@ -16,8 +16,6 @@ mod large_trees;
 #[cfg(test)]
 mod reuse;
 #[cfg(test)]
-mod rights;
-#[cfg(test)]
 mod rows;
 #[cfg(test)]
 mod trees;

@@ -1,4 +1,4 @@
-// A tree of a few nodes: what is read of it, and edits taken back and done again.
+// A tree of a few nodes, and what is read of it.
 ghost use Rattle.std.specs.Prelude.{◌≡◌, ◌≤◌, ◌++◌, ◌∷◌, [], false, length, IsTrue, IfSome};
 ghost use Rattle.dm_uri.specs.Names.{is_within_limits};
 ghost use Rattle.dm_tree.specs.Nodes.{IsNewNode, IsValue, IsReadAgain};
@@ -6,11 +6,11 @@ ghost use Rattle.dm_tree.specs.Rows.{IsLive};
 ghost use Rattle.dm_tree.specs.Undos.{Fits, IsHeld};
 ghost use Rattle.dm_tree.specs.Notes.{TakesEditBack};
 
-use crate::asserts::{assert_holds, assert_none_wrong};
+use crate::asserts::assert_none_wrong;
 use dm_acl::Acl;
 use dm_base::Bytes;
-use dm_tree::{NewNode, NodeId, Role, Stamp, Tree, Undo, Value};
-use dm_uri::{Name, Path, parse, parse_name};
+use dm_tree::{NewNode, NodeId, Role, Tree, Undo, Value};
+use dm_uri::{Name, Path, parse};
 use std::alloc::Global;
 
 // Each of the helpers below answers None where memory runs out, or a text or a node isn't what it has to be.
@@ -189,19 +189,6 @@ pub(crate) fn at(alloc: Global, tree: &Tree, uri: &[u8]) -> Option<NodeId>
     tree.find(&path)
 }
 
-pub(crate) fn rename(alloc: Global, tree: &mut Tree, uri: &[u8], name: &[u8]) -> Option<Undo>
-    ensures fits { IfSome result (λ undo. Fits tree.new.rows undo) }
-    ensures edit { IfSome result (λ undo. TakesEditBack undo tree.old.rows tree.new.rows) }
-{
-    let id = at(alloc, tree, uri)?;
-    let parent = tree.parent(id)?;
-    let name = parse_name(alloc, name).ok()?;
-    if tree.view(id).permanent || tree.child(parent, &name).is_some() || !tree.fits(id, &name) {
-        return None;
-    }
-    Some(tree.rename(id, name))
-}
-
 // Whether each node of the table is found, and again by its parent, its name and its path.
 fn is_read(alloc: Global, tree: &Tree, row: &Start) -> Option<bool> {
     let id = at(alloc, tree, row.uri)?;
@@ -213,7 +200,7 @@ fn is_read(alloc: Global, tree: &Tree, row: &Start) -> Option<bool> {
     Some(again == id && found == id && view.interior == row.interior && view.verno == 0)
 }
 
-pub(crate) fn unread(alloc: Global, tree: &Tree) -> Option<&'static [u8]> {
+fn unread(alloc: Global, tree: &Tree) -> Option<&'static [u8]> {
     for row in NODES {
         if is_read(alloc, tree, row) != Some(true) {
             return Some(row.uri);
@@ -232,115 +219,5 @@ fn what_is_there_is_read(rt: HostRuntime) {
         assert!(rt; at(alloc, &tree, b"./T/c").is_none());
         assert!(rt; tree.parent(tree.root()).is_none());
         assert!(rt; tree.view(tree.root()).name.is_none());
-    }
-}
-
-pub(crate) const NOW: Stamp = Stamp {
-    bytes: *b"20240102T030405Z",
-};
-
-pub(crate) const FIRST: Stamp = Stamp {
-    bytes: *b"00000000T000000Z",
-};
-
-pub(crate) const LATER: Stamp = Stamp {
-    bytes: *b"20250102T030405Z",
-};
-
-// What a leaf shows after a Replace of its value, after that is taken back, and after it is done again.
-fn value_and_back(alloc: Global, tree: &mut Tree) -> Option<bool> {
-    let id = at(alloc, tree, b"./T/a")?;
-    if tree.view(id).interior {
-        return None;
-    }
-    tree.set_clock(NOW);
-    let mut undo = tree.set_value(id, chr(alloc, b"w")?);
-    let done = shows(alloc, tree, b"w", 1, NOW);
-    tree.set_clock(LATER);
-    tree.flip(&mut undo);
-    let back = shows(alloc, tree, b"v", 0, FIRST);
-    tree.flip(&mut undo);
-    let again = shows(alloc, tree, b"w", 1, NOW);
-    Some(done && back && again && tree.clock() == LATER)
-}
-
-fn shows(alloc: Global, tree: &Tree, bytes: &[u8], verno: u16, stamp: Stamp) -> bool {
-    match at(alloc, tree, b"./T/a") {
-        None => false,
-        Some(id) => {
-            let view = tree.view(id);
-            view.value.bytes.as_slice() == bytes && view.verno == verno && view.stamp == stamp
-        }
-    }
-}
-
-#[test]
-fn an_undo_gives_the_stamp_back_and_leaves_the_clock(rt: HostRuntime) {
-    let alloc = rt.alloc();
-    if let Some(mut tree) = grown(alloc) {
-        assert_holds(&rt, value_and_back(alloc, &mut tree));
-    }
-}
-
-// Whether `./T` has this number, and each node of the table is as it was at first.
-pub(crate) fn is_as_grown(alloc: Global, tree: &Tree, id: NodeId) -> bool {
-    at(alloc, tree, b"./T") == Some(id) && unread(alloc, tree).is_none()
-}
-
-// Whether `./T` is gone with all that stood below it.
-fn is_without(alloc: Global, tree: &Tree) -> bool {
-    at(alloc, tree, b"./T").is_none() && at(alloc, tree, b"./T/B/c").is_none() && tree.count() == 4
-}
-
-// Whether a subtree is gone once it is taken out, there again with its numbers, and gone again.
-fn out_and_back(alloc: Global, tree: &mut Tree) -> Option<bool> {
-    let id = at(alloc, tree, b"./T")?;
-    if tree.view(id).permanent {
-        return None;
-    }
-    let mut undo = tree.detach(id);
-    let gone = is_without(alloc, tree);
-    tree.flip(&mut undo);
-    let back = is_as_grown(alloc, tree, id);
-    tree.flip(&mut undo);
-    Some(gone && back && is_without(alloc, tree))
-}
-
-pub(crate) const LEAF_T: Start = Start {
-    uri: b"./T",
-    acl: b"",
-    interior: false,
-};
-
-// Whether a leaf takes the place of a subtree that is given up, is gone once that is taken back, and there again.
-fn given_up_and_replaced(alloc: Global, tree: &mut Tree) -> Option<bool> {
-    let id = at(alloc, tree, b"./T")?;
-    if tree.view(id).permanent {
-        return None;
-    }
-    let undo = tree.detach(id);
-    tree.discard(undo);
-    let mut undo = put(alloc, tree, &LEAF_T, Role::Plain)?;
-    let new = at(alloc, tree, b"./T");
-    let there = new.is_some() && tree.count() == 5;
-    tree.flip(&mut undo);
-    let gone = is_without(alloc, tree);
-    tree.flip(&mut undo);
-    Some(there && gone && at(alloc, tree, b"./T") == new)
-}
-
-#[test]
-fn a_subtree_comes_back_with_its_numbers(rt: HostRuntime) {
-    let alloc = rt.alloc();
-    if let Some(mut tree) = grown(alloc) {
-        assert_holds(&rt, out_and_back(alloc, &mut tree));
-    }
-}
-
-#[test]
-fn a_leaf_takes_the_place_of_a_subtree(rt: HostRuntime) {
-    let alloc = rt.alloc();
-    if let Some(mut tree) = grown(alloc) {
-        assert_holds(&rt, given_up_and_replaced(alloc, &mut tree));
     }
 }

@@ -10,11 +10,11 @@ returns c =
     let kept = c.note.ensures.entries in
     let is : c.note.new.self.entries ≡ Record undo ∷ c.args.journal.now.entries =
     ap (λ (j : Journal). j.entries) kept ∙ ap (λ es. Record undo ∷ es) c.make_room.ensures.entries in
-    notes-one c.args.journal.now c.note.new.self c.args.tree.now.rows c.edited.new.tree.rows undo is
+    notes-one c.args.journal.now c.note.new.self c.args.tree.now.rows c.put.new.tree.rows undo is
     (omega (
       arith,
       c.in_ok-make_room.ensures.more,
       ap (λ (j : Journal). j.room) kept,
       ap length is,
       ap length c.make_room.ensures.entries,
-    )) c.in_ok-undo.ensures
+    )) c.in_ok-undo.ensures.edit
