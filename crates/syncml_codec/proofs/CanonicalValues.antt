@@ -39,7 +39,8 @@ use Rattle.syncml_grammar.specs.Numbers.{digits_after, number_in}
 use Rattle.syncml_grammar.specs.Leaves.{short_number, closed_number}
 use Rattle.syncml_grammar.specs.Values.{Value, of_leaf, of_draft, simple, node, fresh, with_text, simply, closed}
 use Rattle.syncml_grammar.specs.Values.{with_child}
-use Rattle.syncml_grammar.proofs.Decimals.{numbers_are_decimal, written_is_read}
+use Rattle.dm_decimals.proofs.Decimals.{written_is_read}
+use Rattle.syncml_grammar.proofs.Decimals.{numbers_are_decimal}
 use Rattle.syncml_codec.specs.Ranges.{IsShort, IsLong, MetaRange, ItemRange, CredRange}
 use Rattle.syncml_codec.proofs.Numbers.{decimal_clear}
 use Rattle.syncml_codec.proofs.CanonicalForests.{Puts, ◌behind◌, puts_none, puts_bare, puts_full, puts_element}

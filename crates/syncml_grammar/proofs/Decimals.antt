@@ -1,20 +1,16 @@
 -- What is read digit by digit is decimal text.
-use Rattle.std.specs.Prelude.{◌≡◌, ◌==◌, ◌&&◌, ◌||◌, ℕ, ◌+◌, ◌*◌, ◌-◌, ◌^◌, ◌<◌, ◌≤◌, ◌≢◌, ◌⊎◌, zero, suc, nat_lt}
-use Rattle.std.specs.Prelude.{nat_le, slice_index, length, Bool, true, false, not, if◌then◌else◌, List, [], ◌∷◌, Option}
+use Rattle.std.specs.Prelude.{◌≡◌, ◌==◌, ◌&&◌, ◌||◌, ℕ, ◌+◌, ◌*◌, ◌-◌, ◌^◌, ◌<◌, ◌≤◌, ◌≢◌, ◌⊎◌, nat_lt}
+use Rattle.std.specs.Prelude.{nat_le, length, Bool, true, false, not, if◌then◌else◌, List, [], ◌∷◌, Option}
 use Rattle.std.specs.Prelude.{Some, None, refl}
 use Rattle.std.specs.Char.{digit_value}
-use Rattle.std.specs.Fmt.{decimal}
 use Rattle.std.specs.Str.{all_ascii_digits}
-use Rattle.std.specs.Str.Parse.{digits_value, digits_value_after}
+use Rattle.std.specs.Str.Parse.{digits_value_after}
 use Rattle.std.proofs.Common.{sym, ◌∙◌, ap, arith, inl, inr}
-use Rattle.std.proofs.lemmas.Bool.{and_parts, or_right, cases_eq, cases_lt, lt-ltb, le-ltb, leb-true, ne_eqb}
-use Rattle.std.proofs.lemmas.Fmt.{digits_decimal, digits_value-decimal, decimal_nonempty, decimal_digit, first_decimal}
+use Rattle.std.proofs.lemmas.Bool.{and_parts, cases_eq, cases_lt, lt-ltb, le-ltb, leb-true, ne_eqb}
 use Rattle.std.proofs.lemmas.Str.{digit_value_digit}
-use Rattle.std.proofs.lemmas.Str.Parse.{IsNumeralModel, numerals_by_value, tells_all_ascii_digits}
-use Rattle.dm_base.specs.Fields.{num_of}
 use Rattle.syncml_grammar.specs.declared.digits.Digits.TheVariants.{Number, Bad}
 use Rattle.syncml_grammar.specs.Numbers.{is_digit, longer, digit_after, digits_after, number_in}
-use Rattle.syncml_grammar.specs.Decimals.{NumbersAreDecimal, PiecesAreText, WrittenIsRead}
+use Rattle.syncml_grammar.specs.Decimals.{NumbersAreDecimal, PiecesAreText}
 
 -- the number of digits, where it has 64 bits
 abbrev fitting : Bool → ℕ → Option ℕ
@@ -163,26 +159,3 @@ numbers_are_decimal (c ∷ text) =
 pub pieces_are_text : PiecesAreText
 pieces_are_text digits [] b = refl
 pieces_are_text digits (c ∷ a) b = pieces_are_text (digit_after digits c) a b
-
--- ---- what is written
-
-own : IsNumeralModel (λ ds. all_ascii_digits ds ≡ true) (digits_value 10)
-own = numerals_by_value _ tells_all_ascii_digits
-
-num_from : (text : List ℕ) (n : ℕ) → 0 < length text → all_ascii_digits text ≡ true
-    → (length text == 1 || not (slice_index text 0 == 48)) ≡ true
-    → digits_value 10 text ≡ n → n < 2 ^ 64 → num_of text ≡ Some n
-num_from text n some digits first is small =
-    rw (lt-ltb 0 (length text) some, digits, first, is, lt-ltb n (2 ^ 64) small) refl
-
-first_of : (n : ℕ) → n < 2 ^ 64 → (length (decimal n) == 1 || not (slice_index (decimal n) 0 == 48)) ≡ true
-first_of zero small = ap (λ text. length text == 1 || not (slice_index text 0 == 48)) (decimal_digit 0 (omega arith))
-first_of (suc n) small =
-    let above = first_decimal (suc n) (omega arith) small in
-    or_right (length (decimal (suc n)) == 1) (not (slice_index (decimal (suc n)) 0 == 48))
-    (ap not (ne_eqb (slice_index (decimal (suc n)) 0) 48 (λ is. omega (arith, above, is))))
-
-pub written_is_read : WrittenIsRead
-written_is_read n small =
-    num_from (decimal n) n (decimal_nonempty n small) (digits_decimal own n small) (first_of n small)
-    (digits_value-decimal own n small) small

@@ -1,6 +1,5 @@
 -- What is read digit by digit is decimal text, in whatever pieces it comes.
-use Rattle.std.specs.Prelude.{◌≡◌, ◌<◌, ◌^◌, ℕ, List, ◌++◌, Some}
-use Rattle.std.specs.Fmt.{decimal}
+use Rattle.std.specs.Prelude.{◌≡◌, ℕ, List, ◌++◌}
 use Rattle.dm_base.specs.Fields.{num_of}
 use Rattle.syncml_grammar.specs.declared.digits.Digits.{Digits}
 use Rattle.syncml_grammar.specs.declared.digits.Digits.TheVariants.{Start}
@@ -14,7 +13,3 @@ NumbersAreDecimal = (text : List ℕ) → number_in (digits_after Start text) �
 -- pieces that come one after the other are one text
 abbrev pub PiecesAreText : Type 0
 PiecesAreText = (digits : Digits) (a b : List ℕ) → digits_after (digits_after digits a) b ≡ digits_after digits (a ++ b)
-
--- what is written of a number is read as that number
-abbrev pub WrittenIsRead : Type 0
-WrittenIsRead = (n : ℕ) → n < 2 ^ 64 → num_of (decimal n) ≡ Some n

@@ -2,7 +2,7 @@
 ghost use Rattle.syncml_grammar.specs.Laws.{ReadIsFit};
 ghost use Rattle.syncml_grammar.specs.Refusals.{JudgedIsComputed, StepIsRefused, FinishedIsSpelled, TakenIsRead};
 ghost use Rattle.syncml_grammar.specs.Refusals.{UnreadIsText};
-ghost use Rattle.syncml_grammar.specs.Decimals.{NumbersAreDecimal, PiecesAreText, WrittenIsRead};
+ghost use Rattle.syncml_grammar.specs.Decimals.{NumbersAreDecimal, PiecesAreText};
 ghost use Rattle.syncml_grammar.specs.Taken.{BuiltIsTaken};
 
 /// Law: of each list of tokens exactly one thing is judged, and it is the computed one.
@@ -39,11 +39,6 @@ pub fn numbers_are_decimal()
 /// Law: pieces of a number that come one after the other are one text.
 pub fn pieces_are_text()
     ensures { PiecesAreText }
-{}
-
-/// Law: what is written of a number of 64 bits in decimal is read as that number.
-pub fn written_is_read()
-    ensures { WrittenIsRead }
 {}
 
 /// Law: a builder takes the tokens that the grammar takes, and else has the first refusal, at the place of its token.
