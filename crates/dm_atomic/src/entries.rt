@@ -42,6 +42,7 @@ fn status_of(alloc: Global, post: &Post, code: u32) -> Result<StatusCmd, Memory>
 }
 
 /// Tells a Status, unless it is suppressed. After `Memory` nothing is told.
+#[inline(always)]
 pub(crate) fn put_status(
     alloc: Global,
     post: &Post,
@@ -229,6 +230,7 @@ fn put_own_results(
 
 /// Tells the Status of a task, and then its Results, of which no value is copied. After `Memory` a part may be told.
 #[tactic(auto, using(crate::proofs::Frames::telling))]
+#[inline(always)]
 pub(crate) fn put_own_report(
     alloc: Global,
     report: Report,

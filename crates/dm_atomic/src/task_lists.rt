@@ -131,6 +131,7 @@ pub(crate) fn item_post(
 }
 
 /// The task of the item at this place. What it needs of the item is moved out of it.
+#[inline(always)]
 pub(crate) fn take_task(
     alloc: Global,
     origin: Origin,

@@ -57,6 +57,7 @@ fn printed_uri(alloc: Global, uri: &Uri) -> Result<Bytes, Memory>
 }
 
 /// A node's Format, a leaf's Type, and a value.
+#[inline(always)]
 pub(crate) fn found_at(
     alloc: Global,
     uri: Bytes,

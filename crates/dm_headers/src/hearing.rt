@@ -76,6 +76,7 @@ fn renew(
 /// credential is judged only in a message without fault, and only until one was accepted in the session; a challenge
 /// tells `nonce`. `Memory` is the only failure.
 #[tactic(auto, unfolding(crate::specs::Standings::hears))]
+#[inline(always)]
 pub fn hear(
     alloc: Global,
     theirs: Side,

@@ -126,6 +126,7 @@ fn decimal(alloc: Global, number: u32) -> Result<Bytes, Memory>
 /// The header of this end's next message in a session, from the side `own` of an account: with its credential until the
 /// other end told that it accepted one, and with this end's limits. `source` and `target` are given up after `Memory`.
 #[tactic(auto, unfolding(crate::specs::Headers::next_header))]
+#[inline(always)]
 pub fn next_header(
     alloc: Global,
     own: Side,

@@ -52,6 +52,7 @@ impl Queue {
     }
 
     /// Adds an entry behind all others; its CmdIDs are set when it is sent. After `Memory` the entry is given up.
+    #[inline(always)]
     pub fn push_back(&mut self, entry: Command) -> Result<(), Memory>
         ensures ok { OnOk result (self.new ≡ self.old ++ whole_entry entry ∷ []) }
         ensures err { OnErr result (self.new ≡ self.old) }

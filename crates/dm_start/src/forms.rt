@@ -87,6 +87,7 @@ pub(crate) fn stamp_in(text: &[u8]) -> Option<Stamp>
 }
 
 /// Whether a text is a Format of leaves.
+#[inline(always)]
 pub(crate) fn is_leaf_format(text: &[u8]) -> bool
     ensures { result ≡ Spec.is_leaf_format text.now }
 {

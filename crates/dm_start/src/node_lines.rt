@@ -55,6 +55,7 @@ fn interior_line(alloc: Global, tree: &mut Tree, line: &[u8]) -> Result<(), Line
     Ok(())
 }
 
+#[inline(always)]
 fn value_in(
     alloc: Global,
     format: &[u8],

@@ -46,6 +46,7 @@ fn put_acl(alloc: Global, out: &mut Bytes, acl: Option<&Acl>) -> Result<(), Memo
     }
 }
 
+#[inline(always)]
 fn put_hex(out: &mut Bytes, bytes: &[u8]) -> Result<(), Memory>
     ensures { OnOk result (out.new ≡ out.old ++ Spec.spaced (hex_text bytes.now)) }
 {

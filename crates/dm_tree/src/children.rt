@@ -89,6 +89,7 @@ impl Children {
     }
 
     // One more row may be put in, and there is room for it.
+    #[inline(always)]
     pub(crate) fn expect(&mut self) -> Result<(), Memory>
         requires { self.old.parked + 1 < 2 ^ 32 }
         ensures ids { self.new.ids ≡ self.old.ids }

@@ -18,6 +18,7 @@ use std::mem;
 
 // The first eight bytes of a name, as a number. Names stand in the order of these numbers, but for those that begin
 // alike.
+#[inline(always)]
 pub(crate) fn key_of(name: &Name) -> u64 {
     let mut key = 0u64;
     for at in 0..8 {
@@ -27,6 +28,7 @@ pub(crate) fn key_of(name: &Name) -> u64 {
     key
 }
 
+#[inline(always)]
 fn is_before(rows: &[Row], id: u32, name: &Name) -> bool
     ensures { result ≡ (nat_lt id (length rows.now) && is_named_before rows.now name.now id) }
 {

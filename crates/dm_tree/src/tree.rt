@@ -224,6 +224,7 @@ impl Tree {
     }
 
     /// Whether the entry in force for a right names everybody or the server.
+    #[inline(always)]
     pub fn allows(&self, id: NodeId, server: &[u8], right: Right) -> bool
         requires { IsLive self.now.rows id }
         ensures { result ≡ allows (nodes self.now.rows) (path_of self.now.rows id) server.now right }

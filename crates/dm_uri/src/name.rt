@@ -118,6 +118,7 @@ impl Name {
     }
 
     /// The order of two names by their bytes.
+    #[inline(always)]
     pub fn compare(&self, other: &Name) -> Ordering
         ensures { result ≡ slice_cmp nat_cmp self.now other.now }
     {

@@ -197,6 +197,7 @@ fn behind_names(text: &[u8]) -> Option<(usize, &[u8])>
 
 // The part of a text with the names, their number, and the query. None comes for each text that is refused, and for a
 // few others, as the root: those are left to the rules.
+#[inline(always)]
 fn parts_at_once(text: &[u8]) -> Option<(&[u8], usize, Query)>
     ensures { IfSome result (λ parts. IsReadAsUri text.now parts.0.now parts.2) }
 {

@@ -11,6 +11,7 @@ use wbxml_tokens::TokenWriter;
 /// The canonical spelling of a message whose length is known, in one buffer whose room is reserved once. The message is
 /// spelled, and not measured.
 #[tactic(auto, using(crate::proofs::Written::bytes_written), unfolding(syncml_types::specs::Canonical::canonical))]
+#[inline(always)]
 pub fn encode_with_length(alloc: Global, message: &Message, bytes: u64) -> Result<Bytes, Memory>
     requires { bytes ≡ up_to_most (length (canonical message.now)) }
     ensures { IfOk result (λ spelling. spelling ≡ canonical message.now) }

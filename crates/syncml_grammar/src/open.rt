@@ -108,6 +108,7 @@ impl Open {
     }
 
     // Has it be a new element.
+    #[inline(always)]
     pub(crate) fn begin(
         &mut self,
         spares: &mut Spares,

@@ -170,6 +170,7 @@ impl Nest {
     }
 
     // The end of the innermost element.
+    #[inline(always)]
     fn end(&mut self) -> Result<(), Stop>
         ensures { GivesFrames result self.new (step self.old End) }
     {
@@ -188,6 +189,7 @@ impl Nest {
     }
 
     // The end of a child without children.
+    #[inline(always)]
     fn end_leaf(&mut self, alloc: Global, leaf: &mut OpenLeaf) -> Result<(), Stop>
         ensures { GivesFrames result self.new (step (leaf_frame leaf.old ∷ self.old) End) }
     {
@@ -287,6 +289,7 @@ impl Stack {
     }
 
     /// A piece of text, of at most so many bytes as there is room for.
+    #[inline(always)]
     pub fn piece(&mut self, room: &mut usize, bytes: &[u8]) -> Result<(), Stop>
         ensures text { GivesFrames result self.new (step self.old (Text bytes.now)) }
         ensures opaque { GivesFrames result self.new (step self.old (Opaque bytes.now)) }

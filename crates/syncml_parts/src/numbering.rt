@@ -115,6 +115,7 @@ fn taken(id: &mut u32, first: u32) -> u32
 
 /// Numbers a command in document order from a CmdID on: a container before its members. It answers the next number.
 #[tactic(auto, unfolding(crate::specs::Numbering::with_numbers, crate::specs::Numbering::ids_in))]
+#[inline(always)]
 pub fn set_ids(command: &mut Command, first: u32) -> u32
     requires { first + ids_in command.old < 2 ^ 32 }
     ensures command { command.new ≡ with_numbers first command.old }

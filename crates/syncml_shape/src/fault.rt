@@ -7,6 +7,7 @@ use wbxml_tables::Element;
 use wbxml_tokens::Reason;
 
 /// Whether this profile leaves the element out, wherever it stands.
+#[inline(always)]
 pub fn is_left_out(element: Element) -> bool
     ensures { result ≡ is_left_out_of_profile element }
 {
@@ -69,6 +70,7 @@ fn is_nested(parent: Option<Element>, element: Element) -> bool
 /// Why a tag is refused for its own name and its parent's: Leftout for an element that this profile leaves out, and for
 /// a Cred that isn't in SyncHdr; Nested for an Atomic in an Atomic and a Sequence in an Atomic or a Sequence. The
 /// parent is the innermost open element, None outside every element. It takes no memory.
+#[inline(always)]
 pub fn tag_fault(parent: Option<Element>, element: Element) -> Option<Reason>
     ensures { result ≡ fault_of_tag parent element }
 {

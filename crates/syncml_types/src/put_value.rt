@@ -17,6 +17,7 @@ use wbxml_tokens::Writer;
 
 /// Gives an element with a text. One without text is its tag alone.
 #[tactic(auto, using(crate::proofs::Given::given_append), unfolding(crate::specs::Canonical::text_tokens))]
+#[inline(always)]
 pub fn put_text<W: Writer>(w: &mut W, element: Element, text: &[u8]) -> Result<(), W::Error>
     ensures { OnOk result (w.new ≡ given W.after w.old (text_tokens element text.now)) }
 {
@@ -28,6 +29,7 @@ pub fn put_text<W: Writer>(w: &mut W, element: Element, text: &[u8]) -> Result<(
 
 /// Gives an element with a number in decimal.
 #[tactic(auto, unfolding(crate::specs::Canonical::number_tokens))]
+#[inline(always)]
 pub fn put_number<W: Writer>(w: &mut W, element: Element, number: u64) -> Result<(), W::Error>
     ensures { OnOk result (w.new ≡ given W.after w.old (number_tokens element number)) }
 {

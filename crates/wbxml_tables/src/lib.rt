@@ -128,6 +128,7 @@ impl<const N: usize> Table<N> {
 }
 
 /// The page of an element, which is 0 or 1, and its code on that page, which is from 05 to 3C.
+#[inline(always)]
 pub fn code_of(element: Element) -> (u8, u8)
     ensures page { result.0 ≡ page_of element }
     ensures code { result.1 ≡ code_on_page element }

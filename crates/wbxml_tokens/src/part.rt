@@ -79,6 +79,7 @@ fn hand_end<T: Taker>(spot: &mut Spot, size: usize, taker: &mut T) -> Result<usi
 }
 
 // Hands on a text.
+#[inline(always)]
 fn hand_text<T: Taker>(
     spot: &mut Spot,
     text: &[u8],

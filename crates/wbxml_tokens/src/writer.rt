@@ -141,6 +141,7 @@ impl Writer for TokenWriter {
     }
 
     // As the tag, the text and the end, into room that is taken once.
+    #[inline(always)]
     fn leaf(&mut self, element: Element, text: &[u8]) -> Result<(), Memory>
         ensures ok { OnOk result (self.new ≡ given written_after self.old (leaf_tokens element text.now)) }
         ensures err { OnErr result (self.new ≡ self.old) }
