@@ -1,121 +1,11 @@
 // Digests of the standard's example, and what credentials come to.
 use dm_auth::{Verdict, challenge, credential, digest, judge, nonce_of};
-use dm_base::{Boxed, Bytes, Memory, Nonce};
-use std::alloc::Global;
+use dm_base::{Bytes, Nonce};
 use std::test::Fail;
-use syncml_types::{Cred, Meta};
 
 const USER: &[u8] = b"Bruce2";
 
 const PASSWORD: &[u8] = b"OhBehave";
-
-// The credential that a sender shows, with another Type, Format or Data where one is given.
-fn cred_of(
-    alloc: Global,
-    media: Option<&[u8]>,
-    format: Option<&[u8]>,
-    value: &[u8],
-) -> Result<Cred, Memory> {
-    let media = match media {
-        Some(text) => Some(Bytes::of_slice(alloc, text)?),
-        None => None,
-    };
-    let format = match format {
-        Some(text) => Some(Bytes::of_slice(alloc, text)?),
-        None => None,
-    };
-    let meta = Meta {
-        format,
-        media,
-        ..Meta::empty()
-    };
-    Ok(Cred {
-        meta: Some(Boxed::new(alloc, meta)?),
-        value: Bytes::of_slice(alloc, value)?,
-    })
-}
-
-struct Shown {
-    media: Option<&'static [u8]>,
-    format: Option<&'static [u8]>,
-    value: &'static [u8],
-    verdict: Verdict,
-}
-
-const MD5: Option<&[u8]> = Some(b"syncml:auth-md5");
-
-const RIGHT: &[u8] = b"Zz6EivR3yeaaENcRN6lpAQ==";
-
-const SHOWN: [Shown; 9] = [
-    Shown {
-        media: MD5,
-        format: Some(b"b64"),
-        value: RIGHT,
-        verdict: Verdict::Accepted,
-    },
-    Shown {
-        media: MD5,
-        format: None,
-        value: RIGHT,
-        verdict: Verdict::Accepted,
-    },
-    Shown {
-        media: Some(b"syncml:auth-basic"),
-        format: Some(b"b64"),
-        value: RIGHT,
-        verdict: Verdict::Wrong,
-    },
-    Shown {
-        media: None,
-        format: Some(b"b64"),
-        value: RIGHT,
-        verdict: Verdict::Wrong,
-    },
-    Shown {
-        media: MD5,
-        format: Some(b"bin"),
-        value: RIGHT,
-        verdict: Verdict::Wrong,
-    },
-    // The padding is missing.
-    Shown {
-        media: MD5,
-        format: Some(b"b64"),
-        value: b"Zz6EivR3yeaaENcRN6lpAQ",
-        verdict: Verdict::Wrong,
-    },
-    // The spare bits aren't zero.
-    Shown {
-        media: MD5,
-        format: Some(b"b64"),
-        value: b"Zz6EivR3yeaaENcRN6lpAR==",
-        verdict: Verdict::Wrong,
-    },
-    // The digest of the empty nonce.
-    Shown {
-        media: MD5,
-        format: Some(b"b64"),
-        value: b"lEf25jyjHbCcTbj4p/1pUw==",
-        verdict: Verdict::Wrong,
-    },
-    Shown {
-        media: MD5,
-        format: Some(b"b64"),
-        value: b"",
-        verdict: Verdict::Wrong,
-    },
-];
-
-// The Data of the first row whose verdict is another.
-fn wrong_verdict(alloc: Global) -> Result<Option<&'static [u8]>, Memory> {
-    for row in &SHOWN {
-        let cred = cred_of(alloc, row.media, row.format, row.value)?;
-        if judge(USER, PASSWORD, b"Nonce", Some(&cred)) != row.verdict {
-            return Ok(Some(row.value));
-        }
-    }
-    Ok(None)
-}
 
 // The expected bytes are those of the standard's example, and of another program's MD5 and base64.
 #[test]
@@ -135,7 +25,6 @@ fn digests_are_the_standards(rt: HostRuntime) -> Result<(), Fail> {
 
 #[test]
 fn credentials_are_judged(rt: HostRuntime) -> Result<(), Fail> {
-    assert_eq!(rt; wrong_verdict(rt.alloc())?, None);
     assert_eq!(rt; judge(USER, PASSWORD, b"Nonce", None), Verdict::Missing);
     let own = credential(rt.alloc(), USER, PASSWORD, b"")?;
     assert_eq!(rt;

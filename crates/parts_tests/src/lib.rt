@@ -5,8 +5,6 @@
 #[cfg(test)]
 mod credentials;
 #[cfg(test)]
-mod header_rows;
-#[cfg(test)]
 mod headers;
 #[cfg(test)]
 mod large;
@@ -14,8 +12,6 @@ mod large;
 mod object_rows;
 #[cfg(test)]
 mod objects;
-#[cfg(test)]
-mod parts;
 #[cfg(test)]
 mod queues;
 #[cfg(test)]

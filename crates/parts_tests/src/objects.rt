@@ -3,7 +3,7 @@ ghost use Rattle.std.specs.Prelude.{◌≤◌, length};
 
 use crate::object_rows::{SENT, Sent};
 use dm_base::{Bytes, Memory};
-use dm_objects::{Inbox, Piece, Sort, Taken, TakenOver, What};
+use dm_objects::{Inbox, Piece, Taken, What};
 use std::alloc::Global;
 use std::test::Fail;
 use syncml_types::{Step, Verb};
@@ -76,31 +76,9 @@ fn is_taken(alloc: Global, inbox: &mut Inbox, sent: &Sent) -> Result<bool, Memor
     Ok(is_told)
 }
 
-/// What a piece is that was taken over, by the step that stands in it now.
-pub(crate) fn what_of(sort: Sort, step: Step) -> What {
-    match sort {
-        Sort::Whole => What::Whole(step),
-        Sort::Buffered => What::Buffered,
-        Sort::Refused(code) => What::Refused(code),
-    }
-}
-
-fn is_taken_over(alloc: Global, inbox: &mut Inbox, sent: &Sent) -> Result<bool, Memory> {
-    let mut next = piece(alloc, sent.0, sent.1, sent.2, sent.3, sent.4)?;
-    let TakenOver { broken, sort } = inbox.take_over(&mut next)?;
-    let what = what_of(sort, next.step);
-    Ok(is_told(&Taken { broken, what }, sent))
-}
-
-// Each piece is taken over, or only read.
-fn first_wrong(alloc: Global, inbox: &mut Inbox, over: bool) -> Result<Option<usize>, Memory> {
+fn first_wrong(alloc: Global, inbox: &mut Inbox) -> Result<Option<usize>, Memory> {
     for (row, sent) in SENT.iter().enumerate() {
-        let is_right = if over {
-            is_taken_over(alloc, inbox, sent)?
-        } else {
-            is_taken(alloc, inbox, sent)?
-        };
-        if !is_right {
+        if !is_taken(alloc, inbox, sent)? {
             return Ok(Some(row));
         }
     }
@@ -108,9 +86,9 @@ fn first_wrong(alloc: Global, inbox: &mut Inbox, over: bool) -> Result<Option<us
 }
 
 // The number of the first row that comes to something else.
-fn wrong_row(alloc: Global, over: bool) -> Result<Option<usize>, Memory> {
+fn wrong_row(alloc: Global) -> Result<Option<usize>, Memory> {
     let mut inbox = Inbox::new(alloc, 10);
-    let wrong = first_wrong(alloc, &mut inbox, over);
+    let wrong = first_wrong(alloc, &mut inbox);
     drop(inbox);
     wrong
 }
@@ -255,65 +233,15 @@ fn broken_ways(alloc: Global) -> Result<u32, Memory> {
     Ok(count)
 }
 
-// The code of the last piece, and how many bytes come out with it.
-fn end_of(alloc: Global, inbox: &mut Inbox, bytes: &[u8]) -> Result<(u32, usize), Memory> {
-    let next = piece(alloc, Verb::Add, b"./L", bytes, None, false)?;
-    let answer = inbox.take(&next);
-    drop(next);
-    let taken = answer?;
-    let told = (code_of(&taken), value_of(&taken).len());
-    drop(taken);
-    Ok(told)
-}
-
-// An object in 69 pieces of 60,000 bytes and a last one: the code of the first piece, and of the last, and how many
-// bytes come out.
-fn in_pieces(
-    alloc: Global,
-    inbox: &mut Inbox,
-    bytes: &[u8],
-    size: Option<u64>,
-    last: usize,
-) -> Result<(u32, u32, usize), Memory> {
-    let first = take(alloc, inbox, b"./L", bytes, size, true)?;
-    for _ in 1..69 {
-        take(alloc, inbox, b"./L", bytes, None, true)?;
-    }
-    let (code, length) = end_of(alloc, inbox, bytes.split_at(last.min(bytes.len())).0)?;
-    Ok((first, code, length))
-}
-
-fn large(alloc: Global, size: Option<u64>, last: usize) -> Result<(u32, u32, usize), Memory> {
-    let bytes = vec![in alloc; 7u8; 60_000]?;
-    let mut inbox = Inbox::new(alloc, 4_194_304);
-    let told = in_pieces(alloc, &mut inbox, bytes.as_slice(), size, last);
-    drop(inbox);
-    drop(bytes);
-    told
-}
-
 #[test]
 fn pieces_come_to_what_the_rules_say(rt: HostRuntime) -> Result<(), Fail> {
-    assert_eq!(rt; wrong_row(rt.alloc(), false)?, None);
-    assert_eq!(rt; wrong_row(rt.alloc(), true)?, None);
+    assert_eq!(rt; wrong_row(rt.alloc())?, None);
     Ok(())
 }
 
 #[test]
 fn what_stood_at_a_mark_is_there_again(rt: HostRuntime) -> Result<(), Fail> {
     assert_eq!(rt; broken_ways(rt.alloc())?, 0);
-    Ok(())
-}
-
-#[test]
-fn large_objects_are_whole(rt: HostRuntime) -> Result<(), Fail> {
-    assert_eq!(rt;
-        large(rt.alloc(), Some(4_194_304), 54_304)?,
-        (213, 200, 4_194_304)
-    );
-    assert_eq!(rt; large(rt.alloc(), Some(4_194_304), 54_303)?, (213, 424, 0));
-    assert_eq!(rt; large(rt.alloc(), Some(4_194_305), 54_304)?, (416, 416, 0));
-    assert_eq!(rt; large(rt.alloc(), None, 54_304)?, (411, 411, 0));
     Ok(())
 }
 

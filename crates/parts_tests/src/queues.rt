@@ -11,8 +11,8 @@ use std::alloc::Global;
 use std::test::Fail;
 use syncml_types::{Command, Header, Item, Loc, Meta, ResultsCmd, StatusCmd};
 
-// How many entries went out whole, how many bytes of the next, how long the message is, and its end.
-type Told = (usize, u64, usize, Tail);
+/// How many entries went out whole, how many bytes of the next, how long the message is, and its end.
+pub(crate) type Told = (usize, u64, usize, Tail);
 
 /// A short text of ASCII.
 pub(crate) fn text(alloc: Global, text: &[u8]) -> Result<Bytes, Memory>
@@ -147,30 +147,14 @@ pub(crate) fn add_first(queue: &mut Queue, entry: Command) -> Result<(), Memory>
     queue.push_front(entry)
 }
 
-#[tactic(auto, using(dm_pack::proofs::Fixtures::last_ready))]
-fn add_last(queue: &mut Queue, entry: Command) -> Result<(), Memory>
-    requires entry { IsReady (whole_entry entry) }
-    requires others { AllByRecursion IsReady queue.old }
-    ensures { AllByRecursion IsReady queue.new }
-{
-    queue.push_back(entry)
-}
-
-/// The Status of a header in front, and one of a command behind all others.
-pub(crate) fn add_statuses(alloc: Global, queue: &mut Queue, cmd: &[u8]) -> Result<(), Memory>
-    requires low { list_all (λ b. nat_le 1 b && nat_le b 127) cmd.now ≡ true }
-    requires few { length cmd.now ≤ 20 }
-    requires others { AllByRecursion IsReady queue.old }
-    ensures { AllByRecursion IsReady queue.new }
-{
-    let first = status(alloc, b"SyncHdr", 0)?;
-    add_first(queue, first)?;
-    let last = status(alloc, cmd, 1)?;
-    add_last(queue, last)
-}
-
+/// Takes the next message out of a queue.
 #[tactic(auto, using(dm_pack::proofs::Left::what_is_left_is_ready))]
-fn sent(queue: &mut Queue, header: Boxed<Header>, room: u64, heard: bool) -> Result<Told, Memory>
+pub(crate) fn sent(
+    queue: &mut Queue,
+    header: Boxed<Header>,
+    room: u64,
+    heard: bool,
+) -> Result<Told, Memory>
     requires ready { AllByRecursion IsReady queue.old }
     requires header { IsReadyHeader header }
     requires room { (2048 ≤ room) × (room ≤ 65536) }
@@ -202,49 +186,6 @@ pub(crate) fn queue_of(alloc: Global, value: Bytes) -> Result<Queue, Memory>
     Ok(queue)
 }
 
-fn first_message(alloc: Global, value: Bytes, room: u64) -> Result<Told, Memory>
-    requires value { length value ≤ 10000 }
-    requires room { (2048 ≤ room) × (room ≤ 65536) }
-{
-    let mut queue = queue_of(alloc, value)?;
-    sent(&mut queue, header(alloc)?, room, true)
-}
-
-// Three messages, each answered by the other side.
-fn three_messages(alloc: Global, value: Bytes) -> Result<[Told; 3], Memory>
-    requires { length value ≤ 10000 }
-{
-    let mut queue = queue_of(alloc, value)?;
-    let first = sent(&mut queue, header(alloc)?, 2048, true)?;
-    add_statuses(alloc, &mut queue, b"Alert")?;
-    let second = sent(&mut queue, header(alloc)?, 2048, true)?;
-    add_statuses(alloc, &mut queue, b"Alert")?;
-    let third = sent(&mut queue, header(alloc)?, 2048, true)?;
-    Ok([first, second, third])
-}
-
-// A message of one Status, and one of none.
-fn one_status(alloc: Global, heard: bool) -> Result<[Told; 2], Memory> {
-    let status = status(alloc, b"SyncHdr", 0)?;
-    let mut queue = Queue::new(alloc);
-    add_first(&mut queue, status)?;
-    let first = sent(&mut queue, header(alloc)?, 2048, heard)?;
-    let second = sent(&mut queue, header(alloc)?, 2048, heard)?;
-    Ok([first, second])
-}
-
-// Two Statuses and Results, and one Status more; two messages.
-fn one_status_more(alloc: Global, value: Bytes) -> Result<[Told; 2], Memory>
-    requires { length value ≤ 10000 }
-{
-    let mut queue = queue_of(alloc, value)?;
-    let more = status(alloc, b"Get", 1)?;
-    add_last(&mut queue, more)?;
-    let first = sent(&mut queue, header(alloc)?, 2048, false)?;
-    let second = sent(&mut queue, header(alloc)?, 2048, false)?;
-    Ok([first, second])
-}
-
 /// A part so many times.
 pub(crate) fn repeated(alloc: Global, count: usize, part: &[u8]) -> Result<Bytes, Memory> {
     let mut value = Bytes::new(alloc);
@@ -254,77 +195,26 @@ pub(crate) fn repeated(alloc: Global, count: usize, part: &[u8]) -> Result<Bytes
     Ok(value)
 }
 
+// Three messages, each answered by the other side.
+fn three_messages(alloc: Global, queue: Queue) -> Result<[Told; 3], Memory>
+    requires { AllByRecursion IsReady queue }
+{
+    let mut queue = queue;
+    let first = sent(&mut queue, header(alloc)?, 2048, true)?;
+    let second = sent(&mut queue, header(alloc)?, 2048, true)?;
+    let third = sent(&mut queue, header(alloc)?, 2048, true)?;
+    Ok([first, second, third])
+}
+
+// Of 5,000 bytes 1,818 go out behind two Statuses, then as many as fit alone, and the rest.
 #[test]
 fn five_thousand_bytes_go_out_in_three_messages(rt: HostRuntime) -> Result<(), Fail> {
     let value = repeated(rt.alloc(), 2500, b"aa")?;
     assert!(rt; value.len() == 5000);
-    let [first, second, third] = three_messages(rt.alloc(), value)?;
+    let queue = queue_of(rt.alloc(), value)?;
+    let [first, second, third] = three_messages(rt.alloc(), queue)?;
     assert_eq!(rt; first, (2, 1818, 2032, Tail::Nothing));
-    assert_eq!(rt; second.1, 1857);
-    assert_eq!(rt; (third.0, third.1), (4, 0));
-    assert_eq!(rt; third.3, Tail::Final);
-    Ok(())
-}
-
-// A byte 00 makes Data OPAQUE, whose length takes two bytes and a third is not needed; and so does half a character. Of
-// characters of two bytes a byte less goes out than would fit; those of four are cut inside: the first part ends behind
-// the first byte of one, and the second begins with the other three.
-#[test]
-fn other_data_is_a_byte_longer(rt: HostRuntime) -> Result<(), Fail> {
-    for (count, part, parts) in [
-        (2500, b"\x00\x00".as_slice(), [1817, 1856]),
-        (2500, b"\xc3\xa9".as_slice(), [1818, 1856]),
-        (1250, b"\xf0\x9f\x98\x80".as_slice(), [1817, 1856]),
-    ] {
-        let value = repeated(rt.alloc(), count, part)?;
-        assert!(rt; value.len() == 5000);
-        let [first, second, _] = three_messages(rt.alloc(), value)?;
-        assert_eq!(rt; [first.1, second.1], parts);
-    }
-    Ok(())
-}
-
-// Whole, Results take nine bytes less than a part: neither Size nor MoreData.
-#[test]
-fn the_room_is_taken_to_the_last_byte(rt: HostRuntime) -> Result<(), Fail> {
-    for (count, last, room, told) in [
-        (913, true, 2048, (3, 0, 2033, Tail::Final)),
-        (914, false, 2048, (2, 1818, 2032, Tail::Nothing)),
-        (914, false, 2049, (3, 0, 2034, Tail::Final)),
-    ] {
-        let mut value = repeated(rt.alloc(), count, b"aa")?;
-        if last {
-            value.push(b'a')?;
-        }
-        assert!(rt; value.len() <= 10000);
-        assert_eq!(rt; first_message(rt.alloc(), value, room)?, told);
-    }
-    Ok(())
-}
-
-#[test]
-fn a_status_goes_out_alone(rt: HostRuntime) -> Result<(), Fail> {
-    for (heard, tail) in [(true, Tail::Final), (false, Tail::NextMessage)] {
-        let [first, second] = one_status(rt.alloc(), heard)?;
-        assert_eq!(rt; (first.0, first.1), (1, 0));
-        assert_eq!(rt; first.3, tail);
-        assert_eq!(rt; second.0, 0);
-        assert_eq!(rt; second.3, tail);
-    }
-    Ok(())
-}
-
-// A Status has no Data that may be cut. The message before it ends with neither Final nor an Alert 1222, and its own
-// with an Alert 1222.
-#[test]
-fn a_status_without_room_waits(rt: HostRuntime) -> Result<(), Fail> {
-    let mut value = repeated(rt.alloc(), 913, b"aa")?;
-    value.push(b'a')?;
-    assert!(rt; value.len() == 1827);
-    let told = one_status_more(rt.alloc(), value)?;
-    assert_eq!(rt;
-        told,
-        [(3, 0, 2032, Tail::Nothing), (1, 0, 126, Tail::NextMessage)]
-    );
+    assert_eq!(rt; (second.0, second.3), (0, Tail::Nothing));
+    assert_eq!(rt; (third.0, third.1, third.3), (1, 0, Tail::Final));
     Ok(())
 }
