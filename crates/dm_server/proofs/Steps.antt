@@ -33,7 +33,7 @@ use Rattle.dm_service.specs.Service.{Session, Service}
 use Rattle.dm_server.specs.declared.held.Run.{Run}
 use Rattle.dm_server.specs.declared.held.Outbox.{Outbox}
 use Rattle.dm_server.specs.declared.held.Session.{Session as Held}
-use Rattle.dm_server.specs.declared.held.Work.{Work}
+use Rattle.dm_server.specs.declared.held.ServerWork.{ServerWork}
 use Rattle.dm_server.specs.Inside.{at_work, session_with}
 use Rattle.dm_server.specs.Working.{by_header_after, with_account, CanAccept, CanWork, IsFaultTold, IsReadyWork}
 
@@ -163,7 +163,7 @@ accepted_is job run p next o g k before m nonce account status v e c f is =
     (session_with x o g) failed h.status) (session_with x o g) m h nonce) f
 
 -- what its header leaves can be worked with
-pub can_work : (w : Work) (s : Held) (standing : Standing)
+pub can_work : (w : ServerWork) (s : Held) (standing : Standing)
     → CanAccept w.plan.now.job w.run s w.message.now.header.msg → IsReadyWork w
     → w.account.now ≡ (heard_of w.plan.now.job s.progress w.message.now w.nonce.now.bytes).account
     → standing ≡ (heard_of w.plan.now.job s.progress w.message.now w.nonce.now.bytes).standing

@@ -37,7 +37,7 @@ use Rattle.dm_server.specs.declared.drafts.Draft.{Draft}
 use Rattle.dm_server.specs.declared.held.Run.{Run}
 use Rattle.dm_server.specs.declared.held.Outbox.{Outbox}
 use Rattle.dm_server.specs.declared.held.Session.{Session as Held}
-use Rattle.dm_server.specs.declared.held.Work.{Work}
+use Rattle.dm_server.specs.declared.held.ServerWork.{ServerWork}
 use Rattle.dm_server.specs.Inside.{at_work, message_in, session_with, IsNumberedJob, IsPlace, IsSpelled, KeepsReply}
 use Rattle.dm_server.specs.View.{Tells}
 
@@ -47,11 +47,11 @@ with_account job account = record job { account = account }
 -- ---- what a message is worked with
 
 -- the machine, with what waits and what is known, where this message was sent last
-abbrev pub machine_in : Work → Outbox → GatheredSoFar → Known → Option Parts → Service
+abbrev pub machine_in : ServerWork → Outbox → GatheredSoFar → Known → Option Parts → Service
 machine_in w o g known before =
     at_work (with_account w.plan.now.job w.account.now) w.run w.progress o g known before
 
-abbrev pub session_of : Work → Outbox → GatheredSoFar → Session
+abbrev pub session_of : ServerWork → Outbox → GatheredSoFar → Session
 session_of w o g = session_with w.progress o g
 
 -- ---- what a message meets
@@ -63,7 +63,7 @@ pub record Holds (job : Job) (run : Run) (o : Outbox) : Type 0 where
   pub commands : AreCommands o.sent
   pub order : AreInOrder o.sent
 
-pub record CanWork (w : Work) (o : Outbox) (g : GatheredSoFar) : Type 0 where
+pub record CanWork (w : ServerWork) (o : Outbox) (g : GatheredSoFar) : Type 0 where
   pub holds : Holds w.plan.now.job w.run o
   pub max_obj : g.max_obj ≡ w.plan.now.job.limits.max_obj
   pub numbered : IsNumberedJob w.plan.now.job
@@ -74,7 +74,7 @@ pub record CanWork (w : Work) (o : Outbox) (g : GatheredSoFar) : Type 0 where
   pub own : w.progress.standing.own + 1 < 2 ^ 32
   pub room : (least_room ≤ w.progress.standing.room) × (w.progress.standing.room ≤ message_limit)
 
-abbrev pub IsReadyWork : Work → Type 0
+abbrev pub IsReadyWork : ServerWork → Type 0
 IsReadyWork w = IsReadyMessage w.message.now w.nonce.now.bytes
 
 -- packages of a numbered job can be queued behind what waits
@@ -114,7 +114,7 @@ behind job account next o g known before =
     at_work (with_account job account) next.run next.progress o g known
     (option_or (option_map message_in next.sent) before)
 
-abbrev pub left_by : Work → Next → Outbox → GatheredSoFar → Known → Option Parts → Service
+abbrev pub left_by : ServerWork → Next → Outbox → GatheredSoFar → Known → Option Parts → Service
 left_by w next o g known before = behind w.plan.now.job w.account.now next o g known before
 
 -- nothing of what a message may change has changed

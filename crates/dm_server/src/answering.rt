@@ -17,7 +17,7 @@ ghost use Rattle.dm_server.specs.Working.{IsReply};
 
 use crate::bodies::answers_to;
 use crate::drafts::Next;
-use crate::held::{Outbox, Run, Work};
+use crate::held::{Outbox, Run, ServerWork};
 use crate::packages::queue_next;
 use crate::sending::send;
 use dm_base::Memory;
@@ -28,7 +28,7 @@ use dm_waiting::WaitingList;
 // Puts behind what waits what the client's commands are answered, and the next package. After `Memory` a part of it may
 // stand there.
 #[tactic(auto, using(dm_waiting::proofs::Held::front_longer, dm_waiting::proofs::Held::front_again))]
-fn queue_behind(work: &Work, queue: &mut WaitingList, code: u32) -> Result<Run, Memory>
+fn queue_behind(work: &ServerWork, queue: &mut WaitingList, code: u32) -> Result<Run, Memory>
     requires can_queue { CanQueue work.now.plan.now.job work.now.run queue.old }
     requires message { IsReadyBody work.now.message.now }
     ensures ok { IfOk result (λ next. (account : AnAccount) (known : AKnown) (session : OptionOf ASession)
@@ -49,7 +49,7 @@ fn queue_behind(work: &Work, queue: &mut WaitingList, code: u32) -> Result<Run, 
 // of the job may stand behind what waited, and commands of the job behind those that were sent.
 #[tactic(auto, using(crate::proofs::Fillings::more_behind))]
 fn answer_behind(
-    work: &Work,
+    work: &ServerWork,
     outbox: &mut Outbox,
     gathering: &mut Gathering,
     findings: &mut Findings,
@@ -66,7 +66,7 @@ fn answer_behind(
     ensures err { OnErr result
         (HasMoreBehind outbox.old outbox.new gathering.old gathering.new findings.old findings.new) }
 {
-    let queued = Work {
+    let queued = ServerWork {
         run: queue_behind(work, &mut outbox.queue, code)?,
         ..*work
     };
@@ -76,7 +76,7 @@ fn answer_behind(
 /// What is told is noted, what is asked is answered, the next package is queued, and a message is sent. After `Memory`
 /// all is as before.
 pub(crate) fn answered(
-    work: &Work,
+    work: &ServerWork,
     outbox: &mut Outbox,
     gathering: &mut Gathering,
     findings: &mut Findings,

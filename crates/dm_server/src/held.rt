@@ -44,7 +44,7 @@ pub(crate) struct Session {
 /// A message that is accepted, with the nonce for a challenge, and what it meets beside what it changes: the job, the
 /// account that holds from then on, and how far the job and the session are.
 #[derive(Clone, Copy)]
-pub(crate) struct Work<'a> {
+pub(crate) struct ServerWork<'a> {
     pub plan: &'a Plan,
     pub account: &'a Account,
     pub run: Run,

@@ -17,7 +17,7 @@ ghost use Rattle.dm_server.specs.Working.{IsReply, ToldBy};
 use crate::bodies::is_done_there;
 use crate::drafts::Next;
 use crate::headers::header_for;
-use crate::held::{Outbox, Run, Work};
+use crate::held::{Outbox, Run, ServerWork};
 use dm_auth::Account;
 use dm_base::{List, Memory};
 use dm_ends::{LastMessage, all_reports};
@@ -35,7 +35,7 @@ fn is_welcome(account: &Account, standing: &Standing) -> bool
 }
 
 // Whether the session is over with the message that answers one: nothing is left on either side.
-fn is_last(work: &Work, code: u32, filled: &Filled) -> bool
+fn is_last(work: &ServerWork, code: u32, filled: &Filled) -> bool
     ensures { (v : Service) (f : Filling) → v.job ≡ with_account work.now.plan.now.job work.now.account.now
         → v.packages ≡ drop work.now.run.next work.now.plan.now.job.packages
         → filled.now.message ≡ f.message → filled.now.tail ≡ f.tail
@@ -113,7 +113,7 @@ fn tell(
 /// Notes what the client told, and sends the next message out of what waits. After `Memory` commands of the job may
 /// stand behind those that were sent; all else is as before.
 pub(crate) fn send(
-    work: &Work,
+    work: &ServerWork,
     outbox: &mut Outbox,
     gathering: &mut Gathering,
     findings: &mut Findings,

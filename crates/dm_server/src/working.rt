@@ -19,7 +19,7 @@ use crate::answering::answered;
 use crate::drafts::{Draft, Next};
 use crate::giving_up::give_up;
 use crate::headers::header_for;
-use crate::held::{Outbox, Plan, Run, Session, Work};
+use crate::held::{Outbox, Plan, Run, ServerWork, Session};
 use dm_auth::Account;
 use dm_base::{Memory, Nonce};
 use dm_ends::{farewell, has_abort};
@@ -49,7 +49,7 @@ fn ended(run: Run, progress: &Progress) -> Next
 }
 
 // The session is over with a farewell.
-fn denied(work: &Work, code: u32) -> Result<Next, Memory>
+fn denied(work: &ServerWork, code: u32) -> Result<Next, Memory>
     requires limits { IsReadyLimits work.now.plan.now.job.limits }
     requires account { IsReadyAccount work.now.account.now }
     requires number { work.now.progress.number < 2 ^ 32 }
@@ -86,7 +86,7 @@ fn is_faultless(code: u32) -> bool
 
 // A message whose header was heard. After `Memory` all is as before.
 fn by_header(
-    work: &Work,
+    work: &ServerWork,
     outbox: &mut Outbox,
     gathering: &mut Gathering,
     findings: &mut Findings,
@@ -117,7 +117,7 @@ fn by_header(
 
 // The same once the package that was queued last is given up.
 fn by_header_anew(
-    work: &Work,
+    work: &ServerWork,
     outbox: &mut Outbox,
     gathering: &mut Gathering,
     findings: &mut Findings,
@@ -138,7 +138,7 @@ fn by_header_anew(
         (IsAsBefore outbox.old outbox.new gathering.old gathering.new findings.old findings.new) }
 {
     let mut left = give_up(work.plan, work.run, outbox, findings)?;
-    let anew = Work {
+    let anew = ServerWork {
         run: left.run,
         ..*work
     };
@@ -157,7 +157,7 @@ fn by_header_anew(
 // The same by the code of the Status for the server's last header, where the client refused a credential before or not.
 fn by_status(
     failed: bool,
-    work: &Work,
+    work: &ServerWork,
     outbox: &mut Outbox,
     gathering: &mut Gathering,
     findings: &mut Findings,
@@ -222,7 +222,7 @@ pub(crate) fn accept(
         message,
         nonce,
     )?;
-    let work = Work {
+    let work = ServerWork {
         plan,
         account: renewed_by(&heard, &plan.job.account),
         run,
