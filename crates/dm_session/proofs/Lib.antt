@@ -10,3 +10,4 @@ pub mod NewClients
 pub mod EndedUpdates
 pub mod Outcomes
 pub mod Kept
+pub mod Frames

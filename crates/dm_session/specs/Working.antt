@@ -1,10 +1,11 @@
 -- What a message that is accepted makes of a client.
-use Rattle.std.specs.Prelude.{◌≡◌, ℕ, List, [], set, Option, None, Some, IfSome}
-use Rattle.std.specs.Option.{option_or}
+use Rattle.std.specs.Prelude.{◌≡◌, ◌+◌, ℕ, List, [], ◌++◌, length, map, set, Option, None, Some, IfSome}
+use Rattle.std.specs.Option.{option_or, option_to_list}
 use Rattle.dm_auth.specs.declared.accounts.Account.{Account}
 use Rattle.dm_headers.specs.declared.hearing.Heard.{Heard}
 use Rattle.dm_headers.specs.Standings as Standings
 use Rattle.syncml_types.specs.declared.command.Command.{Command}
+use Rattle.dm_pack.specs.Entries.{Entry, whole_entry}
 use Rattle.dm_atomic.specs.Made.{told as told_of}
 use Rattle.dm_atomic.specs.Run.{State}
 use Rattle.dm_atomic.specs.Run as Running
@@ -12,6 +13,7 @@ use Rattle.dm_ends.specs.declared.farewells.LastMessage.{LastMessage}
 use Rattle.dm_machine.specs.declared.kinds.End.{End}
 use Rattle.dm_machine.specs.declared.kinds.End.TheVariants.{Finished, Aborted, Denied}
 use Rattle.dm_machine.specs.declared.progress.UpdateResult.{UpdateResult}
+use Rattle.dm_machine.specs.declared.progress.Progress.{Progress}
 use Rattle.dm_machine.specs.Machine.{Machine}
 use Rattle.dm_machine.specs.Messages.{Outcome, goes_on, ends}
 use Rattle.dm_session.specs.declared.answers.Answer.{Answer}
@@ -26,6 +28,14 @@ use Rattle.dm_session.specs.Inside.{IsSpelled}
 -- with other accounts and another RespURI
 abbrev pub told : Rest → List Account → Option (List ℕ) → Rest
 told r accounts uri = record r { accounts = accounts; resp_uri = uri }
+
+-- what waits with a Status in front and what was made behind
+abbrev pub waiting_with : Option Command → List Entry → List Command → List Entry
+waiting_with status q made = map whole_entry (option_to_list status) ++ (q ++ map whole_entry made)
+
+-- the first package's entries stand behind that Status
+abbrev pub behind_status : Progress → Option Command → Progress
+behind_status p status = record p { opening_at = p.opening_at + length (option_to_list status) }
 
 -- the results of updates are told where the session is finished
 abbrev pub results_behind : End → List UpdateResult → List UpdateResult

@@ -4,7 +4,6 @@ ghost use Rattle.std.specs.Prelude.{Option as OptionOf, Some};
 ghost use Rattle.std.specs.Prelude.{[], if◌then◌else◌, length, map, IfOk, OnErr};
 ghost use Rattle.std.specs.List.{AllByRecursion, list_all};
 ghost use Rattle.std.specs.Option.{option_to_list};
-ghost use Rattle.dm_base.specs.Limits.{least_room, message_limit};
 ghost use Rattle.dm_auth.specs.declared.accounts.Account.{Account as AnAccount};
 ghost use Rattle.dm_headers.specs.Checks.{passes as passing};
 ghost use Rattle.dm_headers.specs.Standings as Standings;
@@ -12,8 +11,6 @@ ghost use Rattle.dm_tree.specs.Devices.{IsUpdateInOrder};
 ghost use Rattle.dm_pack.specs.Entries.{whole_entry, IsReady};
 ghost use Rattle.dm_atomic.specs.Engine.{state_of, IsSoundEngine};
 ghost use Rattle.dm_commands.specs.Promises.{none_moved};
-ghost use Rattle.dm_atomic.specs.Marks.{whole_of, Holds};
-ghost use Rattle.dm_atomic.specs.Stays.{StayBut};
 ghost use Rattle.dm_atomic.specs.Updates.{clock_of, max_obj_of};
 ghost use Rattle.dm_machine.specs.declared.progress.Progress.{Progress as AProgress};
 ghost use Rattle.dm_machine.specs.Machine.{Machine as AMachine};
@@ -21,18 +18,21 @@ ghost use Rattle.dm_machine.specs.declared.kinds.End.TheVariants.{Finished};
 ghost use Rattle.dm_machine.specs.Messages as Spec;
 ghost use Rattle.dm_machine.specs.Messages.{goes_on, ends};
 ghost use Rattle.dm_machine.specs.Sending.{sends};
-ghost use Rattle.dm_machine.specs.Ready.{IsDevice, IsReadyAccount, IsReadyLimits, IsReadyMessage, IsReadyProgress};
-ghost use Rattle.dm_session.specs.Inside.{machine_of, IsSpelled, CanGoOn};
+ghost use Rattle.dm_machine.specs.Ready.{IsReadyMessage};
+ghost use Rattle.dm_session.specs.Frames.{CanAnswer, CanWork, KeepsBut};
+ghost use Rattle.dm_session.specs.Inside.{machine_of, IsSpelled};
 ghost use Rattle.dm_session.specs.Stays.{body_covers};
-ghost use Rattle.dm_session.specs.Working.{told, outcome, rest_behind, IsNextSpelled, HeardAs, Ran};
+ghost use Rattle.dm_session.specs.Working.{told, outcome, rest_behind, waiting_with, behind_status};
+ghost use Rattle.dm_session.specs.Working.{IsNextSpelled, HeardAs, Ran};
 
 use crate::drafts::Next;
 use crate::ending::close;
 use crate::executing::execute;
 use crate::headers::header_from;
 use crate::opening::opening;
-use crate::rest::{Rest, Session};
+use crate::rest::Session;
 use crate::sending::{push_all, send, session_after};
+use crate::work::Work;
 use dm_atomic::Engine;
 use dm_auth::Account;
 use dm_base::{List, Memory, Nonce};
@@ -70,64 +70,57 @@ fn count_of(entry: &Option<Command>) -> usize
 fn answer(
     engine: &Engine,
     queue: &mut Queue,
-    rest: &Rest,
-    account: &Account,
-    progress: &Progress,
+    work: &Work,
     status: Option<Command>,
     made: List<Command>,
 ) -> Result<Session, Memory>
-    requires limits { IsReadyLimits rest.now.limits }
-    requires device { IsDevice (state_of engine.now).tree }
-    requires account { IsReadyAccount account.now }
-    requires ready { AllByRecursion IsReady (map whole_entry (option_to_list status)
-        ++ (queue.old ++ map whole_entry made)) }
-    requires number { progress.now.number < 2 ^ 32 }
-    requires own { progress.now.standing.own + 1 < 2 ^ 32 }
-    requires room { (least_room ≤ progress.now.standing.room) × (progress.now.standing.room ≤ message_limit) }
+    requires can_answer { CanAnswer engine.now work.now }
+    requires ready { AllByRecursion IsReady (waiting_with status queue.old made) }
     ensures state { IfOk result (λ session. (accounts : ListOf AnAccount) (uri : OptionOf (ListOf ℕ))
-        → machine_of engine.now queue.new (record (told rest.now accounts uri) { session = Some session })
-        ≡ sends (machine_of engine.now (map whole_entry (option_to_list status) ++ (queue.old ++ map whole_entry made))
-        (told rest.now accounts uri))
-        (record progress.now { opening_at = progress.now.opening_at + length (option_to_list status) }) account.now) }
+        → machine_of engine.now queue.new (record (told work.now.rest.now accounts uri) { session = Some session })
+        ≡ sends (machine_of engine.now (waiting_with status queue.old made) (told work.now.rest.now accounts uri))
+        (behind_status work.now.progress status) work.now.account.now) }
     ensures spelled { IfOk result (λ session. IsSpelled session.sent) }
     ensures err { OnErr result (queue.new ≡ queue.old) }
 {
-    let behind = pushed_back(progress, count_of(&status))?;
+    let rest = work.rest;
+    let behind = pushed_back(&work.progress, count_of(&status))?;
     let header = header_from(
         rest.alloc,
         rest.limits,
         engine.tree(),
         &rest.place,
-        progress,
-        account,
+        &work.progress,
+        work.account,
     )?;
-    let standing = &progress.standing;
+    let standing = &work.progress.standing;
     let filled = send(queue, status, made, header, standing.room, standing.heard)?;
     Ok(session_after(&behind, filled))
 }
 
 // The queue with the whole first package behind all else, in place of what waits of it; and how far the session has
 // come then. The copy is made at most once in a session, since a second failure ends it.
-fn queued_again(
-    engine: &Engine,
-    queue: &Queue,
-    rest: &Rest,
-    progress: &Progress,
-) -> Result<(Queue, Progress), Memory>
+fn queued_again(engine: &Engine, queue: &Queue, work: &Work) -> Result<(Queue, Progress), Memory>
     requires update { IsUpdateInOrder (state_of engine.now).tree }
-    requires opening { progress.now.opening_at + progress.now.opening_left ≤ length queue.now }
-    ensures again { IfOk result (λ again. (c : AMachine) → c.results ≡ rest.now.results
+    requires opening { work.now.progress.opening_at + work.now.progress.opening_left ≤ length queue.now }
+    ensures again { IfOk result (λ again. (c : AMachine) → c.results ≡ work.now.rest.now.results
         → c.engine.tree ≡ (state_of engine.now).tree
         → record { progress = again.1; queue = again.0 }
-        ≡ Spec.queued_again c (record { progress = progress.now; queue = queue.now })) }
+        ≡ Spec.queued_again c (record { progress = work.now.progress; queue = queue.now })) }
 {
-    let first = opening(rest.alloc, engine.tree(), progress.kind, &rest.results)?;
+    let progress = work.progress;
+    let first = opening(
+        work.rest.alloc,
+        engine.tree(),
+        progress.kind,
+        &work.rest.results,
+    )?;
     let mut again = queue.copy()?;
     again.remove(progress.opening_at, progress.opening_left);
     let next = Progress {
         opening_at: again.len(),
         opening_left: first.len(),
-        ..*progress
+        ..progress
     };
     push_all(&mut again, first)?;
     Ok((again, next))
@@ -148,7 +141,7 @@ fn is_over(nothing_more: bool, queue: &Queue, made: &List<Command>) -> bool
 }
 
 // The commands of a message that passes: what they come to.
-#[tactic(auto, using(dm_atomic::proofs::Held::holds_self, dm_atomic::proofs::Staying::stay_self))]
+#[tactic(auto, using(crate::proofs::Frames::keeps_self))]
 fn run(
     alloc: Global,
     engine: &mut Engine,
@@ -160,11 +153,7 @@ fn run(
     ensures ran { IfOk result (λ made. (c : AMachine) → c.engine ≡ state_of engine.old → c.clock ≡ clock_of engine.old
         → c.limits.max_obj ≡ max_obj_of engine.old
         → Ran (Spec.run_of c account.now message code) (state_of engine.new) made) }
-    ensures clock { clock_of engine.new ≡ clock_of engine.old }
-    ensures max_obj { max_obj_of engine.new ≡ max_obj_of engine.old }
-    ensures ids { StayBut (body_covers message.body) (whole_of engine.old) (whole_of engine.new) }
-    ensures marks { Holds engine.old engine.new }
-    ensures sound { IsSoundEngine engine.new }
+    ensures keeps { KeepsBut (body_covers message.body) engine.old engine.new }
 {
     if !passes(code) {
         return Ok(List::new(alloc));
@@ -179,132 +168,95 @@ fn run(
 fn answer_again(
     engine: &Engine,
     queue: &mut Queue,
-    rest: &Rest,
-    account: &Account,
+    work: &Work,
     again: (Queue, Progress),
     status: Option<Command>,
     made: List<Command>,
 ) -> Result<Next, Memory>
-    requires limits { IsReadyLimits rest.now.limits }
-    requires device { IsDevice (state_of engine.now).tree }
-    requires account { IsReadyAccount account.now }
-    requires ready { AllByRecursion IsReady (map whole_entry (option_to_list status)
-        ++ (again.0 ++ map whole_entry made)) }
-    requires number { again.1.number < 2 ^ 32 }
-    requires own { again.1.standing.own + 1 < 2 ^ 32 }
-    requires room { (least_room ≤ again.1.standing.room) × (again.1.standing.room ≤ message_limit) }
+    requires can_answer { CanAnswer engine.now (record work.now { progress = again.1 }) }
+    requires ready { AllByRecursion IsReady (waiting_with status again.0 made) }
     ensures state { IfOk result (λ next. (accounts : ListOf AnAccount) (uri : OptionOf (ListOf ℕ))
-        → outcome (machine_of engine.now queue.new (rest_behind (told rest.now accounts uri) next)) next
-        ≡ goes_on (sends (machine_of engine.now
-        (map whole_entry (option_to_list status) ++ (again.0 ++ map whole_entry made))
-        (told rest.now accounts uri))
-        (record again.1 { opening_at = again.1.opening_at + length (option_to_list status) }) account.now)) }
+        → outcome (machine_of engine.now queue.new (rest_behind (told work.now.rest.now accounts uri) next)) next
+        ≡ goes_on (sends (machine_of engine.now (waiting_with status again.0 made)
+        (told work.now.rest.now accounts uri)) (behind_status again.1 status) work.now.account.now)) }
     ensures spelled { IfOk result IsNextSpelled }
     ensures err { OnErr result (queue.new ≡ queue.old) }
 {
     let (mut waiting, progress) = again;
-    let session = answer(engine, &mut waiting, rest, account, &progress, status, made)?;
+    let work = Work { progress, ..*work };
+    let session = answer(engine, &mut waiting, &work, status, made)?;
     *queue = waiting;
     Ok(Next::GoesOn(session))
 }
 
 // The answer, or the end of the session where nothing is left on either side: the message has nothing more, and no
 // entry waits.
-#[tactic(auto, using(dm_atomic::proofs::Staying::stay_self))]
+#[tactic(auto, using(crate::proofs::Frames::keeps_self))]
 fn answer_or_end(
     engine: &mut Engine,
     queue: &mut Queue,
-    rest: &Rest,
-    account: &Account,
-    progress: &Progress,
+    work: &Work,
     nothing_more: bool,
     status: Option<Command>,
     made: List<Command>,
 ) -> Result<Next, Memory>
     requires sound { IsSoundEngine engine.old }
-    requires limits { IsReadyLimits rest.now.limits }
-    requires device { IsDevice (state_of engine.old).tree }
-    requires account { IsReadyAccount account.now }
-    requires ready { AllByRecursion IsReady (map whole_entry (option_to_list status)
-        ++ (queue.old ++ map whole_entry made)) }
-    requires number { progress.now.number < 2 ^ 32 }
-    requires own { progress.now.standing.own + 1 < 2 ^ 32 }
-    requires room { (least_room ≤ progress.now.standing.room) × (progress.now.standing.room ≤ message_limit) }
+    requires can_answer { CanAnswer engine.old work.now }
+    requires ready { AllByRecursion IsReady (waiting_with status queue.old made) }
     ensures state { IfOk result (λ next. (accounts : ListOf AnAccount) (uri : OptionOf (ListOf ℕ))
-        → outcome (machine_of engine.new queue.new (rest_behind (told rest.now accounts uri) next)) next
+        → outcome (machine_of engine.new queue.new (rest_behind (told work.now.rest.now accounts uri) next)) next
         ≡ (if nothing_more && length (queue.old ++ map whole_entry made) == 0
-        then ends (Spec.finished (machine_of engine.old queue.old (told rest.now accounts uri))) Finished
-        else goes_on (sends (machine_of engine.old
-        (map whole_entry (option_to_list status) ++ (queue.old ++ map whole_entry made))
-        (told rest.now accounts uri))
-        (record progress.now { opening_at = progress.now.opening_at + length (option_to_list status) }) account.now))) }
+        then ends (Spec.finished (machine_of engine.old queue.old (told work.now.rest.now accounts uri))) Finished
+        else goes_on (sends (machine_of engine.old (waiting_with status queue.old made)
+        (told work.now.rest.now accounts uri)) (behind_status work.now.progress status) work.now.account.now))) }
     ensures spelled { IfOk result IsNextSpelled }
     ensures err { OnErr result (queue.new ≡ queue.old) }
-    ensures clock { clock_of engine.new ≡ clock_of engine.old }
-    ensures max_obj { max_obj_of engine.new ≡ max_obj_of engine.old }
-    ensures ids { StayBut none_moved (whole_of engine.old) (whole_of engine.new) }
-    ensures marks { Holds engine.old engine.new }
-    ensures sound { IsSoundEngine engine.new }
+    ensures keeps { KeepsBut none_moved engine.old engine.new }
 {
     if is_over(nothing_more, queue, &made) {
         close(engine, queue);
         return Ok(Next::Ends(End::Finished, None));
     }
-    let session = answer(engine, queue, rest, account, progress, status, made)?;
+    let session = answer(engine, queue, work, status, made)?;
     Ok(Next::GoesOn(session))
 }
 
-// A message that is answered, or with which the session is finished.
-#[tactic(auto, using(dm_atomic::proofs::Staying::stay_self, dm_atomic::proofs::Staying::then_none))]
+/// A message that is answered, or with which the session is finished.
+#[tactic(auto, using(crate::proofs::Frames::keeps_self, crate::proofs::Frames::keeps_then_none))]
 pub(crate) fn answered(
     engine: &mut Engine,
     queue: &mut Queue,
-    rest: &Rest,
-    account: &Account,
-    progress: &Progress,
+    work: &Work,
     message: Message,
     nonce: &Nonce,
     heard: &Heard,
 ) -> Result<Next, Memory>
-    requires goes_on { CanGoOn engine.old queue.old rest.now }
-    requires progress { IsReadyProgress (machine_of engine.old queue.old rest.now) progress.now }
-    requires account { IsReadyAccount account.now }
-    requires own { progress.now.standing.own + 1 < 2 ^ 32 }
+    requires can_work { CanWork engine.old queue.old work.now }
     requires code { heard.now.code < 2 ^ 32 }
     requires message { IsReadyMessage message nonce.now.bytes }
     ensures state { IfOk result (λ next. (accounts : ListOf AnAccount) (uri : OptionOf (ListOf ℕ)) (p : AProgress)
-        (h : Standings.Heard) → HeardAs heard.now account.now h → record p { standing = h.standing } ≡ progress.now
-        → outcome (machine_of engine.new queue.new (rest_behind (told rest.now accounts uri) next)) next
-        ≡ Spec.answered (machine_of engine.old queue.old (told rest.now accounts uri))
-        (Spec.waits_after (machine_of engine.old queue.old (told rest.now accounts uri)) p h) message h
+        (h : Standings.Heard) → HeardAs heard.now work.now.account.now h
+        → record p { standing = h.standing } ≡ work.now.progress
+        → outcome (machine_of engine.new queue.new (rest_behind (told work.now.rest.now accounts uri) next)) next
+        ≡ Spec.answered (machine_of engine.old queue.old (told work.now.rest.now accounts uri))
+        (Spec.waits_after (machine_of engine.old queue.old (told work.now.rest.now accounts uri)) p h) message h
         nonce.now.bytes
-        (Spec.run_of (machine_of engine.old queue.old (told rest.now accounts uri)) h.account message h.code)) }
+        (Spec.run_of (machine_of engine.old queue.old (told work.now.rest.now accounts uri)) h.account message
+        h.code)) }
     ensures spelled { IfOk result IsNextSpelled }
     ensures err { OnErr result (queue.new ≡ queue.old) }
-    ensures clock { clock_of engine.new ≡ clock_of engine.old }
-    ensures max_obj { max_obj_of engine.new ≡ max_obj_of engine.old }
-    ensures ids { StayBut (body_covers message.body) (whole_of engine.old) (whole_of engine.new) }
-    ensures marks { Holds engine.old engine.new }
-    ensures sound { IsSoundEngine engine.new }
+    ensures keeps { KeepsBut (body_covers message.body) engine.old engine.new }
 {
-    let status = header_status(rest.alloc, message.header(), heard.code, nonce)?;
+    let alloc = work.rest.alloc;
+    let status = header_status(alloc, message.header(), heard.code, nonce)?;
     if is_denied(heard.status) {
-        let again = queued_again(engine, queue, rest, progress)?;
-        let made = run(rest.alloc, engine, account, message, heard.code)?;
-        let next = answer_again(engine, queue, rest, account, again, status, made)?;
+        let again = queued_again(engine, queue, work)?;
+        let made = run(alloc, engine, work.account, message, heard.code)?;
+        let next = answer_again(engine, queue, work, again, status, made)?;
         return Ok(next);
     }
     let nothing_more = has_nothing_more(&message, heard.code);
-    let made = run(rest.alloc, engine, account, message, heard.code)?;
-    let next = answer_or_end(
-        engine,
-        queue,
-        rest,
-        account,
-        progress,
-        nothing_more,
-        status,
-        made,
-    )?;
+    let made = run(alloc, engine, work.account, message, heard.code)?;
+    let next = answer_or_end(engine, queue, work, nothing_more, status, made)?;
     Ok(next)
 }

@@ -4,11 +4,9 @@ ghost use Rattle.dm_auth.specs.declared.accounts.Account.{Account as AnAccount};
 ghost use Rattle.dm_atomic.specs.Run.{run_all};
 ghost use Rattle.dm_atomic.specs.Engine.{state_of, running, IsSoundEngine, Gives};
 ghost use Rattle.dm_atomic.specs.Made.{IsInFront};
-ghost use Rattle.dm_atomic.specs.Marks.{whole_of, Holds};
-ghost use Rattle.dm_atomic.specs.Stays.{StayBut};
-ghost use Rattle.dm_atomic.specs.Updates.{clock_of, max_obj_of};
 ghost use Rattle.dm_ends.specs.Commands.{origin_of};
 ghost use Rattle.dm_machine.specs.Messages as Spec;
+ghost use Rattle.dm_session.specs.Frames.{KeepsBut};
 ghost use Rattle.dm_session.specs.Stays.{body_covers};
 
 use crate::bodies::is_quiet;
@@ -16,7 +14,7 @@ use dm_atomic::{Engine, Origin};
 use dm_base::{List, Memory};
 use syncml_types::{Command, Message};
 
-#[tactic(auto, using(dm_atomic::proofs::Staying::stay_self))]
+#[tactic(auto, using(crate::proofs::Frames::keeps_self))]
 fn run_all(
     engine: &mut Engine,
     caller: &[u8],
@@ -27,11 +25,7 @@ fn run_all(
     requires sound { IsSoundEngine engine.old }
     ensures gives { OnOk result (Gives (run_all (running engine.old caller.now) origin (state_of engine.old) body.old)
         (state_of engine.new) out.old out.new) }
-    ensures clock { clock_of engine.new ≡ clock_of engine.old }
-    ensures max_obj { max_obj_of engine.new ≡ max_obj_of engine.old }
-    ensures ids { StayBut (body_covers body.old) (whole_of engine.old) (whole_of engine.new) }
-    ensures marks { Holds engine.old engine.new }
-    ensures sound { IsSoundEngine engine.new }
+    ensures keeps { KeepsBut (body_covers body.old) engine.old engine.new }
 {
     for place in 0..body.len() {
         engine.run(caller, origin, &mut body[place], out)?;
@@ -42,7 +36,7 @@ fn run_all(
 /// Executes a message's commands in document order, and breaks what it leaves unfinished where it is quiet. What they
 /// come to is put behind `out`. Their texts and values are moved out of them. After `Memory` the engine may be anywhere
 /// on the way: go back to a mark.
-#[tactic(auto, using(dm_atomic::proofs::Held::holds_then, dm_atomic::proofs::Staying::then_none))]
+#[tactic(auto, using(crate::proofs::Frames::keeps_then_none))]
 pub(crate) fn execute(
     engine: &mut Engine,
     caller: &[u8],
@@ -53,11 +47,7 @@ pub(crate) fn execute(
     ensures gives { OnOk result (Gives (Spec.quiet_after message
         (run_all (running engine.old caller.now) (origin_of message) (state_of engine.old) message.body))
         (state_of engine.new) out.old out.new) }
-    ensures clock { clock_of engine.new ≡ clock_of engine.old }
-    ensures max_obj { max_obj_of engine.new ≡ max_obj_of engine.old }
-    ensures ids { StayBut (body_covers message.body) (whole_of engine.old) (whole_of engine.new) }
-    ensures marks { Holds engine.old engine.new }
-    ensures sound { IsSoundEngine engine.new }
+    ensures keeps { KeepsBut (body_covers message.body) engine.old engine.new }
 {
     let header = message.header();
     let origin = Origin {

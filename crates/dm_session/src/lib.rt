@@ -16,6 +16,7 @@ mod hearing;
 mod opening;
 mod rest;
 mod sending;
+mod work;
 mod working;
 
 pub use answers::{Acted, Answer, BeginError};

@@ -3,10 +3,11 @@ ghost use Rattle.std.specs.Prelude.{◌≡◌, ◌≤◌, ◌<◌, ◌+◌, ◌^
 ghost use Rattle.std.specs.List.{AllByRecursion};
 ghost use Rattle.std.specs.Option.{option_to_list};
 ghost use Rattle.dm_base.specs.Limits.{least_room, message_limit};
-ghost use Rattle.syncml_types.specs.Canonical.{canonical};
 ghost use Rattle.dm_pack.specs.Entries.{whole_entry, IsReady, Entry as AnEntry};
 ghost use Rattle.dm_pack.specs.Filling.{fill as fill_of, IsReadyHeader, Filling};
 ghost use Rattle.dm_machine.specs.Sending.{moved_on as moved};
+ghost use Rattle.dm_session.specs.Frames.{IsPackedAs};
+ghost use Rattle.dm_session.specs.Working.{waiting_with};
 
 use crate::rest::Session;
 use dm_base::{Boxed, List, Memory};
@@ -54,13 +55,7 @@ fn send_behind(
     requires ready { AllByRecursion IsReady (queue.old ++ map whole_entry entries) }
     requires header { IsReadyHeader header }
     requires room { (least_room ≤ room) × (room ≤ message_limit) }
-    ensures message { IfOk result
-        (λ f. f.message ≡ (fill_of (queue.old ++ map whole_entry entries) header room heard).message) }
-    ensures bytes { IfOk result (λ f. f.bytes ≡ canonical f.message) }
-    ensures whole { IfOk result
-        (λ f. f.whole ≡ (fill_of (queue.old ++ map whole_entry entries) header room heard).whole) }
-    ensures tail { IfOk result (λ f. f.tail ≡ (fill_of (queue.old ++ map whole_entry entries) header room heard).tail) }
-    ensures within { IfOk result (λ f. length f.bytes ≤ room) }
+    ensures packed { IfOk result (IsPackedAs (fill_of (queue.old ++ map whole_entry entries) header room heard) room) }
     ensures ok { OnOk result (queue.new ≡ (fill_of (queue.old ++ map whole_entry entries) header room heard).left) }
     ensures err { OnErr result (take (length queue.old) queue.new ≡ queue.old) }
 {
@@ -81,24 +76,11 @@ pub(crate) fn send(
     room: u64,
     heard: bool,
 ) -> Result<Filled, Memory>
-    requires ready { AllByRecursion IsReady (map whole_entry (option_to_list front)
-        ++ (queue.old ++ map whole_entry entries)) }
+    requires ready { AllByRecursion IsReady (waiting_with front queue.old entries) }
     requires header { IsReadyHeader header }
     requires room { (least_room ≤ room) × (room ≤ message_limit) }
-    ensures message { IfOk result (λ f. f.message
-        ≡ (fill_of (map whole_entry (option_to_list front) ++ (queue.old ++ map whole_entry entries))
-        header room heard).message) }
-    ensures bytes { IfOk result (λ f. f.bytes ≡ canonical f.message) }
-    ensures whole { IfOk result (λ f. f.whole
-        ≡ (fill_of (map whole_entry (option_to_list front) ++ (queue.old ++ map whole_entry entries))
-        header room heard).whole) }
-    ensures tail { IfOk result (λ f. f.tail
-        ≡ (fill_of (map whole_entry (option_to_list front) ++ (queue.old ++ map whole_entry entries))
-        header room heard).tail) }
-    ensures within { IfOk result (λ f. length f.bytes ≤ room) }
-    ensures ok { OnOk result (queue.new
-        ≡ (fill_of (map whole_entry (option_to_list front) ++ (queue.old ++ map whole_entry entries))
-        header room heard).left) }
+    ensures packed { IfOk result (IsPackedAs (fill_of (waiting_with front queue.old entries) header room heard) room) }
+    ensures ok { OnOk result (queue.new ≡ (fill_of (waiting_with front queue.old entries) header room heard).left) }
     ensures err { OnErr result (queue.new ≡ queue.old) }
 {
     if queue.len() == 0 {

@@ -1,17 +1,14 @@
 // What a message that is accepted does.
-ghost use Rattle.std.specs.Prelude.{◌≡◌, ◌<◌, ◌+◌, ◌^◌, List as ListOf, ℕ, Option as OptionOf, Some, set, unwrap_or};
+ghost use Rattle.std.specs.Prelude.{◌≡◌, ◌<◌, ◌^◌, List as ListOf, ℕ, Option as OptionOf, set, unwrap_or};
 ghost use Rattle.std.specs.Prelude.{IfOk, OnErr};
 ghost use Rattle.dm_auth.specs.declared.accounts.Account.{Account as AnAccount};
 ghost use Rattle.dm_headers.specs.Standings as Standings;
-ghost use Rattle.dm_atomic.specs.Engine.{state_of, IsSoundEngine};
-ghost use Rattle.dm_atomic.specs.Marks.{whole_of, Holds};
-ghost use Rattle.dm_atomic.specs.Stays.{StayBut};
-ghost use Rattle.dm_atomic.specs.Updates.{clock_of, max_obj_of};
+ghost use Rattle.dm_atomic.specs.Engine.{state_of};
 ghost use Rattle.dm_machine.specs.declared.progress.Progress.{Progress as AProgress};
 ghost use Rattle.dm_machine.specs.Machine.{Machine as AMachine};
 ghost use Rattle.dm_machine.specs.Messages as Spec;
-ghost use Rattle.dm_machine.specs.Messages.{goes_on};
-ghost use Rattle.dm_machine.specs.Ready.{IsDevice, IsReadyAccount, IsReadyLimits, IsReadyMessage, IsReadyProgress};
+ghost use Rattle.dm_machine.specs.Ready.{IsReadyMessage, IsReadyProgress};
+ghost use Rattle.dm_session.specs.Frames.{CanAnswer, CanWork, KeepsBut};
 ghost use Rattle.dm_session.specs.Inside.{machine_of, IsSpelled, CanGoOn};
 ghost use Rattle.dm_session.specs.Stays.{body_covers};
 ghost use Rattle.dm_session.specs.Working.{told, outcome, rest_behind, drafted, IsNextSpelled, HeardAs};
@@ -21,6 +18,7 @@ use crate::drafts::{Draft, Next};
 use crate::ending::close;
 use crate::headers::header_from;
 use crate::rest::Rest;
+use crate::work::Work;
 use dm_atomic::Engine;
 use dm_auth::Account;
 use dm_base::{Memory, Nonce};
@@ -34,70 +32,58 @@ use syncml_types::copies::copy_bytes;
 // The message with which the session is denied.
 fn denial(
     engine: &Engine,
-    rest: &Rest,
-    account: &Account,
-    progress: &Progress,
+    work: &Work,
     message: &Message,
     nonce: &Nonce,
     code: u32,
 ) -> Result<LastMessage, Memory>
-    requires limits { IsReadyLimits rest.now.limits }
-    requires device { IsDevice (state_of engine.now).tree }
-    requires account { IsReadyAccount account.now }
-    requires number { progress.now.number < 2 ^ 32 }
-    requires own { progress.now.standing.own + 1 < 2 ^ 32 }
+    requires can_answer { CanAnswer engine.now work.now }
     requires message { IsReadyMessage message.now nonce.now.bytes }
-    ensures message { IfOk result
-        (λ sent. (c : AMachine) → c.limits ≡ rest.now.limits → c.engine.tree ≡ (state_of engine.now).tree
-        → sent.message ≡ Spec.farewell_of c progress.now account.now message.now code nonce.now.bytes) }
+    ensures message { IfOk result (λ sent. (c : AMachine) → c.limits ≡ work.now.rest.now.limits
+        → c.engine.tree ≡ (state_of engine.now).tree
+        → sent.message
+        ≡ Spec.farewell_of c work.now.progress work.now.account.now message.now code nonce.now.bytes) }
     ensures spelled { IfOk result IsSpelled }
 {
+    let rest = work.rest;
     let header = header_from(
         rest.alloc,
         rest.limits,
         engine.tree(),
         &rest.place,
-        progress,
-        account,
+        &work.progress,
+        work.account,
     )?;
     let last = farewell(rest.alloc, header, message, code, nonce)?;
     Ok(last)
 }
 
 // A message whose header was heard.
-#[tactic(auto, using(dm_atomic::proofs::Staying::stay_self, dm_atomic::proofs::Staying::stay_more))]
+#[tactic(auto, using(crate::proofs::Frames::keeps_self, crate::proofs::Frames::keeps_more))]
 fn by_header(
     engine: &mut Engine,
     queue: &mut Queue,
-    rest: &Rest,
-    account: &Account,
-    progress: &Progress,
+    work: &Work,
     message: Message,
     nonce: &Nonce,
     heard: &Heard,
 ) -> Result<Next, Memory>
-    requires goes_on { CanGoOn engine.old queue.old rest.now }
-    requires progress { IsReadyProgress (machine_of engine.old queue.old rest.now) progress.now }
-    requires account { IsReadyAccount account.now }
-    requires own { progress.now.standing.own + 1 < 2 ^ 32 }
+    requires can_work { CanWork engine.old queue.old work.now }
     requires code { heard.now.code < 2 ^ 32 }
     requires message { IsReadyMessage message nonce.now.bytes }
     ensures state { IfOk result (λ next. (accounts : ListOf AnAccount) (uri : OptionOf (ListOf ℕ)) (p : AProgress)
-        (h : Standings.Heard) → HeardAs heard.now account.now h → record p { standing = h.standing } ≡ progress.now
+        (h : Standings.Heard) → HeardAs heard.now work.now.account.now h
+        → record p { standing = h.standing } ≡ work.now.progress
         → outcome (machine_of engine.new queue.new
-        (rest_behind (told rest.now (set accounts p.account account.now) uri) next)) next
-        ≡ Spec.by_header (machine_of engine.old queue.old (told rest.now accounts uri)) p message nonce.now.bytes
-        h) }
+        (rest_behind (told work.now.rest.now (set accounts p.account work.now.account.now) uri) next)) next
+        ≡ Spec.by_header (machine_of engine.old queue.old (told work.now.rest.now accounts uri)) p message
+        nonce.now.bytes h) }
     ensures spelled { IfOk result IsNextSpelled }
     ensures err { OnErr result (queue.new ≡ queue.old) }
-    ensures clock { clock_of engine.new ≡ clock_of engine.old }
-    ensures max_obj { max_obj_of engine.new ≡ max_obj_of engine.old }
-    ensures ids { StayBut (body_covers message.body) (whole_of engine.old) (whole_of engine.new) }
-    ensures marks { Holds engine.old engine.new }
-    ensures sound { IsSoundEngine engine.new }
+    ensures keeps { KeepsBut (body_covers message.body) engine.old engine.new }
 {
     if heard.second {
-        let farewell = denial(engine, rest, account, progress, &message, nonce, heard.code)?;
+        let farewell = denial(engine, work, &message, nonce, heard.code)?;
         close(engine, queue);
         return Ok(Next::Ends(End::Denied, Some(farewell)));
     }
@@ -105,9 +91,7 @@ fn by_header(
         close(engine, queue);
         return Ok(Next::Ends(End::Aborted, None));
     }
-    answered(
-        engine, queue, rest, account, progress, message, nonce, heard,
-    )
+    answered(engine, queue, work, message, nonce, heard)
 }
 
 // The account with the nonces to use next.
@@ -122,7 +106,7 @@ fn renewed_by<'a>(heard: &'a Heard, account: &'a Account) -> &'a Account
 
 /// A message that is new to the session at its open progress. After `Memory` the queue is as before, and the engine may
 /// be anywhere on the way: go back to a mark.
-#[tactic(auto, using(dm_atomic::proofs::Staying::stay_self, dm_atomic::proofs::Staying::stay_more))]
+#[tactic(auto, using(crate::proofs::Frames::keeps_self, crate::proofs::Frames::keeps_more))]
 pub(crate) fn accept(
     engine: &mut Engine,
     queue: &mut Queue,
@@ -139,11 +123,7 @@ pub(crate) fn accept(
         ≡ Spec.accepts (machine_of engine.old queue.old rest.now) progress.now message nonce.now.bytes) }
     ensures spelled { IfOk result (λ draft. IsNextSpelled draft.next) }
     ensures err { OnErr result (queue.new ≡ queue.old) }
-    ensures clock { clock_of engine.new ≡ clock_of engine.old }
-    ensures max_obj { max_obj_of engine.new ≡ max_obj_of engine.old }
-    ensures ids { StayBut (body_covers message.body) (whole_of engine.old) (whole_of engine.new) }
-    ensures marks { Holds engine.old engine.new }
-    ensures sound { IsSoundEngine engine.new }
+    ensures keeps { KeepsBut (body_covers message.body) engine.old engine.new }
 {
     let resp_uri = copy_bytes(rest.alloc, &message.header().resp_uri)?;
     if progress.standing.own == u32::MAX {
@@ -163,14 +143,15 @@ pub(crate) fn accept(
         &message,
         nonce,
     )?;
-    let behind = Progress {
-        standing: heard.standing,
-        ..*progress
+    let work = Work {
+        rest,
+        account: renewed_by(&heard, account),
+        progress: Progress {
+            standing: heard.standing,
+            ..*progress
+        },
     };
-    let renewed = renewed_by(&heard, account);
-    let next = by_header(
-        engine, queue, rest, renewed, &behind, message, nonce, &heard,
-    )?;
+    let next = by_header(engine, queue, &work, message, nonce, &heard)?;
     Ok(Draft {
         resp_uri,
         account: heard.account,

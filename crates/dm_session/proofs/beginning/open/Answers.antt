@@ -44,12 +44,12 @@ returns-clause-state c =
     let p = started at c.args.kind c.args.number c.len.result in
     let h = c.in_ok-header.header in
     let f = fill waiting h p.standing.room p.standing.heard in
-    let sent = c.in_ok-filled.ensures in
+    let sent = c.in_ok-filled.ensures.packed in
     let first =
     opening_waits e r c.args.kind c.in_ok-first.first _ c.new-queue.result c.new-queue.ensures c.tree.ensures.nodes
     c.in_ok-first.ensures in
     sent_machine e c.send.new.queue waiting r p account h c.session_after.result
-    (own_header e waiting r _ p account h c.tree-2.ensures.nodes c.in_ok-header.ensures) sent.ok
+    (own_header e waiting r _ p account h c.tree-2.ensures.nodes c.in_ok-header.ensures) c.in_ok-filled.ensures.ok
     (c.session_after.ensures.progress f sent.whole sent.tail) (c.session_after.ensures.message ∙ sent.message)
     ∙ begun_machine (machine_of e [] r) at c.args.kind c.args.number c.len.result account _ waiting
     (first_package (machine_of e [] r) c.args.kind) first

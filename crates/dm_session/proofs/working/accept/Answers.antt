@@ -19,11 +19,11 @@ returns-then-progress-clause-state c =
     accepted_last c.args.engine.now c.close.new.engine c.args.queue.now c.close.new.queue c.args.rest.now
     c.args.progress.now
     c.args.message c.args.nonce.now.bytes c.in_ok-resp_uri.resp_uri
-    (eq-eqb c.args.progress.now.standing.own 4294967295 c.if-progress.true) c.close.ensures.state c.close.ensures.clock
+    (eq-eqb c.args.progress.now.standing.own 4294967295 c.if-progress.true) c.close.ensures.state c.close.ensures.keeps.clock
     c.close.ensures.queue (c.in_ok-resp_uri.ensures ∙ ap (λ (h : Header). h.resp_uri) c.header.ensures.value)
 
-pub by_header-requires-clause-progress : goal.by_header-requires-clause-progress
-by_header-requires-clause-progress c =
+pub by_header-requires-clause-can_work : goal.by_header-requires-clause-can_work
+by_header-requires-clause-can_work c =
     let before = machine_of c.args.engine.now c.args.queue.now c.args.rest.now in
     let p = c.args.progress.now in
     let m = c.args.message in
@@ -33,37 +33,17 @@ by_header-requires-clause-progress c =
     let ready = subst IsReadyAccount (sym is)
     (account_ready before p.account c.requires.goes_on.ready.accounts c.requires.progress.account) in
     let heard = hears_ready Server account p.standing m c.args.nonce.now.bytes ready c.requires.progress.room in
-    heard_progress before p m (hears Server account p.standing m c.args.nonce.now.bytes) c.in_ok-heard.heard.standing
-    c.requires.progress heard c.requires.message.numbers.header.msg c.in_ok-heard.ensures.tells.standing
-
-pub by_header-requires-clause-account : goal.by_header-requires-clause-account
-by_header-requires-clause-account c =
-    let before = machine_of c.args.engine.now c.args.queue.now c.args.rest.now in
-    let p = c.args.progress.now in
-    let account = c.index-as_slice-progress.result in
-    let is = account_is before.accounts _ p.account account no_account c.as_slice.ensures c.index-as_slice-progress.is
-    c.requires.progress.account in
-    let ready = subst IsReadyAccount (sym is)
-    (account_ready before p.account c.requires.goes_on.ready.accounts c.requires.progress.account) in
-    let heard =
-    hears_ready Server account p.standing c.args.message c.args.nonce.now.bytes ready c.requires.progress.room in
-    subst IsReadyAccount (sym (c.renewed_by-renewed.ensures ∙ c.in_ok-heard.ensures.tells.account_is)) heard.account
-
-pub by_header-requires-clause-own : goal.by_header-requires-clause-own
-by_header-requires-clause-own c =
-    let before = machine_of c.args.engine.now c.args.queue.now c.args.rest.now in
-    let p = c.args.progress.now in
-    let account = c.index-as_slice-progress.result in
-    let is = account_is before.accounts _ p.account account no_account c.as_slice.ensures c.index-as_slice-progress.is
-    c.requires.progress.account in
-    let ready = subst IsReadyAccount (sym is)
-    (account_ready before p.account c.requires.goes_on.ready.accounts c.requires.progress.account) in
-    let heard =
-    hears_ready Server account p.standing c.args.message c.args.nonce.now.bytes ready c.requires.progress.room in
     let stands = ap (λ (x : Standing). x.own) c.in_ok-heard.ensures.tells.standing ∙ heard.own in
-    let low = c.requires.progress.own in
-    let last = c.if-progress.false in
-    own_next c.in_ok-heard.heard.standing.own p.standing.own stands low last
+    record {
+      goes_on = c.requires.goes_on;
+      progress = heard_progress before p m (hears Server account p.standing m c.args.nonce.now.bytes)
+          c.in_ok-heard.heard.standing c.requires.progress heard c.requires.message.numbers.header.msg
+          c.in_ok-heard.ensures.tells.standing;
+      account =
+          subst IsReadyAccount (sym (c.renewed_by.ensures ∙ c.in_ok-heard.ensures.tells.account_is)) heard.account;
+      own =
+          own_next c.in_ok-heard.heard.standing.own p.standing.own stands c.requires.progress.own c.if-progress.false;
+    }
 
 pub by_header-requires-clause-code : goal.by_header-requires-clause-code
 by_header-requires-clause-code c =
@@ -89,16 +69,16 @@ returns-clause-state c =
     let nonce = c.args.nonce.now.bytes in
     let h = hears Server account p.standing m nonce in
     let heard = c.in_ok-heard.ensures.tells in
-    let renewed = c.renewed_by-renewed.result.now in
+    let renewed = c.renewed_by.result.now in
     accepted_by_header c.args.engine.now c.by_header.new.engine c.args.queue.now c.by_header.new.queue c.args.rest.now p
     m nonce
     c.in_ok-heard.heard.account account renewed c.in_ok-resp_uri.resp_uri c.in_ok-next.next
-    (ne_eqb p.standing.own 4294967295 c.if-progress.false) is c.requires.progress.account c.renewed_by-renewed.ensures
+    (ne_eqb p.standing.own 4294967295 c.if-progress.false) is c.requires.progress.account c.renewed_by.ensures
     (c.in_ok-resp_uri.ensures ∙ ap (λ (x : Header). x.resp_uri) c.header.ensures.value)
     (c.in_ok-next.ensures.state c.args.rest.now.accounts (option_or m.header.resp_uri c.args.rest.now.resp_uri) p h
     (record {
       code = sym heard.code;
       status = sym heard.status;
       second = sym heard.second;
-      account_is = sym (c.renewed_by-renewed.ensures ∙ heard.account_is);
+      account_is = sym (c.renewed_by.ensures ∙ heard.account_is);
     }) (ap (with_standing p) (sym heard.standing)))

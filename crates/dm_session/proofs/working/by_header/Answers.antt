@@ -13,19 +13,19 @@ pub returns-then-heard-clause-state : goal.returns-then-heard-clause-state
 returns-then-heard-clause-state c accounts uri p h is at =
     let e = c.args.engine.now in
     let q = c.args.queue.now in
-    let account = c.args.account.now in
-    let r = Working.told c.args.rest.now (set accounts p.account account) uri in
-    let before = machine_of e q (Working.told c.args.rest.now accounts uri) in
+    let account = c.args.work.now.account.now in
+    let r = Working.told c.args.work.now.rest.now (set accounts p.account account) uri in
+    let before = machine_of e q (Working.told c.args.work.now.rest.now accounts uri) in
     let sent = c.in_ok-farewell.farewell.message in
-    denied_is before _ p c.args.progress.now c.args.message c.args.nonce.now.bytes h account c.args.heard.now.code
+    denied_is before _ p c.args.work.now.progress c.args.message c.args.nonce.now.bytes h account c.args.heard.now.code
     sent
     (is.second ∙ c.if-heard.true) is.account_is is.code at
     (c.in_ok-farewell.ensures.message (record before { accounts = set before.accounts p.account h.account }) refl refl)
     (ap (λ (x : Machine). record x { farewell = Some sent })
-    (closed_machine e c.close.new.engine q c.close.new.queue r c.close.ensures.state c.close.ensures.clock
+    (closed_machine e c.close.new.engine q c.close.new.queue r c.close.ensures.state c.close.ensures.keeps.clock
     c.close.ensures.queue)
     ∙ ap (λ (x : Account).
-    record (closed (machine_of e q (Working.told c.args.rest.now (set accounts p.account x) uri))) {
+    record (closed (machine_of e q (Working.told c.args.work.now.rest.now (set accounts p.account x) uri))) {
       farewell = Some sent;
     })
     (sym is.account_is))
