@@ -1,6 +1,8 @@
 -- The first package of a session can be sent.
 use Rattle.std.proofs.Common.{◌≡◌, ◌<◌, ◌≤◌, ◌+◌, ◌^◌, ℕ, Bool, true, false, List, [], ◌∷◌, ◌++◌, length, codes, map}
-use Rattle.std.proofs.Common.{Option, Some, None, IfSome, refl, arith, if◌then◌else◌}
+use Rattle.std.proofs.Common.{Option, Some, None, IfSome, refl, arith, if◌then◌else◌, ◌∙◌, ap, subst, sym}
+use Rattle.std.specs.Fmt.{decimal}
+use Rattle.std.proofs.lemmas.Fmt.{decimal_step, decimal_digit}
 use Rattle.std.specs.List.{list_all, find, AllByRecursion}
 use Rattle.std.specs.Option.{option_map, option_map_or}
 use Rattle.std.specs.FinMap.{entries}
@@ -23,6 +25,7 @@ use Rattle.dm_tree.specs.declared.nodes.Node.{Node}
 use Rattle.dm_tree.specs.Nodes.{Path, Nodes, IsWellFormed}
 use Rattle.dm_tree.specs.Devices.{device_path, value_at, is_update_node, IsDeviceLeaf}
 use Rattle.dm_tree.proofs.FirstKeys.{entry_there}
+use Rattle.dm_fumo.specs.States.{result_code}
 use Rattle.dm_atomic.specs.Made.{source_item}
 use Rattle.dm_pack.specs.Entries.{IsReady, whole_entry, bare_length}
 use Rattle.dm_pack.proofs.Most.{Most, none, most_append, most_parent, most_element, most_text, most_number}
@@ -108,9 +111,22 @@ correlator_is (Some t) h = record { text = h.text_is; few = h.short }
 media_text : IsText 60 (codes "org.openmobilealliance.dm.firmwareupdate.update")
 media_text = literal 60 (codes "org.openmobilealliance.dm.firmwareupdate.update") refl (omega arith)
 
-code_text : (ok : Bool) → IsText 3 (if ok then codes "200" else codes "410")
-code_text true = literal 3 (codes "200") refl (omega arith)
-code_text false = literal 3 (codes "410") refl (omega arith)
+pub result_digits : (ok : Bool) → decimal (result_code ok) ≡ (if ok then codes "200" else codes "410")
+result_digits true =
+    decimal_step 200 (omega arith) (omega arith)
+    ∙ ap (λ ds. ds ++ 48 ∷ [])
+    (decimal_step 20 (omega arith) (omega arith) ∙ ap (λ ds. ds ++ 48 ∷ []) (decimal_digit 2 (omega arith)))
+result_digits false =
+    decimal_step 410 (omega arith) (omega arith)
+    ∙ ap (λ ds. ds ++ 48 ∷ [])
+    (decimal_step 41 (omega arith) (omega arith) ∙ ap (λ ds. ds ++ 49 ∷ []) (decimal_digit 4 (omega arith)))
+
+digits_text : (ok : Bool) → IsText 3 (if ok then codes "200" else codes "410")
+digits_text true = literal 3 (codes "200") refl (omega arith)
+digits_text false = literal 3 (codes "410") refl (omega arith)
+
+code_text : (ok : Bool) → IsText 3 (decimal (result_code ok))
+code_text ok = subst (IsText 3) (sym (result_digits ok)) (digits_text ok)
 
 told_most : (code : ℕ) (correlator : Option (List ℕ)) (i : Item) → code < 2 ^ 32 → IsOptional 255 correlator
     → Most 357 (item_tokens i) → Most 670 (command_tokens (with_numbers 1000000000 (alert code correlator (i ∷ []))))

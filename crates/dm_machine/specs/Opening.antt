@@ -1,5 +1,6 @@
 -- The first package of a session: its Alert, the results of updates that weren't told yet, and what the device is.
-use Rattle.std.specs.Prelude.{ℕ, Bool, false, if◌then◌else◌, List, [], ◌∷◌, ◌++◌, map, codes, Option, None, Some}
+use Rattle.std.specs.Prelude.{ℕ, Bool, false, List, [], ◌∷◌, ◌++◌, map, codes, Option, None, Some}
+use Rattle.std.specs.Fmt.{decimal}
 use Rattle.std.specs.Option.{option_map_or}
 use Rattle.syncml_types.specs.declared.values.Meta.{Meta}
 use Rattle.syncml_types.specs.declared.values.Item.{Item}
@@ -10,6 +11,7 @@ use Rattle.syncml_types.specs.Message.{no_meta}
 use Rattle.dm_uri.specs.Names.{printed_path}
 use Rattle.dm_tree.specs.Nodes.{Nodes}
 use Rattle.dm_tree.specs.Devices.{device_leaves, device_path, value_at, update_node}
+use Rattle.dm_fumo.specs.States.{result_code}
 use Rattle.dm_atomic.specs.Made.{source_item}
 use Rattle.dm_pack.specs.Entries.{Entry, whole_entry}
 pub use Rattle.dm_ends.specs.Commands.{alert}
@@ -31,7 +33,7 @@ meta_of format media = record no_meta { format = Some format; media = Some media
 abbrev pub result_item : List ℕ → Bool → Item
 result_item node ok =
     source_item node (Some (meta_of (codes "chr") (codes "org.openmobilealliance.dm.firmwareupdate.update")))
-    (Some (if ok then codes "200" else codes "410"))
+    (Some (decimal (result_code ok)))
 
 abbrev pub result_alert : List ℕ → UpdateResult → Command
 result_alert node result = alert 1226 result.correlator (result_item node result.ok ∷ [])

@@ -47,6 +47,7 @@ fn source_item(uri: Bytes, meta: Boxed<Meta>, value: Bytes) -> Item
     }
 }
 
+#[tactic(auto, using(dm_machine::proofs::OwnPackages::result_digits))]
 fn result_item(alloc: Global, node: &Bytes, ok: bool) -> Result<Item, Memory>
     ensures { IfOk result (λ item. item ≡ Spec.result_item node.now ok) }
 {
