@@ -9,7 +9,9 @@ use Rattle.dm_machine.specs.Ready.{IsDevice}
 use Rattle.dm_machine.proofs.StaysSending.{apart}
 use Rattle.dm_machine.proofs.StaysWaiting.{run_ready}
 use Rattle.dm_session.specs.Inside.{machine_of}
+use Rattle.dm_session.specs.Stays.{body_covers}
 use Rattle.dm_session.specs.Working as Working
+use Rattle.dm_session.proofs.Frames.{keeps_then_none}
 use Rattle.dm_session.proofs.Outcomes.{again_answered, answered_or_ended, heard_front, heard_run, or_ends_if}
 use Rattle.dm_session.proofs.Outcomes.{or_ends_heard}
 use Rattle.dm_session.proofs.Sendable.{again_waits, answer_waits}
@@ -135,3 +137,13 @@ returns-clause-state c accounts uri p h is at =
     (ap is_denied is.status ∙ sym c.is_denied.ensures ∙ c.if-is_denied.false)
     (ran.state_is ∙ ap (λ (n : Next). n.state) same) c.run-2.ensures.keeps.clock (sym is.account_is) told_front
     (ran.made_is ∙ ap (λ (n : Next). told n.made) same)
+
+pub returns-clause-keeps : goal.returns-clause-keeps
+returns-clause-keeps c =
+    keeps_then_none (body_covers c.args.message.body) c.args.engine.now c.run-2.new.engine c.answer_or_end.new.engine
+    c.run-2.ensures.keeps c.answer_or_end.ensures.keeps
+
+pub returns-in_err-next-2-clause-keeps : goal.returns-in_err-next-2-clause-keeps
+returns-in_err-next-2-clause-keeps c =
+    keeps_then_none (body_covers c.args.message.body) c.args.engine.now c.run-2.new.engine c.answer_or_end.new.engine
+    c.run-2.ensures.keeps c.answer_or_end.ensures.keeps

@@ -3,6 +3,9 @@ use Rattle.syncml_types.specs.declared.values.Header.{Header}
 use Rattle.dm_atomic.specs.Run.{run_all}
 use Rattle.dm_atomic.specs.Engine.{state_of, running, Gives}
 use Rattle.dm_ends.specs.Commands.{origin_of}
+use Rattle.dm_session.specs.Frames.{KeepsBut}
+use Rattle.dm_session.specs.Stays.{body_covers}
+use Rattle.dm_session.proofs.Frames.{keeps_then_none}
 use Rattle.dm_session.proofs.Runs.{noisy_gives, quiet_gives}
 use Rattle.dm_session.proofs.executing.execute.Goals as goal
 use Rattle.dm_session.proofs.executing.execute.Goals.{then-quiet+in_ok-still, else-quiet}
@@ -31,4 +34,38 @@ returns-clause-gives c =
       | else-quiet w ↦
           rw (w.engine-is, w.out-is)
           (noisy_gives m run next out c.run_all.new.out (sym c.is_quiet-quiet.ensures ∙ w.if-quiet.false) first)
+    ]
+
+pub returns-in_err-still-clause-keeps : goal.returns-in_err-still-clause-keeps
+returns-in_err-still-clause-keeps c =
+    let e = c.args.engine.now in
+    let m = c.args.message in
+    let ran : KeepsBut (body_covers m.body) e c.run_all.new.engine =
+    subst (λ b. KeepsBut (body_covers b) e c.run_all.new.engine)
+    (c.as_mut_slice.ensures.value ∙ c.into_vec-body.ensures ∙ c.into_body.ensures) c.in_ok-run_all.ensures.keeps in
+    keeps_then_none (body_covers m.body) e c.run_all.new.engine c.still.new.self ran (record {
+      clock = c.still.ensures.clock;
+      max_obj = c.still.ensures.max_obj;
+      ids = c.still.ensures.ids;
+      marks = c.still.ensures.marks;
+      sound = c.still.ensures.sound;
+    })
+
+pub returns-clause-keeps : goal.returns-clause-keeps
+returns-clause-keeps c =
+    let e = c.args.engine.now in
+    let m = c.args.message in
+    let ran : KeepsBut (body_covers m.body) e c.run_all.new.engine =
+    subst (λ b. KeepsBut (body_covers b) e c.run_all.new.engine)
+    (c.as_mut_slice.ensures.value ∙ c.into_vec-body.ensures ∙ c.into_body.ensures) c.in_ok-run_all.ensures.keeps in
+    elim c.if-quiet.branch [
+      | then-quiet+in_ok-still w ↦
+          rw w.engine-is (keeps_then_none (body_covers m.body) e c.run_all.new.engine w.still.new.self ran (record {
+            clock = w.still.ensures.clock;
+            max_obj = w.still.ensures.max_obj;
+            ids = w.still.ensures.ids;
+            marks = w.still.ensures.marks;
+            sound = w.still.ensures.sound;
+          }))
+      | else-quiet w ↦ rw w.engine-is ran
     ]
