@@ -12,7 +12,7 @@ use Rattle.dm_atomic.specs.Marks.{whole_of, Holds}
 use Rattle.dm_atomic.specs.Stays.{StayBut}
 use Rattle.dm_atomic.specs.Updates.{clock_of, max_obj_of}
 use Rattle.dm_machine.specs.Ready.{IsDevice, IsReadyAccount, IsReadyLimits, IsReadyProgress}
-use Rattle.dm_session.specs.declared.work.Work.{Work}
+use Rattle.dm_session.specs.declared.work.ClientWork.{ClientWork}
 use Rattle.dm_session.specs.Inside.{machine_of, CanGoOn}
 
 -- what an engine keeps: its clock, the size of its largest objects, the number of each node that isn't covered, the way
@@ -25,7 +25,7 @@ pub record KeepsBut (covered : Path → Bool) (before after : Engine) : Type 0 w
   pub sound : IsSoundEngine after
 
 -- a message of the client's own can be made
-pub record CanAnswer (e : Engine) (w : Work) : Type 0 where
+pub record CanAnswer (e : Engine) (w : ClientWork) : Type 0 where
   pub limits : IsReadyLimits w.rest.now.limits
   pub device : IsDevice (state_of e).tree
   pub account : IsReadyAccount w.account.now
@@ -34,7 +34,7 @@ pub record CanAnswer (e : Engine) (w : Work) : Type 0 where
   pub room : (least_room ≤ w.progress.standing.room) × (w.progress.standing.room ≤ message_limit)
 
 -- a message whose header was heard can be worked
-pub record CanWork (e : Engine) (q : List Entry) (w : Work) : Type 0 where
+pub record CanWork (e : Engine) (q : List Entry) (w : ClientWork) : Type 0 where
   pub goes_on : CanGoOn e q w.rest.now
   pub progress : IsReadyProgress (machine_of e q w.rest.now) w.progress
   pub account : IsReadyAccount w.account.now

@@ -32,7 +32,7 @@ use crate::headers::header_from;
 use crate::opening::opening;
 use crate::rest::Session;
 use crate::sending::{push_all, send, session_after};
-use crate::work::Work;
+use crate::work::ClientWork;
 use dm_atomic::Engine;
 use dm_auth::Account;
 use dm_base::{List, Memory, Nonce};
@@ -70,7 +70,7 @@ fn count_of(entry: &Option<Command>) -> usize
 fn answer(
     engine: &Engine,
     queue: &mut Queue,
-    work: &Work,
+    work: &ClientWork,
     status: Option<Command>,
     made: List<Command>,
 ) -> Result<Session, Memory>
@@ -100,7 +100,11 @@ fn answer(
 
 // The queue with the whole first package behind all else, in place of what waits of it; and how far the session has
 // come then. The copy is made at most once in a session, since a second failure ends it.
-fn queued_again(engine: &Engine, queue: &Queue, work: &Work) -> Result<(Queue, Progress), Memory>
+fn queued_again(
+    engine: &Engine,
+    queue: &Queue,
+    work: &ClientWork,
+) -> Result<(Queue, Progress), Memory>
     requires update { IsUpdateInOrder (state_of engine.now).tree }
     requires opening { work.now.progress.opening_at + work.now.progress.opening_left ≤ length queue.now }
     ensures again { IfOk result (λ again. (c : AMachine) → c.results ≡ work.now.rest.now.results
@@ -168,7 +172,7 @@ fn run(
 fn answer_again(
     engine: &Engine,
     queue: &mut Queue,
-    work: &Work,
+    work: &ClientWork,
     again: (Queue, Progress),
     status: Option<Command>,
     made: List<Command>,
@@ -183,7 +187,7 @@ fn answer_again(
     ensures err { OnErr result (queue.new ≡ queue.old) }
 {
     let (mut waiting, progress) = again;
-    let work = Work { progress, ..*work };
+    let work = ClientWork { progress, ..*work };
     let session = answer(engine, &mut waiting, &work, status, made)?;
     *queue = waiting;
     Ok(Next::GoesOn(session))
@@ -195,7 +199,7 @@ fn answer_again(
 fn answer_or_end(
     engine: &mut Engine,
     queue: &mut Queue,
-    work: &Work,
+    work: &ClientWork,
     nothing_more: bool,
     status: Option<Command>,
     made: List<Command>,
@@ -226,7 +230,7 @@ fn answer_or_end(
 pub(crate) fn answered(
     engine: &mut Engine,
     queue: &mut Queue,
-    work: &Work,
+    work: &ClientWork,
     message: Message,
     nonce: &Nonce,
     heard: &Heard,

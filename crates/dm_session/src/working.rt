@@ -18,7 +18,7 @@ use crate::drafts::{Draft, Next};
 use crate::ending::close;
 use crate::headers::header_from;
 use crate::rest::Rest;
-use crate::work::Work;
+use crate::work::ClientWork;
 use dm_atomic::Engine;
 use dm_auth::Account;
 use dm_base::{Memory, Nonce};
@@ -32,7 +32,7 @@ use syncml_types::copies::copy_bytes;
 // The message with which the session is denied.
 fn denial(
     engine: &Engine,
-    work: &Work,
+    work: &ClientWork,
     message: &Message,
     nonce: &Nonce,
     code: u32,
@@ -63,7 +63,7 @@ fn denial(
 fn by_header(
     engine: &mut Engine,
     queue: &mut Queue,
-    work: &Work,
+    work: &ClientWork,
     message: Message,
     nonce: &Nonce,
     heard: &Heard,
@@ -143,7 +143,7 @@ pub(crate) fn accept(
         &message,
         nonce,
     )?;
-    let work = Work {
+    let work = ClientWork {
         rest,
         account: renewed_by(&heard, account),
         progress: Progress {
