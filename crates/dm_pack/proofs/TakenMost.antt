@@ -50,7 +50,7 @@ taken_stops h room before (e ∷ es) l =
     → (if b then suc (taken h room next es) else 0) < suc (length es)
     → fits h room (before ++ commands_of (take (suc (if b then suc (taken h room next es) else 0)) (e ∷ es))) ≡ false) [
       | true ↦ λ x m. ap (fits h room) (sym (append_assoc before (e.command ∷ [])
-      (commands_of (take (suc (taken h room next es)) es)))) ∙ taken_stops h room next es (omega (arith, m))
+          (commands_of (take (suc (taken h room next es)) es)))) ∙ taken_stops h room next es (omega (arith, m))
       | false ↦ λ x m. x
     ] refl l
 
@@ -90,7 +90,7 @@ unfolding part_of rest_of
 cut_data_is_joined e n =
     let part = ap data_in (item_changed (part_item e.begun n) e.command) in
     let rest =
-        ap data_in (item_alone (cut_changed (rest_item n) e.command) ∙ item_changed (rest_item n) e.command) in
+    ap data_in (item_alone (cut_changed (rest_item n) e.command) ∙ item_changed (rest_item n) e.command) in
     ap (λ a. a ++ cut_data (rest_of e n).command) part
     ∙ ap (λ b. data_in (option_map (part_item e.begun n) (cut_item e.command)) ++ b) rest
     ∙ joined_item e.begun n (cut_item e.command)
