@@ -1,5 +1,5 @@
 -- A run that ends before its form is known puts nothing, which is a prefix of every text.
-use Rattle.std.proofs.Common.{ℕ, List, [], inr, refl, sym, arith}
+use Rattle.std.proofs.Common.{◌≡◌, ℕ, List, [], inr, refl, sym, arith}
 use Rattle.std.specs.Io.KnownBytes.{Consumes}
 use Rattle.std.specs.Prelude.{Option, Some, None}
 use Rattle.std.proofs.lemmas.List.{append-nil}
@@ -66,6 +66,7 @@ unended (Some forms.Show) old new = λ is. cc
 unended (Some forms.Check) old new = λ is. cc
 unended (Some (forms.Bench seed nodes messages)) old new = tt
 
-pub formless : (old new : Option (List ℕ)) (e : Exit) → ReadsToEnd None old new e
+pub formless : (form : Option Form) (old new : Option (List ℕ)) (e : Exit) → form ≡ None → ReadsToEnd form old new e
 unfolding ReadsToEnd
-formless old new e = tt
+formless None old new e is = tt
+formless (Some form) old new e is = cc

@@ -1,3 +1,4 @@
+use Rattle.std.proofs.Common.{sym, ◌∙◌}
 use Rattle.dm_cli.proofs.Lacking.{lacking, untaken, unasked, unended, formless}
 use Rattle.dm_cli.proofs.run.run.Goals as goal
 
@@ -23,4 +24,5 @@ pub returns-in-Err-clause-ended : goal.returns-in-Err-clause-ended
 returns-in-Err-clause-ended g c = unended _ _ _
 
 pub returns-in-Ok-None-clause-ended : goal.returns-in-Ok-None-clause-ended
-returns-in-Ok-None-clause-ended g c = formless _ _ _
+returns-in-Ok-None-clause-ended g c =
+    formless _ _ _ _ (sym c.in-Ok-None.ensures.form ∙ c.in-Ok-None.field-0-is)
