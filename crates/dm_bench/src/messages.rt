@@ -6,8 +6,9 @@ ghost use Rattle.dm_bench.specs.Words as Words;
 ghost use Rattle.dm_bench.specs.Words.{after};
 ghost use Rattle.dm_bench.specs.Messages as Spec;
 
-use crate::names::{add_leaf, digits};
+use crate::names::add_leaf;
 use dm_base::{Boxed, Bytes, List, Memory};
+use dm_decimals::decimal_text;
 use rand_core::utils::NextWord;
 use rand_xoshiro::SplitMix64;
 use std::alloc::Global;
@@ -39,7 +40,7 @@ fn next_value(alloc: Global, words: &mut SplitMix64) -> Result<Bytes, Memory>
     ensures rest { words.new ≡ Words.rest words.old }
 {
     let word = next(words);
-    digits(alloc, word)
+    decimal_text(alloc, word)
 }
 
 fn loc(uri: Bytes) -> Loc

@@ -4,8 +4,9 @@ ghost use Rattle.dm_start.specs.Start.{after_line, section_at, told_of, is_begun
 ghost use Rattle.dm_bench.specs.Start as Spec;
 ghost use Rattle.dm_bench.specs.Start.{Leads, MayBegin};
 
-use crate::names::{GROUP, add_group, add_leaf, digits};
+use crate::names::{GROUP, add_group, add_leaf};
 use dm_base::{Bytes, Memory, hex_into};
+use dm_decimals::decimal_text;
 use dm_machine::Kind;
 use dm_session::Client;
 use dm_start::{Start, StartReader};
@@ -63,7 +64,7 @@ fn put_leaf(alloc: Global, line: &mut Bytes, leaf: u32) -> Result<(), Memory>
     line.extend(b"leaf ")?;
     add_leaf(line, leaf)?;
     line.extend(b" chr text/plain ")?;
-    hex_into(line, digits(alloc, leaf as u64)?.as_slice())?;
+    hex_into(line, decimal_text(alloc, leaf as u64)?.as_slice())?;
     Ok(())
 }
 

@@ -14,8 +14,8 @@ use crate::hashing::Hashing;
 use crate::running::{Tally, deliver_all};
 use crate::starting::begun;
 use dm_base::{Bytes, Memory, Sink, hex_into};
+use dm_decimals::put_decimal;
 use dm_exit::{Exit, put_text};
-use dm_replay::answers::add_number;
 use dm_session::Client;
 use dm_start::put_tree;
 use dm_tree::Tree;
@@ -36,11 +36,11 @@ fn summary(alloc: Global, messages: u32, tally: Tally, digest: &[u8]) -> Result<
     ensures { IfOk result (λ line. line ≡ Spec.summary messages tally digest.now) }
 {
     let mut line = Bytes::of_slice(alloc, b"bench ")?;
-    add_number(&mut line, messages as u64)?;
+    put_decimal(&mut line, messages as u64)?;
     line.extend(b" ok ")?;
-    add_number(&mut line, tally.ok as u64)?;
+    put_decimal(&mut line, tally.ok as u64)?;
     line.extend(b" failed ")?;
-    add_number(&mut line, tally.failed as u64)?;
+    put_decimal(&mut line, tally.failed as u64)?;
     line.extend(b" tree ")?;
     hex_into(&mut line, digest)?;
     line.push(b'\n')?;

@@ -10,7 +10,7 @@ use Rattle.syncml_codec.specs.Listing.{listing_of}
 use Rattle.syncml_codec.specs.Decoding.{read_of}
 use Rattle.dm_exit.specs.declared.exit.Exit.{Exit}
 use Rattle.dm_exit.specs.declared.exit.Exit.TheVariants as exit
-use Rattle.dm_replay.specs.Output.{refused_line}
+use Rattle.dm_texts.specs.Lines.{refused_line}
 
 -- a message of so many bytes, and how many its canonical spelling has
 abbrev pub ok_line : ℕ → ℕ → Bool → List ℕ

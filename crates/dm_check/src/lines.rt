@@ -3,13 +3,14 @@ ghost use Rattle.std.specs.Prelude.{◌≡◌, ◌++◌, bytes_eq, length, IfOk}
 ghost use Rattle.dm_base.specs.Lines.{line_feed};
 ghost use Rattle.syncml_types.specs.Canonical.{canonical};
 ghost use Rattle.syncml_types.specs.Lengths.{up_to_most};
-ghost use Rattle.dm_replay.specs.Output.{refused_line};
+ghost use Rattle.dm_texts.specs.Lines.{refused_line};
 ghost use Rattle.dm_check.specs.Answers as Spec;
 ghost use Rattle.dm_check.specs.Kept.{read_in, checked_in};
 
 use crate::message::Received;
 use dm_base::{Bytes, Memory};
-use dm_replay::answers::{add_number, refused_line};
+use dm_decimals::put_decimal;
+use dm_texts::refused_line;
 use std::alloc::Global;
 use syncml_codec::{encode, listing};
 use syncml_types::{Message, length};
@@ -27,9 +28,9 @@ fn ok_line(alloc: Global, bytes: u64, spelling: u64, same: bool) -> Result<Bytes
     ensures { IfOk result (λ line. line ≡ Spec.ok_line bytes spelling same) }
 {
     let mut line = Bytes::of_slice(alloc, b"ok ")?;
-    add_number(&mut line, bytes)?;
+    put_decimal(&mut line, bytes)?;
     line.push(b' ')?;
-    add_number(&mut line, spelling)?;
+    put_decimal(&mut line, spelling)?;
     line.extend(if same { b" canonical" } else { b" other" })?;
     line.push(b'\n')?;
     Ok(line)

@@ -16,7 +16,8 @@ use Rattle.dm_job.specs.Texts.{segments, is_long, unended, job_in}
 use Rattle.dm_service.specs.Messages.{first_service}
 use Rattle.dm_service.specs.Report.{report_text}
 use Rattle.dm_replay.specs.Trace.{ids_of, told_in}
-use Rattle.dm_replay.specs.Output.{client_of, bad_line}
+use Rattle.dm_replay.specs.Output.{client_of}
+use Rattle.dm_texts.specs.Lines.{bad_line}
 use Rattle.dm_exit.specs.declared.exit.Exit.{Exit}
 use Rattle.dm_exit.specs.declared.exit.Exit.TheVariants as exit
 use Rattle.dm_pair.specs.declared.events.Event.{Event}

@@ -22,10 +22,11 @@ use crate::pairing::{Pairing, step};
 use crate::reading::{Begun, Given, read_first, read_job, read_start};
 use dm_base::{Bytes, LineReason, List, Memory};
 use dm_job::Job;
-use dm_replay::{bad_line, ids_of};
+use dm_replay::ids_of;
 use dm_server::Server;
 use dm_session::Client;
 use dm_start::{Start, tree_text};
+use dm_texts::bad_line;
 use std::alloc::Global;
 
 /// What is written for a text, in three pieces that follow one another, so that none is copied: mostly the lines of its

@@ -10,7 +10,7 @@ use Rattle.dm_exit.specs.Answers.{IsOfText, DoneAtEnd}
 use Rattle.dm_exit.proofs.Parts.{part_of_text, part_not_done, end_of_text, end_not_done}
 use Rattle.dm_replay.specs.declared.reading.Halt.{Halt}
 use Rattle.dm_replay.specs.declared.reading.Halt.TheVariants as halt
-use Rattle.dm_replay.specs.Output.{bad_line}
+use Rattle.dm_texts.specs.Lines.{bad_line}
 use Rattle.dm_replay.specs.From.{PutsHalt, PutsBehind, PutsDueAndHalt}
 
 -- ---- a run that halted

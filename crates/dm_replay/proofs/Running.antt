@@ -25,7 +25,8 @@ use Rattle.dm_start.specs.Start.{told_of}
 use Rattle.dm_replay.specs.Input.{Input}
 use Rattle.dm_replay.specs.Events.{happening_of}
 use Rattle.dm_replay.specs.Trace.{Ending, whole, stopped, Trace, no_events, with_event, ids_of}
-use Rattle.dm_replay.specs.Output.{answer_text, answers_text, ending_text, ending_exit, bad_line, tree_and_done}
+use Rattle.dm_replay.specs.Output.{answer_text, answers_text, ending_text, ending_exit, tree_and_done}
+use Rattle.dm_texts.specs.Lines.{bad_line}
 use Rattle.dm_replay.specs.Output.{trace_text, client_of}
 use Rattle.dm_replay.specs.From.{OfInput, Between, events_at, OfStop, EndsTrace, PutsHalt}
 use Rattle.dm_replay.specs.From.{PutsOn, PutsBehind, PutsDueAndHalt, Follows, SoFar, GoesOn, EndsEvents}

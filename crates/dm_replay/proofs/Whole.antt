@@ -19,7 +19,8 @@ use Rattle.dm_replay.specs.declared.reading.Halt.TheVariants as halt
 use Rattle.dm_replay.specs.declared.reading.Started.{Started}
 use Rattle.dm_replay.specs.Input.{Input, input_of}
 use Rattle.dm_replay.specs.Trace.{bad, too_long, Trace, Begun, began, unbegun, trace_of}
-use Rattle.dm_replay.specs.Output.{answers_text, ending_text, ending_exit, bad_line, trace_text, events_text, client_of}
+use Rattle.dm_replay.specs.Output.{answers_text, ending_text, ending_exit, trace_text, events_text, client_of}
+use Rattle.dm_texts.specs.Lines.{bad_line}
 use Rattle.dm_replay.specs.Output.{begun_text, begun_exit, replay_text, replay_exit, Replays}
 use Rattle.dm_replay.specs.From.{OfInput, seen, begun_at, OfStop, StartsAs, EndsTrace, EndsEvents, PutsHalt}
 use Rattle.dm_exit.proofs.Parts.{ends_put, prefix_none, kept_appends}

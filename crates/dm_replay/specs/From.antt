@@ -31,7 +31,8 @@ use Rattle.dm_replay.specs.Input.{Input, input_of}
 use Rattle.dm_replay.specs.Events.{happening_of}
 use Rattle.dm_replay.specs.Trace.{Stop, bad, too_long, Ending, whole, stopped, Trace, Begun, began, unbegun, is_long}
 use Rattle.dm_replay.specs.Trace.{tail_stop, start_from, end_from, events_from, no_events, with_event, trace_of}
-use Rattle.dm_replay.specs.Output.{bad_line, ending_exit, trace_text, client_of, begun_answers, answers_text}
+use Rattle.dm_texts.specs.Lines.{bad_line}
+use Rattle.dm_replay.specs.Output.{ending_exit, trace_text, client_of, begun_answers, answers_text}
 
 -- ---- the input to come
 

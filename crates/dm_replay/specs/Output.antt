@@ -2,10 +2,6 @@
 use Rattle.std.specs.Prelude.{◌≡◌, ℕ, List, [], ◌∷◌, ◌++◌, codes, Option, Some, None}
 use Rattle.std.specs.Fmt.{decimal}
 use Rattle.std.specs.Io.KnownBytes.{Appends, Consumes}
-use Rattle.wbxml_tokens.specs.declared.reason.Refusal.{Refusal}
-use Rattle.wbxml_tokens.specs.Reasons.{word_of}
-use Rattle.dm_base.specs.declared.lines.LineReason.{LineReason}
-use Rattle.dm_base.specs.declared.lines.LineReason.TheVariants as reason
 use Rattle.dm_base.specs.Fields.{hex_text}
 use Rattle.dm_base.specs.Lines.{line_feed}
 use Rattle.dm_base.specs.Outside.{OfKnown}
@@ -24,6 +20,7 @@ use Rattle.dm_start.specs.TreeText.{tree_text}
 use Rattle.dm_exit.specs.declared.exit.Exit.{Exit}
 use Rattle.dm_exit.specs.declared.exit.Exit.TheVariants as exit
 use Rattle.dm_exit.specs.Puts.{PutsPrefix}
+use Rattle.dm_texts.specs.Lines.{refused_line, bad_line}
 use Rattle.dm_replay.specs.Trace.{Stop, bad, too_long, Ending, whole, stopped, Trace, Begun, began, unbegun, begun_of}
 use Rattle.dm_replay.specs.Trace.{trace_of}
 
@@ -31,10 +28,6 @@ use Rattle.dm_replay.specs.Trace.{trace_of}
 
 abbrev pub message_line : List ℕ → Parts → List ℕ
 message_line word m = word ++ hex_text (canonical m)
-
--- where and why bytes are no message
-abbrev pub refused_line : Refusal → List ℕ
-refused_line refusal = codes "refused " ++ decimal refusal.at ++ codes " " ++ word_of refusal.reason
 
 -- with its farewell
 abbrev pub denied_line : Option Parts → List ℕ
@@ -68,19 +61,6 @@ answers_text [] = []
 answers_text (a ∷ as') = answer_text a ++ answers_text as'
 
 -- ---- the end
-
-abbrev pub reason_word : LineReason → List ℕ
-reason_word reason.Cut = codes "cut"
-reason_word reason.Long = codes "long"
-reason_word reason.Word = codes "word"
-reason_word reason.Fields = codes "fields"
-reason_word reason.Account = codes "account"
-reason_word reason.Tree = codes "tree"
-reason_word reason.Extra = codes "extra"
-reason_word reason.Message = codes "message"
-
-abbrev pub bad_line : ℕ → LineReason → List ℕ
-bad_line n why = codes "bad " ++ decimal n ++ codes " " ++ reason_word why ++ line_feed
 
 abbrev pub stop_text : Stop → List ℕ
 stop_text (bad n why) = bad_line n why

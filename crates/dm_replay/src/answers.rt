@@ -11,29 +11,20 @@ ghost use Rattle.dm_replay.specs.Output.{answer_line};
 
 use crate::events::Event;
 use dm_base::{Bytes, Memory, Nonce, hex_into};
+use dm_decimals::put_decimal;
 use dm_machine::{End, Kind};
 use dm_session::{Acted, Answer, BeginError, Client};
+use dm_texts::refused_line;
 use dm_tree::Stamp;
-use itoa::Buffer;
 use std::alloc::Global;
-use wbxml_tokens::Refusal;
 
 // A word and a number.
 fn number_line(alloc: Global, word: &[u8], number: u64) -> Result<Bytes, Memory>
     ensures { IfOk result (λ t. t ≡ word.now ++ decimal number) }
 {
     let mut line = Bytes::of_slice(alloc, word)?;
-    add_number(&mut line, number)?;
+    put_decimal(&mut line, number)?;
     Ok(line)
-}
-
-/// Adds a number in decimal digits. After want of memory the line is as before.
-pub fn add_number(line: &mut Bytes, number: u64) -> Result<(), Memory>
-    ensures ok { OnOk result (line.new ≡ line.old ++ decimal number) }
-    ensures err { OnErr result (line.new ≡ line.old) }
-{
-    let mut buffer = Buffer::new();
-    line.extend(buffer.format(number).as_bytes())
 }
 
 // A word and the bytes of a message, in room that is taken once, and that a line feed has too.
@@ -56,17 +47,6 @@ fn sent_line(alloc: Global, word: &[u8], client: &Client) -> Result<Bytes, Memor
         Some(message) => message_line(alloc, word, message),
         None => unreachable!(),
     }
-}
-
-/// Where and why bytes are no message, without the line feed.
-pub fn refused_line(alloc: Global, refusal: Refusal) -> Result<Bytes, Memory>
-    ensures { IfOk result (λ line. line ≡ Spec.refused_line refusal) }
-{
-    let mut line = Bytes::of_slice(alloc, b"refused ")?;
-    add_number(&mut line, refusal.at)?;
-    line.push(b' ')?;
-    line.extend(refusal.reason.word().as_bytes())?;
-    Ok(line)
 }
 
 fn ended_line(alloc: Global, end: End, client: &Client) -> Result<Bytes, Memory>

@@ -6,16 +6,16 @@ ghost use Rattle.dm_tree.specs.Rows.{nodes};
 ghost use Rattle.dm_exit.specs.Answers.{IsOfText, DoneAtEnd};
 ghost use Rattle.dm_exit.specs.Causes.{SourceCause, SinkCause};
 ghost use Rattle.dm_exit.specs.Puts.{PutsPart, PutsEnd, Ends};
-ghost use Rattle.dm_replay.specs.Output as Spec;
-ghost use Rattle.dm_replay.specs.Output.{bad_line, tree_and_done, ending_text, ending_exit};
+ghost use Rattle.dm_texts.specs.Lines.{bad_line};
+ghost use Rattle.dm_replay.specs.Output.{tree_and_done, ending_text, ending_exit};
 ghost use Rattle.dm_replay.specs.From.{seen, OfInput, ending_at, exit_after, PutsOn, PutsHalt};
 ghost use Rattle.dm_replay.specs.From.{PutsDueAndHalt};
 
-use crate::answers::add_number;
 use crate::reading::{Halt, read_end};
-use dm_base::{Bytes, Fault, LineReason, Lines, Memory, Sink, Source};
+use dm_base::{Bytes, Fault, LineReason, Lines, Sink, Source};
 use dm_exit::{Exit, put_text};
 use dm_start::put_tree;
+use dm_texts::bad_line;
 use dm_tree::Tree;
 use std::alloc::Global;
 
@@ -65,33 +65,6 @@ pub(crate) fn put_whole<K: Sink>(alloc: Global, out: &mut K, tree: &Tree, versio
         Ok(()) => Exit::Done,
         Err(exit) => exit,
     }
-}
-
-fn reason_word(reason: LineReason) -> &'static str
-    ensures { result.now ≡ Spec.reason_word reason }
-{
-    match reason {
-        LineReason::Cut => "cut",
-        LineReason::Long => "long",
-        LineReason::Word => "word",
-        LineReason::Fields => "fields",
-        LineReason::Account => "account",
-        LineReason::Tree => "tree",
-        LineReason::Extra => "extra",
-        LineReason::Message => "message",
-    }
-}
-
-/// The line that tells which line of a text is refused, and why.
-pub fn bad_line(alloc: Global, number: u64, reason: LineReason) -> Result<Bytes, Memory>
-    ensures { IfOk result (λ line. line ≡ bad_line number reason) }
-{
-    let mut line = Bytes::of_slice(alloc, b"bad ")?;
-    add_number(&mut line, number)?;
-    line.push(b' ')?;
-    line.extend(reason_word(reason).as_bytes())?;
-    line.push(b'\n')?;
-    Ok(line)
 }
 
 // Ends a run at a line that is refused.

@@ -9,7 +9,6 @@ mod reading;
 pub mod trace;
 
 pub use answers::step;
-pub use endings::bad_line;
 pub use events::{Event, read_event};
 pub use laws::{
     only_traces_are_done, refusals_are_first, refusals_are_told, whole_traces_are_answered,

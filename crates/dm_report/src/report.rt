@@ -11,17 +11,16 @@ ghost use Rattle.dm_report.specs.Chains.{IsChained};
 use crate::chains::{Chains, chains_of};
 use crate::kept::{FoundValue, Kept, all_coded};
 use dm_base::{Bytes, Memory, hex_into};
+use dm_decimals::put_decimal;
 use dm_service::KeptAlert;
-use itoa::Buffer;
 use std::alloc::Global;
 use syncml_types::Step;
 
 fn put_number(out: &mut Bytes, number: u64) -> Result<(), Memory>
     ensures { OnOk result (out.new ≡ out.old ++ Spec.spaced (decimal number)) }
 {
-    let mut buffer = Buffer::new();
     out.extend(b" ")?;
-    out.extend(buffer.format(number).as_bytes())
+    put_decimal(out, number)
 }
 
 fn put_hex(out: &mut Bytes, bytes: &Bytes) -> Result<(), Memory>
