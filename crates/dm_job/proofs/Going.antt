@@ -18,8 +18,8 @@ use Rattle.syncml_types.specs.declared.command.Command.{Command}
 use Rattle.syncml_types.specs.declared.command.Command.TheVariants as command
 use Rattle.syncml_types.specs.Fitness.{is_in_limit, item_data, member_data, seq_member_data, command_data}
 use Rattle.syncml_parts.specs.Numbering.{ids_in, ids_in_seq_members}
-use Rattle.dm_start.specs.Fields.{begins_with, account_in, limits_in}
-use Rattle.dm_start.proofs.Sections.{said, allowed, same_ok}
+use Rattle.dm_fields.specs.Fields.{begins_with, account_in, limits_in}
+use Rattle.dm_fields.proofs.Told.{said, allowed, same_ok}
 use Rattle.dm_job.specs.declared.draft.Draft.{Draft}
 use Rattle.dm_job.specs.declared.draft.Place.{Place}
 use Rattle.dm_job.specs.declared.draft.Place.TheVariants as place

@@ -30,9 +30,9 @@ use Rattle.syncml_types.specs.Message.{no_meta}
 use Rattle.dm_pack.specs.Entries.{IsReady, whole_entry, bare_length, without_value}
 use Rattle.dm_pack.proofs.Most.{Most, none, most_append, most_parent, most_element, most_text, most_number}
 use Rattle.dm_pack.proofs.Ready.{IsText, IsOptional, Passes, texts_pass, short_passes}
-use Rattle.dm_start.specs.Fields.{opt_of}
-use Rattle.dm_start.proofs.Sections.{some_if}
-use Rattle.dm_start.proofs.Devices.{word_is_text}
+use Rattle.dm_fields.specs.Fields.{opt_of}
+use Rattle.dm_fields.proofs.Told.{some_if}
+use Rattle.dm_fields.proofs.Words.{word_is_text}
 use Rattle.dm_job.specs.Commands.{meta_of, item_of, plain_of, bare_in, exec_in, within_object, data_in, written}
 use Rattle.dm_job.specs.Commands.{write_in, plain_in}
 use Rattle.dm_job.specs.Sound.{IsStep}

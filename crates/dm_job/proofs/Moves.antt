@@ -2,8 +2,8 @@
 use Rattle.std.proofs.Common.{◌≡◌, ℕ, Bool, true, false, List, None, Ok, Err, cond}
 use Rattle.std.proofs.Common.{codes, bytes_eq}
 use Rattle.dm_base.specs.declared.lines.LineReason.TheVariants as reason
-use Rattle.dm_start.specs.Fields.{begins_with}
-use Rattle.dm_start.proofs.Sections.{allowed, same_ok}
+use Rattle.dm_fields.specs.Fields.{begins_with}
+use Rattle.dm_fields.proofs.Told.{allowed, same_ok}
 use Rattle.dm_job.specs.declared.draft.Draft.{Draft}
 use Rattle.dm_job.specs.declared.draft.Place.TheVariants as place
 use Rattle.dm_job.specs.Commands.{new_atomic, new_sequence}

@@ -17,9 +17,9 @@ use Rattle.syncml_types.specs.declared.command.Command.TheVariants as command
 use Rattle.syncml_parts.specs.Numbering.{ids_in, ids_in_seq_members}
 use Rattle.syncml_parts.specs.Packing.{last_of, last_changed}
 use Rattle.dm_auth.specs.declared.accounts.Account.{Account}
-use Rattle.dm_start.specs.Fields.{begins_with, account_in, limits_in, are_limits}
-use Rattle.dm_start.specs.Laws.{IsAccount}
-use Rattle.dm_start.proofs.Sections.{said, allowed, same_ok, in_limits, is_account}
+use Rattle.dm_fields.specs.Fields.{begins_with, account_in, limits_in, are_limits}
+use Rattle.dm_fields.specs.Fields.{IsAccount}
+use Rattle.dm_fields.proofs.Told.{said, allowed, same_ok, in_limits, is_account}
 use Rattle.dm_job.specs.declared.job.Job.{Job}
 use Rattle.dm_job.specs.declared.job.JobEntry.{JobEntry}
 use Rattle.dm_job.specs.declared.draft.Draft.{Draft}

@@ -14,8 +14,8 @@ use Rattle.syncml_types.specs.declared.command.Command.TheVariants as command
 use Rattle.syncml_parts.specs.Numbering.{ids_in}
 use Rattle.syncml_parts.specs.Packing.{last_of}
 use Rattle.dm_auth.specs.declared.accounts.Account.{Account}
-use Rattle.dm_start.specs.Fields.{begins_with, account_in, limits_in}
-use Rattle.dm_start.specs.Growing.{or_refused}
+use Rattle.dm_fields.specs.Fields.{begins_with, account_in, limits_in}
+use Rattle.dm_fields.specs.Refusing.{or_refused}
 use Rattle.dm_job.specs.declared.job.Job.{Job}
 use Rattle.dm_job.specs.declared.job.JobEntry.{JobEntry}
 use Rattle.dm_job.specs.declared.draft.Draft.{Draft}

@@ -2,8 +2,8 @@
 use Rattle.std.specs.Prelude.{◌≡◌, Result, Ok, Err}
 use Rattle.dm_base.specs.declared.bytes.Memory.{Memory}
 use Rattle.dm_base.specs.declared.lines.LineReason.{LineReason}
-use Rattle.dm_start.specs.declared.errors.LineError.{LineError}
-use Rattle.dm_start.specs.Laying.{Refuses}
+use Rattle.dm_fields.specs.declared.errors.LineError.{LineError}
+use Rattle.dm_fields.specs.Refusing.{Refuses}
 
 -- the state is the wanted one
 abbrev pub Does : {S : Type 0} {T : Type 0} → Result S LineReason → S → S → Result T LineError → Type 0

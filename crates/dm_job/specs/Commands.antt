@@ -14,7 +14,7 @@ use Rattle.syncml_types.specs.declared.command.Command.{Command}
 use Rattle.syncml_types.specs.declared.command.Command.TheVariants as command
 use Rattle.syncml_types.specs.Message.{no_meta}
 use Rattle.dm_pack.specs.Entries.{bare_length}
-use Rattle.dm_start.specs.Fields.{begins_with, opt_of}
+use Rattle.dm_fields.specs.Fields.{begins_with, opt_of}
 
 -- ---- one command on one node
 

@@ -13,7 +13,7 @@ use Rattle.syncml_types.specs.declared.command.SeqMember.TheVariants as seq_memb
 use Rattle.syncml_types.specs.declared.command.Command.{Command}
 use Rattle.syncml_types.specs.declared.command.Command.TheVariants as command
 use Rattle.syncml_parts.specs.Numbering.{ids_in}
-use Rattle.dm_start.specs.Fields.{begins_with, account_in, limits_in}
+use Rattle.dm_fields.specs.Fields.{begins_with, account_in, limits_in}
 use Rattle.dm_job.specs.declared.job.Job.{Job}
 use Rattle.dm_job.specs.declared.job.JobEntry.{JobEntry}
 use Rattle.dm_job.specs.Commands.{verb_in, plain_in, may_close}

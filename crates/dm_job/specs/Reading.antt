@@ -12,8 +12,8 @@ use Rattle.syncml_types.specs.declared.command.Command.{Command}
 use Rattle.syncml_types.specs.declared.command.Command.TheVariants as command
 use Rattle.syncml_parts.specs.Packing.{last_changed, last_of}
 use Rattle.dm_auth.specs.declared.accounts.Account.{Account}
-use Rattle.dm_start.specs.Fields.{begins_with, account_in, limits_in}
-use Rattle.dm_start.specs.Growing.{or_refused}
+use Rattle.dm_fields.specs.Fields.{begins_with, account_in, limits_in}
+use Rattle.dm_fields.specs.Refusing.{or_refused}
 use Rattle.dm_job.specs.declared.job.JobEntry.{JobEntry}
 use Rattle.dm_job.specs.declared.draft.Draft.{Draft}
 use Rattle.dm_job.specs.declared.draft.Place.{Place}

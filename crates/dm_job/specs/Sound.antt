@@ -11,8 +11,8 @@ use Rattle.syncml_types.specs.declared.command.Command.{Command}
 use Rattle.syncml_types.specs.declared.command.Command.TheVariants as command
 use Rattle.syncml_parts.specs.Numbering.{ids_in}
 use Rattle.dm_pack.specs.Entries.{IsReady, whole_entry}
-use Rattle.dm_start.specs.Fields.{are_limits}
-use Rattle.dm_start.specs.Laws.{IsAccount}
+use Rattle.dm_fields.specs.Fields.{are_limits}
+use Rattle.dm_fields.specs.Fields.{IsAccount}
 use Rattle.dm_job.specs.declared.job.Job.{Job}
 use Rattle.dm_job.specs.declared.job.JobEntry.{JobEntry}
 

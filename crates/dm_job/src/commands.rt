@@ -4,8 +4,7 @@ ghost use Rattle.dm_base.specs.Fields.{parts};
 ghost use Rattle.dm_job.specs.Commands as Spec;
 
 use dm_base::{Boxed, Bytes, Form, List, Memory, OBJECT_LIMIT, hex_bytes, is_field};
-use dm_start::fields::{begins_with, five_fields, three_fields, two_fields};
-use dm_start::forms::opt_of;
+use dm_fields::{begins_with, five_fields, opt_of, three_fields, two_fields};
 use std::alloc::Global;
 use syncml_types::{Block, Command, Item, Loc, Member, Meta, Plain, SeqMember, Verb};
 

@@ -1,6 +1,5 @@
 // Why a text isn't a job.
 use dm_base::LineReason;
-use dm_start::LineError;
 use thiserror::Error;
 
 /// Why a text isn't a job.
@@ -12,7 +11,3 @@ pub enum JobError {
     #[error("out of memory")]
     Memory,
 }
-
-pub(crate) const BAD_FIELDS: LineError = LineError::Bad(LineReason::Fields);
-
-pub(crate) const BAD_WORD: LineError = LineError::Bad(LineReason::Word);

@@ -10,11 +10,9 @@ ghost use Rattle.dm_job.specs.Measures.{CanClose};
 use crate::closing::last_may_close;
 use crate::commands::{new_atomic, new_sequence, plain_in, push_member, verb_in};
 use crate::draft::{Draft, Place};
-use crate::errors::{BAD_FIELDS, BAD_WORD};
 use crate::job::JobEntry;
 use dm_base::{List, Memory};
-use dm_start::LineError;
-use dm_start::fields::begins_with;
+use dm_fields::{BAD_FIELDS, BAD_WORD, LineError, begins_with};
 use std::alloc::Global;
 use syncml_types::{Command, Plain, Verb};
 

@@ -9,7 +9,7 @@ use crate::job::Job;
 use crate::reader::JobReader;
 use dm_base::LineReason;
 use dm_base::lines::LINE_LIMIT;
-use dm_start::LineError;
+use dm_fields::LineError;
 use memchr::memchr;
 use std::alloc::Global;
 

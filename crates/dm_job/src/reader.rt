@@ -1,6 +1,6 @@
 // The reader of a job.
 ghost use Rattle.std.specs.Prelude.{◌≡◌, Some, Ok, IfOk, IfErr, OnOk, OnErr, false, true};
-ghost use Rattle.dm_start.specs.Laying.{Refuses};
+ghost use Rattle.dm_fields.specs.Refusing.{Refuses};
 ghost use Rattle.dm_job.specs.declared.draft.Reading.TheVariants as reading;
 ghost use Rattle.dm_job.specs.Answers.{Does, Says};
 ghost use Rattle.dm_job.specs.Measures.{CanGoOn};
@@ -10,15 +10,11 @@ ghost use Rattle.dm_job.specs.Sound.{IsSound};
 ghost use Rattle.dm_job.specs.Texts.{job_in, is_ended as has_ended};
 
 use crate::draft::{Draft, Place, Reading};
-use crate::errors::{BAD_FIELDS, BAD_WORD};
 use crate::job::Job;
 use crate::lines::after_draft;
 use dm_auth::Account;
 use dm_base::List;
-use dm_start::LineError;
-use dm_start::accounts::account_in;
-use dm_start::fields::begins_with;
-use dm_start::heads::limits_in;
+use dm_fields::{BAD_FIELDS, BAD_WORD, LineError, account_in, begins_with, limits_in};
 use std::alloc::Global;
 use std::marker::Model;
 

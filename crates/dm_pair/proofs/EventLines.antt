@@ -9,7 +9,7 @@ use Rattle.dm_base.specs.declared.lines.LineReason.{LineReason}
 use Rattle.dm_base.specs.declared.lines.LineReason.TheVariants as reason
 use Rattle.dm_base.specs.declared.values.Nonce.{Nonce}
 use Rattle.dm_machine.specs.declared.kinds.Kind.{Kind}
-use Rattle.dm_start.specs.Fields.{begins_with}
+use Rattle.dm_fields.specs.Fields.{begins_with}
 use Rattle.dm_replay.specs.declared.events.Event.{Event as TraceEvent}
 use Rattle.dm_replay.specs.declared.events.Event.TheVariants as trace
 use Rattle.dm_replay.specs.Events.{event_of as trace_event_of, kind_of, session_by, session_of, place_of, opened_at}

@@ -10,8 +10,9 @@ use Rattle.dm_auth.specs.declared.accounts.Account.{Account}
 use Rattle.dm_tree.specs.Nodes.{Path, Nodes}
 use Rattle.dm_tree.specs.Devices.{update_node}
 use Rattle.dm_start.specs.declared.telling.Phase.TheVariants as phase
-use Rattle.dm_start.specs.Fields.{are_limits}
-use Rattle.dm_start.specs.Laws.{IsAccount, IsStart}
+use Rattle.dm_fields.specs.Fields.{are_limits}
+use Rattle.dm_start.specs.Laws.{IsStart}
+use Rattle.dm_fields.specs.Fields.{IsAccount}
 use Rattle.dm_start.specs.Start.{Setup, telling}
 use Rattle.dm_start.proofs.Sound.{sound_told}
 use Rattle.dm_job.specs.declared.job.Job.{Job}

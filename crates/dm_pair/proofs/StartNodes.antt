@@ -21,7 +21,7 @@ use Rattle.dm_tree.proofs.FieldEdits.{held_made}
 use Rattle.dm_tree.proofs.NodesKept.{some_node, at_insert, still_insert}
 use Rattle.dm_tree.proofs.Paths.{tree_total}
 use Rattle.dm_start.specs.Growing.{go_on, takes_child, is_open, may_stand, with_one, with_all, may_be_permanent}
-use Rattle.dm_start.proofs.Sections.{allowed, same_ok}
+use Rattle.dm_fields.proofs.Told.{allowed, same_ok}
 
 -- ---- a node that comes in, permanent or not
 

@@ -12,13 +12,14 @@ use Rattle.dm_start.specs.declared.heads.Head.{Head}
 use Rattle.dm_start.specs.declared.heads.Head.TheVariants as head
 use Rattle.dm_start.specs.declared.telling.Phase.{Phase}
 use Rattle.dm_start.specs.declared.telling.Phase.TheVariants as phase
-use Rattle.dm_start.specs.Fields.{begins_with, device_in, limits_in, clock_in, account_in}
+use Rattle.dm_start.specs.Fields.{device_in, clock_in}
+use Rattle.dm_fields.specs.Fields.{begins_with, limits_in, account_in}
 use Rattle.dm_start.specs.Growing.{nodes_after}
 use Rattle.dm_start.specs.Start.{Setup, Section, opening, telling, version_in, started, behind_limits, after_opening}
 use Rattle.dm_start.specs.Start.{is_known, with_account, account_line, begin_line, with_nodes, later_line}
 use Rattle.dm_start.specs.Start.{after_telling, after_line, behind_line, lines_after, section_of_lines}
 use Rattle.dm_start.specs.Soundness.{IsShortDevice, IsSoundHead, IsSoundSection}
-use Rattle.dm_start.proofs.Sections.{said, allowed, passed, same_ok}
+use Rattle.dm_fields.proofs.Told.{said, allowed, passed, same_ok}
 use Rattle.dm_start.proofs.Sound.{sound_line}
 use Rattle.dm_pair.proofs.StartStamps.{first_is_stamp, clock_is_stamp}
 use Rattle.dm_pair.proofs.StartTrees.{node_line_formed, start_formed}

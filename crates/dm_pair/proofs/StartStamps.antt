@@ -9,7 +9,7 @@ use Rattle.std.specs.List.{list_all}
 use Rattle.dm_tree.specs.declared.nodes.Stamp.{Stamp}
 use Rattle.dm_tree.specs.Nodes.{IsStamp, first_stamp}
 use Rattle.dm_start.specs.Fields.{is_stamp, clock_in}
-use Rattle.dm_start.proofs.Sections.{some_if}
+use Rattle.dm_fields.proofs.Told.{some_if}
 
 -- ---- digits
 

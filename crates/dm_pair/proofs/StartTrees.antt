@@ -33,7 +33,8 @@ use Rattle.dm_tree.proofs.NodesKept.{at_insert, here_insert}
 use Rattle.dm_tree.proofs.Paths.{tree_total}
 use Rattle.dm_start.specs.declared.heads.Device.{Device}
 use Rattle.dm_start.specs.declared.node_lines.Leaf.{Leaf}
-use Rattle.dm_start.specs.Fields.{begins_with, plain_path, path_read, path_in, only_path, is_leaf_format, leaf_of}
+use Rattle.dm_start.specs.Fields.{plain_path, path_read, path_in, only_path, is_leaf_format, leaf_of}
+use Rattle.dm_fields.specs.Fields.{begins_with}
 use Rattle.dm_start.specs.Fields.{leaf_in, acl_in, title_in}
 use Rattle.dm_start.specs.Growing.{value_of, new_node, interior_value, with_one, with_all, start_acl}
 use Rattle.dm_start.specs.Growing.{device_leaf, device_part, bare_tree, start_nodes, update_leaf, update_part}
@@ -41,7 +42,7 @@ use Rattle.dm_start.specs.Growing.{with_update, changed_at, with_acl_at, is_titl
 use Rattle.dm_start.specs.Growing.{with_mark_at, interior_line, with_leaf, leaf_line, acl_line, title_line}
 use Rattle.dm_start.specs.Growing.{permanent_line, update_line, nodes_after}
 use Rattle.dm_start.specs.Soundness.{IsShortDevice}
-use Rattle.dm_start.proofs.Sections.{said, allowed, passed, same_ok, some_if}
+use Rattle.dm_fields.proofs.Told.{said, allowed, passed, same_ok, some_if}
 use Rattle.dm_machine.proofs.FormedTrees.{StaysFormed, changed_formed}
 use Rattle.dm_pair.proofs.StartNodes.{AreGood, one_formed, all_formed, marked_formed, may_be_marked}
 

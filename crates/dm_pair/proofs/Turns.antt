@@ -8,9 +8,9 @@ use Rattle.dm_base.specs.declared.lines.LineReason.TheVariants as reason
 use Rattle.dm_base.specs.Lines.{line_feed}
 use Rattle.dm_start.specs.declared.heads.Head.TheVariants as head
 use Rattle.dm_start.specs.declared.telling.Phase.TheVariants as phase
-use Rattle.dm_start.specs.declared.errors.LineError.{LineError}
-use Rattle.dm_start.specs.declared.errors.LineError.TheVariants as line_error
-use Rattle.dm_start.specs.Laying.{Refuses}
+use Rattle.dm_fields.specs.declared.errors.LineError.{LineError}
+use Rattle.dm_fields.specs.declared.errors.LineError.TheVariants as line_error
+use Rattle.dm_fields.specs.Refusing.{Refuses}
 use Rattle.dm_start.specs.Start.{Setup, Section, opening, telling, is_begun, after_line as section_after}
 use Rattle.dm_job.specs.declared.job.Job.{Job}
 use Rattle.dm_job.specs.declared.draft.Reading.{Reading}

@@ -4,8 +4,8 @@ use Rattle.std.proofs.Common.{Err, IfOk, refl, subst, length, codes, if◌then�
 use Rattle.std.specs.Prelude.{⊤}
 use Rattle.dm_base.specs.declared.lines.LineReason.{LineReason}
 use Rattle.dm_base.specs.declared.lines.LineReason.TheVariants as reason
-use Rattle.dm_start.specs.declared.errors.LineError.{LineError}
-use Rattle.dm_start.specs.Fields.{begins_with}
+use Rattle.dm_fields.specs.declared.errors.LineError.{LineError}
+use Rattle.dm_fields.specs.Fields.{begins_with}
 use Rattle.dm_replay.specs.declared.events.Event.{Event as TraceEvent}
 use Rattle.dm_replay.specs.declared.events.Event.TheVariants as trace
 use Rattle.dm_replay.specs.Events.{Reads, event_of as trace_event_of}

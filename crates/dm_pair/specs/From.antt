@@ -1,8 +1,8 @@
 -- The rest of a text, from a line on.
 use Rattle.std.specs.Prelude.{◌≡◌, ℕ, List, ⊤}
 use Rattle.dm_job.specs.Texts.{segments}
-use Rattle.dm_start.specs.declared.errors.LineError.{LineError}
-use Rattle.dm_start.specs.declared.errors.LineError.TheVariants as line_error
+use Rattle.dm_fields.specs.declared.errors.LineError.{LineError}
+use Rattle.dm_fields.specs.declared.errors.LineError.TheVariants as line_error
 use Rattle.dm_pair.specs.declared.lines.Halt.{Halt}
 use Rattle.dm_pair.specs.declared.lines.Halt.TheVariants as halt
 use Rattle.dm_pair.specs.Texts.{Stage, Written, written_from, refuses}

@@ -8,10 +8,9 @@ ghost use Rattle.dm_pair.specs.Events.{event_of, IsOf};
 ghost use Rattle.dm_replay.specs.Events.{Reads};
 
 use dm_base::{Bytes, LineReason, List, num};
+use dm_fields::{BAD_FIELDS, BAD_WORD, LineError, begins_with, two_fields};
 use dm_machine::Kind;
 use dm_replay::events::{Event as TraceEvent, read_event as read_trace_event};
-use dm_start::LineError;
-use dm_start::fields::{begins_with, two_fields};
 use std::alloc::Global;
 
 /// What a line behind the job says.
@@ -37,8 +36,6 @@ pub enum Event {
     /// The text ends.
     End,
 }
-
-const BAD_FIELDS: LineError = LineError::Bad(LineReason::Fields);
 
 // The most rounds that one line may ask for.
 const MOST_ROUNDS: u64 = 100_000;
@@ -127,8 +124,8 @@ fn of_trace(event: &TraceEvent) -> Result<Event, LineError>
         TraceEvent::Loss => Ok(Event::Loss),
         TraceEvent::Act(ok) => Ok(Event::Act(*ok)),
         TraceEvent::End => Ok(Event::End),
-        TraceEvent::Msg { .. } => Err(LineError::Bad(LineReason::Word)),
-        TraceEvent::Clock(_) => Err(LineError::Bad(LineReason::Word)),
+        TraceEvent::Msg { .. } => Err(BAD_WORD),
+        TraceEvent::Clock(_) => Err(BAD_WORD),
     }
 }
 
@@ -137,7 +134,7 @@ fn trace_line(alloc: Global, ids: &List<Bytes>, line: &[u8]) -> Result<Event, Li
     ensures { Reads (Spec.trace_line ids.now line.now) result }
 {
     if begins_with(b"msg", line) {
-        return Err(LineError::Bad(LineReason::Word));
+        return Err(BAD_WORD);
     }
     match read_trace_event(alloc, line, 1, ids) {
         Ok(event) => of_trace(&event),

@@ -5,8 +5,8 @@ ghost use Rattle.dm_pair.specs.Texts.{Stage};
 ghost use Rattle.dm_pair.specs.From.{rest_of, HaltsAs, halt_for as halt_of};
 
 use dm_base::LineReason;
+use dm_fields::LineError;
 use dm_job::parsing::{cut_line, is_long, tail_reason};
-use dm_start::LineError;
 
 /// Why the reading of a text halts.
 #[derive(Clone, Copy, Debug, PartialEq, Eq)]

@@ -11,8 +11,9 @@ ghost use Rattle.dm_pair.specs.From.{rest_of, HaltsAs};
 
 use crate::lines::{Halt, halt_at, next_line};
 use dm_base::LineReason;
+use dm_fields::LineError;
 use dm_job::{Job, JobReader};
-use dm_start::{LineError, Start, StartReader};
+use dm_start::{Start, StartReader};
 use std::alloc::Global;
 
 /// A start section that was read, what stands behind it, and the number of the next line.

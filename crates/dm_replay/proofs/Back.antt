@@ -22,7 +22,8 @@ use Rattle.dm_base.specs.Fields.{parts, is_id, nonce_of, hex_of}
 use Rattle.dm_base.specs.declared.values.Nonce.{Nonce}
 use Rattle.dm_tree.specs.declared.nodes.Stamp.{Stamp}
 use Rattle.dm_machine.specs.declared.kinds.Kind.{Kind}
-use Rattle.dm_start.specs.Fields.{begins_with, clock_in}
+use Rattle.dm_start.specs.Fields.{clock_in}
+use Rattle.dm_fields.specs.Fields.{begins_with}
 use Rattle.dm_replay.specs.Events.{event_of, kind_of, session_of, place_of, opened_at, opened_by, open_in, msg_by}
 use Rattle.dm_replay.specs.Events.{msg_in, act_in, clock_by, clock_event, alone}
 use Rattle.dm_replay.specs.Trace.{Stop, bad, too_long, whole, stopped, began, unbegun, is_long, tail_stop, told_in}

@@ -13,8 +13,8 @@ use Rattle.dm_base.specs.declared.lines.LineOut.TheVariants as line_out
 use Rattle.dm_base.specs.declared.lines.LineReason.{LineReason}
 use Rattle.dm_base.specs.declared.lines.LineReason.TheVariants as reason
 use Rattle.dm_base.specs.Lines.{LinesState, ReadsLine, CountsTaken, LeavesNoLine, IsFeedless, ahead, room}
-use Rattle.dm_start.specs.declared.errors.LineError.{LineError}
-use Rattle.dm_start.specs.declared.errors.LineError.TheVariants as line_error
+use Rattle.dm_fields.specs.declared.errors.LineError.{LineError}
+use Rattle.dm_fields.specs.declared.errors.LineError.TheVariants as line_error
 use Rattle.dm_start.specs.declared.heads.Head.TheVariants.{First}
 use Rattle.dm_start.specs.declared.telling.Phase.TheVariants as phase
 use Rattle.dm_start.specs.Start.{Setup, Section, opening, telling, after_line, Reads}

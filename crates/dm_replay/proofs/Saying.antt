@@ -10,7 +10,8 @@ use Rattle.dm_base.specs.declared.values.Nonce.{Nonce}
 use Rattle.dm_base.specs.Fields.{parts, is_id, nonce_of, hex_of}
 use Rattle.dm_tree.specs.declared.nodes.Stamp.{Stamp}
 use Rattle.dm_machine.specs.declared.kinds.Kind.{Kind}
-use Rattle.dm_start.specs.Fields.{begins_with, clock_in}
+use Rattle.dm_start.specs.Fields.{clock_in}
+use Rattle.dm_fields.specs.Fields.{begins_with}
 use Rattle.dm_replay.specs.declared.events.Event.{Event}
 use Rattle.dm_replay.specs.declared.events.Event.TheVariants as event
 use Rattle.dm_replay.specs.Events.{IsOf, is_end, event_of, kind_of, session_of, place_from, place_of, opened_at}

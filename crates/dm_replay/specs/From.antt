@@ -16,8 +16,8 @@ use Rattle.dm_machine.specs.Machine.{Machine}
 use Rattle.dm_machine.specs.Events.{Event as Happening}
 use Rattle.dm_machine.specs.History.{answers_from}
 use Rattle.dm_machine.specs.Ready.{IsReadyAccount, IsReadyLimits}
-use Rattle.dm_start.specs.declared.errors.LineError.{LineError}
-use Rattle.dm_start.specs.declared.errors.LineError.TheVariants as line_error
+use Rattle.dm_fields.specs.declared.errors.LineError.{LineError}
+use Rattle.dm_fields.specs.declared.errors.LineError.TheVariants as line_error
 use Rattle.dm_start.specs.declared.telling.Start.{Start}
 use Rattle.dm_start.specs.Start.{Section, told_of}
 use Rattle.dm_exit.specs.declared.exit.Exit.{Exit}

@@ -5,9 +5,10 @@ ghost use Rattle.dm_replay.specs.Events as Spec;
 ghost use Rattle.dm_replay.specs.Events.{Reads, event_of};
 
 use dm_base::{Bytes, Form, LineReason, List, Memory, Nonce, hex_bytes, is_field, nonce, num};
+use dm_fields::{
+    BAD_FIELDS, BAD_WORD, LineError, begins_with, four_fields, three_fields, two_fields,
+};
 use dm_machine::Kind;
-use dm_start::LineError;
-use dm_start::fields::{begins_with, four_fields, three_fields, two_fields};
 use dm_start::heads::clock_in;
 use dm_tree::Stamp;
 use std::alloc::Global;
@@ -51,8 +52,6 @@ impl Event {
         }
     }
 }
-
-const BAD_FIELDS: LineError = LineError::Bad(LineReason::Fields);
 
 fn kind_of(text: &[u8]) -> Option<Kind>
     ensures { result ≡ Spec.kind_of text.now }
@@ -190,6 +189,6 @@ pub fn read_event(
     } else if begins_with(b"end", text) {
         alone(b"end", text, Event::End)
     } else {
-        Err(LineError::Bad(LineReason::Word))
+        Err(BAD_WORD)
     }
 }

@@ -13,7 +13,8 @@ ghost use Rattle.dm_replay.specs.declared.reading.Halt.TheVariants as halt;
 
 use crate::events::{Event, read_event};
 use dm_base::{Bytes, LineOut, LineReason, Lines, List, Source, TakeError};
-use dm_start::{LineError, Start, StartReader};
+use dm_fields::LineError;
+use dm_start::{Start, StartReader};
 use std::alloc::Global;
 
 /// Why a run stops before the end of a whole trace.

@@ -4,7 +4,7 @@ use Rattle.std.proofs.Common.{arith}
 use Rattle.std.specs.List.{AllByRecursion}
 use Rattle.dm_base.specs.declared.values.Limits.{Limits}
 use Rattle.dm_base.specs.Fields.{is_id, is_short}
-use Rattle.dm_start.specs.Fields.{are_limits}
+use Rattle.dm_fields.specs.Fields.{are_limits}
 use Rattle.dm_ends.specs.Ready.{IsReadyLimits}
 use Rattle.dm_job.specs.declared.job.JobEntry.{JobEntry}
 use Rattle.dm_job.specs.Sound.{IsEntry, all_entries}

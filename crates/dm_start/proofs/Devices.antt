@@ -30,36 +30,7 @@ use Rattle.dm_start.specs.declared.heads.Device.{Device}
 use Rattle.dm_start.specs.Growing.{go_on, new_node, is_open, may_stand, with_one, with_all, device_leaf, interior_value}
 use Rattle.dm_start.specs.Growing.{start_acl, start_nodes, update_leaf, update_part, with_update, changed_at}
 use Rattle.dm_start.specs.Soundness.{IsShortDevice}
-use Rattle.dm_start.proofs.Sections.{said, allowed, passed, same_ok}
-
--- ---- texts
-
-visible : (b : ℕ) → is_visible b ≡ true → (b < 128) × (not (b == 0) ≡ true)
-visible b h =
-    let both = and_parts (nat_le 33 b) (nat_le b 126) h in
-    (below b both.1, above b both.0)
-  where
-    below : (b : ℕ) → nat_le b 126 ≡ true → b < 128
-    below b h = grind (arith, nat_tests)
-
-    above : (b : ℕ) → nat_le 33 b ≡ true → not (b == 0) ≡ true
-    above b h = grind (arith, nat_tests)
-
-all_ascii : (bytes : List ℕ) → list_all is_visible bytes ≡ true → IsAscii bytes
-all_ascii [] h = IsAscii-nil
-all_ascii (b ∷ bs) h = let both =
-    and_parts (is_visible b) (list_all is_visible bs) h in IsAscii-cons b bs (visible b both.0).0 (all_ascii bs both.1)
-
-no_zero : (bytes : List ℕ) → list_all is_visible bytes ≡ true → list_all (λ b. not (b == 0)) bytes ≡ true
-no_zero [] h = refl
-no_zero (b ∷ bs) h =
-    let both = and_parts (is_visible b) (list_all is_visible bs) h in
-    ap (λ c. c && list_all (λ b. not (b == 0)) bs) (visible b both.0).1 ∙ no_zero bs both.1
-
-pub word_is_text : (text : List ℕ) → is_word text ≡ true → IsText text
-word_is_text text h =
-    let bytes = (and_parts _ (list_all is_visible text) h).1 in
-    (IsUtf8-from_ascii text (all_ascii text bytes), no_zero text bytes)
+use Rattle.dm_fields.proofs.Told.{said, allowed, passed, same_ok}
 
 -- ---- a node that comes in
 

@@ -19,17 +19,19 @@ use Rattle.dm_tree.specs.Devices.{update_node}
 use Rattle.dm_tree.proofs.RowMaps.{get_nodes}
 use Rattle.dm_tree.proofs.Paths.{Ends, ends, none, last}
 use Rattle.dm_tree.proofs.LiveRows.{last_name-append}
-use Rattle.dm_start.specs.declared.errors.LineError.{LineError}
-use Rattle.dm_start.specs.declared.errors.LineError.TheVariants as line_error
+use Rattle.dm_fields.specs.declared.errors.LineError.{LineError}
+use Rattle.dm_fields.specs.declared.errors.LineError.TheVariants as line_error
 use Rattle.dm_start.specs.declared.node_lines.Leaf.{Leaf}
 use Rattle.dm_start.specs.Fields.{leaf_in}
-use Rattle.dm_start.specs.Growing.{or_fields, or_refused, new_node, takes_child, is_open, with_one, with_all, go_on}
+use Rattle.dm_start.specs.Growing.{or_fields, new_node, takes_child, is_open, with_one, with_all, go_on}
+use Rattle.dm_fields.specs.Refusing.{or_refused}
 use Rattle.dm_start.specs.Growing.{leaf_line, with_leaf, update_part, with_update, with_mark_at, changed_at}
 use Rattle.dm_undo.specs.declared.entries.Entry.{Entry}
 use Rattle.dm_undo.specs.Journals.{Journal}
 use Rattle.dm_undo.specs.Sound.{AreAllHeld, IsSound}
 use Rattle.dm_undo.specs.Trees.{maps_of, tree_at}
-use Rattle.dm_start.specs.Laying.{ParksNone, Stays, Refuses, IsOutside, IsSpot, GoesBackTo}
+use Rattle.dm_start.specs.Laying.{ParksNone, Stays, IsOutside, IsSpot, GoesBackTo}
+use Rattle.dm_fields.specs.Refusing.{Refuses}
 use Rattle.dm_start.proofs.Spots.{not_within, free_below}
 
 -- ---- errors

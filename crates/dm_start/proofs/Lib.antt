@@ -1,4 +1,3 @@
-mod Counted
 pub mod Devices
 mod Laid
 mod Limits

@@ -17,26 +17,32 @@ use Rattle.dm_tree.specs.declared.nodes.Stamp.{Stamp}
 use Rattle.dm_tree.specs.Nodes.{Path, Nodes, with_acl, with_mark, with_title, first_stamp}
 use Rattle.dm_tree.specs.Devices.{IsDeviceTree, IsText, StaysAlike}
 use Rattle.dm_tree.proofs.BareDevices.{no_type}
-use Rattle.dm_start.specs.declared.errors.LineError.{LineError}
+use Rattle.dm_fields.specs.declared.errors.LineError.{LineError}
 use Rattle.dm_start.specs.declared.heads.Device.{Device}
 use Rattle.dm_start.specs.declared.heads.Head.{Head}
 use Rattle.dm_start.specs.declared.heads.Head.TheVariants as head
 use Rattle.dm_start.specs.declared.node_lines.Leaf.{Leaf}
 use Rattle.dm_start.specs.declared.telling.Phase.{Phase}
 use Rattle.dm_start.specs.declared.telling.Phase.TheVariants as phase
-use Rattle.dm_start.specs.Fields.{begins_with, path_in, leaf_of, leaf_in, is_leaf_format, only_path, acl_in, title_in}
-use Rattle.dm_start.specs.Fields.{device_in, limits_in, clock_in, account_in, are_limits}
+use Rattle.dm_start.specs.Fields.{path_in, leaf_of, leaf_in, is_leaf_format, only_path, acl_in, title_in}
+use Rattle.dm_fields.specs.Fields.{begins_with}
+use Rattle.dm_start.specs.Fields.{device_in, clock_in}
+use Rattle.dm_fields.specs.Fields.{limits_in, account_in, are_limits}
 use Rattle.dm_start.specs.Growing.{new_node, interior_value, with_one, with_update, changed_at, with_acl_at, is_title}
 use Rattle.dm_start.specs.Growing.{with_title_at, may_be_permanent, with_mark_at, interior_line, with_leaf, leaf_line}
 use Rattle.dm_start.specs.Growing.{acl_line, title_line, permanent_line, update_line, nodes_after}
 use Rattle.dm_start.specs.Start.{Setup, Section, opening, telling, version_in, started, behind_limits, after_opening}
 use Rattle.dm_start.specs.Start.{is_known, with_account, account_line, begin_line, with_nodes, later_line}
 use Rattle.dm_start.specs.Start.{after_telling, after_line, behind_line, lines_after, Reads}
-use Rattle.dm_start.specs.Laws.{IsAccount, IsStart, StartsAreSound}
+use Rattle.dm_start.specs.Laws.{IsStart, StartsAreSound}
+use Rattle.dm_fields.specs.Fields.{IsAccount}
 use Rattle.dm_start.specs.Soundness.{IsKept, IsShortDevice, IsSoundHead, IsSoundPhase, IsSoundSection}
-use Rattle.dm_start.proofs.Sections.{said, allowed, passed, same_ok, some_if, is_version}
-use Rattle.dm_start.proofs.Sections.{is_short_device, in_limits, is_account, all_push, apart_push}
-use Rattle.dm_start.proofs.Devices.{word_is_text, added_device, changed_device, start_is_device, updated_device}
+use Rattle.dm_start.proofs.Sections.{is_version}
+use Rattle.dm_fields.proofs.Told.{said, allowed, passed, same_ok, some_if}
+use Rattle.dm_start.proofs.Sections.{is_short_device, all_push, apart_push}
+use Rattle.dm_fields.proofs.Told.{in_limits, is_account}
+use Rattle.dm_start.proofs.Devices.{added_device, changed_device, start_is_device, updated_device}
+use Rattle.dm_fields.proofs.Words.{word_is_text}
 
 -- ---- a line that tells of the tree
 

@@ -10,12 +10,12 @@ use Rattle.dm_tree.specs.declared.nodes.Stamp.{Stamp}
 use Rattle.dm_tree.specs.Nodes.{Nodes, tree_order}
 use Rattle.dm_tree.specs.Rows.{Tree, nodes}
 use Rattle.dm_tree.proofs.Paths.{tree_total}
-use Rattle.dm_start.specs.declared.errors.LineError.{LineError}
-use Rattle.dm_start.specs.declared.errors.LineError.TheVariants as line_error
+use Rattle.dm_fields.specs.declared.errors.LineError.{LineError}
+use Rattle.dm_fields.specs.declared.errors.LineError.TheVariants as line_error
 use Rattle.dm_start.specs.declared.heads.Device.{Device}
 use Rattle.dm_start.specs.declared.telling.Phase.TheVariants as phase
 use Rattle.dm_start.specs.Growing.{with_all, bare_tree, device_part, start_nodes}
-use Rattle.dm_start.specs.Laying.{Refuses}
+use Rattle.dm_fields.specs.Refusing.{Refuses}
 use Rattle.dm_start.specs.Start.{Section, telling, started, told_of}
 
 pub device_stands : (clock : Stamp) (d : Device)

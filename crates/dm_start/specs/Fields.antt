@@ -17,12 +17,6 @@ use Rattle.dm_tree.specs.Nodes.{Path, is_format, is_node_format}
 use Rattle.dm_start.specs.declared.heads.Device.{Device}
 use Rattle.dm_start.specs.declared.node_lines.Leaf.{Leaf}
 
-abbrev pub word_of : List ℕ → List ℕ
-word_of line = unwrap_or (field_of line 0) []
-
-abbrev pub begins_with : List ℕ → List ℕ → Bool
-begins_with word line = bytes_eq (word_of line) word
-
 -- ---- one field
 
 abbrev pub plain_path : Query → Path → Option Path
@@ -38,14 +32,6 @@ path_read (Err e) = None
 -- URI: one without a query, as its path
 abbrev pub path_in : List ℕ → Option Path
 path_in text = path_read (parse_of text)
-
--- OPT: a SHORT, or `-` for none
-abbrev pub opt_of : List ℕ → Option (List ℕ)
-opt_of text = if bytes_eq text (codes "-") then None else Some text
-
--- KEY: the bytes that it stands for
-abbrev pub key_of : List ℕ → Option (List ℕ)
-key_of text = if is_key text then hex_of text else None
 
 -- STAMP: eight digits, `T`, six digits and `Z`
 abbrev pub is_stamp : List ℕ → Bool
@@ -70,45 +56,10 @@ device_in (word ∷ dev_id ∷ man ∷ model ∷ dm_v ∷ lang ∷ []) =
     else None
 device_in other = None
 
-abbrev pub are_limits : ℕ → ℕ → Bool
-are_limits max_msg max_obj =
-    nat_le least_room max_msg && nat_le max_msg message_limit && nat_le 1 max_obj && nat_le max_obj object_limit
-
-abbrev pub limits_of : Option ℕ → Option ℕ → Option Limits
-limits_of None max_obj = None
-limits_of (Some max_msg) None = None
-limits_of (Some max_msg) (Some max_obj) =
-    if are_limits max_msg max_obj then Some (record { max_msg = max_msg; max_obj = max_obj }) else None
-
--- `limits NUM NUM`
-abbrev pub limits_in : List (List ℕ) → Option Limits
-limits_in (word ∷ max_msg ∷ max_obj ∷ []) = limits_of (num_of max_msg) (num_of max_obj)
-limits_in other = None
-
 -- `clock STAMP`
 abbrev pub clock_in : List (List ℕ) → Option Stamp
 clock_in (word ∷ stamp ∷ []) = stamp_in stamp
 clock_in other = None
-
-abbrev pub account_of : List ℕ → List ℕ → Option (List ℕ) → List ℕ → List ℕ → Option (List ℕ) → Option Account
-account_of server password None user user_password user_nonce = None
-account_of server password (Some nonce) user user_password None = None
-account_of server password (Some nonce) user user_password (Some user_nonce) = Some (record {
-  server = server;
-  server_password = opt_of password;
-  server_nonce = nonce;
-  user = opt_of user;
-  user_password = opt_of user_password;
-  user_nonce = user_nonce;
-})
-
--- `account ID OPT KEY OPT OPT KEY`
-abbrev pub account_in : List (List ℕ) → Option Account
-account_in (word ∷ server ∷ password ∷ nonce ∷ user ∷ user_password ∷ user_nonce ∷ []) =
-    if is_id server && is_short password && is_short user && is_short user_password
-    then account_of server password (key_of nonce) user user_password (key_of user_nonce)
-    else None
-account_in other = None
 
 -- `interior URI`, `permanent URI` and `fumo URI`
 abbrev pub only_path : List (List ℕ) → Option Path

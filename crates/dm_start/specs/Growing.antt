@@ -23,12 +23,8 @@ use Rattle.dm_tree.specs.Nodes.{Path, Nodes, above, made, root_node, counted, wi
 use Rattle.dm_tree.specs.Devices.{device_path, update_node}
 use Rattle.dm_start.specs.declared.heads.Device.{Device}
 use Rattle.dm_start.specs.declared.node_lines.Leaf.{Leaf}
-use Rattle.dm_start.specs.Fields.{begins_with, only_path, leaf_in, acl_in, title_in}
-
--- what is said is used; where nothing is, the line is refused
-abbrev pub or_refused : {X Y : Type 0} → LineReason → Option X → (X → Result Y LineReason) → Result Y LineReason
-or_refused why None next = Err why
-or_refused why (Some x) next = next x
+use Rattle.dm_start.specs.Fields.{only_path, leaf_in, acl_in, title_in}
+use Rattle.dm_fields.specs.Fields.{begins_with}
 
 -- what is said; where nothing is, the fields are refused
 abbrev pub or_fields : {X : Type 0} → Option X → Result X LineReason

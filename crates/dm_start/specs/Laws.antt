@@ -5,15 +5,8 @@ use Rattle.dm_base.specs.Fields.{is_id, is_short}
 use Rattle.dm_auth.specs.declared.accounts.Account.{Account}
 use Rattle.dm_tree.specs.Devices.{IsDeviceTree}
 use Rattle.dm_start.specs.declared.telling.Phase.TheVariants as phase
-use Rattle.dm_start.specs.Fields.{are_limits}
+use Rattle.dm_fields.specs.Fields.{are_limits}
 use Rattle.dm_start.specs.Start.{Setup, telling, section_of_lines}
-
--- its names have the forms of their fields
-pub record IsAccount (a : Account) : Type 0 where
-  pub server : IsTrue (is_id a.server)
-  pub server_password : IfSome a.server_password (λ text. IsTrue (is_short text))
-  pub user : IfSome a.user (λ text. IsTrue (is_short text))
-  pub user_password : IfSome a.user_password (λ text. IsTrue (is_short text))
 
 -- no two accounts are of one server
 abbrev pub AreApart : List Account → Type 0

@@ -10,8 +10,8 @@ use Rattle.dm_tree.specs.Rows.{Tree, nodes, node_of, path_of, IsLive, IsNonePark
 use Rattle.dm_undo.specs.Journals.{Journal}
 use Rattle.dm_undo.specs.Sound.{IsSound}
 use Rattle.dm_undo.specs.Trees.{Maps, tree_at}
-use Rattle.dm_start.specs.declared.errors.LineError.{LineError}
-use Rattle.dm_start.specs.declared.errors.LineError.TheVariants as line_error
+use Rattle.dm_fields.specs.declared.errors.LineError.{LineError}
+use Rattle.dm_fields.specs.declared.errors.LineError.TheVariants as line_error
 use Rattle.dm_start.specs.declared.new_nodes.Spot.{Spot}
 use Rattle.dm_start.specs.Growing.{is_open}
 
@@ -24,11 +24,6 @@ pub record Stays (old new : Tree) : Type 0 where
   pub nodes_are : nodes new.rows ≡ nodes old.rows
   pub clock : new.clock ≡ old.clock
   pub parked : ParksNone old new
-
--- a refusal is the wanted one; want of memory may come in its place, or in that of a value
-abbrev pub Refuses : {Y : Type 0} → Result Y LineReason → LineError → Type 0
-Refuses wanted (line_error.Bad why) = wanted ≡ Err why
-Refuses wanted line_error.Memory = Unit {0}
 
 -- the tree is the wanted one, and nothing is left over; an error leaves all
 abbrev pub Lays : {T : Type 0} → Result Nodes LineReason → Tree → Tree → Result T LineError → Type 0

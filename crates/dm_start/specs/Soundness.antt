@@ -11,8 +11,9 @@ use Rattle.dm_start.specs.declared.telling.Phase.{Phase}
 use Rattle.dm_start.specs.declared.telling.Phase.TheVariants as phase
 use Rattle.dm_start.specs.declared.reader.Place.{Place}
 use Rattle.dm_start.specs.declared.reader.Place.TheVariants as place
-use Rattle.dm_start.specs.Fields.{are_limits}
-use Rattle.dm_start.specs.Laws.{IsAccount, AreApart}
+use Rattle.dm_fields.specs.Fields.{are_limits}
+use Rattle.dm_start.specs.Laws.{AreApart}
+use Rattle.dm_fields.specs.Fields.{IsAccount}
 use Rattle.dm_start.specs.Start.{Setup, Section, opening, telling}
 
 -- what a device tells of itself is SHORT

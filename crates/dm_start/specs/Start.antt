@@ -13,15 +13,17 @@ use Rattle.dm_tree.specs.Rows.{nodes as nodes_of}
 use Rattle.dm_start.specs.declared.heads.Device.{Device}
 use Rattle.dm_start.specs.declared.heads.Head.{Head}
 use Rattle.dm_start.specs.declared.heads.Head.TheVariants as head
-use Rattle.dm_start.specs.declared.errors.LineError.{LineError}
+use Rattle.dm_fields.specs.declared.errors.LineError.{LineError}
 use Rattle.dm_start.specs.declared.telling.Phase.{Phase}
 use Rattle.dm_start.specs.declared.telling.Phase.TheVariants as phase
 use Rattle.dm_start.specs.declared.telling.Start.{Start}
 use Rattle.dm_start.specs.declared.reader.Place.{Place}
 use Rattle.dm_start.specs.declared.reader.Place.TheVariants as place
-use Rattle.dm_start.specs.Fields.{begins_with, device_in, limits_in, clock_in, account_in}
-use Rattle.dm_start.specs.Growing.{or_refused, start_nodes, nodes_after}
-use Rattle.dm_start.specs.Laying.{Refuses}
+use Rattle.dm_start.specs.Fields.{device_in, clock_in}
+use Rattle.dm_fields.specs.Fields.{begins_with, limits_in, account_in}
+use Rattle.dm_start.specs.Growing.{start_nodes, nodes_after}
+use Rattle.dm_fields.specs.Refusing.{or_refused}
+use Rattle.dm_fields.specs.Refusing.{Refuses}
 
 -- what the lines told: the version, what the client takes, whom it talks to, and the tree and the clock that it begins
 -- with

@@ -1,14 +1,12 @@
 // What single fields say.
-ghost use Rattle.std.specs.Prelude.{◌≡◌, ◌∷◌, [], IfOk, IfSome, IsTrue, codes, Some};
+ghost use Rattle.std.specs.Prelude.{◌≡◌, ◌∷◌, [], IfOk, IfSome, IsTrue, codes};
 ghost use Rattle.std.specs.Char.{is_ascii_digit};
 ghost use Rattle.std.specs.List.{list_all};
 ghost use Rattle.dm_uri.specs.Names.{is_within_limits};
 ghost use Rattle.dm_tree.specs.Nodes.{is_format as is_one_of};
 ghost use Rattle.dm_start.specs.Fields as Spec;
 
-use dm_base::{
-    Bytes, Form, LEAST_ROOM, Limits, MESSAGE_LIMIT, Memory, OBJECT_LIMIT, hex_bytes, is_field,
-};
+use dm_base::Memory;
 use dm_tree::Stamp;
 use dm_uri::{Path, Query, Uri, UriError, parse};
 use std::alloc::Global;
@@ -36,26 +34,6 @@ pub(crate) fn path_in(alloc: Global, text: &[u8]) -> Result<Option<Path>, Memory
         Err(UriError::UnknownQuery) => Ok(None),
         Err(UriError::Memory) => Err(Memory),
     }
-}
-
-/// The text of a field, or None for `-`.
-pub fn opt_of(alloc: Global, text: &[u8]) -> Result<Option<Bytes>, Memory>
-    ensures { IfOk result (λ value. value ≡ Spec.opt_of text.now) }
-{
-    if text == b"-".as_slice() {
-        return Ok(None);
-    }
-    Ok(Some(Bytes::of_slice(alloc, text)?))
-}
-
-/// The bytes of a key. None comes exactly where the text isn't one.
-pub(crate) fn key_of(alloc: Global, text: &[u8]) -> Result<Option<Bytes>, Memory>
-    ensures { IfOk result (λ key. key ≡ Spec.key_of text.now) }
-{
-    if !is_field(Form::Key, text) {
-        return Ok(None);
-    }
-    hex_bytes(alloc, text)
 }
 
 fn all_digits(text: &[u8]) -> bool
@@ -95,22 +73,4 @@ pub(crate) fn is_leaf_format(text: &[u8]) -> bool
         text,
         b"b64" | b"bin" | b"bool" | b"chr" | b"int" | b"null" | b"xml"
     )
-}
-
-/// The limits of two numbers. None comes exactly where one of them is too low or too high.
-pub(crate) fn limits_of(max_msg: u64, max_obj: u64) -> Option<Limits>
-    ensures { result ≡ Spec.limits_of (Some max_msg) (Some max_obj) }
-{
-    if LEAST_ROOM as u64 <= max_msg
-        && max_msg <= MESSAGE_LIMIT as u64
-        && 1 <= max_obj
-        && max_obj <= OBJECT_LIMIT as u64
-    {
-        Some(Limits {
-            max_msg: max_msg as u32,
-            max_obj: max_obj as u32,
-        })
-    } else {
-        None
-    }
 }

@@ -4,10 +4,10 @@ ghost use Rattle.dm_base.specs.Fields.{parts, is_short};
 ghost use Rattle.dm_start.specs.Fields as Spec;
 ghost use Rattle.dm_start.specs.Start.{version_in as version_of_line};
 
-use crate::fields::{six_fields, three_fields, two_fields};
-use crate::forms::{limits_of, stamp_in};
+use crate::forms::stamp_in;
 use crate::shorts::ShortText;
-use dm_base::{Form, Limits, Memory, is_field, num};
+use dm_base::{Form, Limits, Memory, is_field};
+use dm_fields::{six_fields, two_fields};
 use dm_tree::Stamp;
 use std::alloc::Global;
 
@@ -74,14 +74,6 @@ pub(crate) fn device_in(alloc: Global, line: &[u8]) -> Result<Option<Device>, Me
         dm_v: ShortText::of_slice(alloc, dm_v)?,
         lang: ShortText::of_slice(alloc, lang)?,
     }))
-}
-
-/// What the fields of a `limits` line say.
-pub fn limits_in(line: &[u8]) -> Option<Limits>
-    ensures { result ≡ Spec.limits_in (parts line.now) }
-{
-    let (_, max_msg, max_obj) = three_fields(line)?;
-    limits_of(num(max_msg)?, num(max_obj)?)
 }
 
 /// What the fields of a `clock` line say.

@@ -1,10 +1,8 @@
 //! The start section of a trace, read line by line, and the text of a tree.
 #![tactic(auto)]
 
-pub mod accounts;
-mod errors;
-pub mod fields;
-pub mod forms;
+mod accounts;
+mod forms;
 pub mod heads;
 pub mod laws;
 mod new_nodes;
@@ -17,7 +15,6 @@ pub mod telling;
 mod texts;
 mod updates;
 
-pub use errors::LineError;
 pub use pieces::put_tree;
 pub use reader::StartReader;
 pub use telling::Start;

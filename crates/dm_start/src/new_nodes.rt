@@ -9,8 +9,8 @@ ghost use Rattle.dm_tree.specs.Views.{shown};
 ghost use Rattle.dm_start.specs.Growing as Spec;
 ghost use Rattle.dm_start.specs.Laying.{IsSpot, IsNoSpot, Lays, Lengthens};
 
-use crate::errors::{BAD_TREE, LineError};
 use dm_base::{Bytes, Memory};
+use dm_fields::{BAD_TREE, LineError};
 use dm_tree::{NewNode, NodeId, Role, Tree, TreeError, Undo, Value, View};
 use dm_uri::{Name, Path, Query, Uri, parse_name, print};
 use std::alloc::Global;

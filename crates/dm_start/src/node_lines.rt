@@ -10,14 +10,15 @@ ghost use Rattle.dm_start.specs.Growing as Spec;
 ghost use Rattle.dm_start.specs.Growing.{nodes_after as tree_after};
 ghost use Rattle.dm_start.specs.Laying.{Lays, Says};
 
-use crate::errors::{BAD_FIELDS, BAD_TREE, BAD_WORD, LineError};
-use crate::fields::{begins_with, five_fields, three_fields, two_fields};
 use crate::forms::{is_leaf_format, path_in};
 use crate::new_nodes::{add, interior_node, new_node};
 use crate::updates::add_update;
 use dm_acl::laws::lists_that_are_read_are_short;
 use dm_acl::{Acl, AclError};
 use dm_base::{Bytes, Form, Memory, OBJECT_LIMIT, hex_bytes, is_field};
+use dm_fields::{
+    BAD_FIELDS, BAD_TREE, BAD_WORD, LineError, begins_with, five_fields, three_fields, two_fields,
+};
 use dm_tree::{Role, Tree, Value};
 use dm_uri::Path;
 use std::alloc::Global;

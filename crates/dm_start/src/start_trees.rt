@@ -7,13 +7,13 @@ ghost use Rattle.dm_tree.specs.Rows.{nodes, IsNoneParked};
 ghost use Rattle.dm_start.specs.Growing as Spec;
 ghost use Rattle.dm_start.specs.Laying.{Lays, Lengthens, SaysAs};
 
-use crate::errors::LineError;
 use crate::heads::Device;
 use crate::new_nodes::{add, below, interior_node, new_node, value_of};
 use crate::shorts::ShortText;
 use dm_acl::Acl;
 use dm_acl::laws::lists_that_are_read_are_short;
 use dm_base::Memory;
+use dm_fields::LineError;
 use dm_tree::{Role, Stamp, Tree};
 use dm_uri::Path;
 use std::alloc::Global;

@@ -3,12 +3,11 @@ ghost use Rattle.dm_start.specs.Laying.{ParksNone};
 ghost use Rattle.dm_start.specs.Start as Spec;
 ghost use Rattle.dm_start.specs.Start.{told_of, Tells};
 
-use crate::accounts::{account_in, is_known};
-use crate::errors::{BAD_FIELDS, BAD_WORD, LineError};
-use crate::fields::begins_with;
+use crate::accounts::is_known;
 use crate::node_lines::nodes_after;
 use dm_auth::Account;
 use dm_base::{Limits, LineReason, List};
+use dm_fields::{BAD_FIELDS, BAD_WORD, LineError, account_in, begins_with};
 use dm_tree::Tree;
 use std::alloc::Global;
 

@@ -9,9 +9,9 @@ ghost use Rattle.dm_start.specs.Fields.{is_leaf_format};
 ghost use Rattle.dm_start.specs.Growing as Spec;
 ghost use Rattle.dm_start.specs.Laying.{Lays, ParksNone, SaysAs, GoesBackTo};
 
-use crate::errors::{BAD_TREE, LineError};
 use crate::new_nodes::{add, below, copy_path, interior_node, new_node, value_of};
 use dm_base::Memory;
+use dm_fields::{BAD_TREE, LineError};
 use dm_tree::{NewNode, Role, Tree};
 use dm_undo::Journal;
 use dm_uri::Path;

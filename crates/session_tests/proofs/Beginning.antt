@@ -8,9 +8,10 @@ use Rattle.dm_auth.specs.declared.accounts.Account.{Account}
 use Rattle.dm_machine.specs.Ready.{IsReadyAccount, IsReadyLimits}
 use Rattle.dm_tree.specs.Rows.{IsNoneParked}
 use Rattle.dm_start.specs.declared.telling.Start.{Start}
-use Rattle.dm_start.specs.Fields.{are_limits}
+use Rattle.dm_fields.specs.Fields.{are_limits}
 use Rattle.dm_start.specs.Start.{told_of}
-use Rattle.dm_start.specs.Laws.{IsAccount, IsStart}
+use Rattle.dm_start.specs.Laws.{IsStart}
+use Rattle.dm_fields.specs.Fields.{IsAccount}
 use Rattle.session_tests.specs.Starts.{MayBegin}
 
 account_ready : (a : Account) → IsAccount a → IsReadyAccount a

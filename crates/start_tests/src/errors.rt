@@ -1,6 +1,6 @@
 // What the errors of start sections say.
 use dm_base::LineReason;
-use dm_start::LineError;
+use dm_fields::LineError;
 use std::alloc::{AllocError, Global};
 
 const ERRORS: [(LineError, &str); 2] = [

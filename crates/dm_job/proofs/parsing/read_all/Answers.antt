@@ -1,5 +1,5 @@
 use Rattle.std.proofs.Common.{◌+◌, ◌∷◌, length, length-append, sym, ap, subst, ◌∙◌, arith}
-use Rattle.dm_start.specs.Laying.{Refuses}
+use Rattle.dm_fields.specs.Refusing.{Refuses}
 use Rattle.dm_job.specs.Reading.{after_line}
 use Rattle.dm_job.specs.Texts.{segments, job_in, job_from, job_of}
 use Rattle.dm_job.proofs.Turns.{goes_on, read_line, refused_line, last_line, has_job, ends_all, bad_all}

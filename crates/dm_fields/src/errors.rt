@@ -4,7 +4,7 @@ ghost use Rattle.std.specs.Prelude.{◌≡◌};
 use dm_base::{LineReason, Memory};
 use thiserror::Error;
 
-/// Why a line of a start section isn't taken.
+/// Why a line isn't taken.
 #[derive(Clone, Copy, Debug, PartialEq, Eq, Error)]
 pub enum LineError {
     /// The first reason that holds.
@@ -16,7 +16,7 @@ pub enum LineError {
 
 impl From<Memory> for LineError {
     ghost use Rattle.std.specs.Prelude.{◌≡◌};
-    ghost use Rattle.dm_start.specs.declared.errors.LineError.TheVariants as error;
+    ghost use Rattle.dm_fields.specs.declared.errors.LineError.TheVariants as error;
 
     ghost from_gives = { λ _ e. e ≡ error.Memory };
 
@@ -25,8 +25,11 @@ impl From<Memory> for LineError {
     }
 }
 
-pub(crate) const BAD_FIELDS: LineError = LineError::Bad(LineReason::Fields);
+/// A line whose fields aren't those of its word.
+pub const BAD_FIELDS: LineError = LineError::Bad(LineReason::Fields);
 
-pub(crate) const BAD_TREE: LineError = LineError::Bad(LineReason::Tree);
+/// A line that the tree doesn't take.
+pub const BAD_TREE: LineError = LineError::Bad(LineReason::Tree);
 
-pub(crate) const BAD_WORD: LineError = LineError::Bad(LineReason::Word);
+/// A line whose first word isn't one that may stand there.
+pub const BAD_WORD: LineError = LineError::Bad(LineReason::Word);

@@ -1,7 +1,7 @@
 // The fields of a line that has a known number of them. None comes exactly where the line has another number.
 ghost use Rattle.std.specs.Prelude.{◌≡◌, ◌≢◌, ◌∷◌, [], length, MatchOption};
 ghost use Rattle.dm_base.specs.Fields.{parts};
-ghost use Rattle.dm_start.specs.Fields.{word_of as first_word, begins_with as has_first_word};
+ghost use Rattle.dm_fields.specs.Fields.{word_of as first_word, begins_with as has_first_word};
 
 use dm_base::field;
 use memchr::memchr;
@@ -84,8 +84,9 @@ pub fn five_fields(line: &[u8]) -> Option<(&[u8], &[u8], &[u8], &[u8], &[u8])>
     Some((first, second, third, fourth, fifth))
 }
 
+/// The six fields of a line that has just so many.
 #[tactic(auto, using(crate::proofs::Counted::one_is_few, crate::proofs::Counted::another_number))]
-pub(crate) fn six_fields(line: &[u8]) -> Option<(&[u8], &[u8], &[u8], &[u8], &[u8], &[u8])>
+pub fn six_fields(line: &[u8]) -> Option<(&[u8], &[u8], &[u8], &[u8], &[u8], &[u8])>
     ensures { MatchOption result (length (parts line.now) ≢ 6)
         (λ f. parts line.now ≡ f.0.now ∷ f.1.now ∷ f.2.now ∷ f.3.now ∷ f.4.now ∷ f.5.now ∷ []) }
 {
@@ -94,8 +95,9 @@ pub(crate) fn six_fields(line: &[u8]) -> Option<(&[u8], &[u8], &[u8], &[u8], &[u
     Some((first, second, third, fourth, fifth, sixth))
 }
 
+/// The seven fields of a line that has just so many.
 #[tactic(auto, using(crate::proofs::Counted::one_is_few, crate::proofs::Counted::another_number))]
-pub(crate) fn seven_fields(line: &[u8]) -> Option<(&[u8], &[u8], &[u8], &[u8], &[u8], &[u8], &[u8])>
+pub fn seven_fields(line: &[u8]) -> Option<(&[u8], &[u8], &[u8], &[u8], &[u8], &[u8], &[u8])>
     ensures { MatchOption result (length (parts line.now) ≢ 7)
         (λ f. parts line.now ≡ f.0.now ∷ f.1.now ∷ f.2.now ∷ f.3.now ∷ f.4.now ∷ f.5.now ∷ f.6.now ∷ []) }
 {

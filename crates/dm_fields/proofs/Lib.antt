@@ -1,0 +1,3 @@
+mod Counted
+pub mod Told
+pub mod Words
