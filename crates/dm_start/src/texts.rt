@@ -9,17 +9,15 @@ ghost use Rattle.dm_start.specs.TreeText as Spec;
 
 use dm_acl::Acl;
 use dm_base::{Bytes, Memory, hex_into};
+use dm_decimals::put_decimal;
 use dm_tree::{NodeId, Stamp, Tree, View};
-use itoa::Buffer;
 use std::alloc::Global;
 
 fn put_number(out: &mut Bytes, number: u16) -> Result<(), Memory>
     ensures { OnOk result (out.new ≡ out.old ++ Spec.spaced (decimal number)) }
 {
-    let mut buffer = Buffer::new();
     out.push(b' ')?;
-    out.extend(buffer.format(number).as_bytes())?;
-    Ok(())
+    put_decimal(out, u64::from(number))
 }
 
 fn put_stamp(out: &mut Bytes, version: u8, stamp: Stamp) -> Result<(), Memory>
