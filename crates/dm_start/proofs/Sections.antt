@@ -14,14 +14,12 @@ use Rattle.dm_start.specs.declared.heads.Device.{Device}
 use Rattle.dm_start.specs.declared.heads.Head.{Head}
 use Rattle.dm_start.specs.declared.heads.Head.TheVariants as head
 use Rattle.dm_start.specs.Fields.{device_in, clock_in}
-use Rattle.dm_fields.specs.Fields.{begins_with, opt_of, key_of, are_limits, limits_of, limits_in}
-use Rattle.dm_fields.specs.Fields.{account_of, account_in}
-use Rattle.dm_fields.specs.Refusing.{or_refused}
+use Rattle.dm_fields.specs.Fields.{begins_with, limits_in}
 use Rattle.dm_start.specs.Start.{Section, opening, version_in, started, behind_limits, after_opening, after_line}
 use Rattle.dm_start.specs.Start.{is_begun, is_known, Reads}
 use Rattle.dm_fields.specs.Refusing.{Refuses}
+use Rattle.dm_fields.proofs.Told.{said, allowed, same_ok, some_if}
 use Rattle.dm_start.specs.Laws.{AreApart}
-use Rattle.dm_fields.specs.Fields.{IsAccount}
 use Rattle.dm_start.specs.Soundness.{IsShortDevice}
 
 -- ---- the first lines

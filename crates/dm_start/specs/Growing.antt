@@ -23,6 +23,7 @@ use Rattle.dm_tree.specs.Nodes.{Path, Nodes, above, made, root_node, counted, wi
 use Rattle.dm_tree.specs.Devices.{device_path, update_node}
 use Rattle.dm_start.specs.declared.heads.Device.{Device}
 use Rattle.dm_start.specs.declared.node_lines.Leaf.{Leaf}
+use Rattle.dm_fields.specs.Refusing.{or_refused}
 use Rattle.dm_start.specs.Fields.{only_path, leaf_in, acl_in, title_in}
 use Rattle.dm_fields.specs.Fields.{begins_with}
 

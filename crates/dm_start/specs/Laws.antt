@@ -5,7 +5,7 @@ use Rattle.dm_base.specs.Fields.{is_id, is_short}
 use Rattle.dm_auth.specs.declared.accounts.Account.{Account}
 use Rattle.dm_tree.specs.Devices.{IsDeviceTree}
 use Rattle.dm_start.specs.declared.telling.Phase.TheVariants as phase
-use Rattle.dm_fields.specs.Fields.{are_limits}
+use Rattle.dm_fields.specs.Fields.{are_limits, IsAccount}
 use Rattle.dm_start.specs.Start.{Setup, telling, section_of_lines}
 
 -- no two accounts are of one server

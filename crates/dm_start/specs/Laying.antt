@@ -12,6 +12,7 @@ use Rattle.dm_undo.specs.Sound.{IsSound}
 use Rattle.dm_undo.specs.Trees.{Maps, tree_at}
 use Rattle.dm_fields.specs.declared.errors.LineError.{LineError}
 use Rattle.dm_fields.specs.declared.errors.LineError.TheVariants as line_error
+use Rattle.dm_fields.specs.Refusing.{Refuses}
 use Rattle.dm_start.specs.declared.new_nodes.Spot.{Spot}
 use Rattle.dm_start.specs.Growing.{is_open}
 
