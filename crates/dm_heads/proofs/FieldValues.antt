@@ -1,5 +1,5 @@
 -- What the fields of a name say of a body.
-use Rattle.std.proofs.Common.{◌≡◌, ◌≤◌, ℕ, Bool, true, false, cond, List, [], ◌∷◌, refl, ap, ◌∙◌, map, length, leb, leb-true, arith}
+use Rattle.std.proofs.Common.{◌≡◌, ◌≤◌, ℕ, Bool, true, false, cond, List, [], ◌∷◌, refl, sym, ap, ◌∙◌, map, length, leb, leb-true, le-leb, arith}
 use Rattle.std.specs.Prelude.{◌&&◌, ◌||◌, not, codes, filter, IsTrue}
 use Rattle.std.specs.List.{list_any}
 use Rattle.std.specs.Str.Parse.{digits_value}
@@ -101,3 +101,81 @@ unsized_fields fields e =
     let plain = uncoded_at (list_any (is_named (codes "transfer-encoding")) fields) (extent_by (codes "content-length") fields)
     extent.Unsized e (λ h. cc) in
     (none_named (codes "transfer-encoding") fields plain.0, none_says (codes "content-length") fields plain.1)
+
+-- ---- and back: what fields say, as a test finds it
+
+either : (a b : Bool) → a ≡ false → b ≡ false → (a || b) ≡ false
+either true b ea eb = cc
+either false b ea eb = eb
+
+unnamed_at : (name : List ℕ) (f : List ℕ × List ℕ) (fs : List (List ℕ × List ℕ)) (b : Bool) → is_named name f ≡ b
+    → values_named name (f ∷ fs) ≡ [] → (values_named name fs ≡ [] → list_any (is_named name) fs ≡ false)
+    → list_any (is_named name) (f ∷ fs) ≡ false
+unnamed_at name f fs true ea e later = absurd (no_value f.1 (values_named name fs) (sym (values_at name f fs true ea) ∙ e))
+  where
+    no_value : (v : List ℕ) (vs : List (List ℕ)) → v ∷ vs ≡ [] → ⊥
+    no_value v vs e = cc
+unnamed_at name f fs false ea e later =
+    either (is_named name f) (list_any (is_named name) fs) ea (later (sym (values_at name f fs false ea) ∙ e))
+
+unnamed : (name : List ℕ) (fs : List (List ℕ × List ℕ)) → values_named name fs ≡ [] → list_any (is_named name) fs ≡ false
+unnamed name [] e = refl
+unnamed name (f ∷ fs) e = unnamed_at name f fs (is_named name f) refl e (λ h. unnamed name fs h)
+
+single : (v w : List ℕ) (vs : List (List ℕ)) → v ∷ vs ≡ w ∷ [] → (v ≡ w) × (vs ≡ [])
+single v w vs e = (cc, cc)
+
+stated_at : (name : List ℕ) (f : List ℕ × List ℕ) (fs : List (List ℕ × List ℕ)) (text : List ℕ) (b : Bool) → is_named name f ≡ b
+    → values_named name (f ∷ fs) ≡ text ∷ [] → (values_named name fs ≡ text ∷ [] → extent_by name fs ≡ extent_stated text)
+    → extent_by name (f ∷ fs) ≡ extent_stated text
+stated_at name f fs text false ea e later =
+    ap (λ c. cond (not c) (extent_by name fs) (cond (list_any (is_named name) fs) extent.Faulty (extent_stated f.1))) ea
+    ∙ later (sym (values_at name f fs false ea) ∙ e)
+stated_at name f fs text true ea e later =
+    let one = single f.1 text (values_named name fs) (sym (values_at name f fs true ea) ∙ e) in
+    ap (λ c. cond (not c) (extent_by name fs) (cond (list_any (is_named name) fs) extent.Faulty (extent_stated f.1))) ea
+    ∙ ap (λ c. cond c extent.Faulty (extent_stated f.1)) (unnamed name fs one.1) ∙ ap extent_stated one.0
+
+stated_once : (name : List ℕ) (fs : List (List ℕ × List ℕ)) (text : List ℕ) → values_named name fs ≡ text ∷ [] → extent_by name fs ≡ extent_stated text
+stated_once name [] text e = cc
+stated_once name (f ∷ fs) text e = stated_at name f fs text (is_named name f) refl e (λ h. stated_once name fs text h)
+
+unstated_at : (name : List ℕ) (f : List ℕ × List ℕ) (fs : List (List ℕ × List ℕ)) (b : Bool) → is_named name f ≡ b
+    → values_named name (f ∷ fs) ≡ [] → (values_named name fs ≡ [] → extent_by name fs ≡ extent.Unsized)
+    → extent_by name (f ∷ fs) ≡ extent.Unsized
+unstated_at name f fs true ea e later = absurd (no_value f.1 (values_named name fs) (sym (values_at name f fs true ea) ∙ e))
+  where
+    no_value : (v : List ℕ) (vs : List (List ℕ)) → v ∷ vs ≡ [] → ⊥
+    no_value v vs e = cc
+unstated_at name f fs false ea e later =
+    ap (λ c. cond (not c) (extent_by name fs) (cond (list_any (is_named name) fs) extent.Faulty (extent_stated f.1))) ea
+    ∙ later (sym (values_at name f fs false ea) ∙ e)
+
+unstated : (name : List ℕ) (fs : List (List ℕ × List ℕ)) → values_named name fs ≡ [] → extent_by name fs ≡ extent.Unsized
+unstated name [] e = refl
+unstated name (f ∷ fs) e = unstated_at name f fs (is_named name f) refl e (λ h. unstated name fs h)
+
+says_at : (d : ℕ) (a b c : Bool) → a ≡ true → b ≡ true → c ≡ true
+    → cond (not (a && b)) extent.Faulty (cond c (extent.Sized d) extent.TooLong) ≡ extent.Sized d
+says_at d true true true ea eb ec = refl
+says_at d true true false ea eb ec = cc
+says_at d true false c ea eb ec = cc
+says_at d false b c ea eb ec = cc
+
+says : (text : List ℕ) (n : ℕ) → IsTrue (is_numeral text) → length text ≤ 20 → digits_value 10 text ≡ n → n ≤ 65536
+    → extent_stated text ≡ extent.Sized n
+says text n digits few is low =
+    says_at (digits_value 10 text) (is_numeral text) (leb (length text) 20) (leb (digits_value 10 text) 65536) digits
+    (le-leb (length text) 20 few) (le-leb (digits_value 10 text) 65536 (omega (arith, is, low))) ∙ ap extent.Sized is
+
+pub fields_sized : (fields : List (List ℕ × List ℕ)) (n : ℕ) → IsUncoded fields → StatesLength fields n → body_extent fields ≡ extent.Sized n
+unfolding body_extent
+fields_sized fields n plain s =
+    ap (λ c. cond c extent.Faulty (extent_by (codes "content-length") fields)) (unnamed (codes "transfer-encoding") fields plain)
+    ∙ stated_once (codes "content-length") fields s.0 s.1 ∙ says s.0 n s.2 s.3 s.4 s.5
+
+pub fields_unsized : (fields : List (List ℕ × List ℕ)) → IsUncoded fields → StatesNoLength fields → body_extent fields ≡ extent.Unsized
+unfolding body_extent
+fields_unsized fields plain none =
+    ap (λ c. cond c extent.Faulty (extent_by (codes "content-length") fields)) (unnamed (codes "transfer-encoding") fields plain)
+    ∙ unstated (codes "content-length") fields none

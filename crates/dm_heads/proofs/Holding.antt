@@ -1,8 +1,8 @@
 -- What a head that is read holds.
-use Rattle.std.proofs.Common.{◌≡◌, ◌≤◌, ◌≢◌, ℕ, Bool, true, false, cond, leb, leb-true, eqb, eqb-true, List, inl, inr, refl, sym}
+use Rattle.std.proofs.Common.{◌≡◌, ◌≤◌, ◌≢◌, ℕ, Bool, true, false, cond, leb, leb-true, eqb, eqb-true, eq-eqb, le-leb, List, inl, inr, refl, sym, ap}
 use Rattle.std.proofs.Common.{◌∙◌, length, take, map, Result, Ok, Err}
 use Rattle.std.proofs.lemmas.Bool.{eqb-false}
-use Rattle.std.specs.Prelude.{bytes_eq, codes}
+use Rattle.std.specs.Prelude.{◌⊎◌, bytes_eq, codes}
 use Rattle.std.proofs.lemmas.Slice.Eq.{bytes_eq-Decides}
 use Rattle.httparse.specs.Grammar.{RequestHead, ResponseHead, status_code}
 use Rattle.httparse.specs.Spans.{name_and_value}
@@ -12,16 +12,13 @@ use Rattle.dm_heads.specs.declared.extents.BodyExtent.{BodyExtent}
 use Rattle.dm_heads.specs.declared.extents.BodyExtent.TheVariants as extent
 use Rattle.dm_heads.specs.declared.extents.HeadVerdict.{HeadVerdict}
 use Rattle.dm_heads.specs.declared.extents.HeadVerdict.TheVariants as verdict
+use Rattle.dm_heads.specs.declared.heads.HeadKind.TheVariants as kind
 use Rattle.dm_heads.specs.Extents.{body_extent, status_verdict, reply_verdict, sized_verdict, request_verdict}
 use Rattle.dm_heads.specs.Messages.{HasHead, Brings, body_of}
-use Rattle.dm_heads.specs.Laws.{IsPost, IsOkReply, RequestHolds, ReplyHolds, ReplyStatusHolds, NoRequestStatus}
-use Rattle.dm_heads.proofs.FieldValues.{sized_fields, unsized_fields}
-
-abbrev given : List ℕ → Result (List ℕ) HttpError
-given body = Ok body
-
-abbrev refused : HttpError → Result (List ℕ) HttpError
-refused e = Err e
+use Rattle.dm_heads.specs.Laws.{IsSizedBody, IsWholeBody, IsPost, IsOkReply, RequestHolds, ReplyHolds, PostsBring, OkRepliesBring}
+use Rattle.dm_heads.specs.Laws.{ReplyStatusHolds, NoRequestStatus}
+use Rattle.dm_heads.proofs.FieldValues.{sized_fields, unsized_fields, fields_sized, fields_unsized}
+use Rattle.dm_heads.proofs.MoreBytes.{given, refused, taken_if}
 
 -- ---- a body, by the verdict
 
@@ -198,3 +195,54 @@ reply_status_holds bytes code (inl x) =
     other_than_200 : (other code : ℕ) → other ≡ code → eqb other 200 ≡ false → code ≢ 200
     other_than_200 other code same differs is = eqb-false other 200 differs (same ∙ is)
 reply_status_holds bytes code (inr h) = absurd h
+
+-- ---- and back: heads that hold this bring the message
+
+sized_body : (n : ℕ) (rest body : List ℕ) → n ≤ length rest → body ≡ take n rest → given body ≡ body_of (verdict.Sized n) rest
+sized_body n rest body long is =
+    ap Ok is ∙ taken_if (leb n (length rest)) (given (take n rest)) (refused error.Cut) (le-leb n (length rest) long)
+
+whole_body : (rest body : List ℕ) → length rest ≤ 65536 → body ≡ rest → given body ≡ body_of verdict.Unsized rest
+whole_body rest body short is =
+    ap Ok is ∙ taken_if (leb (length rest) 65536) (given rest) (refused error.TooLong) (le-leb (length rest) 65536 short)
+
+pub posts_bring : PostsBring
+unfolding Brings HasHead
+posts_bring bytes body h rest reads few short post =
+    let fields = map name_and_value h.fields in
+    let n = post.sized.0 in
+    let extent_is = fields_sized fields n post.uncoded post.sized.1 in
+    let verdict_is : request_verdict h.method fields ≡ verdict.Sized n =
+    ap (λ b. cond b (sized_verdict (body_extent fields)) verdict.BadHead) ((bytes_eq-Decides h.method (codes "POST")).1 post.method)
+    ∙ ap sized_verdict extent_is in
+    inl (verdict.Sized n, rest, (h, reads, few, short, sym verdict_is), sized_body n rest body post.sized.2 post.sized.3)
+
+of_ok : (code : ℕ) (e : BodyExtent) (v : HeadVerdict) → code ≡ 200 → e ≡ extent.Unsized → v ≡ verdict.Unsized → v ≡ status_verdict code e
+of_ok code extent.Faulty v c e is = cc
+of_ok code extent.TooLong v c e is = cc
+of_ok code (extent.Sized m) v c e is = cc
+of_ok code extent.Unsized v c e is =
+    is ∙ ap (λ b. cond b verdict.Unsized (verdict.NotOk code)) (sym (eq-eqb code 200 c))
+
+of_ok_sized : (code n : ℕ) (e : BodyExtent) (v : HeadVerdict) → code ≡ 200 → e ≡ extent.Sized n → v ≡ verdict.Sized n → v ≡ status_verdict code e
+of_ok_sized code n extent.Faulty v c e is = cc
+of_ok_sized code n extent.TooLong v c e is = cc
+of_ok_sized code n extent.Unsized v c e is = cc
+of_ok_sized code n (extent.Sized m) v c e is =
+    let same : verdict.Sized n ≡ verdict.Sized m = cc in
+    is ∙ same ∙ ap (λ b. cond b (verdict.Sized m) (verdict.NotOk code)) (sym (eq-eqb code 200 c))
+
+pub ok_replies_bring : OkRepliesBring
+unfolding Brings HasHead
+ok_replies_bring bytes body h rest reads few short ok = by_body ok.behind
+  where
+    by_body : IsSizedBody (map name_and_value h.fields) rest body ⊎ IsWholeBody (map name_and_value h.fields) rest body
+        → Brings kind.Reply bytes (Ok body)
+    by_body (inl sized) =
+        let extent_is = fields_sized (map name_and_value h.fields) sized.0 ok.uncoded sized.1 in
+        let verdict_is = of_ok_sized (status_code h) sized.0 (body_extent (map name_and_value h.fields)) (verdict.Sized sized.0) ok.status extent_is refl in
+        inl (verdict.Sized sized.0, rest, (h, reads, few, short, verdict_is), sized_body sized.0 rest body sized.2 sized.3)
+    by_body (inr whole) =
+        let extent_is = fields_unsized (map name_and_value h.fields) ok.uncoded whole.0 in
+        let verdict_is = of_ok (status_code h) (body_extent (map name_and_value h.fields)) verdict.Unsized ok.status extent_is refl in
+        inl (verdict.Unsized, rest, (h, reads, few, short, verdict_is), whole_body rest body whole.1 whole.2)

@@ -11,14 +11,13 @@ use Rattle.dm_heads.specs.declared.extents.HeadVerdict.TheVariants as verdict
 use Rattle.dm_heads.specs.declared.heads.HeadKind.{HeadKind}
 use Rattle.dm_heads.specs.declared.heads.HeadKind.TheVariants as kind
 use Rattle.dm_heads.specs.Messages.{HasHead, HasNoHead, NeverHasHead, body_of, Brings, Settles}
-use Rattle.dm_heads.specs.Laws.{LengthEndsBody}
 use Rattle.dm_heads.proofs.HeadLemmas.{has_head_more}
 
-taken_if : {A : Type 0} (b : Bool) (x y : A) → b ≡ true → x ≡ cond b x y
+pub taken_if : {A : Type 0} (b : Bool) (x y : A) → b ≡ true → x ≡ cond b x y
 taken_if true x y h = refl
 taken_if false x y h = cc
 
-left_if : {A : Type 0} (b : Bool) (x y : A) → b ≡ false → y ≡ cond b x y
+pub left_if : {A : Type 0} (b : Bool) (x y : A) → b ≡ false → y ≡ cond b x y
 left_if true x y h = cc
 left_if false x y h = refl
 
@@ -26,7 +25,7 @@ not_leb_if : (a b : ℕ) (c : Bool) → leb a b ≡ c → b < a → c ≡ false
 not_leb_if a b true h low = absurd (let le = leb-true a b h in omega (arith, le, low))
 not_leb_if a b false h low = refl
 
-not_leb : (a b : ℕ) → b < a → leb a b ≡ false
+pub not_leb : (a b : ℕ) → b < a → leb a b ≡ false
 not_leb a b low = not_leb_if a b (leb a b) refl low
 
 -- a whole head settles the answer where all that follows leaves it
@@ -40,20 +39,16 @@ pub brings : (k : HeadKind) (bytes : List ℕ) (v : HeadVerdict) (rest : List �
 unfolding Brings
 brings k bytes v rest r o same = inl (v, rest, o, same)
 
-abbrev given : List ℕ → Result (List ℕ) HttpError
+abbrev pub given : List ℕ → Result (List ℕ) HttpError
 given body = Ok body
 
-abbrev refused : HttpError → Result (List ℕ) HttpError
+abbrev pub refused : HttpError → Result (List ℕ) HttpError
 refused e = Err e
 
-sized_more : (n : ℕ) (rest more : List ℕ) → n ≤ length rest → given (take n rest) ≡ body_of (verdict.Sized n) (rest ++ more)
+pub sized_more : (n : ℕ) (rest more : List ℕ) → n ≤ length rest → given (take n rest) ≡ body_of (verdict.Sized n) (rest ++ more)
 sized_more n rest more long =
     let fits = le-leb n (length (rest ++ more)) (let a = length-append rest more in omega (arith, a, long)) in
     ap Ok (sym (take-append-le n rest more long)) ∙ taken_if (leb n (length (rest ++ more))) (Ok (take n (rest ++ more))) (Err error.Cut) fits
-
-pub length_ends_body : LengthEndsBody
-length_ends_body k bytes rest n head long =
-    settles k bytes (verdict.Sized n) rest _ head (λ more. sized_more n rest more long)
 
 -- the rest behind a head that was taken earlier
 pub rest_more : (taken piece : List ℕ) (len : ℕ) → len ≤ length taken → drop len (taken ++ piece) ≡ drop len taken ++ piece

@@ -2,15 +2,18 @@
 use Rattle.std.specs.Prelude.{◌≡◌, ◌≢◌, ◌≤◌, ◌⊎◌, ◌++◌, ℕ, IsTrue, List, [], ◌∷◌, length, take, map, filter, codes, Result, Ok, Err}
 use Rattle.std.specs.Str.Parse.{digits_value}
 use Rattle.dm_base.specs.Fields.{is_numeral}
-use Rattle.httparse.specs.Grammar.{RequestHead, ReadsRequest, ResponseHead, ReadsResponse, status_code}
+use Rattle.httparse.specs.Grammar.{RequestHead, print_request, ReadsRequest, ResponseHead, print_response, ReadsResponse}
+use Rattle.httparse.specs.Grammar.{status_code}
 use Rattle.httparse.specs.Spans.{name_and_value}
 use Rattle.dm_heads.specs.declared.errors.HttpError.{HttpError}
 use Rattle.dm_heads.specs.declared.errors.HttpError.TheVariants as error
+use Rattle.dm_heads.specs.declared.extents.HeadVerdict.{HeadVerdict}
 use Rattle.dm_heads.specs.declared.extents.HeadVerdict.TheVariants as verdict
 use Rattle.dm_heads.specs.declared.heads.HeadKind.{HeadKind}
 use Rattle.dm_heads.specs.declared.heads.HeadKind.TheVariants as kind
 use Rattle.dm_heads.specs.Extents.{body_limit, is_named}
-use Rattle.dm_heads.specs.Messages.{HasHead, HeadedAnswer, Brings, Settles}
+use Rattle.dm_heads.specs.Messages.{field_limit, head_limit, HasHead, HeadedAnswer, Brings, Settles}
+use Rattle.dm_heads.specs.Asking.{WantsBody}
 
 -- the values of the fields of a name
 abbrev pub values_named : List ℕ → List (List ℕ × List ℕ) → List (List ℕ)
@@ -56,6 +59,15 @@ abbrev pub ReplyHolds : Type 0
 ReplyHolds = (bytes body : List ℕ) → Brings kind.Reply bytes (Ok body)
     → (h : ResponseHead) × (rest : List ℕ) × ReadsResponse bytes h rest × IsOkReply h rest body
 
+-- heads within the limits that are so bring the message
+abbrev pub PostsBring : Type 0
+PostsBring = (bytes body : List ℕ) (h : RequestHead) (rest : List ℕ) → ReadsRequest bytes h rest → length h.fields ≤ field_limit
+    → length (print_request h) ≤ head_limit → IsPost h rest body → Brings kind.Request bytes (Ok body)
+
+abbrev pub OkRepliesBring : Type 0
+OkRepliesBring = (bytes body : List ℕ) (h : ResponseHead) (rest : List ℕ) → ReadsResponse bytes h rest → length h.fields ≤ field_limit
+    → length (print_response h) ≤ head_limit → IsOkReply h rest body → Brings kind.Reply bytes (Ok body)
+
 -- a status is told of a reply alone, and it is the head's
 abbrev pub ReplyStatusHolds : Type 0
 ReplyStatusHolds = (bytes : List ℕ) (code : ℕ) → Brings kind.Reply bytes (Err (error.NotOk code))
@@ -68,6 +80,11 @@ NoRequestStatus = (bytes : List ℕ) (code : ℕ) → ¬ (Brings kind.Request by
 abbrev pub LengthEndsBody : Type 0
 LengthEndsBody = (k : HeadKind) (bytes rest : List ℕ) (n : ℕ) → HasHead k bytes (verdict.Sized n) rest → n ≤ length rest
     → Settles k bytes (Ok (take n rest))
+
+-- behind a head that more of a body may follow, no answer is settled
+abbrev pub WantedIsUnsettled : Type 0
+WantedIsUnsettled = (k : HeadKind) (bytes : List ℕ) (v : HeadVerdict) (rest : List ℕ) (r : Result (List ℕ) HttpError)
+    → HasHead k bytes v rest → WantsBody v rest → ¬ (Settles k bytes r)
 
 -- what bytes with a whole head are answered is their only answer
 abbrev pub OneAnswerEach : Type 0

@@ -1,17 +1,19 @@
 // What a head that is read holds, and what more bytes do to an answer.
-ghost use Rattle.dm_heads.specs.Laws.{RequestHolds, ReplyHolds, ReplyStatusHolds, NoRequestStatus};
-ghost use Rattle.dm_heads.specs.Laws.{LengthEndsBody, OneAnswerEach, SettledStays};
+ghost use Rattle.dm_heads.specs.Laws.{RequestHolds, ReplyHolds, PostsBring, OkRepliesBring, ReplyStatusHolds, NoRequestStatus};
+ghost use Rattle.dm_heads.specs.Laws.{LengthEndsBody, WantedIsUnsettled, OneAnswerEach, SettledStays};
 
-/// Law: a request with a message is a POST with no Transfer-Encoding and one Content-Length, and the message is as many
-/// bytes behind its head as that says.
+/// Law: a request brings a message exactly where it is a POST with no Transfer-Encoding and one Content-Length, and the
+/// message is as many bytes behind its head as that says.
 pub fn requests_are_posts()
-    ensures { RequestHolds }
+    ensures only { RequestHolds }
+    ensures each { PostsBring }
 {}
 
-/// Law: a reply with a message has status 200, no Transfer-Encoding and at most one Content-Length; the message is as
-/// many bytes behind its head as that says, or else all of them.
+/// Law: a reply brings a message exactly where it has status 200, no Transfer-Encoding and at most one Content-Length,
+/// and the message is as many bytes behind its head as that says, or else all of them.
 pub fn replies_are_ok()
-    ensures { ReplyHolds }
+    ensures only { ReplyHolds }
+    ensures each { OkRepliesBring }
 {}
 
 /// Law: `NotOk` tells the status of a reply's head, another than 200, and comes of no request.
@@ -23,6 +25,11 @@ pub fn statuses_are_told()
 /// Law: what stands behind a stated length isn't looked at.
 pub fn a_length_ends_a_body()
     ensures { LengthEndsBody }
+{}
+
+/// Law: behind a head that more of a body may follow no answer is settled.
+pub fn a_wanted_body_is_open()
+    ensures { WantedIsUnsettled }
 {}
 
 /// Law: bytes with a whole head have one answer.

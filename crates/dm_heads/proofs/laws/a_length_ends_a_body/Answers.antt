@@ -1,4 +1,4 @@
-use Rattle.dm_heads.proofs.MoreBytes.{length_ends_body}
+use Rattle.dm_heads.proofs.OneAnswer.{length_ends_body}
 use Rattle.dm_heads.proofs.laws.a_length_ends_a_body.Goals as goal
 
 pub returns : goal.returns
