@@ -4,8 +4,9 @@ ghost use Rattle.session_tests.specs.Starts.{MayBegin};
 
 use crate::rows::Row;
 use dm_base::{Bytes, Memory};
+use dm_fields::LineError;
 use dm_session::Client;
-use dm_start::{LineError, Start, StartReader};
+use dm_start::{Start, StartReader};
 use std::alloc::Global;
 
 const HEAD: &[u8] = b"dm-trace 1

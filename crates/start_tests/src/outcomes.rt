@@ -1,6 +1,7 @@
 // What a start section comes to.
 use dm_base::{Bytes, LineReason, Memory};
-use dm_start::{LineError, Start, StartReader};
+use dm_fields::LineError;
+use dm_start::{Start, StartReader};
 use std::alloc::Global;
 
 #[derive(Drop)]
