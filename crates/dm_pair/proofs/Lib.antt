@@ -6,9 +6,5 @@ mod Writing
 mod Putting
 mod EventLines
 mod OnSchedule
-mod StartNodes
-mod StartStamps
-mod StartTrees
-mod StartSections
 mod ReadyClients
 mod TextStarts

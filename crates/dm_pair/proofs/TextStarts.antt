@@ -20,6 +20,7 @@ use Rattle.dm_job.specs.Texts.{segments, is_long, job_in, end_or, job_from, job_
 use Rattle.dm_world.proofs.JobNumbers.{jobs_are_in_range}
 use Rattle.dm_replay.specs.Output.{client_of}
 use Rattle.dm_replay.specs.Trace.{ids_of, told_in}
+use Rattle.dm_replay.proofs.StartSections.{IsGoodSection, good_line, told_is_good}
 use Rattle.dm_pair.specs.Begins.{StartsAndJobsBegin, lines_of, OnWorldSchedule, TextsBegin}
 use Rattle.dm_pair.specs.Pairing.{Pairing}
 use Rattle.dm_pair.specs.Schedules.{brought_by, brought, HasEnds}
@@ -27,7 +28,6 @@ use Rattle.dm_pair.specs.Texts.{Stage, first, starting, jobbing, happening, pair
 use Rattle.dm_pair.specs.Texts.{start_turn, stage_behind, job_turn, turn}
 use Rattle.dm_pair.proofs.OnSchedule.{runs_on_schedules}
 use Rattle.dm_pair.proofs.ReadyClients.{world_start}
-use Rattle.dm_pair.proofs.StartSections.{IsGoodSection, good_line, told_is_good}
 
 -- ---- the lines of a text
 

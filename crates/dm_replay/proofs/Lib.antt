@@ -15,3 +15,11 @@ pub mod Over
 pub mod Asked
 pub mod Ended
 pub mod Refusals
+pub mod StartStamps
+pub mod StartNodes
+pub mod StartTrees
+pub mod StartSections
+pub mod ReadyStarts
+pub mod ReadFit
+pub mod ReadyEvents
+pub mod Rooms

@@ -5,3 +5,4 @@ pub mod Output
 pub mod From
 pub mod Laws
 pub mod Refused
+pub mod Room

@@ -11,6 +11,7 @@ pub mod trace;
 pub use answers::step;
 pub use events::{Event, read_event};
 pub use laws::{
-    only_traces_are_done, refusals_are_first, refusals_are_told, whole_traces_are_answered,
+    only_traces_are_done, refusals_are_first, refusals_are_told, replays_keep_to_the_room,
+    starts_are_ready, whole_traces_are_answered,
 };
 pub use trace::{ids_of, replay};

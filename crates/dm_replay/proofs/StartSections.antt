@@ -21,8 +21,8 @@ use Rattle.dm_start.specs.Start.{after_telling, after_line, behind_line, lines_a
 use Rattle.dm_start.specs.Soundness.{IsShortDevice, IsSoundHead, IsSoundSection}
 use Rattle.dm_fields.proofs.Told.{said, allowed, passed, same_ok}
 use Rattle.dm_start.proofs.Sound.{sound_line}
-use Rattle.dm_pair.proofs.StartStamps.{first_is_stamp, clock_is_stamp}
-use Rattle.dm_pair.proofs.StartTrees.{node_line_formed, start_formed}
+use Rattle.dm_replay.proofs.StartStamps.{first_is_stamp, clock_is_stamp}
+use Rattle.dm_replay.proofs.StartTrees.{node_line_formed, start_formed}
 
 pub record HasTree (told : Setup) : Type 0 where
   pub tree : IsWellFormed told.nodes

@@ -44,7 +44,7 @@ use Rattle.dm_start.specs.Growing.{permanent_line, update_line, nodes_after}
 use Rattle.dm_start.specs.Soundness.{IsShortDevice}
 use Rattle.dm_fields.proofs.Told.{said, allowed, passed, same_ok, some_if}
 use Rattle.dm_machine.proofs.FormedTrees.{StaysFormed, changed_formed}
-use Rattle.dm_pair.proofs.StartNodes.{AreGood, one_formed, all_formed, marked_formed, may_be_marked}
+use Rattle.dm_replay.proofs.StartNodes.{AreGood, one_formed, all_formed, marked_formed, may_be_marked}
 
 -- ---- the nodes that are made
 
