@@ -8,3 +8,4 @@ mod EventLines
 mod OnSchedule
 mod ReadyClients
 mod TextStarts
+mod RefusedTexts

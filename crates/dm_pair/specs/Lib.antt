@@ -5,3 +5,4 @@ pub mod From
 pub mod Seen
 pub mod Schedules
 pub mod Begins
+pub mod Refused

@@ -7,6 +7,7 @@ pub mod events;
 pub mod lines;
 mod pairing;
 pub mod reading;
+pub mod refusals;
 pub mod schedules;
 pub mod text;
 mod words;
