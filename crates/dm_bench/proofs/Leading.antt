@@ -63,7 +63,7 @@ leads_more leaf s t u before now =
 
 -- ---- the whole section
 
-leads_to : (lines : List (List ℕ)) (n : ℕ) (s t : Section) (told : Setup) → Leads s lines t → Ends t told
+pub leads_to : (lines : List (List ℕ)) (n : ℕ) (s t : Section) (told : Setup) → Leads s lines t → Ends t told
     → lines_after n s (lines ++ codes "begin" ∷ []) ≡ Ok (telling phase.Begun told)
 leads_to [] n s t told is ends =
     ap (λ r. behind_line n r (λ next. lines_after (n + 1) next [])) (subst (λ p. Ends p told) is ends)

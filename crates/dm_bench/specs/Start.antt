@@ -1,5 +1,5 @@
 -- What the client begins with: the start section of a trace with a tree of so many leaves in groups of 256.
-use Rattle.std.specs.Prelude.{◌≡◌, ◌==◌, ◌<◌, ◌/◌, ◌%◌, ℕ, zero, suc, if◌then◌else◌, List, [], ◌∷◌, ◌++◌, codes}
+use Rattle.std.specs.Prelude.{◌≡◌, ◌==◌, ◌<◌, ◌≤◌, ◌/◌, ◌%◌, ℕ, zero, suc, if◌then◌else◌, List, [], ◌∷◌, ◌++◌, codes}
 use Rattle.std.specs.Prelude.{length, Result, Ok, Err}
 use Rattle.std.specs.Fmt.{decimal}
 use Rattle.std.specs.FinMap.{empty}
@@ -98,3 +98,8 @@ Ends s told = after_line s (codes "begin") ≡ Ok (telling phase.Begun told)
 pub record MayBegin (start : Start) : Type 0 where
   pub client : CanBegin start
   pub some : 0 < length start.accounts
+
+-- no line of a workload's start section is refused, so that all of it is told
+abbrev pub WorkloadIsTold : Type 0
+WorkloadIsTold =
+    (nodes : ℕ) → nodes ≤ 60000 → section_of_lines (start_lines nodes) ≡ Ok (telling phase.Begun (start_of nodes))

@@ -3,6 +3,7 @@
 
 mod given;
 mod hashing;
+pub mod laws;
 pub mod messages;
 mod names;
 pub mod running;

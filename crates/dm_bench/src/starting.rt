@@ -12,7 +12,7 @@ use dm_session::Client;
 use dm_start::{Start, StartReader};
 use std::alloc::Global;
 
-// Takes a line that isn't the last. One that is refused would be `Memory`; none is, as runs show.
+// Takes a line that isn't the last. One that is refused would be `Memory`; none is, as the law `workload_is_told` says.
 fn take_line(reader: &mut StartReader, line: &[u8]) -> Result<(), Memory>
     requires { is_begun (section_at reader.old) ≡ false }
     ensures read { OnOk result (after_line (section_at reader.old) line.now ≡ Ok (section_at reader.new)) }
