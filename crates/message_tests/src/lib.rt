@@ -1,10 +1,9 @@
-//! Tests of the codec from the grammar on: what tokens are judged, what is built of them, and how messages are spelled.
+//! Tests of the codec from the grammar on, by each public call. Which messages are refused and why, and how others are
+//! spelled and listed, is told by the cases of the commands.
 #![tactic(auto)]
 
 #[cfg(test)]
 mod building;
-#[cfg(test)]
-mod containers;
 #[cfg(test)]
 mod decoding;
 #[cfg(test)]
@@ -12,4 +11,4 @@ mod errors;
 #[cfg(test)]
 mod judging;
 #[cfg(test)]
-mod judging_values;
+mod pieces;
