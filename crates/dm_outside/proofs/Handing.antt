@@ -1,7 +1,6 @@
 -- What a caller of a dialer or a door knows of a connection that it was handed.
-use Rattle.std.proofs.Common.{◌≡◌, ◌∷◌, ◌++◌, ◌∙◌, [], ℕ, List, Some, None, Ok, ap, arith, length, drop, length-append}
+use Rattle.std.proofs.Common.{◌≡◌, ◌∷◌, ◌++◌, [], ℕ, List, Some, None, Ok, ap, arith, length, drop, length-append}
 use Rattle.std.specs.declared.option.Option.{Option}
-use Rattle.dm_base.specs.declared.outside.Fault.{Fault}
 use Rattle.dm_outside.specs.Calls.{Closed, Calls, Dials, HasOut, handed_out, given_back, talked}
 use Rattle.dm_outside.specs.Doors.{Doorway, Accepts, HasVisitor, let_in, seen_off, visited}
 

@@ -1,5 +1,4 @@
 -- What a dialer and a door in memory keep of the calls that are over, as they tell it.
-use Rattle.std.specs.Prelude.{List}
 use Rattle.dm_outside.specs.declared.dialers.Over.{Over}
 use Rattle.dm_outside.specs.declared.dialers.Over.TheVariants as over
 use Rattle.dm_outside.specs.declared.doors.Past.{Past}

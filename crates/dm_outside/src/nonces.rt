@@ -1,5 +1,5 @@
 // What gives nonces, and its form in memory.
-ghost use Rattle.std.specs.Prelude.{◌≡◌, List, ℕ, Option, Some, map};
+ghost use Rattle.std.specs.Prelude.{◌≡◌, List, ℕ, Option, Some};
 ghost use Rattle.dm_outside.specs.Updates.{GivesNonce, nonces_of};
 
 use dm_base::{List, Nonce};

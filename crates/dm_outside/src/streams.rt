@@ -1,5 +1,5 @@
 // A stream in memory, which tells all that it holds.
-ghost use Rattle.std.specs.Prelude.{◌≡◌, ◌<◌, ◌≤◌, ◌+◌, ◌↔◌, [], List, ℕ, Some, refl, length, take, drop};
+ghost use Rattle.std.specs.Prelude.{◌≡◌, ◌<◌, ◌+◌, ◌↔◌, Some, refl, length, take};
 ghost use Rattle.std.specs.Prelude.{Contains, IsTrue, IsErr, IsErrOf, min, nat_lt};
 ghost use Rattle.dm_base.specs.Outside.{TakeCounts, PutCounts, PutsSome, TakesSome};
 ghost use Rattle.dm_base.specs.Memory.{after};
