@@ -1,225 +1,329 @@
 // Credentials of both sides.
-use crate::rows::{Call, Row};
+use crate::rows::Row;
+use dm_server::Answer;
 
-pub const CREDENTIALS: [Row; 5] = [
-    // The package is queued again.
-    Row {
-        name: "refused_once",
-        job: "server s1 pw 00 - - -\nlimits 16384 4194304\nget ./A\n",
-        large: 0,
-        calls: &[
+#[rattlefmt::skip]
+pub(crate) const CREDENTIALS: [Row; 6] = [
+    // The client refuses the server once: the package is queued again, and its code is forgotten.
+    (
+        &[b"dm-job 1\nserver s1 pw 00 - - -\nlimits 16384 4194304\nget ./A\nend\n"],
+        &[
+            // No command.
             (
-                Call::Deliver(
-                    0,
-                    "03a4016a006d6c7103312e3200017203444d2f312e32000165033100015b033100016e570373310001016757036431\
-                        000101016b120101",
-                ),
-                "sent 1 cred GQYQZ456EoRbgrefspTI7Q==, 1.0 200, get ./A, final",
+                0,
+                b"\x03\xa4\x01j\x00mlq\x031.2\x00\x01r\x03DM/1.2\x00\x01e\x031\x00\x01[\x031\x00\x01nW\x03s1\x00\x01\
+                  \x01gW\x03d1\x00\x01\x01\x01k\x12\x01\x01",
+                Answer::Sent,
+                &[b"\x03\xa4\x01j\x00mlq\x031.2\x00\x01r\x03DM/1.2\x00\x01e\x031\x00\x01[\x031\x00\x01nW\x03d1\x00\
+                    \x01\x01gW\x03s1\x00\x01\x01NZ\x00\x01G\x03b64\x00\x01S\x03syncml:auth-md5\x00\x01\x01\x00\x00O\
+                    \x03GQYQZ456EoRbgrefspTI7Q==\x00\x01\x01Z\x00\x01L\x0316384\x00\x01U\x034194304\x00\x01\x01\x01\
+                    \x00\x00kiK\x031\x00\x01\\\x031\x00\x01L\x030\x00\x01J\x03SyncHdr\x00\x01O\x03200\x00\x01\x01SK\
+                    \x032\x00\x01TnW\x03./A\x00\x01\x01\x01\x01\x12\x01\x01"],
+                b"state running\n",
             ),
+            // Status 401 for the header, with nonce 1, and Status 401 for the Get.
             (
-                Call::Deliver(
-                    0,
-                    "03a4016a006d6c7103312e3200017203444d2f312e32000165033100015b033200016e570373310001016757036431\
-                        000101016b694b033100015c033100014c033000014a0353796e634864720001495a0001470362363400015303\
-                        73796e636d6c3a617574682d6d643500015003415145424151454241514542415145424151454241513d3d0001\
-                        010100004f03343031000101694b033200015c033100014c033200014a0347657400014f033430310001011201\
-                        01",
-                ),
-                "sent 2 cred HqiTpgpXRKOJC2rV4ENaUw==, 2.0 200, get ./A, final",
+                0,
+                b"\x03\xa4\x01j\x00mlq\x031.2\x00\x01r\x03DM/1.2\x00\x01e\x031\x00\x01[\x032\x00\x01nW\x03s1\x00\x01\
+                  \x01gW\x03d1\x00\x01\x01\x01kiK\x031\x00\x01\\\x031\x00\x01L\x030\x00\x01J\x03SyncHdr\x00\x01IZ\
+                  \x00\x01G\x03b64\x00\x01S\x03syncml:auth-md5\x00\x01P\x03AQEBAQEBAQEBAQEBAQEBAQ==\x00\x01\x01\x01\
+                  \x00\x00O\x03401\x00\x01\x01iK\x032\x00\x01\\\x031\x00\x01L\x032\x00\x01J\x03Get\x00\x01O\x03401\
+                  \x00\x01\x01\x12\x01\x01",
+                Answer::Sent,
+                &[b"\x03\xa4\x01j\x00mlq\x031.2\x00\x01r\x03DM/1.2\x00\x01e\x031\x00\x01[\x032\x00\x01nW\x03d1\x00\
+                    \x01\x01gW\x03s1\x00\x01\x01NZ\x00\x01G\x03b64\x00\x01S\x03syncml:auth-md5\x00\x01\x01\x00\x00O\
+                    \x03HqiTpgpXRKOJC2rV4ENaUw==\x00\x01\x01Z\x00\x01L\x0316384\x00\x01U\x034194304\x00\x01\x01\x01\
+                    \x00\x00kiK\x031\x00\x01\\\x032\x00\x01L\x030\x00\x01J\x03SyncHdr\x00\x01O\x03200\x00\x01\x01SK\
+                    \x032\x00\x01TnW\x03./A\x00\x01\x01\x01\x01\x12\x01\x01"],
+                b"",
             ),
+            // Status 212 with nonce 2, Status 404 for the first Get, and 200 for the one that was sent again.
             (
-                Call::Report,
-                "state running
-",
+                0,
+                b"\x03\xa4\x01j\x00mlq\x031.2\x00\x01r\x03DM/1.2\x00\x01e\x031\x00\x01[\x033\x00\x01nW\x03s1\x00\x01\
+                  \x01gW\x03d1\x00\x01\x01\x01kiK\x031\x00\x01\\\x032\x00\x01L\x030\x00\x01J\x03SyncHdr\x00\x01IZ\
+                  \x00\x01G\x03b64\x00\x01S\x03syncml:auth-md5\x00\x01P\x03AgICAgICAgICAgICAgICAg==\x00\x01\x01\x01\
+                  \x00\x00O\x03212\x00\x01\x01iK\x032\x00\x01\\\x031\x00\x01L\x032\x00\x01J\x03Get\x00\x01O\x03404\
+                  \x00\x01\x01iK\x033\x00\x01\\\x032\x00\x01L\x032\x00\x01J\x03Get\x00\x01O\x03200\x00\x01\x01\x12\
+                  \x01\x01",
+                Answer::Sent,
+                &[b"\x03\xa4\x01j\x00mlq\x031.2\x00\x01r\x03DM/1.2\x00\x01e\x031\x00\x01[\x033\x00\x01nW\x03d1\x00\
+                    \x01\x01gW\x03s1\x00\x01\x01Z\x00\x01L\x0316384\x00\x01U\x034194304\x00\x01\x01\x01\x00\x00kiK\
+                    \x031\x00\x01\\\x033\x00\x01L\x030\x00\x01J\x03SyncHdr\x00\x01O\x03200\x00\x01\x01\x12\x01\x01"],
+                b"status 1 200\nstate over\n",
             ),
+            // The next session.
             (
-                Call::Deliver(
-                    0,
-                    "03a4016a006d6c7103312e3200017203444d2f312e32000165033100015b033300016e570373310001016757036431\
-                        000101016b694b033100015c033200014c033000014a0353796e634864720001495a0001470362363400015303\
-                        73796e636d6c3a617574682d6d643500015003416749434167494341674943416749434167494341673d3d0001\
-                        010100004f03323132000101694b033200015c033100014c033200014a0347657400014f03343034000101694b\
-                        033300015c033200014c033200014a0347657400014f03323030000101120101",
-                ),
-                "sent 3, 3.0 200, final",
-            ),
-            (
-                Call::Report,
-                "status 1 200
-state over
-",
-            ),
-            (
-                Call::Deliver(
-                    0,
-                    "03a4016a006d6c7103312e3200017203444d2f312e32000165033200015b033100016e570373310001016757036431\
-                        000101016b120101",
-                ),
-                "sent 1 cred divZWK2WGgfHqz+Q2Y3big==, 1.0 200, final",
-            ),
-        ],
-    },
-    // The session ends.
-    Row {
-        name: "refused_twice",
-        job: "server s1 pw 00 - - -\nlimits 16384 4194304\nget ./A\n",
-        large: 0,
-        calls: &[
-            (
-                Call::Deliver(
-                    0,
-                    "03a4016a006d6c7103312e3200017203444d2f312e32000165033100015b033100016e570373310001016757036431\
-                        000101016b120101",
-                ),
-                "sent 1 cred GQYQZ456EoRbgrefspTI7Q==, 1.0 200, get ./A, final",
-            ),
-            (
-                Call::Deliver(
-                    0,
-                    "03a4016a006d6c7103312e3200017203444d2f312e32000165033100015b033200016e570373310001016757036431\
-                        000101016b694b033100015c033100014c033000014a0353796e634864720001495a0001470362363400015303\
-                        73796e636d6c3a617574682d6d643500015003415145424151454241514542415145424151454241513d3d0001\
-                        010100004f03343037000101120101",
-                ),
-                "sent 2 cred HqiTpgpXRKOJC2rV4ENaUw==, 2.0 200, get ./A, final",
-            ),
-            (
-                Call::Deliver(
-                    0,
-                    "03a4016a006d6c7103312e3200017203444d2f312e32000165033100015b033300016e570373310001016757036431\
-                        000101016b694b033100015c033200014c033000014a0353796e634864720001495a0001470362363400015303\
-                        73796e636d6c3a617574682d6d643500015003416749434167494341674943416749434167494341673d3d0001\
-                        010100004f03343031000101694b033200015c033200014c033200014a0347657400014f033230300001011201\
-                        01",
-                ),
-                "sent 3 cred divZWK2WGgfHqz+Q2Y3big==, 3.0 200, alert 1223, final",
-            ),
-            (
-                Call::Deliver(
-                    0,
-                    "03a4016a006d6c7103312e3200017203444d2f312e32000165033100015b033400016e570373310001016757036431\
-                        000101016b120101",
-                ),
-                "ended",
-            ),
-            (
-                Call::Report,
-                "state running
-",
+                0,
+                b"\x03\xa4\x01j\x00mlq\x031.2\x00\x01r\x03DM/1.2\x00\x01e\x032\x00\x01[\x031\x00\x01nW\x03s1\x00\x01\
+                  \x01gW\x03d1\x00\x01\x01\x01k\x12\x01\x01",
+                Answer::Sent,
+                &[b"\x03\xa4\x01j\x00mlq\x031.2\x00\x01r\x03DM/1.2\x00\x01e\x032\x00\x01[\x031\x00\x01nW\x03d1\x00\
+                    \x01\x01gW\x03s1\x00\x01\x01NZ\x00\x01G\x03b64\x00\x01S\x03syncml:auth-md5\x00\x01\x01\x00\x00O\
+                    \x03divZWK2WGgfHqz+Q2Y3big==\x00\x01\x01Z\x00\x01L\x0316384\x00\x01U\x034194304\x00\x01\x01\x01\
+                    \x00\x00kiK\x031\x00\x01\\\x031\x00\x01L\x030\x00\x01J\x03SyncHdr\x00\x01O\x03200\x00\x01\x01\
+                    \x12\x01\x01"],
+                b"",
             ),
         ],
-    },
+    ),
+    // It refuses the server twice, and the session ends.
+    (
+        &[b"dm-job 1\nserver s1 pw 00 - - -\nlimits 16384 4194304\nget ./A\nend\n"],
+        &[
+            // No command.
+            (
+                0,
+                b"\x03\xa4\x01j\x00mlq\x031.2\x00\x01r\x03DM/1.2\x00\x01e\x031\x00\x01[\x031\x00\x01nW\x03s1\x00\x01\
+                  \x01gW\x03d1\x00\x01\x01\x01k\x12\x01\x01",
+                Answer::Sent,
+                &[b"\x03\xa4\x01j\x00mlq\x031.2\x00\x01r\x03DM/1.2\x00\x01e\x031\x00\x01[\x031\x00\x01nW\x03d1\x00\
+                    \x01\x01gW\x03s1\x00\x01\x01NZ\x00\x01G\x03b64\x00\x01S\x03syncml:auth-md5\x00\x01\x01\x00\x00O\
+                    \x03GQYQZ456EoRbgrefspTI7Q==\x00\x01\x01Z\x00\x01L\x0316384\x00\x01U\x034194304\x00\x01\x01\x01\
+                    \x00\x00kiK\x031\x00\x01\\\x031\x00\x01L\x030\x00\x01J\x03SyncHdr\x00\x01O\x03200\x00\x01\x01SK\
+                    \x032\x00\x01TnW\x03./A\x00\x01\x01\x01\x01\x12\x01\x01"],
+                b"state running\n",
+            ),
+            // Status 407 with nonce 1.
+            (
+                0,
+                b"\x03\xa4\x01j\x00mlq\x031.2\x00\x01r\x03DM/1.2\x00\x01e\x031\x00\x01[\x032\x00\x01nW\x03s1\x00\x01\
+                  \x01gW\x03d1\x00\x01\x01\x01kiK\x031\x00\x01\\\x031\x00\x01L\x030\x00\x01J\x03SyncHdr\x00\x01IZ\
+                  \x00\x01G\x03b64\x00\x01S\x03syncml:auth-md5\x00\x01P\x03AQEBAQEBAQEBAQEBAQEBAQ==\x00\x01\x01\x01\
+                  \x00\x00O\x03407\x00\x01\x01\x12\x01\x01",
+                Answer::Sent,
+                &[b"\x03\xa4\x01j\x00mlq\x031.2\x00\x01r\x03DM/1.2\x00\x01e\x031\x00\x01[\x032\x00\x01nW\x03d1\x00\
+                    \x01\x01gW\x03s1\x00\x01\x01NZ\x00\x01G\x03b64\x00\x01S\x03syncml:auth-md5\x00\x01\x01\x00\x00O\
+                    \x03HqiTpgpXRKOJC2rV4ENaUw==\x00\x01\x01Z\x00\x01L\x0316384\x00\x01U\x034194304\x00\x01\x01\x01\
+                    \x00\x00kiK\x031\x00\x01\\\x032\x00\x01L\x030\x00\x01J\x03SyncHdr\x00\x01O\x03200\x00\x01\x01SK\
+                    \x032\x00\x01TnW\x03./A\x00\x01\x01\x01\x01\x12\x01\x01"],
+                b"",
+            ),
+            // Status 401 with nonce 2, and 200 for the Get.
+            (
+                0,
+                b"\x03\xa4\x01j\x00mlq\x031.2\x00\x01r\x03DM/1.2\x00\x01e\x031\x00\x01[\x033\x00\x01nW\x03s1\x00\x01\
+                  \x01gW\x03d1\x00\x01\x01\x01kiK\x031\x00\x01\\\x032\x00\x01L\x030\x00\x01J\x03SyncHdr\x00\x01IZ\
+                  \x00\x01G\x03b64\x00\x01S\x03syncml:auth-md5\x00\x01P\x03AgICAgICAgICAgICAgICAg==\x00\x01\x01\x01\
+                  \x00\x00O\x03401\x00\x01\x01iK\x032\x00\x01\\\x032\x00\x01L\x032\x00\x01J\x03Get\x00\x01O\x03200\
+                  \x00\x01\x01\x12\x01\x01",
+                Answer::Sent,
+                &[b"\x03\xa4\x01j\x00mlq\x031.2\x00\x01r\x03DM/1.2\x00\x01e\x031\x00\x01[\x033\x00\x01nW\x03d1\x00\
+                    \x01\x01gW\x03s1\x00\x01\x01NZ\x00\x01G\x03b64\x00\x01S\x03syncml:auth-md5\x00\x01\x01\x00\x00O\
+                    \x03divZWK2WGgfHqz+Q2Y3big==\x00\x01\x01Z\x00\x01L\x0316384\x00\x01U\x034194304\x00\x01\x01\x01\
+                    \x00\x00kiK\x031\x00\x01\\\x033\x00\x01L\x030\x00\x01J\x03SyncHdr\x00\x01O\x03200\x00\x01\x01FK\
+                    \x032\x00\x01O\x031223\x00\x01\x01\x12\x01\x01"],
+                b"",
+            ),
+            // Behind the end.
+            (
+                0,
+                b"\x03\xa4\x01j\x00mlq\x031.2\x00\x01r\x03DM/1.2\x00\x01e\x031\x00\x01[\x034\x00\x01nW\x03s1\x00\x01\
+                  \x01gW\x03d1\x00\x01\x01\x01k\x12\x01\x01",
+                Answer::Ended,
+                &[],
+                b"",
+            ),
+        ],
+    ),
     // The session goes on until the client tells that it accepted the server.
-    Row {
-        name: "a_password_and_none_told",
-        job: "server s1 pw 00 - - -\nlimits 16384 4194304\nget ./A\n",
-        large: 0,
-        calls: &[
+    (
+        &[b"dm-job 1\nserver s1 pw 00 - - -\nlimits 16384 4194304\nget ./A\nend\n"],
+        &[
+            // No command.
             (
-                Call::Deliver(
-                    0,
-                    "03a4016a006d6c7103312e3200017203444d2f312e32000165033100015b033100016e570373310001016757036431\
-                        000101016b120101",
-                ),
-                "sent 1 cred GQYQZ456EoRbgrefspTI7Q==, 1.0 200, get ./A, final",
+                0,
+                b"\x03\xa4\x01j\x00mlq\x031.2\x00\x01r\x03DM/1.2\x00\x01e\x031\x00\x01[\x031\x00\x01nW\x03s1\x00\x01\
+                  \x01gW\x03d1\x00\x01\x01\x01k\x12\x01\x01",
+                Answer::Sent,
+                &[b"\x03\xa4\x01j\x00mlq\x031.2\x00\x01r\x03DM/1.2\x00\x01e\x031\x00\x01[\x031\x00\x01nW\x03d1\x00\
+                    \x01\x01gW\x03s1\x00\x01\x01NZ\x00\x01G\x03b64\x00\x01S\x03syncml:auth-md5\x00\x01\x01\x00\x00O\
+                    \x03GQYQZ456EoRbgrefspTI7Q==\x00\x01\x01Z\x00\x01L\x0316384\x00\x01U\x034194304\x00\x01\x01\x01\
+                    \x00\x00kiK\x031\x00\x01\\\x031\x00\x01L\x030\x00\x01J\x03SyncHdr\x00\x01O\x03200\x00\x01\x01SK\
+                    \x032\x00\x01TnW\x03./A\x00\x01\x01\x01\x01\x12\x01\x01"],
+                b"state running\n",
             ),
+            // Status 200, and 200 for the Get.
             (
-                Call::Deliver(
-                    0,
-                    "03a4016a006d6c7103312e3200017203444d2f312e32000165033100015b033200016e570373310001016757036431\
-                        000101016b694b033100015c033100014c033000014a0353796e6348647200014f03323030000101694b033200\
-                        015c033100014c033200014a0347657400014f03323030000101120101",
-                ),
-                "sent 2 cred GQYQZ456EoRbgrefspTI7Q==, 2.0 200, final",
+                0,
+                b"\x03\xa4\x01j\x00mlq\x031.2\x00\x01r\x03DM/1.2\x00\x01e\x031\x00\x01[\x032\x00\x01nW\x03s1\x00\x01\
+                  \x01gW\x03d1\x00\x01\x01\x01kiK\x031\x00\x01\\\x031\x00\x01L\x030\x00\x01J\x03SyncHdr\x00\x01O\x03\
+                  200\x00\x01\x01iK\x032\x00\x01\\\x031\x00\x01L\x032\x00\x01J\x03Get\x00\x01O\x03200\x00\x01\x01\
+                  \x12\x01\x01",
+                Answer::Sent,
+                &[b"\x03\xa4\x01j\x00mlq\x031.2\x00\x01r\x03DM/1.2\x00\x01e\x031\x00\x01[\x032\x00\x01nW\x03d1\x00\
+                    \x01\x01gW\x03s1\x00\x01\x01NZ\x00\x01G\x03b64\x00\x01S\x03syncml:auth-md5\x00\x01\x01\x00\x00O\
+                    \x03GQYQZ456EoRbgrefspTI7Q==\x00\x01\x01Z\x00\x01L\x0316384\x00\x01U\x034194304\x00\x01\x01\x01\
+                    \x00\x00kiK\x031\x00\x01\\\x032\x00\x01L\x030\x00\x01J\x03SyncHdr\x00\x01O\x03200\x00\x01\x01\
+                    \x12\x01\x01"],
+                b"status 1 200\nstate over\n",
             ),
+            // Status 212 with nonce 2.
             (
-                Call::Deliver(
-                    0,
-                    "03a4016a006d6c7103312e3200017203444d2f312e32000165033100015b033300016e570373310001016757036431\
-                        000101016b694b033100015c033200014c033000014a0353796e634864720001495a0001470362363400015303\
-                        73796e636d6c3a617574682d6d643500015003416749434167494341674943416749434167494341673d3d0001\
-                        010100004f03323132000101120101",
-                ),
-                "sent 3, 3.0 200, final",
+                0,
+                b"\x03\xa4\x01j\x00mlq\x031.2\x00\x01r\x03DM/1.2\x00\x01e\x031\x00\x01[\x033\x00\x01nW\x03s1\x00\x01\
+                  \x01gW\x03d1\x00\x01\x01\x01kiK\x031\x00\x01\\\x032\x00\x01L\x030\x00\x01J\x03SyncHdr\x00\x01IZ\
+                  \x00\x01G\x03b64\x00\x01S\x03syncml:auth-md5\x00\x01P\x03AgICAgICAgICAgICAgICAg==\x00\x01\x01\x01\
+                  \x00\x00O\x03212\x00\x01\x01\x12\x01\x01",
+                Answer::Sent,
+                &[b"\x03\xa4\x01j\x00mlq\x031.2\x00\x01r\x03DM/1.2\x00\x01e\x031\x00\x01[\x033\x00\x01nW\x03d1\x00\
+                    \x01\x01gW\x03s1\x00\x01\x01Z\x00\x01L\x0316384\x00\x01U\x034194304\x00\x01\x01\x01\x00\x00kiK\
+                    \x031\x00\x01\\\x033\x00\x01L\x030\x00\x01J\x03SyncHdr\x00\x01O\x03200\x00\x01\x01\x12\x01\x01"],
+                b"",
             ),
+            // Behind the end.
             (
-                Call::Deliver(
-                    0,
-                    "03a4016a006d6c7103312e3200017203444d2f312e32000165033100015b033400016e570373310001016757036431\
-                        000101016b120101",
-                ),
-                "ended",
-            ),
-        ],
-    },
-    // Nothing of the job is sent before, and nothing is told.
-    Row {
-        name: "the_client_shows_itself",
-        job: "server s1 - - u up 0a\nlimits 16384 4194304\nget ./A\n",
-        large: 0,
-        calls: &[
-            (
-                Call::Deliver(
-                    7,
-                    "03a4016a006d6c7103312e3200017203444d2f312e32000165033100015b033100016e570373310001016757036431\
-                        000101016b464b033100014f03313232360001545a000153037400010100004f037600010101120101",
-                ),
-                "sent 1, 1.0 407 next BwcHBwcHBwcHBwcHBwcHBw==, final",
-            ),
-            (
-                Call::Report,
-                "state waiting
-",
-            ),
-            (
-                Call::Deliver(
-                    8,
-                    "03a4016a006d6c7103312e3200017203444d2f312e32000165033100015b033200016e570373310001016757036431\
-                        0001014e5a000147036236340001530373796e636d6c3a617574682d6d643500010100004f0342704137464965\
-                        506c6375444452565a36766f416c773d3d000101016b464b033100014f03313232360001545a00015303740001\
-                        0100004f037600010101120101",
-                ),
-                "sent 2, 2.0 212 next CAgICAgICAgICAgICAgICA==, 2.1 200, get ./A, final",
-            ),
-            (
-                Call::Report,
-                "alert 1226 74 76
-state running
-",
+                0,
+                b"\x03\xa4\x01j\x00mlq\x031.2\x00\x01r\x03DM/1.2\x00\x01e\x031\x00\x01[\x034\x00\x01nW\x03s1\x00\x01\
+                  \x01gW\x03d1\x00\x01\x01\x01k\x12\x01\x01",
+                Answer::Ended,
+                &[],
+                b"",
             ),
         ],
-    },
-    Row {
-        name: "the_client_is_denied",
-        job: "server s1 - - u up 0a\nlimits 16384 4194304\nget ./A\n",
-        large: 0,
-        calls: &[
+    ),
+    // The client shows itself: nothing of the job is sent before, and nothing that it tells is kept.
+    (
+        &[b"dm-job 1\nserver s1 - - u up 0a\nlimits 16384 4194304\nget ./A\nend\n"],
+        &[
+            // Alert 1226 without a credential.
             (
-                Call::Deliver(
-                    7,
-                    "03a4016a006d6c7103312e3200017203444d2f312e32000165033100015b033100016e570373310001016757036431\
-                        000101016b120101",
-                ),
-                "sent 1, 1.0 407 next BwcHBwcHBwcHBwcHBwcHBw==, final",
+                7,
+                b"\x03\xa4\x01j\x00mlq\x031.2\x00\x01r\x03DM/1.2\x00\x01e\x031\x00\x01[\x031\x00\x01nW\x03s1\x00\x01\
+                  \x01gW\x03d1\x00\x01\x01\x01kFK\x031\x00\x01O\x031226\x00\x01TZ\x00\x01S\x03t\x00\x01\x01\x00\x00O\
+                  \x03v\x00\x01\x01\x01\x12\x01\x01",
+                Answer::Sent,
+                &[b"\x03\xa4\x01j\x00mlq\x031.2\x00\x01r\x03DM/1.2\x00\x01e\x031\x00\x01[\x031\x00\x01nW\x03d1\x00\
+                    \x01\x01gW\x03s1\x00\x01\x01Z\x00\x01L\x0316384\x00\x01U\x034194304\x00\x01\x01\x01\x00\x00kiK\
+                    \x031\x00\x01\\\x031\x00\x01L\x030\x00\x01J\x03SyncHdr\x00\x01IZ\x00\x01G\x03b64\x00\x01S\x03syn\
+                    cml:auth-md5\x00\x01P\x03BwcHBwcHBwcHBwcHBwcHBw==\x00\x01\x01\x01\x00\x00O\x03407\x00\x01\x01\
+                    \x12\x01\x01"],
+                b"",
             ),
+            // The same with a credential of nonce 7.
             (
-                Call::Deliver(
-                    8,
-                    "03a4016a006d6c7103312e3200017203444d2f312e32000165033100015b033200016e570373310001016757036431\
-                        0001014e5a000147036236340001530373796e636d6c3a617574682d6d643500010100004f03512b593265394b\
-                        6c7959554466525634685076746e413d3d000101016b120101",
-                ),
-                "sent 2, 2.0 401 next CAgICAgICAgICAgICAgICA==, alert 1223, final",
-            ),
-            (
-                Call::Deliver(
-                    0,
-                    "03a4016a006d6c7103312e3200017203444d2f312e32000165033100015b033300016e570373310001016757036431\
-                        0001014e5a000147036236340001530373796e636d6c3a617574682d6d643500010100004f03684a3270773234\
-                        5569686f4b4a623443795a777570673d3d000101016b120101",
-                ),
-                "ended",
+                8,
+                b"\x03\xa4\x01j\x00mlq\x031.2\x00\x01r\x03DM/1.2\x00\x01e\x031\x00\x01[\x032\x00\x01nW\x03s1\x00\x01\
+                  \x01gW\x03d1\x00\x01\x01NZ\x00\x01G\x03b64\x00\x01S\x03syncml:auth-md5\x00\x01\x01\x00\x00O\x03BpA\
+                  7FIePlcuDDRVZ6voAlw==\x00\x01\x01\x01kFK\x031\x00\x01O\x031226\x00\x01TZ\x00\x01S\x03t\x00\x01\x01\
+                  \x00\x00O\x03v\x00\x01\x01\x01\x12\x01\x01",
+                Answer::Sent,
+                &[b"\x03\xa4\x01j\x00mlq\x031.2\x00\x01r\x03DM/1.2\x00\x01e\x031\x00\x01[\x032\x00\x01nW\x03d1\x00\
+                    \x01\x01gW\x03s1\x00\x01\x01Z\x00\x01L\x0316384\x00\x01U\x034194304\x00\x01\x01\x01\x00\x00kiK\
+                    \x031\x00\x01\\\x032\x00\x01L\x030\x00\x01J\x03SyncHdr\x00\x01IZ\x00\x01G\x03b64\x00\x01S\x03syn\
+                    cml:auth-md5\x00\x01P\x03CAgICAgICAgICAgICAgICA==\x00\x01\x01\x01\x00\x00O\x03212\x00\x01\x01iK\
+                    \x032\x00\x01\\\x032\x00\x01L\x031\x00\x01J\x03Alert\x00\x01O\x03200\x00\x01\x01SK\x033\x00\x01T\
+                    nW\x03./A\x00\x01\x01\x01\x01\x12\x01\x01"],
+                b"alert 1226 74 76\nstate running\n",
             ),
         ],
-    },
+    ),
+    // The client shows wrong credentials, and is denied.
+    (
+        &[b"dm-job 1\nserver s1 - - u up 0a\nlimits 16384 4194304\nget ./A\nend\n"],
+        &[
+            // No credential.
+            (
+                7,
+                b"\x03\xa4\x01j\x00mlq\x031.2\x00\x01r\x03DM/1.2\x00\x01e\x031\x00\x01[\x031\x00\x01nW\x03s1\x00\x01\
+                  \x01gW\x03d1\x00\x01\x01\x01k\x12\x01\x01",
+                Answer::Sent,
+                &[b"\x03\xa4\x01j\x00mlq\x031.2\x00\x01r\x03DM/1.2\x00\x01e\x031\x00\x01[\x031\x00\x01nW\x03d1\x00\
+                    \x01\x01gW\x03s1\x00\x01\x01Z\x00\x01L\x0316384\x00\x01U\x034194304\x00\x01\x01\x01\x00\x00kiK\
+                    \x031\x00\x01\\\x031\x00\x01L\x030\x00\x01J\x03SyncHdr\x00\x01IZ\x00\x01G\x03b64\x00\x01S\x03syn\
+                    cml:auth-md5\x00\x01P\x03BwcHBwcHBwcHBwcHBwcHBw==\x00\x01\x01\x01\x00\x00O\x03407\x00\x01\x01\
+                    \x12\x01\x01"],
+                b"",
+            ),
+            // One of the password `no`, with nonce 7.
+            (
+                8,
+                b"\x03\xa4\x01j\x00mlq\x031.2\x00\x01r\x03DM/1.2\x00\x01e\x031\x00\x01[\x032\x00\x01nW\x03s1\x00\x01\
+                  \x01gW\x03d1\x00\x01\x01NZ\x00\x01G\x03b64\x00\x01S\x03syncml:auth-md5\x00\x01\x01\x00\x00O\x03Fz2\
+                  QbqdCke4EokUg5hKu4w==\x00\x01\x01\x01k\x12\x01\x01",
+                Answer::Sent,
+                &[b"\x03\xa4\x01j\x00mlq\x031.2\x00\x01r\x03DM/1.2\x00\x01e\x031\x00\x01[\x032\x00\x01nW\x03d1\x00\
+                    \x01\x01gW\x03s1\x00\x01\x01Z\x00\x01L\x0316384\x00\x01U\x034194304\x00\x01\x01\x01\x00\x00kiK\
+                    \x031\x00\x01\\\x032\x00\x01L\x030\x00\x01J\x03SyncHdr\x00\x01IZ\x00\x01G\x03b64\x00\x01S\x03syn\
+                    cml:auth-md5\x00\x01P\x03CAgICAgICAgICAgICAgICA==\x00\x01\x01\x01\x00\x00O\x03401\x00\x01\x01FK\
+                    \x032\x00\x01O\x031223\x00\x01\x01\x12\x01\x01"],
+                b"",
+            ),
+            // A right one of nonce 8.
+            (
+                0,
+                b"\x03\xa4\x01j\x00mlq\x031.2\x00\x01r\x03DM/1.2\x00\x01e\x031\x00\x01[\x033\x00\x01nW\x03s1\x00\x01\
+                  \x01gW\x03d1\x00\x01\x01NZ\x00\x01G\x03b64\x00\x01S\x03syncml:auth-md5\x00\x01\x01\x00\x00O\x03hJ2\
+                  pw24UihoKJb4CyZwupg==\x00\x01\x01\x01k\x12\x01\x01",
+                Answer::Ended,
+                &[],
+                b"",
+            ),
+        ],
+    ),
+    // A job of two packages, the second of which the client refuses: the code and the value of the first stay.
+    (
+        &[b"dm-job 1\nserver s1 pw 00 - - -\nlimits 16384 4194304\nget ./A\npackage\nget ./B\nend\n"],
+        &[
+            // No command.
+            (
+                0,
+                b"\x03\xa4\x01j\x00mlq\x031.2\x00\x01r\x03DM/1.2\x00\x01e\x031\x00\x01[\x031\x00\x01nW\x03s1\x00\x01\
+                  \x01gW\x03d1\x00\x01\x01\x01k\x12\x01\x01",
+                Answer::Sent,
+                &[b"\x03\xa4\x01j\x00mlq\x031.2\x00\x01r\x03DM/1.2\x00\x01e\x031\x00\x01[\x031\x00\x01nW\x03d1\x00\
+                    \x01\x01gW\x03s1\x00\x01\x01NZ\x00\x01G\x03b64\x00\x01S\x03syncml:auth-md5\x00\x01\x01\x00\x00O\
+                    \x03GQYQZ456EoRbgrefspTI7Q==\x00\x01\x01Z\x00\x01L\x0316384\x00\x01U\x034194304\x00\x01\x01\x01\
+                    \x00\x00kiK\x031\x00\x01\\\x031\x00\x01L\x030\x00\x01J\x03SyncHdr\x00\x01O\x03200\x00\x01\x01SK\
+                    \x032\x00\x01TnW\x03./A\x00\x01\x01\x01\x01\x12\x01\x01"],
+                b"state running\n",
+            ),
+            // Status 200 with the value for the first Get.
+            (
+                0,
+                b"\x03\xa4\x01j\x00mlq\x031.2\x00\x01r\x03DM/1.2\x00\x01e\x031\x00\x01[\x032\x00\x01nW\x03s1\x00\x01\
+                  \x01gW\x03d1\x00\x01\x01\x01kiK\x031\x00\x01\\\x031\x00\x01L\x032\x00\x01J\x03Get\x00\x01O\x03200\
+                  \x00\x01\x01bK\x032\x00\x01\\\x031\x00\x01L\x032\x00\x01TgW\x03./A\x00\x01\x01Z\x00\x01G\x03chr\
+                  \x00\x01S\x03text/plain\x00\x01\x01\x00\x00O\x03x\x00\x01\x01\x01\x12\x01\x01",
+                Answer::Sent,
+                &[b"\x03\xa4\x01j\x00mlq\x031.2\x00\x01r\x03DM/1.2\x00\x01e\x031\x00\x01[\x032\x00\x01nW\x03d1\x00\
+                    \x01\x01gW\x03s1\x00\x01\x01NZ\x00\x01G\x03b64\x00\x01S\x03syncml:auth-md5\x00\x01\x01\x00\x00O\
+                    \x03GQYQZ456EoRbgrefspTI7Q==\x00\x01\x01Z\x00\x01L\x0316384\x00\x01U\x034194304\x00\x01\x01\x01\
+                    \x00\x00kiK\x031\x00\x01\\\x032\x00\x01L\x030\x00\x01J\x03SyncHdr\x00\x01O\x03200\x00\x01\x01SK\
+                    \x032\x00\x01TnW\x03./B\x00\x01\x01\x01\x01\x12\x01\x01"],
+                b"status 1 200\nresult 2e2f41 636872 746578742f706c61696e 78\nstate running\n",
+            ),
+            // Status 401 for the header, with nonce 1, and 200 with a value for the second.
+            (
+                0,
+                b"\x03\xa4\x01j\x00mlq\x031.2\x00\x01r\x03DM/1.2\x00\x01e\x031\x00\x01[\x033\x00\x01nW\x03s1\x00\x01\
+                  \x01gW\x03d1\x00\x01\x01\x01kiK\x031\x00\x01\\\x032\x00\x01L\x030\x00\x01J\x03SyncHdr\x00\x01IZ\
+                  \x00\x01G\x03b64\x00\x01S\x03syncml:auth-md5\x00\x01P\x03AQEBAQEBAQEBAQEBAQEBAQ==\x00\x01\x01\x01\
+                  \x00\x00O\x03401\x00\x01\x01iK\x032\x00\x01\\\x032\x00\x01L\x032\x00\x01J\x03Get\x00\x01O\x03200\
+                  \x00\x01\x01bK\x033\x00\x01\\\x032\x00\x01L\x032\x00\x01TgW\x03./B\x00\x01\x01Z\x00\x01G\x03chr\
+                  \x00\x01S\x03text/plain\x00\x01\x01\x00\x00O\x03y\x00\x01\x01\x01\x12\x01\x01",
+                Answer::Sent,
+                &[b"\x03\xa4\x01j\x00mlq\x031.2\x00\x01r\x03DM/1.2\x00\x01e\x031\x00\x01[\x033\x00\x01nW\x03d1\x00\
+                    \x01\x01gW\x03s1\x00\x01\x01NZ\x00\x01G\x03b64\x00\x01S\x03syncml:auth-md5\x00\x01\x01\x00\x00O\
+                    \x03HqiTpgpXRKOJC2rV4ENaUw==\x00\x01\x01Z\x00\x01L\x0316384\x00\x01U\x034194304\x00\x01\x01\x01\
+                    \x00\x00kiK\x031\x00\x01\\\x033\x00\x01L\x030\x00\x01J\x03SyncHdr\x00\x01O\x03200\x00\x01\x01SK\
+                    \x032\x00\x01TnW\x03./B\x00\x01\x01\x01\x01\x12\x01\x01"],
+                b"",
+            ),
+            // Status 212 with nonce 2, and 404 for the one that was sent again.
+            (
+                0,
+                b"\x03\xa4\x01j\x00mlq\x031.2\x00\x01r\x03DM/1.2\x00\x01e\x031\x00\x01[\x034\x00\x01nW\x03s1\x00\x01\
+                  \x01gW\x03d1\x00\x01\x01\x01kiK\x031\x00\x01\\\x033\x00\x01L\x030\x00\x01J\x03SyncHdr\x00\x01IZ\
+                  \x00\x01G\x03b64\x00\x01S\x03syncml:auth-md5\x00\x01P\x03AgICAgICAgICAgICAgICAg==\x00\x01\x01\x01\
+                  \x00\x00O\x03212\x00\x01\x01iK\x032\x00\x01\\\x033\x00\x01L\x032\x00\x01J\x03Get\x00\x01O\x03404\
+                  \x00\x01\x01\x12\x01\x01",
+                Answer::Sent,
+                &[b"\x03\xa4\x01j\x00mlq\x031.2\x00\x01r\x03DM/1.2\x00\x01e\x031\x00\x01[\x034\x00\x01nW\x03d1\x00\
+                    \x01\x01gW\x03s1\x00\x01\x01Z\x00\x01L\x0316384\x00\x01U\x034194304\x00\x01\x01\x01\x00\x00kiK\
+                    \x031\x00\x01\\\x034\x00\x01L\x030\x00\x01J\x03SyncHdr\x00\x01O\x03200\x00\x01\x01\x12\x01\x01"],
+                b"status 1 200\nresult 2e2f41 636872 746578742f706c61696e 78\nstatus 2 404\nstate over\n",
+            ),
+        ],
+    ),
 ];

@@ -1,248 +1,184 @@
 // What messages tell of a job's commands.
-use crate::rows::{Call, Row};
+use crate::rows::Row;
+use dm_server::Answer;
 
-pub const JOBS: [Row; 5] = [
-    // The last one counts; one for no command tells nothing.
-    Row {
-        name: "statuses_in_any_order",
-        job: "server s1 - - - - -\nlimits 16384 4194304\nget ./A\nget ./B\nget ./C\n",
-        large: 0,
-        calls: &[
+// 3,000 bytes in hexadecimal.
+const SIXES: &[u8] = &[b'6'; 6000];
+
+// 1,873 of them, and the other 1,127.
+const PART: &[u8] = &[b'f'; 1873];
+
+const REST: &[u8] = &[b'f'; 1127];
+
+#[rattlefmt::skip]
+pub(crate) const JOBS: [Row; 5] = [
+    // Statuses in any order: the last one counts, and one for no command tells nothing.
+    (
+        &[b"dm-job 1\nserver s1 - - - - -\nlimits 16384 4194304\nget ./A\nget ./B\nget ./C\nend\n"],
+        &[
+            // No command.
             (
-                Call::Deliver(
-                    0,
-                    "03a4016a006d6c7103312e3200017203444d2f312e32000165033100015b033100016e570373310001016757036431\
-                        000101016b120101",
-                ),
-                "sent 1, 1.0 200, get ./A, get ./B, get ./C, final",
+                0,
+                b"\x03\xa4\x01j\x00mlq\x031.2\x00\x01r\x03DM/1.2\x00\x01e\x031\x00\x01[\x031\x00\x01nW\x03s1\x00\x01\
+                  \x01gW\x03d1\x00\x01\x01\x01k\x12\x01\x01",
+                Answer::Sent,
+                &[b"\x03\xa4\x01j\x00mlq\x031.2\x00\x01r\x03DM/1.2\x00\x01e\x031\x00\x01[\x031\x00\x01nW\x03d1\x00\
+                    \x01\x01gW\x03s1\x00\x01\x01Z\x00\x01L\x0316384\x00\x01U\x034194304\x00\x01\x01\x01\x00\x00kiK\
+                    \x031\x00\x01\\\x031\x00\x01L\x030\x00\x01J\x03SyncHdr\x00\x01O\x03200\x00\x01\x01SK\x032\x00\
+                    \x01TnW\x03./A\x00\x01\x01\x01\x01SK\x033\x00\x01TnW\x03./B\x00\x01\x01\x01\x01SK\x034\x00\x01Tn\
+                    W\x03./C\x00\x01\x01\x01\x01\x12\x01\x01"],
+                b"state running\n",
             ),
+            // Status 404 for the third Get, 200 and 405 for the first, 200 for commands and messages that were not
+            // sent; and no Final.
             (
-                Call::Deliver(
-                    0,
-                    "03a4016a006d6c7103312e3200017203444d2f312e32000165033100015b033200016e570373310001016757036431\
-                        000101016b694b033100015c033100014c033000014a0353796e6348647200014f03323030000101694b033200\
-                        015c033100014c033400014a0347657400014f03343034000101694b033300015c033100014c033200014a0347\
-                        657400014f03323030000101694b033400015c033100014c033200014a0347657400014f03343035000101694b\
-                        033500015c033100014c033900014a0347657400014f033230300001010101",
-                ),
-                "sent 2, 2.0 200, alert 1222",
+                0,
+                b"\x03\xa4\x01j\x00mlq\x031.2\x00\x01r\x03DM/1.2\x00\x01e\x031\x00\x01[\x032\x00\x01nW\x03s1\x00\x01\
+                  \x01gW\x03d1\x00\x01\x01\x01kiK\x031\x00\x01\\\x031\x00\x01L\x030\x00\x01J\x03SyncHdr\x00\x01O\x03\
+                  200\x00\x01\x01iK\x032\x00\x01\\\x031\x00\x01L\x034\x00\x01J\x03Get\x00\x01O\x03404\x00\x01\x01iK\
+                  \x033\x00\x01\\\x031\x00\x01L\x032\x00\x01J\x03Get\x00\x01O\x03200\x00\x01\x01iK\x034\x00\x01\\\
+                  \x031\x00\x01L\x032\x00\x01J\x03Get\x00\x01O\x03405\x00\x01\x01iK\x035\x00\x01\\\x031\x00\x01L\x03\
+                  9\x00\x01J\x03Get\x00\x01O\x03200\x00\x01\x01iK\x036\x00\x01\\\x033\x00\x01L\x032\x00\x01J\x03Get\
+                  \x00\x01O\x03200\x00\x01\x01\x01\x01",
+                Answer::Sent,
+                &[b"\x03\xa4\x01j\x00mlq\x031.2\x00\x01r\x03DM/1.2\x00\x01e\x031\x00\x01[\x032\x00\x01nW\x03d1\x00\
+                    \x01\x01gW\x03s1\x00\x01\x01Z\x00\x01L\x0316384\x00\x01U\x034194304\x00\x01\x01\x01\x00\x00kiK\
+                    \x031\x00\x01\\\x032\x00\x01L\x030\x00\x01J\x03SyncHdr\x00\x01O\x03200\x00\x01\x01FK\x032\x00\
+                    \x01O\x031222\x00\x01\x01\x01\x01"],
+                b"status 1 405\nstate running\n",
             ),
+            // Status 200 for the second, and 500 for the first.
             (
-                Call::Report,
-                "status 1 405
-state running
-",
-            ),
-            (
-                Call::Deliver(
-                    0,
-                    "03a4016a006d6c7103312e3200017203444d2f312e32000165033100015b033300016e570373310001016757036431\
-                        000101016b694b033100015c033200014c033000014a0353796e6348647200014f03323030000101694b033200\
-                        015c033100014c033300014a0347657400014f03323030000101120101",
-                ),
-                "sent 3, 3.0 200, final",
-            ),
-            (
-                Call::Report,
-                "status 1 405
-status 2 200
-status 3 404
-state over
-",
-            ),
-        ],
-    },
-    // Those without a MsgRef, and those for no command, are none of them.
-    Row {
-        name: "results_in_pieces",
-        job: "server s1 - - - - -\nlimits 16384 4194304\nget ./A\n",
-        large: 0,
-        calls: &[
-            (
-                Call::Deliver(
-                    0,
-                    "03a4016a006d6c7103312e3200017203444d2f312e32000165033100015b033100016e570373310001016757036431\
-                        000101016b120101",
-                ),
-                "sent 1, 1.0 200, get ./A, final",
-            ),
-            (
-                Call::Deliver(
-                    0,
-                    "03a4016a006d6c7103312e3200017203444d2f312e32000165033100015b033200016e570373310001016757036431\
-                        000101016b694b033100015c033100014c033000014a0353796e6348647200014f03323030000101694b033200\
-                        015c033100014c033200014a0347657400014f03323030000101624b033300015c033100014c03320001546757\
-                        032e2f410001015a0001470363687200015303746578742f706c61696e000152033600010100004f0361620001\
-                        340101464b033400014f03313232320001010101",
-                ),
-                "sent 2, 2.0 200, 2.4 200, alert 1222",
-            ),
-            (
-                Call::Deliver(
-                    0,
-                    "03a4016a006d6c7103312e3200017203444d2f312e32000165033100015b033300016e570373310001016757036431\
-                        000101016b624b033100014c03320001546757032e2f410001015a0001470363687200015303746578742f706c\
-                        61696e00010100004f037a7a0001340101624b033200015c033100014c03390001546757032e2f410001015a00\
-                        01470363687200015303746578742f706c61696e00010100004f037a7a0001340101624b033300015c03310001\
-                        4c03320001546757032e2f410001015a0001470363687200015303746578742f706c61696e00010100004f0363\
-                        6400013401010101",
-                ),
-                "sent 3, 3.0 200, alert 1222",
-            ),
-            (
-                Call::Report,
-                "status 1 200
-state over
-",
-            ),
-            (
-                Call::Deliver(
-                    0,
-                    "03a4016a006d6c7103312e3200017203444d2f312e32000165033100015b033400016e570373310001016757036431\
-                        000101016b624b033100015c033100014c03320001546757032e2f410001015a00014703636872000153037465\
-                        78742f706c61696e00010100004f03656600010101120101",
-                ),
-                "sent 4, 4.0 200, final",
-            ),
-            (
-                Call::Report,
-                "status 1 200
-result 2e2f41 636872 746578742f706c61696e 616263646566
-state over
-",
+                0,
+                b"\x03\xa4\x01j\x00mlq\x031.2\x00\x01r\x03DM/1.2\x00\x01e\x031\x00\x01[\x033\x00\x01nW\x03s1\x00\x01\
+                  \x01gW\x03d1\x00\x01\x01\x01kiK\x031\x00\x01\\\x032\x00\x01L\x030\x00\x01J\x03SyncHdr\x00\x01O\x03\
+                  200\x00\x01\x01iK\x032\x00\x01\\\x031\x00\x01L\x033\x00\x01J\x03Get\x00\x01O\x03200\x00\x01\x01iK\
+                  \x033\x00\x01\\\x031\x00\x01L\x032\x00\x01J\x03Get\x00\x01O\x03500\x00\x01\x01\x12\x01\x01",
+                Answer::Sent,
+                &[b"\x03\xa4\x01j\x00mlq\x031.2\x00\x01r\x03DM/1.2\x00\x01e\x031\x00\x01[\x033\x00\x01nW\x03d1\x00\
+                    \x01\x01gW\x03s1\x00\x01\x01Z\x00\x01L\x0316384\x00\x01U\x034194304\x00\x01\x01\x01\x00\x00kiK\
+                    \x031\x00\x01\\\x033\x00\x01L\x030\x00\x01J\x03SyncHdr\x00\x01O\x03200\x00\x01\x01\x12\x01\x01"],
+                b"status 1 500\nstatus 2 200\nstatus 3 404\nstate over\n",
             ),
         ],
-    },
-    // It breaks the value that is being gathered.
-    Row {
-        name: "a_piece_of_another_target",
-        job: "server s1 - - - - -\nlimits 16384 4194304\nget ./A\n",
-        large: 0,
-        calls: &[
+    ),
+    // The report stops before the first command without its code, and has all alerts.
+    (
+        &[b"dm-job 1\nserver s1 - - - - -\nlimits 16384 4194304\nget ./A\nget ./B\nget ./C\nend\n"],
+        &[
+            // No command.
             (
-                Call::Deliver(
-                    0,
-                    "03a4016a006d6c7103312e3200017203444d2f312e32000165033100015b033100016e570373310001016757036431\
-                        000101016b120101",
-                ),
-                "sent 1, 1.0 200, get ./A, final",
+                0,
+                b"\x03\xa4\x01j\x00mlq\x031.2\x00\x01r\x03DM/1.2\x00\x01e\x031\x00\x01[\x031\x00\x01nW\x03s1\x00\x01\
+                  \x01gW\x03d1\x00\x01\x01\x01k\x12\x01\x01",
+                Answer::Sent,
+                &[b"\x03\xa4\x01j\x00mlq\x031.2\x00\x01r\x03DM/1.2\x00\x01e\x031\x00\x01[\x031\x00\x01nW\x03d1\x00\
+                    \x01\x01gW\x03s1\x00\x01\x01Z\x00\x01L\x0316384\x00\x01U\x034194304\x00\x01\x01\x01\x00\x00kiK\
+                    \x031\x00\x01\\\x031\x00\x01L\x030\x00\x01J\x03SyncHdr\x00\x01O\x03200\x00\x01\x01SK\x032\x00\
+                    \x01TnW\x03./A\x00\x01\x01\x01\x01SK\x033\x00\x01TnW\x03./B\x00\x01\x01\x01\x01SK\x034\x00\x01Tn\
+                    W\x03./C\x00\x01\x01\x01\x01\x12\x01\x01"],
+                b"state running\n",
             ),
+            // Codes for the first and the third, and a value for the third.
             (
-                Call::Deliver(
-                    0,
-                    "03a4016a006d6c7103312e3200017203444d2f312e32000165033100015b033200016e570373310001016757036431\
-                        000101016b694b033100015c033100014c033000014a0353796e6348647200014f03323030000101694b033200\
-                        015c033100014c033200014a0347657400014f03323030000101624b033300015c033100014c03320001546757\
-                        032e2f410001015a0001470363687200015303746578742f706c61696e000152033400010100004f0361620001\
-                        3401010101",
-                ),
-                "sent 2, 2.0 200, alert 1222",
+                0,
+                b"\x03\xa4\x01j\x00mlq\x031.2\x00\x01r\x03DM/1.2\x00\x01e\x031\x00\x01[\x032\x00\x01nW\x03s1\x00\x01\
+                  \x01gW\x03d1\x00\x01\x01\x01kiK\x031\x00\x01\\\x031\x00\x01L\x032\x00\x01J\x03Get\x00\x01O\x03200\
+                  \x00\x01\x01bK\x032\x00\x01\\\x031\x00\x01L\x034\x00\x01TgW\x03./A\x00\x01\x01Z\x00\x01G\x03chr\
+                  \x00\x01S\x03text/plain\x00\x01\x01\x00\x00O\x03ab\x00\x01\x01\x01iK\x033\x00\x01\\\x031\x00\x01L\
+                  \x034\x00\x01J\x03Get\x00\x01O\x03200\x00\x01\x01\x01\x01",
+                Answer::Sent,
+                &[b"\x03\xa4\x01j\x00mlq\x031.2\x00\x01r\x03DM/1.2\x00\x01e\x031\x00\x01[\x032\x00\x01nW\x03d1\x00\
+                    \x01\x01gW\x03s1\x00\x01\x01Z\x00\x01L\x0316384\x00\x01U\x034194304\x00\x01\x01\x01\x00\x00kiK\
+                    \x031\x00\x01\\\x032\x00\x01L\x030\x00\x01J\x03SyncHdr\x00\x01O\x03200\x00\x01\x01FK\x032\x00\
+                    \x01O\x031222\x00\x01\x01\x01\x01"],
+                b"status 1 200\nstate running\n",
             ),
+            // Alert 1226.
             (
-                Call::Deliver(
-                    0,
-                    "03a4016a006d6c7103312e3200017203444d2f312e32000165033100015b033300016e570373310001016757036431\
-                        000101016b624b033100015c033100014c03320001546757032e2f580001015a00014703636872000153037465\
-                        78742f706c61696e00010100004f037a7a00010101624b033200015c033100014c03320001546757032e2f4100\
-                        01015a0001470363687200015303746578742f706c61696e00010100004f03636400010101120101",
-                ),
-                "sent 3, 3.0 200, final",
+                0,
+                b"\x03\xa4\x01j\x00mlq\x031.2\x00\x01r\x03DM/1.2\x00\x01e\x031\x00\x01[\x033\x00\x01nW\x03s1\x00\x01\
+                  \x01gW\x03d1\x00\x01\x01\x01kFK\x031\x00\x01O\x031226\x00\x01TgW\x03./A\x00\x01\x01Z\x00\x01G\x03c\
+                  hr\x00\x01S\x03text/plain\x00\x01\x01\x00\x00O\x03ab\x00\x01\x01\x01\x01\x01",
+                Answer::Sent,
+                &[b"\x03\xa4\x01j\x00mlq\x031.2\x00\x01r\x03DM/1.2\x00\x01e\x031\x00\x01[\x033\x00\x01nW\x03d1\x00\
+                    \x01\x01gW\x03s1\x00\x01\x01Z\x00\x01L\x0316384\x00\x01U\x034194304\x00\x01\x01\x01\x00\x00kiK\
+                    \x031\x00\x01\\\x033\x00\x01L\x030\x00\x01J\x03SyncHdr\x00\x01O\x03200\x00\x01\x01iK\x032\x00\
+                    \x01\\\x033\x00\x01L\x031\x00\x01J\x03Alert\x00\x01O\x03200\x00\x01\x01FK\x033\x00\x01O\x031222\
+                    \x00\x01\x01\x01\x01"],
+                b"status 1 200\nalert 1226 746578742f706c61696e 6162\nstate running\n",
             ),
+            // The second code.
             (
-                Call::Report,
-                "status 1 200
-result 2e2f58 636872 746578742f706c61696e 7a7a
-result 2e2f41 636872 746578742f706c61696e 6364
-state over
-",
-            ),
-        ],
-    },
-    // The first piece comes before the client refuses the server, and the last one for the command as it is sent anew.
-    // What is forgotten is the code that came with the first.
-    Row {
-        name: "a_value_over_a_refusal",
-        job: "server s1 pw 00 - - -\nlimits 16384 4194304\nget ./A\npackage\nget ./B\n",
-        large: 0,
-        calls: &[
-            (
-                Call::Deliver(
-                    0,
-                    "03a4016a006d6c7103312e3200017203444d2f312e32000165033100015b033100016e570373310001016757036431\
-                        000101016b120101",
-                ),
-                "sent 1 cred GQYQZ456EoRbgrefspTI7Q==, 1.0 200, get ./A, final",
-            ),
-            (
-                Call::Deliver(
-                    0,
-                    "03a4016a006d6c7103312e3200017203444d2f312e32000165033100015b033200016e570373310001016757036431\
-                        000101016b694b033100015c033100014c033200014a0347657400014f03323030000101624b033200015c0331\
-                        00014c03320001546757032e2f410001015a0001470363687200015303746578742f706c61696e000152033400\
-                        010100004f0378790001340101464b033300014f03313232320001010101",
-                ),
-                "sent 2 cred GQYQZ456EoRbgrefspTI7Q==, 2.0 200, 2.3 200, alert 1222",
-            ),
-            (
-                Call::Report,
-                "status 1 200
-state running
-",
-            ),
-            (
-                Call::Deliver(
-                    0,
-                    "03a4016a006d6c7103312e3200017203444d2f312e32000165033100015b033300016e570373310001016757036431\
-                        000101016b694b033100015c033200014c033000014a0353796e634864720001495a0001470362363400015303\
-                        73796e636d6c3a617574682d6d643500015003415145424151454241514542415145424151454241513d3d0001\
-                        010100004f03343031000101120101",
-                ),
-                "sent 3 cred HqiTpgpXRKOJC2rV4ENaUw==, 3.0 200, get ./A, final",
-            ),
-            (
-                Call::Report,
-                "state running
-",
-            ),
-            (
-                Call::Deliver(
-                    0,
-                    "03a4016a006d6c7103312e3200017203444d2f312e32000165033100015b033400016e570373310001016757036431\
-                        000101016b694b033100015c033300014c033000014a0353796e634864720001495a0001470362363400015303\
-                        73796e636d6c3a617574682d6d643500015003416749434167494341674943416749434167494341673d3d0001\
-                        010100004f03323132000101694b033200015c033300014c033200014a0347657400014f03323030000101624b\
-                        033300015c033300014c03320001546757032e2f410001015a0001470363687200015303746578742f706c6169\
-                        6e00010100004f037a7700010101120101",
-                ),
-                "sent 4, 4.0 200, get ./B, final",
-            ),
-            (
-                Call::Report,
-                "status 1 200
-result 2e2f41 636872 746578742f706c61696e 78797a77
-state running
-",
-            ),
-            (
-                Call::Deliver(
-                    0,
-                    "03a4016a006d6c7103312e3200017203444d2f312e32000165033100015b033500016e570373310001016757036431\
-                        000101016b694b033100015c033400014c033000014a0353796e6348647200014f03323030000101694b033200\
-                        015c033400014c033200014a0347657400014f03343034000101120101",
-                ),
-                "sent 5, 5.0 200, final",
-            ),
-            (
-                Call::Report,
-                "status 1 200
-result 2e2f41 636872 746578742f706c61696e 78797a77
-status 2 404
-state over
-",
+                0,
+                b"\x03\xa4\x01j\x00mlq\x031.2\x00\x01r\x03DM/1.2\x00\x01e\x031\x00\x01[\x034\x00\x01nW\x03s1\x00\x01\
+                  \x01gW\x03d1\x00\x01\x01\x01kiK\x031\x00\x01\\\x031\x00\x01L\x033\x00\x01J\x03Get\x00\x01O\x03404\
+                  \x00\x01\x01\x12\x01\x01",
+                Answer::Sent,
+                &[b"\x03\xa4\x01j\x00mlq\x031.2\x00\x01r\x03DM/1.2\x00\x01e\x031\x00\x01[\x034\x00\x01nW\x03d1\x00\
+                    \x01\x01gW\x03s1\x00\x01\x01Z\x00\x01L\x0316384\x00\x01U\x034194304\x00\x01\x01\x01\x00\x00kiK\
+                    \x031\x00\x01\\\x034\x00\x01L\x030\x00\x01J\x03SyncHdr\x00\x01O\x03200\x00\x01\x01\x12\x01\x01"],
+                b"status 1 200\nstatus 2 404\nstatus 3 200\nresult 2e2f41 636872 746578742f706c61696e 6162\nalert 12\
+                  26 746578742f706c61696e 6162\nstate over\n",
             ),
         ],
-    },
-    // The code of its last part counts. A message of 2,048 bytes takes 1,873 bytes `a`, since all else of it takes 175:
+    ),
+    // Alerts 1226: without an item, with two, with neither Type nor Data, and one that comes twice; others are not
+    // kept.
+    (
+        &[b"dm-job 1\nserver s1 - - - - -\nlimits 16384 4194304\nget ./A\nend\n"],
+        &[
+            // Without an item, and with two.
+            (
+                0,
+                b"\x03\xa4\x01j\x00mlq\x031.2\x00\x01r\x03DM/1.2\x00\x01e\x031\x00\x01[\x031\x00\x01nW\x03s1\x00\x01\
+                  \x01gW\x03d1\x00\x01\x01\x01kFK\x031\x00\x01O\x031226\x00\x01\x01FK\x032\x00\x01O\x031226\x00\x01T\
+                  gW\x03./B\x00\x01\x01Z\x00\x01S\x03text/plain\x00\x01\x01\x00\x00O\x03x\x00\x01\x01TgW\x03./A\x00\
+                  \x01\x01Z\x00\x01S\x03chr\x00\x01\x01\x00\x00O\x03y\x00\x01\x01\x01\x12\x01\x01",
+                Answer::Sent,
+                &[b"\x03\xa4\x01j\x00mlq\x031.2\x00\x01r\x03DM/1.2\x00\x01e\x031\x00\x01[\x031\x00\x01nW\x03d1\x00\
+                    \x01\x01gW\x03s1\x00\x01\x01Z\x00\x01L\x0316384\x00\x01U\x034194304\x00\x01\x01\x01\x00\x00kiK\
+                    \x031\x00\x01\\\x031\x00\x01L\x030\x00\x01J\x03SyncHdr\x00\x01O\x03200\x00\x01\x01iK\x032\x00\
+                    \x01\\\x031\x00\x01L\x031\x00\x01J\x03Alert\x00\x01O\x03200\x00\x01\x01iK\x033\x00\x01\\\x031\
+                    \x00\x01L\x032\x00\x01J\x03Alert\x00\x01O\x03200\x00\x01\x01SK\x034\x00\x01TnW\x03./A\x00\x01\
+                    \x01\x01\x01\x12\x01\x01"],
+                b"alert 1226 - -\nalert 1226 746578742f706c61696e 78\nstate running\n",
+            ),
+            // With an empty item; Alert 1224.
+            (
+                0,
+                b"\x03\xa4\x01j\x00mlq\x031.2\x00\x01r\x03DM/1.2\x00\x01e\x031\x00\x01[\x032\x00\x01nW\x03s1\x00\x01\
+                  \x01gW\x03d1\x00\x01\x01\x01kFK\x031\x00\x01O\x031226\x00\x01\x14\x01FK\x032\x00\x01O\x031224\x00\
+                  \x01TgW\x03./A\x00\x01\x01Z\x00\x01G\x03chr\x00\x01S\x03text/plain\x00\x01\x01\x00\x00O\x03ab\x00\
+                  \x01\x01\x01\x01\x01",
+                Answer::Sent,
+                &[b"\x03\xa4\x01j\x00mlq\x031.2\x00\x01r\x03DM/1.2\x00\x01e\x031\x00\x01[\x032\x00\x01nW\x03d1\x00\
+                    \x01\x01gW\x03s1\x00\x01\x01Z\x00\x01L\x0316384\x00\x01U\x034194304\x00\x01\x01\x01\x00\x00kiK\
+                    \x031\x00\x01\\\x032\x00\x01L\x030\x00\x01J\x03SyncHdr\x00\x01O\x03200\x00\x01\x01iK\x032\x00\
+                    \x01\\\x032\x00\x01L\x031\x00\x01J\x03Alert\x00\x01O\x03200\x00\x01\x01iK\x033\x00\x01\\\x032\
+                    \x00\x01L\x032\x00\x01J\x03Alert\x00\x01O\x03200\x00\x01\x01FK\x034\x00\x01O\x031222\x00\x01\x01\
+                    \x01\x01"],
+                b"alert 1226 - -\nalert 1226 746578742f706c61696e 78\nalert 1226 - -\nstate running\n",
+            ),
+            // Without a Type, twice.
+            (
+                0,
+                b"\x03\xa4\x01j\x00mlq\x031.2\x00\x01r\x03DM/1.2\x00\x01e\x031\x00\x01[\x033\x00\x01nW\x03s1\x00\x01\
+                  \x01gW\x03d1\x00\x01\x01\x01kFK\x031\x00\x01O\x031226\x00\x01TgW\x03./B\x00\x01\x01O\x03x\x00\x01\
+                  \x01\x01FK\x032\x00\x01O\x031226\x00\x01TgW\x03./B\x00\x01\x01O\x03x\x00\x01\x01\x01\x12\x01\x01",
+                Answer::Sent,
+                &[b"\x03\xa4\x01j\x00mlq\x031.2\x00\x01r\x03DM/1.2\x00\x01e\x031\x00\x01[\x033\x00\x01nW\x03d1\x00\
+                    \x01\x01gW\x03s1\x00\x01\x01Z\x00\x01L\x0316384\x00\x01U\x034194304\x00\x01\x01\x01\x00\x00kiK\
+                    \x031\x00\x01\\\x033\x00\x01L\x030\x00\x01J\x03SyncHdr\x00\x01O\x03200\x00\x01\x01iK\x032\x00\
+                    \x01\\\x033\x00\x01L\x031\x00\x01J\x03Alert\x00\x01O\x03200\x00\x01\x01iK\x033\x00\x01\\\x033\
+                    \x00\x01L\x032\x00\x01J\x03Alert\x00\x01O\x03200\x00\x01\x01\x12\x01\x01"],
+                b"alert 1226 - -\nalert 1226 746578742f706c61696e 78\nalert 1226 - -\nalert 1226 - 78\nalert 1226 - \
+                  78\nstate running\n",
+            ),
+        ],
+    ),
+    // The code of a command in parts is that of its last part. A message of 2,048 bytes takes 1,873 bytes of the value,
+    // since all else of it takes 175:
     // - An element around others takes 2 bytes, and one around a text of n bytes n + 4, a text at STR_I. Children of
     //   Meta stand on page 1, and to go there and back takes 4.
     // - Before the header 5, and SyncML 2. The header 71: 2; VerDTD 7, VerProto 10, SessionID and MsgID 5 each; Target
@@ -252,49 +188,106 @@ state over
     //   MoreData 1.
     // - The Alert 1222 and Final, which are measured though they aren't sent, 16: 2; CmdID 5, Data 8; 1.
     // The second message takes the other 1,127 whole.
-    Row {
-        name: "a_command_in_parts",
-        job: "server s1 - - - - -\nlimits 16384 4194304\n",
-        large: 3000,
-        calls: &[
+    (
+        &[b"dm-job 1\nserver s1 - - - - -\nlimits 16384 4194304\nreplace ./L bin - ",
+          SIXES,
+          b"\nend\n"],
+        &[
+            // MaxMsgSize 2,048.
             (
-                Call::Deliver(
-                    0,
-                    "03a4016a006d6c7103312e3200017203444d2f312e32000165033100015b033100016e570373310001016757036431\
-                        0001015a00014c03323034380001010100006b120101",
-                ),
-                "sent 1, 1.0 200, replace ./L 1873 more",
+                0,
+                b"\x03\xa4\x01j\x00mlq\x031.2\x00\x01r\x03DM/1.2\x00\x01e\x031\x00\x01[\x031\x00\x01nW\x03s1\x00\x01\
+                  \x01gW\x03d1\x00\x01\x01Z\x00\x01L\x032048\x00\x01\x01\x01\x00\x00k\x12\x01\x01",
+                Answer::Sent,
+                &[b"\x03\xa4\x01j\x00mlq\x031.2\x00\x01r\x03DM/1.2\x00\x01e\x031\x00\x01[\x031\x00\x01nW\x03d1\x00\
+                    \x01\x01gW\x03s1\x00\x01\x01Z\x00\x01L\x0316384\x00\x01U\x034194304\x00\x01\x01\x01\x00\x00kiK\
+                    \x031\x00\x01\\\x031\x00\x01L\x030\x00\x01J\x03SyncHdr\x00\x01O\x03200\x00\x01\x01`K\x032\x00\
+                    \x01TnW\x03./L\x00\x01\x01Z\x00\x01G\x03bin\x00\x01R\x033000\x00\x01\x01\x00\x00O\x03",
+                  PART,
+                  b"\x00\x014\x01\x01\x01\x01"],
+                b"state running\n",
             ),
+            // Status 213 for the first part, and Alert 1222 without Final.
             (
-                Call::Deliver(
-                    0,
-                    "03a4016a006d6c7103312e3200017203444d2f312e32000165033100015b033200016e570373310001016757036431\
-                        000101016b694b033100015c033100014c033000014a0353796e6348647200014f03323030000101694b033200\
-                        015c033100014c033200014a035265706c61636500014f03323133000101464b033300014f0331323232000101\
-                        0101",
-                ),
-                "sent 2, 2.0 200, replace ./L 1127, 2.3 200, final",
+                0,
+                b"\x03\xa4\x01j\x00mlq\x031.2\x00\x01r\x03DM/1.2\x00\x01e\x031\x00\x01[\x032\x00\x01nW\x03s1\x00\x01\
+                  \x01gW\x03d1\x00\x01\x01\x01kiK\x031\x00\x01\\\x031\x00\x01L\x030\x00\x01J\x03SyncHdr\x00\x01O\x03\
+                  200\x00\x01\x01iK\x032\x00\x01\\\x031\x00\x01L\x032\x00\x01J\x03Replace\x00\x01O\x03213\x00\x01\
+                  \x01FK\x033\x00\x01O\x031222\x00\x01\x01\x01\x01",
+                Answer::Sent,
+                &[b"\x03\xa4\x01j\x00mlq\x031.2\x00\x01r\x03DM/1.2\x00\x01e\x031\x00\x01[\x032\x00\x01nW\x03d1\x00\
+                    \x01\x01gW\x03s1\x00\x01\x01Z\x00\x01L\x0316384\x00\x01U\x034194304\x00\x01\x01\x01\x00\x00kiK\
+                    \x031\x00\x01\\\x032\x00\x01L\x030\x00\x01J\x03SyncHdr\x00\x01O\x03200\x00\x01\x01`K\x032\x00\
+                    \x01TnW\x03./L\x00\x01\x01Z\x00\x01G\x03bin\x00\x01\x01\x00\x00O\x03",
+                  REST,
+                  b"\x00\x01\x01\x01iK\x033\x00\x01\\\x032\x00\x01L\x033\x00\x01J\x03Alert\x00\x01O\x03200\x00\x01\
+                    \x01\x12\x01\x01"],
+                b"",
             ),
+            // Status 200 for the second part, and 213 for the first once more.
             (
-                Call::Report,
-                "state running
-",
-            ),
-            (
-                Call::Deliver(
-                    0,
-                    "03a4016a006d6c7103312e3200017203444d2f312e32000165033100015b033300016e570373310001016757036431\
-                        000101016b694b033100015c033200014c033000014a0353796e6348647200014f03323030000101694b033200\
-                        015c033200014c033200014a035265706c61636500014f03323030000101120101",
-                ),
-                "sent 3, 3.0 200, final",
-            ),
-            (
-                Call::Report,
-                "status 1 200
-state over
-",
+                0,
+                b"\x03\xa4\x01j\x00mlq\x031.2\x00\x01r\x03DM/1.2\x00\x01e\x031\x00\x01[\x033\x00\x01nW\x03s1\x00\x01\
+                  \x01gW\x03d1\x00\x01\x01\x01kiK\x031\x00\x01\\\x032\x00\x01L\x030\x00\x01J\x03SyncHdr\x00\x01O\x03\
+                  200\x00\x01\x01iK\x032\x00\x01\\\x032\x00\x01L\x032\x00\x01J\x03Replace\x00\x01O\x03200\x00\x01\
+                  \x01iK\x033\x00\x01\\\x031\x00\x01L\x032\x00\x01J\x03Replace\x00\x01O\x03213\x00\x01\x01\x12\x01\
+                  \x01",
+                Answer::Sent,
+                &[b"\x03\xa4\x01j\x00mlq\x031.2\x00\x01r\x03DM/1.2\x00\x01e\x031\x00\x01[\x033\x00\x01nW\x03d1\x00\
+                    \x01\x01gW\x03s1\x00\x01\x01Z\x00\x01L\x0316384\x00\x01U\x034194304\x00\x01\x01\x01\x00\x00kiK\
+                    \x031\x00\x01\\\x033\x00\x01L\x030\x00\x01J\x03SyncHdr\x00\x01O\x03200\x00\x01\x01\x12\x01\x01"],
+                b"status 1 200\nstate over\n",
             ),
         ],
-    },
+    ),
+    // Results that name its first part are of the command too. (The other program keeps none of them.)
+    (
+        &[b"dm-job 1\nserver s1 - - - - -\nlimits 16384 4194304\nreplace ./L bin - ",
+          SIXES,
+          b"\nend\n"],
+        &[
+            // MaxMsgSize 2,048.
+            (
+                0,
+                b"\x03\xa4\x01j\x00mlq\x031.2\x00\x01r\x03DM/1.2\x00\x01e\x031\x00\x01[\x031\x00\x01nW\x03s1\x00\x01\
+                  \x01gW\x03d1\x00\x01\x01Z\x00\x01L\x032048\x00\x01\x01\x01\x00\x00k\x12\x01\x01",
+                Answer::Sent,
+                &[b"\x03\xa4\x01j\x00mlq\x031.2\x00\x01r\x03DM/1.2\x00\x01e\x031\x00\x01[\x031\x00\x01nW\x03d1\x00\
+                    \x01\x01gW\x03s1\x00\x01\x01Z\x00\x01L\x0316384\x00\x01U\x034194304\x00\x01\x01\x01\x00\x00kiK\
+                    \x031\x00\x01\\\x031\x00\x01L\x030\x00\x01J\x03SyncHdr\x00\x01O\x03200\x00\x01\x01`K\x032\x00\
+                    \x01TnW\x03./L\x00\x01\x01Z\x00\x01G\x03bin\x00\x01R\x033000\x00\x01\x01\x00\x00O\x03",
+                  PART,
+                  b"\x00\x014\x01\x01\x01\x01"],
+                b"state running\n",
+            ),
+            // A value for the first part, and Alert 1222 without Final.
+            (
+                0,
+                b"\x03\xa4\x01j\x00mlq\x031.2\x00\x01r\x03DM/1.2\x00\x01e\x031\x00\x01[\x032\x00\x01nW\x03s1\x00\x01\
+                  \x01gW\x03d1\x00\x01\x01\x01kbK\x031\x00\x01\\\x031\x00\x01L\x032\x00\x01TgW\x03./B\x00\x01\x01O\
+                  \x03x\x00\x01\x01\x01FK\x032\x00\x01O\x031222\x00\x01\x01\x01\x01",
+                Answer::Sent,
+                &[b"\x03\xa4\x01j\x00mlq\x031.2\x00\x01r\x03DM/1.2\x00\x01e\x031\x00\x01[\x032\x00\x01nW\x03d1\x00\
+                    \x01\x01gW\x03s1\x00\x01\x01Z\x00\x01L\x0316384\x00\x01U\x034194304\x00\x01\x01\x01\x00\x00kiK\
+                    \x031\x00\x01\\\x032\x00\x01L\x030\x00\x01J\x03SyncHdr\x00\x01O\x03200\x00\x01\x01`K\x032\x00\
+                    \x01TnW\x03./L\x00\x01\x01Z\x00\x01G\x03bin\x00\x01\x01\x00\x00O\x03",
+                  REST,
+                  b"\x00\x01\x01\x01iK\x033\x00\x01\\\x032\x00\x01L\x032\x00\x01J\x03Alert\x00\x01O\x03200\x00\x01\
+                    \x01\x12\x01\x01"],
+                b"",
+            ),
+            // Status 200 for the second part.
+            (
+                0,
+                b"\x03\xa4\x01j\x00mlq\x031.2\x00\x01r\x03DM/1.2\x00\x01e\x031\x00\x01[\x033\x00\x01nW\x03s1\x00\x01\
+                  \x01gW\x03d1\x00\x01\x01\x01kiK\x031\x00\x01\\\x032\x00\x01L\x032\x00\x01J\x03Replace\x00\x01O\x03\
+                  200\x00\x01\x01\x12\x01\x01",
+                Answer::Sent,
+                &[b"\x03\xa4\x01j\x00mlq\x031.2\x00\x01r\x03DM/1.2\x00\x01e\x031\x00\x01[\x033\x00\x01nW\x03d1\x00\
+                    \x01\x01gW\x03s1\x00\x01\x01Z\x00\x01L\x0316384\x00\x01U\x034194304\x00\x01\x01\x01\x00\x00kiK\
+                    \x031\x00\x01\\\x033\x00\x01L\x030\x00\x01J\x03SyncHdr\x00\x01O\x03200\x00\x01\x01\x12\x01\x01"],
+                b"status 1 200\nresult 2e2f42 - - 78\nstate over\n",
+            ),
+        ],
+    ),
 ];

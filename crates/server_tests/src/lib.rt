@@ -1,10 +1,7 @@
-//! Tests of a server's sessions by public calls alone: rows of calls with what each of them answers.
+//! Tests of a server on messages that no device of ours sends: rows of them with what each is answered, and what the
+//! report is then. The answers are those of a program that was written apart from this one. Large jobs are timed.
 #![tactic(auto)]
 
-#[cfg(test)]
-mod answers;
-#[cfg(test)]
-mod calls;
 #[cfg(test)]
 mod credential_rows;
 #[cfg(test)]
@@ -20,4 +17,4 @@ mod servers;
 #[cfg(test)]
 mod sessions;
 #[cfg(test)]
-mod told;
+mod value_rows;

@@ -1,264 +1,296 @@
 // Which messages are new, and how sessions begin and end.
-use crate::rows::{Call, Row};
+use crate::rows::{REFUSED, Row};
+use dm_server::Answer;
 
-pub const ORDER: [Row; 4] = [
-    Row {
-        name: "a_get_over_two_rounds",
-        job: "server s1 - - - - -\nlimits 16384 4194304\nget ./A\n",
-        large: 0,
-        calls: &[
-            (Call::Deliver(0, "04"), "refused"),
+#[rattlefmt::skip]
+pub(crate) const ORDER: [Row; 4] = [
+    // A Get over two rounds, messages that come again, and a late one.
+    (
+        &[b"dm-job 1\nserver s1 - - - - -\nlimits 16384 4194304\nget ./A\nend\n"],
+        &[
+            // A byte that begins no message.
             (
-                Call::Report,
-                "state waiting
-",
+                0,
+                b"\x04",
+                REFUSED,
+                &[],
+                b"",
             ),
+            // Alert 1201, and a Replace.
             (
-                Call::Deliver(
-                    0,
-                    "03a4016a006d6c7103312e3200017203444d2f312e32000165033100015b033100016e570373310001016757036431\
-                        000101016b464b033100014f0331323031000101604b03320001546757032e2f446576496e666f2f4465764964\
-                        0001015a0001470363687200015303746578742f706c61696e00010100004f03643100010101120101",
-                ),
-                "sent 1, 1.0 200, 1.1 200, 1.2 200, get ./A, final",
+                0,
+                b"\x03\xa4\x01j\x00mlq\x031.2\x00\x01r\x03DM/1.2\x00\x01e\x031\x00\x01[\x031\x00\x01nW\x03s1\x00\x01\
+                  \x01gW\x03d1\x00\x01\x01\x01kFK\x031\x00\x01O\x031201\x00\x01\x01`K\x032\x00\x01TgW\x03./DevInfo/D\
+                  evId\x00\x01\x01Z\x00\x01G\x03chr\x00\x01S\x03text/plain\x00\x01\x01\x00\x00O\x03d\x00\x01\x01\x01\
+                  \x12\x01\x01",
+                Answer::Sent,
+                &[b"\x03\xa4\x01j\x00mlq\x031.2\x00\x01r\x03DM/1.2\x00\x01e\x031\x00\x01[\x031\x00\x01nW\x03d1\x00\
+                    \x01\x01gW\x03s1\x00\x01\x01Z\x00\x01L\x0316384\x00\x01U\x034194304\x00\x01\x01\x01\x00\x00kiK\
+                    \x031\x00\x01\\\x031\x00\x01L\x030\x00\x01J\x03SyncHdr\x00\x01O\x03200\x00\x01\x01iK\x032\x00\
+                    \x01\\\x031\x00\x01L\x031\x00\x01J\x03Alert\x00\x01O\x03200\x00\x01\x01iK\x033\x00\x01\\\x031\
+                    \x00\x01L\x032\x00\x01J\x03Replace\x00\x01O\x03200\x00\x01\x01SK\x034\x00\x01TnW\x03./A\x00\x01\
+                    \x01\x01\x01\x12\x01\x01"],
+                b"state running\n",
             ),
+            // Status 200 and the value.
             (
-                Call::Report,
-                "state running
-",
+                0,
+                b"\x03\xa4\x01j\x00mlq\x031.2\x00\x01r\x03DM/1.2\x00\x01e\x031\x00\x01[\x032\x00\x01nW\x03s1\x00\x01\
+                  \x01gW\x03d1\x00\x01\x01\x01kiK\x031\x00\x01\\\x031\x00\x01L\x030\x00\x01J\x03SyncHdr\x00\x01O\x03\
+                  200\x00\x01\x01iK\x032\x00\x01\\\x031\x00\x01L\x034\x00\x01J\x03Get\x00\x01O\x03200\x00\x01\x01bK\
+                  \x033\x00\x01\\\x031\x00\x01L\x034\x00\x01TgW\x03./A\x00\x01\x01Z\x00\x01G\x03chr\x00\x01S\x03text\
+                  /plain\x00\x01\x01\x00\x00O\x03x\x00\x01\x01\x01\x12\x01\x01",
+                Answer::Sent,
+                &[b"\x03\xa4\x01j\x00mlq\x031.2\x00\x01r\x03DM/1.2\x00\x01e\x031\x00\x01[\x032\x00\x01nW\x03d1\x00\
+                    \x01\x01gW\x03s1\x00\x01\x01Z\x00\x01L\x0316384\x00\x01U\x034194304\x00\x01\x01\x01\x00\x00kiK\
+                    \x031\x00\x01\\\x032\x00\x01L\x030\x00\x01J\x03SyncHdr\x00\x01O\x03200\x00\x01\x01\x12\x01\x01"],
+                b"status 1 200\nresult 2e2f41 636872 746578742f706c61696e 78\nstate over\n",
             ),
+            // The same message.
             (
-                Call::Deliver(
-                    0,
-                    "03a4016a006d6c7103312e3200017203444d2f312e32000165033100015b033200016e570373310001016757036431\
-                        000101016b694b033100015c033100014c033000014a0353796e6348647200014f03323030000101694b033200\
-                        015c033100014c033400014a0347657400014f03323030000101624b033300015c033100014c03340001546757\
-                        032e2f410001015a0001470363687200015303746578742f706c61696e00010100004f037800010101120101",
-                ),
-                "sent 2, 2.0 200, final",
+                0,
+                b"\x03\xa4\x01j\x00mlq\x031.2\x00\x01r\x03DM/1.2\x00\x01e\x031\x00\x01[\x032\x00\x01nW\x03s1\x00\x01\
+                  \x01gW\x03d1\x00\x01\x01\x01kiK\x031\x00\x01\\\x031\x00\x01L\x030\x00\x01J\x03SyncHdr\x00\x01O\x03\
+                  200\x00\x01\x01iK\x032\x00\x01\\\x031\x00\x01L\x034\x00\x01J\x03Get\x00\x01O\x03200\x00\x01\x01bK\
+                  \x033\x00\x01\\\x031\x00\x01L\x034\x00\x01TgW\x03./A\x00\x01\x01Z\x00\x01G\x03chr\x00\x01S\x03text\
+                  /plain\x00\x01\x01\x00\x00O\x03x\x00\x01\x01\x01\x12\x01\x01",
+                Answer::Kept,
+                &[],
+                b"",
             ),
+            // The first message.
             (
-                Call::Report,
-                "status 1 200
-result 2e2f41 636872 746578742f706c61696e 78
-state over
-",
+                0,
+                b"\x03\xa4\x01j\x00mlq\x031.2\x00\x01r\x03DM/1.2\x00\x01e\x031\x00\x01[\x031\x00\x01nW\x03s1\x00\x01\
+                  \x01gW\x03d1\x00\x01\x01\x01kFK\x031\x00\x01O\x031201\x00\x01\x01`K\x032\x00\x01TgW\x03./DevInfo/D\
+                  evId\x00\x01\x01Z\x00\x01G\x03chr\x00\x01S\x03text/plain\x00\x01\x01\x00\x00O\x03d\x00\x01\x01\x01\
+                  \x12\x01\x01",
+                Answer::Stale,
+                &[],
+                b"",
             ),
+            // MsgID 3.
             (
-                Call::Deliver(
-                    0,
-                    "03a4016a006d6c7103312e3200017203444d2f312e32000165033100015b033200016e570373310001016757036431\
-                        000101016b694b033100015c033100014c033000014a0353796e6348647200014f03323030000101694b033200\
-                        015c033100014c033400014a0347657400014f03323030000101624b033300015c033100014c03340001546757\
-                        032e2f410001015a0001470363687200015303746578742f706c61696e00010100004f037800010101120101",
-                ),
-                "kept 2, 2.0 200, final",
+                0,
+                b"\x03\xa4\x01j\x00mlq\x031.2\x00\x01r\x03DM/1.2\x00\x01e\x031\x00\x01[\x033\x00\x01nW\x03s1\x00\x01\
+                  \x01gW\x03d1\x00\x01\x01\x01k\x12\x01\x01",
+                Answer::Ended,
+                &[],
+                b"",
             ),
+            // MsgID 2 again.
             (
-                Call::Deliver(
-                    0,
-                    "03a4016a006d6c7103312e3200017203444d2f312e32000165033100015b033100016e570373310001016757036431\
-                        000101016b464b033100014f0331323031000101604b03320001546757032e2f446576496e666f2f4465764964\
-                        0001015a0001470363687200015303746578742f706c61696e00010100004f03643100010101120101",
-                ),
-                "stale",
-            ),
-            (
-                Call::Deliver(
-                    0,
-                    "03a4016a006d6c7103312e3200017203444d2f312e32000165033100015b033300016e570373310001016757036431\
-                        000101016b120101",
-                ),
-                "ended",
-            ),
-            (
-                Call::Deliver(
-                    0,
-                    "03a4016a006d6c7103312e3200017203444d2f312e32000165033100015b033200016e570373310001016757036431\
-                        000101016b120101",
-                ),
-                "kept 2, 2.0 200, final",
-            ),
-        ],
-    },
-    // A session that is greater, lower, and no number.
-    Row {
-        name: "numbers_of_sessions",
-        job: "server s1 - - - - -\nlimits 16384 4194304\n",
-        large: 0,
-        calls: &[
-            (
-                Call::Deliver(
-                    0,
-                    "03a4016a006d6c7103312e3200017203444d2f312e32000165033500015b033100016e570373310001016757036431\
-                        000101016b120101",
-                ),
-                "sent 1, 1.0 200, final",
-            ),
-            (
-                Call::Deliver(
-                    0,
-                    "03a4016a006d6c7103312e3200017203444d2f312e32000165033500015b033200016e570373310001016757036431\
-                        000101016b120101",
-                ),
-                "ended",
-            ),
-            (
-                Call::Deliver(
-                    0,
-                    "03a4016a006d6c7103312e3200017203444d2f312e32000165033400015b033900016e570373310001016757036431\
-                        000101016b120101",
-                ),
-                "stale",
-            ),
-            (
-                Call::Deliver(
-                    0,
-                    "03a4016a006d6c7103312e3200017203444d2f312e32000165033000015b033100016e570373310001016757036431\
-                        000101016b120101",
-                ),
-                "stranger",
-            ),
-            (
-                Call::Deliver(
-                    0,
-                    "03a4016a006d6c7103312e3200017203444d2f312e3200016503357800015b033200016e5703733100010167570364\
-                        31000101016b120101",
-                ),
-                "stranger",
-            ),
-            (
-                Call::Deliver(
-                    0,
-                    "03a4016a006d6c7103312e3200017203444d2f312e32000165033432393439363732393600015b033100016e570373\
-                        310001016757036431000101016b120101",
-                ),
-                "stranger",
-            ),
-            (
-                Call::Deliver(
-                    0,
-                    "03a4016a006d6c7103312e3200017203444d2f312e32000165033600015b033100016e570373310001016757036431\
-                        000101012b01",
-                ),
-                "sent 1, 1.0 200, alert 1222",
-            ),
-            (
-                Call::Deliver(
-                    0,
-                    "03a4016a006d6c7103312e3200017203444d2f312e32000165033600015b033200016e570373310001016757036431\
-                        000101016b120101",
-                ),
-                "sent 2, 2.0 200, final",
-            ),
-            (
-                Call::Deliver(
-                    0,
-                    "03a4016a006d6c7103312e3200017203444d2f312e32000165033432393439363732393500015b033100016e570373\
-                        310001016757036431000101016b120101",
-                ),
-                "sent 1, 1.0 200, final",
-            ),
-            (Call::Again, "again 1, 1.0 200, final"),
-        ],
-    },
-    // The job that was begun stays in its session.
-    Row {
-        name: "an_abort_ends_the_session",
-        job: "server s1 - - - - -\nlimits 16384 4194304\nget ./A\n",
-        large: 0,
-        calls: &[
-            (
-                Call::Deliver(
-                    0,
-                    "03a4016a006d6c7103312e3200017203444d2f312e32000165033100015b033100016e570373310001016757036431\
-                        000101016b464b033100014f0331323031000101604b03320001546757032e2f446576496e666f2f4465764964\
-                        0001015a0001470363687200015303746578742f706c61696e00010100004f03643100010101120101",
-                ),
-                "sent 1, 1.0 200, 1.1 200, 1.2 200, get ./A, final",
-            ),
-            (
-                Call::Deliver(
-                    0,
-                    "03a4016a006d6c7103312e3200017203444d2f312e32000165033100015b033200016e570373310001016757036431\
-                        000101016b694b033100015c033100014c033400014a0347657400014f03323030000101464b033200014f0331\
-                        323233000101120101",
-                ),
-                "ended",
-            ),
-            (
-                Call::Deliver(
-                    0,
-                    "03a4016a006d6c7103312e3200017203444d2f312e32000165033100015b033200016e570373310001016757036431\
-                        000101016b120101",
-                ),
-                "ended",
-            ),
-            (
-                Call::Report,
-                "state running
-",
-            ),
-            (
-                Call::Deliver(
-                    0,
-                    "03a4016a006d6c7103312e3200017203444d2f312e32000165033200015b033100016e570373310001016757036431\
-                        000101016b120101",
-                ),
-                "sent 1, 1.0 200, final",
-            ),
-            (
-                Call::Report,
-                "state running
-",
+                0,
+                b"\x03\xa4\x01j\x00mlq\x031.2\x00\x01r\x03DM/1.2\x00\x01e\x031\x00\x01[\x032\x00\x01nW\x03s1\x00\x01\
+                  \x01gW\x03d1\x00\x01\x01\x01k\x12\x01\x01",
+                Answer::Kept,
+                &[],
+                b"",
             ),
         ],
-    },
-    // It begins in the next session.
-    Row {
-        name: "a_job_that_was_not_begun",
-        job: "server s1 - - - - -\nlimits 16384 4194304\nget ./A\n",
-        large: 0,
-        calls: &[
+    ),
+    // Numbers of sessions: greater, lower, and none.
+    (
+        &[b"dm-job 1\nserver s1 - - - - -\nlimits 16384 4194304\nend\n"],
+        &[
+            // Session 5.
             (
-                Call::Deliver(
-                    0,
-                    "03a4016a006d6c7103312e3200017203444d2f312e32000165033100015b033100016e570373310001016757036431\
-                        000101016b464b033100014f03313230310001010101",
-                ),
-                "sent 1, 1.0 200, 1.1 200, alert 1222",
+                0,
+                b"\x03\xa4\x01j\x00mlq\x031.2\x00\x01r\x03DM/1.2\x00\x01e\x035\x00\x01[\x031\x00\x01nW\x03s1\x00\x01\
+                  \x01gW\x03d1\x00\x01\x01\x01k\x12\x01\x01",
+                Answer::Sent,
+                &[b"\x03\xa4\x01j\x00mlq\x031.2\x00\x01r\x03DM/1.2\x00\x01e\x035\x00\x01[\x031\x00\x01nW\x03d1\x00\
+                    \x01\x01gW\x03s1\x00\x01\x01Z\x00\x01L\x0316384\x00\x01U\x034194304\x00\x01\x01\x01\x00\x00kiK\
+                    \x031\x00\x01\\\x031\x00\x01L\x030\x00\x01J\x03SyncHdr\x00\x01O\x03200\x00\x01\x01\x12\x01\x01"],
+                b"",
             ),
+            // It is over.
             (
-                Call::Deliver(
-                    0,
-                    "03a4016a006d6c7103312e3200017203444d2f312e32000165033200015b033100016e570373310001016757036431\
-                        000101016b120101",
-                ),
-                "sent 1, 1.0 200, get ./A, final",
+                0,
+                b"\x03\xa4\x01j\x00mlq\x031.2\x00\x01r\x03DM/1.2\x00\x01e\x035\x00\x01[\x032\x00\x01nW\x03s1\x00\x01\
+                  \x01gW\x03d1\x00\x01\x01\x01k\x12\x01\x01",
+                Answer::Ended,
+                &[],
+                b"",
             ),
+            // Session 4.
             (
-                Call::Deliver(
-                    0,
-                    "03a4016a006d6c7103312e3200017203444d2f312e32000165033200015b033200016e570373310001016757036431\
-                        000101016b694b033100015c033100014c033000014a0353796e6348647200014f03323030000101694b033200\
-                        015c033100014c033200014a0347657400014f03343034000101120101",
-                ),
-                "sent 2, 2.0 200, final",
+                0,
+                b"\x03\xa4\x01j\x00mlq\x031.2\x00\x01r\x03DM/1.2\x00\x01e\x034\x00\x01[\x039\x00\x01nW\x03s1\x00\x01\
+                  \x01gW\x03d1\x00\x01\x01\x01k\x12\x01\x01",
+                Answer::Stale,
+                &[],
+                b"",
             ),
+            // 0.
             (
-                Call::Report,
-                "status 1 404
-state over
-",
+                0,
+                b"\x03\xa4\x01j\x00mlq\x031.2\x00\x01r\x03DM/1.2\x00\x01e\x030\x00\x01[\x031\x00\x01nW\x03s1\x00\x01\
+                  \x01gW\x03d1\x00\x01\x01\x01k\x12\x01\x01",
+                Answer::Stranger,
+                &[],
+                b"",
             ),
+            // No digits.
             (
-                Call::Deliver(
-                    0,
-                    "03a4016a006d6c7103312e3200017203444d2f312e32000165033300015b033100016e570373310001016757036431\
-                        000101016b120101",
-                ),
-                "sent 1, 1.0 200, final",
+                0,
+                b"\x03\xa4\x01j\x00mlq\x031.2\x00\x01r\x03DM/1.2\x00\x01e\x035x\x00\x01[\x031\x00\x01nW\x03s1\x00\
+                  \x01\x01gW\x03d1\x00\x01\x01\x01k\x12\x01\x01",
+                Answer::Stranger,
+                &[],
+                b"",
+            ),
+            // 4294967296.
+            (
+                0,
+                b"\x03\xa4\x01j\x00mlq\x031.2\x00\x01r\x03DM/1.2\x00\x01e\x034294967296\x00\x01[\x031\x00\x01nW\x03s\
+                  1\x00\x01\x01gW\x03d1\x00\x01\x01\x01k\x12\x01\x01",
+                Answer::Stranger,
+                &[],
+                b"",
+            ),
+            // Session 6, without Final: its package goes on.
+            (
+                0,
+                b"\x03\xa4\x01j\x00mlq\x031.2\x00\x01r\x03DM/1.2\x00\x01e\x036\x00\x01[\x031\x00\x01nW\x03s1\x00\x01\
+                  \x01gW\x03d1\x00\x01\x01\x01+\x01",
+                Answer::Sent,
+                &[b"\x03\xa4\x01j\x00mlq\x031.2\x00\x01r\x03DM/1.2\x00\x01e\x036\x00\x01[\x031\x00\x01nW\x03d1\x00\
+                    \x01\x01gW\x03s1\x00\x01\x01Z\x00\x01L\x0316384\x00\x01U\x034194304\x00\x01\x01\x01\x00\x00kiK\
+                    \x031\x00\x01\\\x031\x00\x01L\x030\x00\x01J\x03SyncHdr\x00\x01O\x03200\x00\x01\x01FK\x032\x00\
+                    \x01O\x031222\x00\x01\x01\x01\x01"],
+                b"",
+            ),
+            // The rest of the package.
+            (
+                0,
+                b"\x03\xa4\x01j\x00mlq\x031.2\x00\x01r\x03DM/1.2\x00\x01e\x036\x00\x01[\x032\x00\x01nW\x03s1\x00\x01\
+                  \x01gW\x03d1\x00\x01\x01\x01k\x12\x01\x01",
+                Answer::Sent,
+                &[b"\x03\xa4\x01j\x00mlq\x031.2\x00\x01r\x03DM/1.2\x00\x01e\x036\x00\x01[\x032\x00\x01nW\x03d1\x00\
+                    \x01\x01gW\x03s1\x00\x01\x01Z\x00\x01L\x0316384\x00\x01U\x034194304\x00\x01\x01\x01\x00\x00kiK\
+                    \x031\x00\x01\\\x032\x00\x01L\x030\x00\x01J\x03SyncHdr\x00\x01O\x03200\x00\x01\x01\x12\x01\x01"],
+                b"",
+            ),
+            // 4294967295.
+            (
+                0,
+                b"\x03\xa4\x01j\x00mlq\x031.2\x00\x01r\x03DM/1.2\x00\x01e\x034294967295\x00\x01[\x031\x00\x01nW\x03s\
+                  1\x00\x01\x01gW\x03d1\x00\x01\x01\x01k\x12\x01\x01",
+                Answer::Sent,
+                &[b"\x03\xa4\x01j\x00mlq\x031.2\x00\x01r\x03DM/1.2\x00\x01e\x034294967295\x00\x01[\x031\x00\x01nW\
+                    \x03d1\x00\x01\x01gW\x03s1\x00\x01\x01Z\x00\x01L\x0316384\x00\x01U\x034194304\x00\x01\x01\x01\
+                    \x00\x00kiK\x031\x00\x01\\\x031\x00\x01L\x030\x00\x01J\x03SyncHdr\x00\x01O\x03200\x00\x01\x01\
+                    \x12\x01\x01"],
+                b"",
             ),
         ],
-    },
+    ),
+    // An Alert 1223 ends the session, and the job that was begun stays in it.
+    (
+        &[b"dm-job 1\nserver s1 - - - - -\nlimits 16384 4194304\nget ./A\nend\n"],
+        &[
+            // Alert 1201, and a Replace.
+            (
+                0,
+                b"\x03\xa4\x01j\x00mlq\x031.2\x00\x01r\x03DM/1.2\x00\x01e\x031\x00\x01[\x031\x00\x01nW\x03s1\x00\x01\
+                  \x01gW\x03d1\x00\x01\x01\x01kFK\x031\x00\x01O\x031201\x00\x01\x01`K\x032\x00\x01TgW\x03./DevInfo/D\
+                  evId\x00\x01\x01Z\x00\x01G\x03chr\x00\x01S\x03text/plain\x00\x01\x01\x00\x00O\x03d\x00\x01\x01\x01\
+                  \x12\x01\x01",
+                Answer::Sent,
+                &[b"\x03\xa4\x01j\x00mlq\x031.2\x00\x01r\x03DM/1.2\x00\x01e\x031\x00\x01[\x031\x00\x01nW\x03d1\x00\
+                    \x01\x01gW\x03s1\x00\x01\x01Z\x00\x01L\x0316384\x00\x01U\x034194304\x00\x01\x01\x01\x00\x00kiK\
+                    \x031\x00\x01\\\x031\x00\x01L\x030\x00\x01J\x03SyncHdr\x00\x01O\x03200\x00\x01\x01iK\x032\x00\
+                    \x01\\\x031\x00\x01L\x031\x00\x01J\x03Alert\x00\x01O\x03200\x00\x01\x01iK\x033\x00\x01\\\x031\
+                    \x00\x01L\x032\x00\x01J\x03Replace\x00\x01O\x03200\x00\x01\x01SK\x034\x00\x01TnW\x03./A\x00\x01\
+                    \x01\x01\x01\x12\x01\x01"],
+                b"state running\n",
+            ),
+            // Status 200, and Alert 1223.
+            (
+                0,
+                b"\x03\xa4\x01j\x00mlq\x031.2\x00\x01r\x03DM/1.2\x00\x01e\x031\x00\x01[\x032\x00\x01nW\x03s1\x00\x01\
+                  \x01gW\x03d1\x00\x01\x01\x01kiK\x031\x00\x01\\\x031\x00\x01L\x034\x00\x01J\x03Get\x00\x01O\x03200\
+                  \x00\x01\x01FK\x032\x00\x01O\x031223\x00\x01\x01\x12\x01\x01",
+                Answer::Ended,
+                &[],
+                b"",
+            ),
+            // The same MsgID.
+            (
+                0,
+                b"\x03\xa4\x01j\x00mlq\x031.2\x00\x01r\x03DM/1.2\x00\x01e\x031\x00\x01[\x032\x00\x01nW\x03s1\x00\x01\
+                  \x01gW\x03d1\x00\x01\x01\x01k\x12\x01\x01",
+                Answer::Ended,
+                &[],
+                b"",
+            ),
+            // The next session.
+            (
+                0,
+                b"\x03\xa4\x01j\x00mlq\x031.2\x00\x01r\x03DM/1.2\x00\x01e\x032\x00\x01[\x031\x00\x01nW\x03s1\x00\x01\
+                  \x01gW\x03d1\x00\x01\x01\x01k\x12\x01\x01",
+                Answer::Sent,
+                &[b"\x03\xa4\x01j\x00mlq\x031.2\x00\x01r\x03DM/1.2\x00\x01e\x032\x00\x01[\x031\x00\x01nW\x03d1\x00\
+                    \x01\x01gW\x03s1\x00\x01\x01Z\x00\x01L\x0316384\x00\x01U\x034194304\x00\x01\x01\x01\x00\x00kiK\
+                    \x031\x00\x01\\\x031\x00\x01L\x030\x00\x01J\x03SyncHdr\x00\x01O\x03200\x00\x01\x01\x12\x01\x01"],
+                b"",
+            ),
+        ],
+    ),
+    // A job that was not begun begins in the next session.
+    (
+        &[b"dm-job 1\nserver s1 - - - - -\nlimits 16384 4194304\nget ./A\nend\n"],
+        &[
+            // Alert 1201 without Final.
+            (
+                0,
+                b"\x03\xa4\x01j\x00mlq\x031.2\x00\x01r\x03DM/1.2\x00\x01e\x031\x00\x01[\x031\x00\x01nW\x03s1\x00\x01\
+                  \x01gW\x03d1\x00\x01\x01\x01kFK\x031\x00\x01O\x031201\x00\x01\x01\x01\x01",
+                Answer::Sent,
+                &[b"\x03\xa4\x01j\x00mlq\x031.2\x00\x01r\x03DM/1.2\x00\x01e\x031\x00\x01[\x031\x00\x01nW\x03d1\x00\
+                    \x01\x01gW\x03s1\x00\x01\x01Z\x00\x01L\x0316384\x00\x01U\x034194304\x00\x01\x01\x01\x00\x00kiK\
+                    \x031\x00\x01\\\x031\x00\x01L\x030\x00\x01J\x03SyncHdr\x00\x01O\x03200\x00\x01\x01iK\x032\x00\
+                    \x01\\\x031\x00\x01L\x031\x00\x01J\x03Alert\x00\x01O\x03200\x00\x01\x01FK\x033\x00\x01O\x031222\
+                    \x00\x01\x01\x01\x01"],
+                b"",
+            ),
+            // The next session.
+            (
+                0,
+                b"\x03\xa4\x01j\x00mlq\x031.2\x00\x01r\x03DM/1.2\x00\x01e\x032\x00\x01[\x031\x00\x01nW\x03s1\x00\x01\
+                  \x01gW\x03d1\x00\x01\x01\x01k\x12\x01\x01",
+                Answer::Sent,
+                &[b"\x03\xa4\x01j\x00mlq\x031.2\x00\x01r\x03DM/1.2\x00\x01e\x032\x00\x01[\x031\x00\x01nW\x03d1\x00\
+                    \x01\x01gW\x03s1\x00\x01\x01Z\x00\x01L\x0316384\x00\x01U\x034194304\x00\x01\x01\x01\x00\x00kiK\
+                    \x031\x00\x01\\\x031\x00\x01L\x030\x00\x01J\x03SyncHdr\x00\x01O\x03200\x00\x01\x01SK\x032\x00\
+                    \x01TnW\x03./A\x00\x01\x01\x01\x01\x12\x01\x01"],
+                b"state running\n",
+            ),
+            // Status 404.
+            (
+                0,
+                b"\x03\xa4\x01j\x00mlq\x031.2\x00\x01r\x03DM/1.2\x00\x01e\x032\x00\x01[\x032\x00\x01nW\x03s1\x00\x01\
+                  \x01gW\x03d1\x00\x01\x01\x01kiK\x031\x00\x01\\\x031\x00\x01L\x030\x00\x01J\x03SyncHdr\x00\x01O\x03\
+                  200\x00\x01\x01iK\x032\x00\x01\\\x031\x00\x01L\x032\x00\x01J\x03Get\x00\x01O\x03404\x00\x01\x01\
+                  \x12\x01\x01",
+                Answer::Sent,
+                &[b"\x03\xa4\x01j\x00mlq\x031.2\x00\x01r\x03DM/1.2\x00\x01e\x032\x00\x01[\x032\x00\x01nW\x03d1\x00\
+                    \x01\x01gW\x03s1\x00\x01\x01Z\x00\x01L\x0316384\x00\x01U\x034194304\x00\x01\x01\x01\x00\x00kiK\
+                    \x031\x00\x01\\\x032\x00\x01L\x030\x00\x01J\x03SyncHdr\x00\x01O\x03200\x00\x01\x01\x12\x01\x01"],
+                b"status 1 404\nstate over\n",
+            ),
+            // Another one.
+            (
+                0,
+                b"\x03\xa4\x01j\x00mlq\x031.2\x00\x01r\x03DM/1.2\x00\x01e\x033\x00\x01[\x031\x00\x01nW\x03s1\x00\x01\
+                  \x01gW\x03d1\x00\x01\x01\x01k\x12\x01\x01",
+                Answer::Sent,
+                &[b"\x03\xa4\x01j\x00mlq\x031.2\x00\x01r\x03DM/1.2\x00\x01e\x033\x00\x01[\x031\x00\x01nW\x03d1\x00\
+                    \x01\x01gW\x03s1\x00\x01\x01Z\x00\x01L\x0316384\x00\x01U\x034194304\x00\x01\x01\x01\x00\x00kiK\
+                    \x031\x00\x01\\\x031\x00\x01L\x030\x00\x01J\x03SyncHdr\x00\x01O\x03200\x00\x01\x01\x12\x01\x01"],
+                b"",
+            ),
+        ],
+    ),
 ];

@@ -1,22 +1,19 @@
 // What a row of a table says.
+use dm_server::Answer;
+use wbxml_tokens::{Reason, Refusal};
 
-/// A call of the server.
-#[derive(Clone, Copy)]
-pub enum Call {
-    /// A message is delivered, in hexadecimal, with sixteen bytes of this value as the nonce.
-    Deliver(u8, &'static str),
-    /// What was sent last, in short.
-    Again,
-    Report,
-}
+/// Parts of a text, one behind the other.
+pub(crate) type Parts = &'static [&'static [u8]];
 
-/// A server's job, and calls of the server with what each answers.
-#[derive(Drop)]
-pub struct Row {
-    pub name: &'static str,
-    /// The lines of its job but the first and the last.
-    pub job: &'static str,
-    /// So many bytes `a` are to be written into `./L`, unless it is 0.
-    pub large: usize,
-    pub calls: &'static [(Call, &'static str)],
-}
+/// The bytes of a message that is delivered, with sixteen bytes of this value as the nonce; the answer; the message
+/// that is sent, and the report then, each empty where it stays as it was.
+pub(crate) type Delivery = (u8, &'static [u8], Answer, Parts, &'static [u8]);
+
+/// The text of a job, and what is delivered to a server with it.
+pub(crate) type Row = (Parts, &'static [Delivery]);
+
+/// The answer to a first byte that begins no message.
+pub(crate) const REFUSED: Answer = Answer::Refused(Refusal {
+    at: 0,
+    reason: Reason::Version,
+});

@@ -1,16 +1,25 @@
 // The servers that are called.
-use dm_base::Memory;
+use dm_base::{Bytes, Memory};
 use dm_job::Job;
 use dm_job::laws::jobs_are_sound;
 use dm_server::Server;
 use std::alloc::Global;
 
-// A server with the job of a text. None comes where the text is no job's.
-pub fn server_of(alloc: Global, text: &[u8]) -> Result<Option<Server>, Memory> {
+fn joined(alloc: Global, parts: &[&[u8]]) -> Result<Bytes, Memory> {
+    let mut text = Bytes::new(alloc);
+    for part in parts {
+        text.extend(part)?;
+    }
+    Ok(text)
+}
+
+/// A server with the job whose text these parts are. None comes where memory runs out, or they are no job's text.
+pub(crate) fn server_of(alloc: Global, parts: &[&[u8]]) -> Option<Server> {
     // It tells that a job that was read is sound.
     jobs_are_sound();
-    match Job::parse(alloc, text) {
-        Ok(job) => Ok(Some(Server::new(alloc, job)?)),
-        Err(_) => Ok(None),
+    let text = joined(alloc, parts).ok()?;
+    match Job::parse(alloc, text.as_slice()) {
+        Ok(job) => Server::new(alloc, job).ok(),
+        Err(_) => None,
     }
 }

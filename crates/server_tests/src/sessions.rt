@@ -1,74 +1,103 @@
-// Each row's server is called, and what it answers is compared.
-use crate::answers::answer_to;
+// Each row's messages are delivered, and what is answered is compared. Where memory runs out, a call is made once more.
 use crate::credential_rows::CREDENTIALS;
 use crate::job_rows::JOBS;
 use crate::order_rows::ORDER;
-use crate::rows::{Call, Row};
+use crate::rows::{Delivery, Parts, Row};
 use crate::servers::server_of;
-use dm_base::{Bytes, Memory};
-use dm_server::Server;
+use crate::value_rows::VALUES;
+use dm_base::{Bytes, Memory, Nonce};
+use dm_server::{Answer, Server};
 use std::alloc::Global;
 use std::test::Fail;
 
-// Many bytes `a` in hexadecimal.
-fn put_large(text: &mut Bytes, count: usize) -> Result<(), Memory> {
-    if count == 0 {
-        return Ok(());
+fn deliver(server: &mut Server, bytes: &[u8], nonce: Nonce) -> Result<Answer, Memory> {
+    match server.deliver(bytes, nonce) {
+        Err(Memory) => server.deliver(bytes, nonce),
+        answer => answer,
     }
-    text.extend(b"replace ./L bin - ")?;
-    for _ in 0..count {
-        text.extend(b"61")?;
-    }
-    text.extend(b"\n")
 }
 
-fn job_text(alloc: Global, row: &Row) -> Result<Bytes, Memory> {
-    let mut text = Bytes::of_slice(alloc, b"dm-job 1\n")?;
-    text.extend(row.job.as_bytes())?;
-    put_large(&mut text, row.large)?;
-    text.extend(b"end\n")?;
-    Ok(text)
+fn report(server: &Server) -> Result<Bytes, Memory> {
+    match server.report() {
+        Err(Memory) => server.report(),
+        text => text,
+    }
 }
 
-// The first answer that is another than the one wanted, with the number of its call.
-fn wrong_answer(
-    alloc: Global,
+fn is_made_of(bytes: &[u8], parts: &[&[u8]]) -> bool {
+    let mut rest = bytes;
+    for part in parts {
+        match rest.strip_prefix(*part) {
+            Some(behind) => rest = behind,
+            None => return false,
+        }
+    }
+    rest.is_empty()
+}
+
+// Whether a server answers so, with what it has sent last and its report then.
+fn is_as_wanted(
     server: &mut Server,
-    calls: &[(Call, &str)],
-) -> Result<Option<(usize, Bytes)>, Memory> {
-    for (number, (call, want)) in calls.iter().enumerate() {
-        let answer = answer_to(alloc, server, *call)?;
-        if answer.as_slice() != want.as_bytes() {
-            return Ok(Some((number, answer)));
+    delivery: &Delivery,
+    sent: Parts,
+    wanted: &[u8],
+) -> Result<bool, Memory> {
+    let nonce = Nonce {
+        bytes: [delivery.0; 16],
+    };
+    let answer = deliver(server, delivery.1, nonce)?;
+    let report = report(server)?;
+    Ok(
+        answer == delivery.2
+            && is_made_of(server.again().unwrap_or(&[]), sent)
+            && report.as_slice() == wanted,
+    )
+}
+
+// The number of the first delivery that is answered otherwise.
+fn wrong_delivery(server: &mut Server, deliveries: &[Delivery]) -> Result<Option<usize>, Memory> {
+    let mut sent: Parts = &[];
+    let mut report: &[u8] = b"state waiting\n";
+    for (number, delivery) in deliveries.iter().enumerate() {
+        if !delivery.3.is_empty() {
+            sent = delivery.3;
+        }
+        if !delivery.4.is_empty() {
+            report = delivery.4;
+        }
+        if !is_as_wanted(server, delivery, sent, report)? {
+            return Ok(Some(number));
         }
     }
     Ok(None)
 }
 
-fn difference(alloc: Global, row: &Row) -> Result<Option<(usize, Bytes)>, Memory> {
-    let text = job_text(alloc, row)?;
-    match server_of(alloc, text.as_slice())? {
-        Some(mut server) => wrong_answer(alloc, &mut server, row.calls),
-        None => Ok(Some((0, Bytes::of_slice(alloc, b"no job")?))),
+fn wrong_in(alloc: Global, row: &Row) -> Result<Option<usize>, Memory> {
+    match server_of(alloc, row.0) {
+        Some(mut server) => {
+            let wrong = wrong_delivery(&mut server, row.1);
+            drop(server);
+            wrong
+        }
+        None => Err(Memory),
     }
 }
 
-// Empty, or the first wrong answer of the rows behind their name and its number.
-fn differences(alloc: Global, rows: &[Row]) -> Result<String, Fail> {
-    for row in rows {
-        if let Some((number, answer)) = difference(alloc, row)? {
-            let text = str::from_utf8(answer.as_slice()).unwrap_or("no text");
-            return Ok(format!(in alloc; "{} {number}: {text}", row.name)?);
+// The number of the first row in which a delivery is answered otherwise, and that delivery's.
+fn wrong_row(alloc: Global, rows: &[Row]) -> Result<Option<(usize, usize)>, Memory> {
+    for (number, row) in rows.iter().enumerate() {
+        if let Some(delivery) = wrong_in(alloc, row)? {
+            return Ok(Some((number, delivery)));
         }
     }
-    Ok(String::new(alloc))
+    Ok(None)
 }
 
 #[test]
-fn each_row_is_answered(rt: HostRuntime) -> Result<(), Fail> {
-    let alloc = rt.alloc();
-    for rows in [ORDER.as_slice(), CREDENTIALS.as_slice(), JOBS.as_slice()] {
-        assert_eq!(rt; differences(alloc, rows)?.as_str(), "");
-    }
+fn each_delivery_is_answered(rt: HostRuntime) -> Result<(), Fail> {
+    assert_eq!(rt; wrong_row(rt.alloc(), &ORDER)?, None);
+    assert_eq!(rt; wrong_row(rt.alloc(), &CREDENTIALS)?, None);
+    assert_eq!(rt; wrong_row(rt.alloc(), &JOBS)?, None);
+    assert_eq!(rt; wrong_row(rt.alloc(), &VALUES)?, None);
     Ok(())
 }

@@ -1,4 +1,4 @@
 use Rattle.server_tests.proofs.servers.server_of.Goals as goal
 
 pub new-requires : goal.new-requires
-new-requires c = c.jobs_are_sound.ensures c.args.text.now c.in-Ok.job c.in-Ok.ensures
+new-requires c = c.jobs_are_sound.ensures _ c.in-Ok.job c.in-Ok.ensures
