@@ -1,29 +1,14 @@
-//! Tests of a client's sessions by public calls alone: rows of calls with what each of them answers.
+//! Tests of what a client tells beside its answers, which traces show: where its session stands, its RespURI, the
+//! package of an update that runs, its farewell, and its errors.
 #![tactic(auto)]
 
 #[cfg(test)]
-mod answers;
-#[cfg(test)]
 mod calls;
 #[cfg(test)]
-mod credential_rows;
-#[cfg(test)]
 mod errors;
-#[cfg(test)]
-mod group_rows;
-#[cfg(test)]
-mod header_rows;
-#[cfg(test)]
-mod order_rows;
-#[cfg(test)]
-mod room_rows;
 #[cfg(test)]
 mod rows;
 #[cfg(test)]
 mod sessions;
 #[cfg(test)]
 mod starts;
-#[cfg(test)]
-mod told;
-#[cfg(test)]
-mod update_rows;

@@ -1,67 +1,65 @@
-// Each row's client is called, and what it answers is compared.
+// A client is called, and what it tells is compared.
 ghost use Rattle.std.specs.Prelude.{◌<◌, length};
 
-use crate::answers::answer_to;
-use crate::credential_rows::CREDENTIALS;
-use crate::group_rows::GROUPS;
-use crate::header_rows::HEADER;
-use crate::order_rows::ORDER;
-use crate::room_rows::ROOM;
-use crate::rows::{Call, Row};
-use crate::starts::client_of;
-use crate::update_rows::UPDATES;
-use dm_base::{Bytes, Memory};
+use crate::calls::is_answered;
+use crate::rows::{Known, ROWS};
+use crate::starts::client;
+use dm_base::Memory;
 use dm_session::Client;
+use dm_tree::Stamp;
 use std::alloc::Global;
 use std::test::Fail;
 
-// The first answer that is another than the one wanted, with the number of its call.
-fn wrong_answer(
-    alloc: Global,
-    client: &mut Client,
-    calls: &[(Call, &str)],
-) -> Result<Option<(usize, Bytes)>, Memory>
+fn number_sent(client: &Client) -> Option<u32> {
+    match client.sent() {
+        Some(message) => Some(message.header().msg),
+        None => None,
+    }
+}
+
+fn is_known(client: &Client, known: &Known) -> bool {
+    client.last() == known.0
+        && number_sent(client) == known.1
+        && client.resp_uri().unwrap_or(&[]) == known.2
+        && client.started().unwrap_or(&[]) == known.3
+        && client.farewell().unwrap_or(&[]) == known.4
+        && client.again().is_some() == known.1.is_some()
+}
+
+// The number of the first call behind which another thing is told.
+fn wrong_call(client: &mut Client) -> Result<Option<usize>, Memory>
     requires { 0 < length client.old.machine.accounts }
 {
-    for (number, (call, want)) in calls.iter().enumerate() {
-        let answer = answer_to(alloc, client, *call)?;
-        if answer.as_slice() != want.as_bytes() {
-            return Ok(Some((number, answer)));
+    for (number, (call, known)) in ROWS.iter().enumerate() {
+        if !is_answered(client, *call)? || !is_known(client, known) {
+            return Ok(Some(number));
         }
     }
     Ok(None)
 }
 
-fn difference(alloc: Global, row: &Row) -> Result<Option<(usize, Bytes)>, Memory> {
-    match client_of(alloc, row)? {
-        Some(mut client) => wrong_answer(alloc, &mut client, row.calls),
-        None => Ok(Some((0, Bytes::of_slice(alloc, b"no client")?))),
-    }
+fn is_clock_set(client: &mut Client) -> bool {
+    let stamp = Stamp {
+        bytes: *b"20261128T140000Z",
+    };
+    client.set_clock(stamp);
+    client.tree().clock().bytes == stamp.bytes
 }
 
-// Empty, or the first wrong answer of the rows behind their name and its number.
-fn differences(alloc: Global, rows: &[Row]) -> Result<String, Fail> {
-    for row in rows {
-        if let Some((number, answer)) = difference(alloc, row)? {
-            let text = str::from_utf8(answer.as_slice()).unwrap_or("no text");
-            return Ok(format!(in alloc; "{} {number}: {text}", row.name)?);
+fn wrong_in(alloc: Global) -> Result<(Option<usize>, bool), Memory> {
+    match client(alloc) {
+        Some(mut client) => {
+            let wrong = wrong_call(&mut client);
+            let is_clock_set = is_clock_set(&mut client);
+            drop(client);
+            Ok((wrong?, is_clock_set))
         }
+        None => Err(Memory),
     }
-    Ok(String::new(alloc))
 }
 
 #[test]
-fn each_row_is_answered(rt: HostRuntime) -> Result<(), Fail> {
-    let alloc = rt.alloc();
-    for rows in [
-        ORDER.as_slice(),
-        HEADER.as_slice(),
-        CREDENTIALS.as_slice(),
-        ROOM.as_slice(),
-        GROUPS.as_slice(),
-        UPDATES.as_slice(),
-    ] {
-        assert_eq!(rt; differences(alloc, rows)?.as_str(), "");
-    }
+fn each_call_is_told(rt: HostRuntime) -> Result<(), Fail> {
+    assert_eq!(rt; wrong_in(rt.alloc())?, (None, true));
     Ok(())
 }
