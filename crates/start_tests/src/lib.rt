@@ -4,14 +4,8 @@
 #[cfg(test)]
 mod errors;
 #[cfg(test)]
-mod outcomes;
-#[cfg(test)]
 mod pieces;
 #[cfg(test)]
 mod refusals;
 #[cfg(test)]
 mod starts;
-#[cfg(test)]
-mod texts;
-#[cfg(test)]
-mod tree_refusals;

@@ -1,5 +1,5 @@
 // The tree text, put to a sink a piece at a time.
-use crate::outcomes::{Outcome, read};
+use crate::starts::start_of;
 use dm_base::{Bytes, Fault, List, MemSink, Memory};
 use dm_start::{put_tree, tree_text};
 use dm_tree::Tree;
@@ -13,63 +13,57 @@ clock 20240101T000000Z
 account s1 - - - - -
 ";
 
-// A tree with so many leaves of so many bytes each, or None where a line is refused.
-fn tree_of(alloc: Global, leaves: usize, size: usize) -> Result<Option<Tree>, Memory> {
-    let mut text = Bytes::new(alloc);
-    let names = b"abcdefghijklmnopqrstuvwxyz";
-    for name in names.iter().take(leaves) {
+// 5,000 bytes in hexadecimal.
+const DIGITS: &[u8] = &[b'a'; 10_000];
+
+// 26 leaves of so many bytes.
+fn section(alloc: Global) -> Result<Bytes, Memory> {
+    let mut text = Bytes::of_slice(alloc, HEAD)?;
+    for name in b'a'..=b'z' {
         text.extend(b"leaf ./")?;
-        text.push(*name)?;
+        text.push(name)?;
         text.extend(b" bin x ")?;
-        for _ in 0..size {
-            text.extend(b"0a")?;
-        }
+        text.extend(DIGITS)?;
         text.push(b'\n')?;
     }
     text.extend(b"begin")?;
-    match read(alloc, HEAD, text.as_slice())? {
-        Outcome::Begun(start) => Ok(Some(start.tree)),
-        Outcome::Bad(_, _) => Ok(None),
-        Outcome::Unended => Ok(None),
-    }
+    Ok(text)
 }
 
-fn sink_of(alloc: Global, fails: &[u64]) -> Result<MemSink, Memory> {
-    Ok(MemSink::new(alloc, List::of_vec(Vec::from_slice(alloc, fails)?)))
+// Whether the whole text is put, or a proper prefix of it where a call of the sink fails.
+fn is_put(alloc: Global, tree: &Tree, fails: &[u64]) -> Result<bool, Memory> {
+    let text = tree_text(alloc, tree, 2)?;
+    let mut sink = MemSink::new(alloc, List::of_vec(Vec::from_slice(alloc, fails)?));
+    let put = put_tree(alloc, &mut sink, tree, 2);
+    if fails.is_empty() {
+        return Ok(put == Ok(()) && sink.bytes() == text.as_slice());
+    }
+    Ok(
+        put == Err(Fault::Failed)
+            && !sink.bytes().is_empty()
+            && sink.bytes().len() < text.len()
+            && text.as_slice().starts_with(sink.bytes()),
+    )
+}
+
+fn are_put(alloc: Global, tree: &Tree) -> Result<bool, Memory> {
+    Ok(is_put(alloc, tree, &[])? && is_put(alloc, tree, &[2])?)
+}
+
+fn of_section(alloc: Global, text: &[u8]) -> Result<bool, Memory> {
+    match start_of(alloc, text) {
+        Some(start) => {
+            let are_put = are_put(alloc, &start.tree);
+            drop(start);
+            are_put
+        }
+        None => Ok(false),
+    }
 }
 
 #[test]
-fn all_pieces_are_the_text(rt: HostRuntime) -> Result<(), Fail> {
-    // No leaf; a line longer than a piece; many lines in one piece; a piece that ends with the text of several.
-    for (leaves, size) in [(0, 0), (1, 40_000), (26, 50), (26, 1_500)] {
-        let tree = tree_of(rt.alloc(), leaves, size)?;
-        assert!(rt; tree.is_some());
-        if let Some(tree) = tree {
-            for version in [1, 2] {
-                let mut sink = sink_of(rt.alloc(), &[])?;
-                let put = put_tree(rt.alloc(), &mut sink, &tree, version);
-                assert_eq!(rt; put, Ok(()));
-                let text = tree_text(rt.alloc(), &tree, version)?;
-                assert_eq!(rt; sink.bytes(), text.as_slice());
-            }
-        }
-    }
-    Ok(())
-}
-
-#[test]
-fn a_fault_leaves_a_proper_prefix(rt: HostRuntime) -> Result<(), Fail> {
-    let tree = tree_of(rt.alloc(), 26, 5_000)?;
-    assert!(rt; tree.is_some());
-    if let Some(tree) = tree {
-        let text = tree_text(rt.alloc(), &tree, 2)?;
-        for call in [1, 2, 3, 4] {
-            let mut sink = sink_of(rt.alloc(), &[call])?;
-            let put = put_tree(rt.alloc(), &mut sink, &tree, 2);
-            assert_eq!(rt; put, Err(Fault::Failed));
-            assert!(rt; sink.bytes().len() < text.len());
-            assert!(rt; text.as_slice().starts_with(sink.bytes()));
-        }
-    }
+fn pieces_are_the_text_or_a_prefix_of_it(rt: HostRuntime) -> Result<(), Fail> {
+    let text = section(rt.alloc())?;
+    assert!(rt; of_section(rt.alloc(), text.as_slice())?);
     Ok(())
 }

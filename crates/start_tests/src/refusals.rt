@@ -1,18 +1,28 @@
 // Each reason at its line: the first that holds.
-use crate::outcomes::{Outcome, read};
-use crate::tree_refusals::TREE;
-use dm_base::{LineReason, Memory};
+use crate::starts::{Bad, reading};
+use dm_base::{Bytes, LineReason, Memory};
+use dm_start::StartReader;
 use std::alloc::Global;
 use std::test::Fail;
 
-/// Lines behind the first ones, and the line that is refused, with its reason.
-#[derive(Drop)]
-pub struct Row {
-    pub head: &'static [u8],
-    pub lines: &'static [u8],
-    pub number: u64,
-    pub reason: LineReason,
-}
+// Lines behind the first ones; the number of the line that is refused, and why.
+type Row = (&'static [u8], u64, LineReason);
+
+#[rattlefmt::skip]
+const FIRST: [Row; 11] = [
+    (b"dm-trace 3", 1, LineReason::Word),
+    (b"dm-trace 1 x", 1, LineReason::Word),
+    (b"", 1, LineReason::Word),
+    (b"dm-trace 1\nlimits 16384 1", 2, LineReason::Word),
+    (b"dm-trace 1\ndevice d1 Acme Box 1.2", 2, LineReason::Fields),
+    (b"dm-trace 1\ndevice d1 Acme Box 1.2 eeeeeeeeeeeeeeeeeeeeeeeeeeeeeeeeeeeeeeeeeeeeeeeeeeeeeeeeeeeeeeeee",
+     2, LineReason::Fields),
+    (b"dm-trace 1\ndevice d1 Acme Box 1.2 en\nlimits 2047 1", 3, LineReason::Fields),
+    (b"dm-trace 1\ndevice d1 Acme Box 1.2 en\nlimits 65537 1", 3, LineReason::Fields),
+    (b"dm-trace 1\ndevice d1 Acme Box 1.2 en\nlimits 2048 4194305", 3, LineReason::Fields),
+    (b"dm-trace 1\ndevice d1 Acme Box 1.2 en\nlimits 2048 0", 3, LineReason::Fields),
+    (b"dm-trace 1\ndevice d1 Acme Box 1.2 en\nlimits 02048 1", 3, LineReason::Fields),
+];
 
 // Lines 1 to 3.
 const BARE: &[u8] = b"dm-trace 1
@@ -20,12 +30,18 @@ device d1 Acme Box 1.2 en
 limits 16384 4194304
 ";
 
-/// Lines 1 to 4.
-pub const COMMON: &[u8] = b"dm-trace 1
-device d1 Acme Box 1.2 en
-limits 16384 4194304
-account s1 - - - - -
-";
+#[rattlefmt::skip]
+const ACCOUNTS: [Row; 8] = [
+    (b"clock 20240101T000000Z", 4, LineReason::Word),
+    (b"begin", 4, LineReason::Word),
+    (b"interior ./N", 4, LineReason::Word),
+    (b"account - - - - - -", 4, LineReason::Fields),
+    (b"account s1 - - - -", 4, LineReason::Fields),
+    (b"account s1 - 0 - - -", 4, LineReason::Fields),
+    (b"account s1 - - - - 000000000000000000000000000000000000000000000000000000000000000000000000000000000\
+          0000000000000000000000000000000000000000000000000", 4, LineReason::Fields),
+    (b"account a+b - - - - -", 4, LineReason::Fields),
+];
 
 // Lines 1 to 3, in the other version.
 const BARE_2: &[u8] = b"dm-trace 2
@@ -33,243 +49,116 @@ device d1 Acme Box 1.2 en
 limits 16384 4194304
 ";
 
-const OPENING: [Row; 18] = [
-    Row {
-        head: b"",
-        lines: b"dm-trace 3",
-        number: 1,
-        reason: LineReason::Word,
-    },
-    Row {
-        head: b"",
-        lines: b"dm-trace 1 x",
-        number: 1,
-        reason: LineReason::Word,
-    },
-    Row {
-        head: b"",
-        lines: b"",
-        number: 1,
-        reason: LineReason::Word,
-    },
-    Row {
-        head: b"",
-        lines: b"dm-trace 1
-limits 16384 1",
-        number: 2,
-        reason: LineReason::Word,
-    },
-    Row {
-        head: b"",
-        lines: b"dm-trace 1
-device d1 Acme Box 1.2",
-        number: 2,
-        reason: LineReason::Fields,
-    },
-    Row {
-        head: b"",
-        lines: b"dm-trace 1
-device d1 Acme Box 1.2 eeeeeeeeeeeeeeeeeeeeeeeeeeeeeeeeeeeeeeeeeeeeeeeeeeeeeeeeeeeeeeeee",
-        number: 2,
-        reason: LineReason::Fields,
-    },
-    Row {
-        head: b"",
-        lines: b"dm-trace 1
+#[rattlefmt::skip]
+const CLOCKS: [Row; 5] = [
+    (b"account s1 - - - - -", 4, LineReason::Word),
+    (b"clock 2024", 4, LineReason::Fields),
+    (b"clock 20240101t000000Z", 4, LineReason::Fields),
+    (b"clock 20240101T000000Z x", 4, LineReason::Fields),
+    (b"clock 20240101T000000Z\naccount s1 - - - - -\nclock 20240101T000000Z", 6, LineReason::Word),
+];
+
+// Lines 1 to 4.
+const COMMON: &[u8] = b"dm-trace 1
 device d1 Acme Box 1.2 en
-limits 2047 1",
-        number: 3,
-        reason: LineReason::Fields,
-    },
-    Row {
-        head: b"",
-        lines: b"dm-trace 1
-device d1 Acme Box 1.2 en
-limits 65537 1",
-        number: 3,
-        reason: LineReason::Fields,
-    },
-    Row {
-        head: b"",
-        lines: b"dm-trace 1
-device d1 Acme Box 1.2 en
-limits 2048 4194305",
-        number: 3,
-        reason: LineReason::Fields,
-    },
-    Row {
-        head: b"",
-        lines: b"dm-trace 1
-device d1 Acme Box 1.2 en
-limits 2048 0",
-        number: 3,
-        reason: LineReason::Fields,
-    },
-    Row {
-        head: b"",
-        lines: b"dm-trace 1
-device d1 Acme Box 1.2 en
-limits 02048 1",
-        number: 3,
-        reason: LineReason::Fields,
-    },
-    Row {
-        head: BARE,
-        lines: b"clock 20240101T000000Z",
-        number: 4,
-        reason: LineReason::Word,
-    },
-    Row {
-        head: COMMON,
-        lines: b"clock 20240101T000000Z",
-        number: 5,
-        reason: LineReason::Word,
-    },
-    Row {
-        head: BARE_2,
-        lines: b"account s1 - - - - -",
-        number: 4,
-        reason: LineReason::Word,
-    },
-    Row {
-        head: BARE_2,
-        lines: b"clock 2024",
-        number: 4,
-        reason: LineReason::Fields,
-    },
-    Row {
-        head: BARE_2,
-        lines: b"clock 20240101t000000Z",
-        number: 4,
-        reason: LineReason::Fields,
-    },
-    Row {
-        head: BARE_2,
-        lines: b"clock 20240101T000000Z x",
-        number: 4,
-        reason: LineReason::Fields,
-    },
-    Row {
-        head: BARE_2,
-        lines: b"clock 20240101T000000Z
+limits 16384 4194304
 account s1 - - - - -
-clock 20240101T000000Z",
-        number: 6,
-        reason: LineReason::Word,
-    },
+";
+
+#[rattlefmt::skip]
+const TREE: [Row; 40] = [
+    (b"clock 20240101T000000Z", 5, LineReason::Word),
+    (b"account s1 - - - - -", 5, LineReason::Account),
+    (b"account s2 - - - - -\naccount s1 - - - -", 6, LineReason::Fields),
+    (b"interior ./N\naccount s2 - - - - -", 6, LineReason::Word),
+    (b"account t0 - - - - -\naccount t1 - - - - -\naccount t2 - - - - -\naccount t3 - - - - -\naccount t4 \
+          - - - - -\naccount t5 - - - - -\naccount t6 - - - - -\naccount t7 - - - - -\naccount t8 - - - - -\na\
+          ccount t9 - - - - -\naccount t10 - - - - -\naccount t11 - - - - -\naccount t12 - - - - -\naccount t1\
+          3 - - - - -\naccount t14 - - - - -\naccount t15 - - - - -", 20, LineReason::Account),
+    (b"leaf", 5, LineReason::Fields),
+    (b"leaf ./Q/x chr text/plain 78", 5, LineReason::Tree),
+    (b"leaf ./x node text/plain -", 5, LineReason::Fields),
+    (b"leaf ./x text text/plain -", 5, LineReason::Fields),
+    (b"leaf ./x chr text/plain 7", 5, LineReason::Fields),
+    (b"leaf ./x?prop=ACL chr text/plain 78", 5, LineReason::Fields),
+    (b"leaf ./x//y chr text/plain 78", 5, LineReason::Fields),
+    (b"leaf ./x chr text/plain 78\nleaf ./x/y chr text/plain 78", 6, LineReason::Tree),
+    (b"interior .", 5, LineReason::Tree),
+    (b"interior ./N\ninterior N", 6, LineReason::Tree),
+    (b"interior ./DevInfo/DevId", 5, LineReason::Tree),
+    (b"interior ./N ./M", 5, LineReason::Fields),
+    (b"acl ./N Get=*", 5, LineReason::Tree),
+    (b"acl . Get=*&Get=s1", 5, LineReason::Tree),
+    (b"acl . -", 5, LineReason::Tree),
+    (b"acl . ", 5, LineReason::Fields),
+    (b"title ./N -", 5, LineReason::Tree),
+    (b"title . 00", 5, LineReason::Tree),
+    (b"title . ff", 5, LineReason::Tree),
+    (b"title . 61616161616161616161616161616161616161616161616161616161616161616161616161616161616161616161\
+          6161616161616161616161616161616161616161616161616161616161616161616161616161616161616161616161616161\
+          6161616161616161616161616161616161616161616161616161616161616161616161616161616161616161616161616161\
+          6161616161616161616161616161616161616161616161616161616161616161616161616161616161616161616161616161\
+          6161616161616161616161616161616161616161616161616161616161616161616161616161616161616161616161616161\
+          61616161616161616161", 5, LineReason::Tree),
+    (b"title . 6", 5, LineReason::Fields),
+    (b"permanent .", 5, LineReason::Tree),
+    (b"permanent ./N", 5, LineReason::Tree),
+    (b"interior ./N\ninterior ./N/M\npermanent ./N/M", 7, LineReason::Tree),
+    (b"fumo .", 5, LineReason::Tree),
+    (b"fumo ./DevInfo/DevId/F", 5, LineReason::Tree),
+    (b"interior ./N\nfumo ./N/F", 6, LineReason::Tree),
+    (b"fumo ./F\nfumo ./G", 6, LineReason::Tree),
+    (b"fumo ./DevInfo", 5, LineReason::Tree),
+    (b"fumo ./F?list=Struct", 5, LineReason::Fields),
+    (b"interior ./nnnnnnnnnnnnnnnnnnnnnnnnnnnnnnnnnnnnnnnnnnnnnnnnnnnnnnnnnnnn\ninterior ./nnnnnnnnnnnnnnnn\
+          nnnnnnnnnnnnnnnnnnnnnnnnnnnnnnnnnnnnnnnnnnnn/nnnnnnnnnnnnnnnnnnnnnnnnnnnnnnnnnnnnnnnnnnnnnnnnnnnnnnn\
+          nnnnn\ninterior ./nnnnnnnnnnnnnnnnnnnnnnnnnnnnnnnnnnnnnnnnnnnnnnnnnnnnnnnnnnnn/nnnnnnnnnnnnnnnnnnnnn\
+          nnnnnnnnnnnnnnnnnnnnnnnnnnnnnnnnnnnnnnn/nnnnnnnnnnnnnnnnnnnnnnnnnnnnnnnnnnnnnnnnnnnnnnnnnnnnnnnnnnnn\
+          \ninterior ./nnnnnnnnnnnnnnnnnnnnnnnnnnnnnnnnnnnnnnnnnnnnnnnnnnnnnnnnnnnn/nnnnnnnnnnnnnnnnnnnnnnnnnn\
+          nnnnnnnnnnnnnnnnnnnnnnnnnnnnnnnnnn/nnnnnnnnnnnnnnnnnnnnnnnnnnnnnnnnnnnnnnnnnnnnnnnnnnnnnnnnnnnn/nnnn\
+          nnnnnnnnnnnnnnnnnnnnnnnnnnnnnnnnnnnnnnnnnnnnnnnnnnnnnnnn\npermanent ./nnnnnnnnnnnnnnnnnnnnnnnnnnnnnn\
+          nnnnnnnnnnnnnnnnnnnnnnnnnnnnnn\npermanent ./nnnnnnnnnnnnnnnnnnnnnnnnnnnnnnnnnnnnnnnnnnnnnnnnnnnnnnnn\
+          nnnn/nnnnnnnnnnnnnnnnnnnnnnnnnnnnnnnnnnnnnnnnnnnnnnnnnnnnnnnnnnnn\npermanent ./nnnnnnnnnnnnnnnnnnnnn\
+          nnnnnnnnnnnnnnnnnnnnnnnnnnnnnnnnnnnnnnn/nnnnnnnnnnnnnnnnnnnnnnnnnnnnnnnnnnnnnnnnnnnnnnnnnnnnnnnnnnnn\
+          /nnnnnnnnnnnnnnnnnnnnnnnnnnnnnnnnnnnnnnnnnnnnnnnnnnnnnnnnnnnn\nfumo ./nnnnnnnnnnnnnnnnnnnnnnnnnnnnnn\
+          nnnnnnnnnnnnnnnnnnnnnnnnnnnnnn/nnnnnnnnnnnnnnnnnnnnnnnnnnnnnnnnnnnnnnnnnnnnnnnnnnnnnnnnnnnn/nnnnnnnn\
+          nnnnnnnnnnnnnnnnnnnnnnnnnnnnnnnnnnnnnnnnnnnnnnnnnnnn/mmmmmmmmmmmmmmmmmmmmmmmmmmmmmmmmmmmmmmmmmmmmmmm\
+          mmmmmmmmm", 12, LineReason::Tree),
+    (b"Interior ./N", 5, LineReason::Word),
+    (b"", 5, LineReason::Word),
+    (b"begin x", 5, LineReason::Fields),
+    (b"end", 5, LineReason::Word),
 ];
 
-const ACCOUNTS: [Row; 11] = [
-    Row {
-        head: BARE,
-        lines: b"begin",
-        number: 4,
-        reason: LineReason::Word,
-    },
-    Row {
-        head: BARE,
-        lines: b"interior ./N",
-        number: 4,
-        reason: LineReason::Word,
-    },
-    Row {
-        head: BARE,
-        lines: b"account - - - - - -",
-        number: 4,
-        reason: LineReason::Fields,
-    },
-    Row {
-        head: BARE,
-        lines: b"account s1 - - - -",
-        number: 4,
-        reason: LineReason::Fields,
-    },
-    Row {
-        head: BARE,
-        lines: b"account s1 - 0 - - -",
-        number: 4,
-        reason: LineReason::Fields,
-    },
-    Row {
-        head: BARE,
-        lines: b"account s1 - - - - 0000000000000000000000000000000000000000000000000000000000000000000000000000000000000000000000000000000000000000000000000000000000",
-        number: 4,
-        reason: LineReason::Fields,
-    },
-    Row {
-        head: BARE,
-        lines: b"account a+b - - - - -",
-        number: 4,
-        reason: LineReason::Fields,
-    },
-    Row {
-        head: COMMON,
-        lines: b"account s1 - - - - -",
-        number: 5,
-        reason: LineReason::Account,
-    },
-    Row {
-        head: COMMON,
-        lines: b"account s2 - - - - -
-account s1 - - - -",
-        number: 6,
-        reason: LineReason::Fields,
-    },
-    Row {
-        head: COMMON,
-        lines: b"interior ./N
-account s2 - - - - -",
-        number: 6,
-        reason: LineReason::Word,
-    },
-    Row {
-        head: COMMON,
-        lines: b"account t0 - - - - -
-account t1 - - - - -
-account t2 - - - - -
-account t3 - - - - -
-account t4 - - - - -
-account t5 - - - - -
-account t6 - - - - -
-account t7 - - - - -
-account t8 - - - - -
-account t9 - - - - -
-account t10 - - - - -
-account t11 - - - - -
-account t12 - - - - -
-account t13 - - - - -
-account t14 - - - - -
-account t15 - - - - -",
-        number: 20,
-        reason: LineReason::Account,
-    },
-];
+// What is answered to these lines behind a head: whether the section is whole then, or which of them is bad.
+fn answer_to(alloc: Global, head: &[u8], lines: &[u8]) -> Result<Result<bool, Bad>, Memory> {
+    let mut text = Bytes::of_slice(alloc, head)?;
+    text.extend(lines)?;
+    let mut reader = StartReader::new(alloc);
+    let answer = reading(&mut reader, text.as_slice());
+    drop(reader);
+    Ok(answer)
+}
 
-// Whether each row is refused so; else the number of the first that isn't.
-fn wrong_row(alloc: Global, rows: &[Row]) -> Result<Option<usize>, Memory> {
-    for (place, row) in rows.iter().enumerate() {
-        match read(alloc, row.head, row.lines)? {
-            Outcome::Bad(number, reason) if number == row.number && reason == row.reason => {}
-            _ => return Ok(Some(place)),
+// The number of the first row that is answered otherwise.
+fn wrong_row(alloc: Global, head: &[u8], rows: &[Row]) -> Result<Option<usize>, Memory> {
+    for (place, (lines, number, reason)) in rows.iter().enumerate() {
+        let wanted = Bad {
+            number: *number,
+            reason: Some(*reason),
+        };
+        if answer_to(alloc, head, lines)? != Err(wanted) {
+            return Ok(Some(place));
         }
     }
     Ok(None)
 }
 
 #[test]
-fn first_lines_are_refused(rt: HostRuntime) -> Result<(), Fail> {
-    assert_eq!(rt; wrong_row(rt.alloc(), &OPENING)?, None);
-    Ok(())
-}
-
-#[test]
-fn accounts_are_refused(rt: HostRuntime) -> Result<(), Fail> {
-    assert_eq!(rt; wrong_row(rt.alloc(), &ACCOUNTS)?, None);
-    Ok(())
-}
-
-#[test]
-fn lines_of_the_tree_are_refused(rt: HostRuntime) -> Result<(), Fail> {
-    assert_eq!(rt; wrong_row(rt.alloc(), &TREE)?, None);
+fn lines_are_refused(rt: HostRuntime) -> Result<(), Fail> {
+    assert_eq!(rt; wrong_row(rt.alloc(), b"", &FIRST)?, None);
+    assert_eq!(rt; wrong_row(rt.alloc(), BARE, &ACCOUNTS)?, None);
+    assert_eq!(rt; wrong_row(rt.alloc(), BARE_2, &CLOCKS)?, None);
+    assert_eq!(rt; wrong_row(rt.alloc(), COMMON, &TREE)?, None);
     Ok(())
 }

@@ -1,27 +1,48 @@
 // Whole start sections.
-use crate::outcomes::{Outcome, read};
+ghost use Rattle.std.specs.Prelude.{◌≡◌, false, IfOk};
+ghost use Rattle.dm_start.specs.Start.{section_at, is_begun};
+
 use dm_auth::Account;
-use dm_base::{Bytes, Memory};
-use dm_start::{Start, tree_text};
+use dm_base::{Bytes, LineReason, Memory};
+use dm_fields::LineError;
+use dm_start::{Start, StartReader, tree_text};
 use std::alloc::Global;
 use std::test::Fail;
 
-const COMMON: &[u8] = b"dm-trace 1
-device d1 Acme Box 1.2 en
-limits 16384 4194304
-account s1 - - - - -
-leaf ./A chr text/plain 78
-begin";
+/// The number of a line that isn't taken, and why; no reason where memory ran out.
+#[derive(Clone, Copy, PartialEq, Eq)]
+pub(crate) struct Bad {
+    pub number: u64,
+    pub reason: Option<LineReason>,
+}
 
-const COMMON_TREE: &[u8] = b"node . 0 p Add=*&Get=* - -
-leaf ./A 0 - - - chr 746578742f706c61696e 78
-node ./DevInfo 0 p - - -
-leaf ./DevInfo/DevId 0 p - - chr 746578742f706c61696e 6431
-leaf ./DevInfo/DmV 0 p - - chr 746578742f706c61696e 312e32
-leaf ./DevInfo/Lang 0 p - - chr 746578742f706c61696e 656e
-leaf ./DevInfo/Man 0 p - - chr 746578742f706c61696e 41636d65
-leaf ./DevInfo/Mod 0 p - - chr 746578742f706c61696e 426f78
-";
+/// Has a reader take the lines of a text, and answers whether the section is whole then.
+pub(crate) fn reading(reader: &mut StartReader, text: &[u8]) -> Result<bool, Bad>
+    requires { is_begun (section_at reader.old) ≡ false }
+    ensures { IfOk result (λ whole. whole ≡ is_begun (section_at reader.new)) }
+{
+    let mut number = 0u64;
+    for line in text.split(|b| *b == b'\n') {
+        number = number.saturating_add(1);
+        let reason = match reader.line(line) {
+            Ok(true) => return Ok(true),
+            Ok(false) => continue,
+            Err(LineError::Bad(reason)) => Some(reason),
+            Err(LineError::Memory) => None,
+        };
+        return Err(Bad { number, reason });
+    }
+    Ok(false)
+}
+
+/// What a section tells. None where a line isn't taken, or it isn't whole.
+pub(crate) fn start_of(alloc: Global, text: &[u8]) -> Option<Start> {
+    let mut reader = StartReader::new(alloc);
+    match reading(&mut reader, text) {
+        Ok(true) => Some(reader.finish()),
+        _ => None,
+    }
+}
 
 const UPDATE: &[u8] = b"dm-trace 2
 device d1 Acme Box 1.2 en
@@ -54,14 +75,6 @@ node ./N/F/Update 0 20240101T000000Z p - - -
 leaf ./N/F/Update/PkgData 0 20240101T000000Z p - - bin 746578742f706c61696e -
 ";
 
-fn start_of(alloc: Global, text: &[u8]) -> Result<Option<Start>, Memory> {
-    match read(alloc, text, b"")? {
-        Outcome::Begun(start) => Ok(Some(start)),
-        Outcome::Bad(_, _) => Ok(None),
-        Outcome::Unended => Ok(None),
-    }
-}
-
 fn is_text(text: &Option<Bytes>, wanted: &[u8]) -> bool {
     match text {
         Some(text) => text.as_slice() == wanted,
@@ -87,52 +100,39 @@ fn has_server_alone(account: &Account) -> bool {
         && account.user_nonce.is_empty()
 }
 
-#[test]
-fn one_leaf_and_the_device_stand_there(rt: HostRuntime) -> Result<(), Fail> {
-    let start = start_of(rt.alloc(), COMMON)?;
-    assert!(rt; start.is_some());
-    if let Some(start) = start {
-        assert_eq!(rt; start.version, 1);
-        assert_eq!(rt; start.limits.max_msg, 16384);
-        assert_eq!(rt; start.limits.max_obj, 4194304);
-        assert_eq!(rt; start.accounts.len(), 1);
-        assert_eq!(rt; start.tree.clock().bytes, *b"00000000T000000Z");
-        assert_eq!(rt;
-            tree_text(rt.alloc(), &start.tree, 1)?.as_slice(),
-            COMMON_TREE
-        );
+fn are_both(accounts: &[Account]) -> bool {
+    match accounts {
+        [first, second] => has_all_fields(first) && has_server_alone(second),
+        _ => false,
     }
-    Ok(())
 }
 
-#[test]
-fn an_update_part_stands_where_it_is_told(rt: HostRuntime) -> Result<(), Fail> {
-    let start = start_of(rt.alloc(), UPDATE)?;
-    assert!(rt; start.is_some());
-    if let Some(start) = start {
-        assert_eq!(rt; start.version, 2);
-        assert!(rt; start.tree.update_ids().is_some());
-        assert_eq!(rt; start.tree.clock().bytes, *b"20240101T000000Z");
-        assert_eq!(rt;
-            tree_text(rt.alloc(), &start.tree, 2)?.as_slice(),
-            UPDATE_TREE
-        );
-    }
-    Ok(())
+fn is_told(alloc: Global, start: &Start) -> Result<bool, Memory> {
+    let text = tree_text(alloc, &start.tree, 2)?;
+    Ok(
+        start.version == 2
+            && start.limits.max_msg == 65536
+            && start.limits.max_obj == 1
+            && start.tree.clock().bytes == *b"20240101T000000Z"
+            && start.tree.update_ids().is_some()
+            && are_both(start.accounts.as_slice())
+            && text.as_slice() == UPDATE_TREE,
+    )
 }
 
-#[test]
-fn accounts_are_told_in_their_order(rt: HostRuntime) -> Result<(), Fail> {
-    let start = start_of(rt.alloc(), UPDATE)?;
-    assert!(rt; start.is_some());
-    if let Some(start) = start {
-        match start.accounts.as_slice() {
-            [first, second] => {
-                assert!(rt; has_all_fields(first));
-                assert!(rt; has_server_alone(second));
-            }
-            _ => assert_eq!(rt; start.accounts.len(), 2),
+fn is_as_said(alloc: Global) -> Result<bool, Memory> {
+    match start_of(alloc, UPDATE) {
+        Some(start) => {
+            let is_told = is_told(alloc, &start);
+            drop(start);
+            is_told
         }
+        None => Ok(false),
     }
+}
+
+#[test]
+fn a_section_tells_what_its_lines_say(rt: HostRuntime) -> Result<(), Fail> {
+    assert!(rt; is_as_said(rt.alloc())?);
     Ok(())
 }
