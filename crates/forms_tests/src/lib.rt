@@ -1,4 +1,5 @@
-//! Tests of the forms of a command line, and of what `show`, `check` and `bench` write, by public calls alone.
+//! Tests of the forms of a command line, of what the ends of a run say, and of `show` and `check` where the source or
+//! the sink fails, by public calls alone.
 #![tactic(auto)]
 
 #[cfg(test)]
@@ -7,5 +8,3 @@ mod exits;
 mod messages;
 #[cfg(test)]
 mod words;
-#[cfg(test)]
-mod workloads;

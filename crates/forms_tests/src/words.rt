@@ -73,24 +73,26 @@ const ROWS: [(&[&str], Option<Form>); 46] = [
     (&["show", "7", "10", "1"], None),
 ];
 
-fn form_of_row(alloc: Global, row: &[&str]) -> Result<Option<Form>, Fail> {
+fn form_of(alloc: Global, row: &[&str]) -> Option<Option<Form>> {
     let mut words = Vec::new(alloc);
     for word in row {
-        words.push(String::from_str(alloc, word)?)?;
+        words.push(String::from_str(alloc, word).ok()?).ok()?;
     }
-    Ok(read_form(alloc, words.as_slice())?)
+    read_form(alloc, words.as_slice()).ok()
+}
+
+// The number of the first row that has another form.
+fn wrong_row(alloc: Global) -> Option<usize> {
+    for (number, (words, form)) in ROWS.iter().enumerate() {
+        if form_of(alloc, words) != Some(*form) {
+            return Some(number);
+        }
+    }
+    None
 }
 
 #[test]
 fn words_have_their_forms(rt: HostRuntime) -> Result<(), Fail> {
-    for (words, form) in ROWS {
-        assert_eq!(rt;
-            form_of_row(rt.alloc(), words)?,
-            form,
-            "{} words, the first {}",
-            words.len(),
-            words.first().copied().unwrap_or("")
-        );
-    }
+    assert_eq!(rt; wrong_row(rt.alloc()), None);
     Ok(())
 }
