@@ -11,18 +11,28 @@ const UNSIZED: &[u8] = b"HTTP/1.1 200 OK\r\nServer: s\r\n\r\nbody";
 
 const REFUSED: &[u8] = b"HTTP/1.1 503 Service Unavailable\r\nRetry-After: 9\r\n\r\nbody";
 
+const UNAVAILABLE: Answer = Answer::Refused(HttpError::NotOk(503));
+
+// What a beginning is answered that ends so many bytes behind the head: a body so far, where no length is stated.
+fn answer_behind(count: usize, behind: Answer) -> Answer {
+    match behind {
+        Answer::Long(_) => Answer::Long(count),
+        other => other,
+    }
+}
+
 // The length of the first beginning that isn't answered so: inside the head it is cut off.
 fn wrong_beginning(
     alloc: Global,
     reply: &[u8],
     head: usize,
-    behind: fn(usize) -> Answer,
+    behind: Answer,
 ) -> Result<Option<usize>, Memory> {
     for count in 0..reply.len() {
         let wanted = if count < head {
             CUT
         } else {
-            behind(count - head)
+            answer_behind(count - head, behind)
         };
         let text = Bytes::of_slice(alloc, &reply[..count])?;
         if !is_answered(alloc, HeadKind::Reply, text, 7, wanted) {
@@ -32,30 +42,18 @@ fn wrong_beginning(
     Ok(None)
 }
 
-fn of_sized(_count: usize) -> Answer {
-    CUT
-}
-
-fn of_unsized(count: usize) -> Answer {
-    Answer::Long(count)
-}
-
-fn of_refused(_count: usize) -> Answer {
-    Answer::Refused(HttpError::NotOk(503))
-}
-
 #[test]
 fn every_beginning_of_a_reply_has_its_answer(rt: HostRuntime) -> Result<(), Fail> {
     assert_eq!(rt;
-        wrong_beginning(rt.alloc(), SIZED, SIZED.len() - 4, of_sized)?,
+        wrong_beginning(rt.alloc(), SIZED, SIZED.len() - 4, CUT)?,
         None
     );
     assert_eq!(rt;
-        wrong_beginning(rt.alloc(), UNSIZED, UNSIZED.len() - 4, of_unsized)?,
+        wrong_beginning(rt.alloc(), UNSIZED, UNSIZED.len() - 4, Answer::Long(0))?,
         None
     );
     assert_eq!(rt;
-        wrong_beginning(rt.alloc(), REFUSED, REFUSED.len() - 4, of_refused)?,
+        wrong_beginning(rt.alloc(), REFUSED, REFUSED.len() - 4, UNAVAILABLE)?,
         None
     );
     Ok(())
