@@ -65,18 +65,15 @@ const ROWS: [Row; 10] = [
     (Form::Check, b"\x03\xa4", 64, &[], &[1], Exit::WriteFault, b""),
 ];
 
-fn is_run(
-    form: Form,
-    alloc: Global,
-    source: &mut MemSource,
-    sink: &mut MemSink,
-    row: &Row,
-) -> bool {
-    let exit = match form {
+fn run(form: Form, alloc: Global, source: &mut MemSource, sink: &mut MemSink) -> Exit {
+    match form {
         Form::Show => show(alloc, source, sink),
         Form::Check => check(alloc, source, sink),
-    };
-    exit == row.5 && sink.bytes() == row.6
+    }
+}
+
+fn is_text(written: &[u8], wanted: &[u8]) -> bool {
+    written == wanted
 }
 
 fn numbers(alloc: Global, fails: &[u64]) -> Result<List<u64>, Memory> {
@@ -87,7 +84,8 @@ fn passes(alloc: Global, row: &Row) -> Result<bool, Memory> {
     let bytes = Bytes::of_slice(alloc, row.1)?;
     let mut source = MemSource::new(bytes, row.2.max(1), numbers(alloc, row.3)?);
     let mut sink = MemSink::new(alloc, numbers(alloc, row.4)?);
-    Ok(is_run(row.0, alloc, &mut source, &mut sink, row))
+    let exit = run(row.0, alloc, &mut source, &mut sink);
+    Ok(exit == row.5 && is_text(sink.bytes(), row.6))
 }
 
 // The number of the first row that is answered otherwise.
