@@ -1,7 +1,6 @@
 -- What a run puts, by the form of its words.
-use Rattle.std.specs.Prelude.{◌≡◌, ℕ, codes, List, ◌++◌, Option, Some, None, ⊤}
+use Rattle.std.specs.Prelude.{◌≡◌, ℕ, List, Option, Some, None, ⊤}
 use Rattle.std.specs.Io.KnownBytes.{Appends}
-use Rattle.dm_base.specs.Lines.{line_feed}
 use Rattle.dm_base.specs.Outside.{OfKnown}
 use Rattle.dm_exit.specs.declared.exit.Exit.{Exit}
 use Rattle.dm_exit.specs.declared.exit.Exit.TheVariants as exit
@@ -13,11 +12,14 @@ use Rattle.dm_check.specs.Answers.{show_text, check_text, message_exit}
 use Rattle.dm_check.specs.Receiving.{TakesNoMore, Unsettled}
 use Rattle.dm_bench.specs.Workload.{bench_text}
 use Rattle.dm_pair.specs.Texts.{pair_text, pair_exit}
+use Rattle.dm_ddf.specs.Texts.{conform_of, make_of, text_said, exit_of_text}
+use Rattle.dm_device.specs.Devices.{Devices, EndsBehindInput, usage_line}
+use Rattle.dm_device.specs.Outsides.{outside_of as device_outside}
+use Rattle.dm_serving.specs.Serves.{Serves}
+use Rattle.dm_serving.specs.Turns.{outside_of}
+use Rattle.dm_cli.specs.Reaching.{ReachTold}
 use Rattle.dm_words.specs.declared.forms.Form.{Form}
 use Rattle.dm_words.specs.declared.forms.Form.TheVariants as forms
-
-abbrev pub usage_line : List ℕ
-usage_line = codes "usage: dmtool replay | pair | show | check | bench SEED NODES MESSAGES" ++ line_feed
 
 -- the usage line was put, or a part of it
 abbrev pub PutsUsage : Option (List ℕ) → Option (List ℕ) → Exit → Type 0
@@ -26,31 +28,38 @@ PutsUsage old new exit.WriteFault = PutsPrefix old new usage_line
 PutsUsage old new exit.NoMemory = PutsPrefix old new usage_line
 PutsUsage old new other = ⊥
 
--- what a run puts, by the form of its words: the usage line, a text over the bytes that the source tells, or the line
--- of a workload, over its numbers
-unfoldable pub Runs : Option Form → Option (List ℕ) → Option (List ℕ) → Option (List ℕ) → Exit → Type 0
-Runs None left old new e = PutsUsage old new e
-Runs (Some forms.Replay) left old new e = OfKnown left (λ bytes. Replays bytes old new e)
-Runs (Some forms.Pair) left old new e = OfKnown left (λ bytes. Ends (pair_text bytes) (pair_exit bytes) old new e)
-Runs (Some forms.Show) left old new e = OfKnown left (λ bytes. Ends (show_text bytes) (message_exit bytes) old new e)
-Runs (Some forms.Check) left old new e = OfKnown left (λ bytes. Ends (check_text bytes) (message_exit bytes) old new e)
-Runs (Some (forms.Bench seed nodes messages)) left old new e =
+-- what a run puts, by the form of its words: the usage line, a text over the bytes that the source tells, the line of a
+-- workload, over its numbers, or what a device or a server does over what the outside tells besides
+unfoldable pub Runs : Option Form → Option (List ℕ) → ReachTold → ReachTold → Option (List ℕ) → Option (List ℕ) → Exit
+    → Type 0
+Runs None left before after old new e = PutsUsage old new e
+Runs (Some forms.Replay) left before after old new e = OfKnown left (λ bytes. Replays bytes old new e)
+Runs (Some (forms.Device w)) left before after old new e = OfKnown left (λ bytes. Devices w bytes
+    (device_outside before.dialer before.updates before.nonces) (device_outside after.dialer after.updates after.nonces)
+    old new e)
+Runs (Some (forms.Serve w)) left before after old new e = OfKnown left (λ bytes. Serves w bytes
+    (outside_of before.door before.nonces) (outside_of after.door after.nonces) old new e)
+Runs (Some forms.Pair) left before after old new e =
+    OfKnown left (λ bytes. Ends (pair_text bytes) (pair_exit bytes) old new e)
+Runs (Some forms.Show) left before after old new e =
+    OfKnown left (λ bytes. Ends (show_text bytes) (message_exit bytes) old new e)
+Runs (Some forms.Check) left before after old new e =
+    OfKnown left (λ bytes. Ends (check_text bytes) (message_exit bytes) old new e)
+Runs (Some (forms.Bench seed nodes messages)) left before after old new e =
     PutsEnd (bench_text seed nodes messages) exit.Done old new e
+Runs (Some forms.Conform) left before after old new e =
+    OfKnown left (λ bytes. Ends (text_said conform_of bytes) (exit_of_text conform_of bytes) old new e)
+Runs (Some forms.Make) left before after old new e =
+    OfKnown left (λ bytes. Ends (text_said make_of bytes) (exit_of_text make_of bytes) old new e)
 
--- whatever the source tells, Usage is answered only to words of no form
-abbrev pub UsageMeansNoForm : Option Form → Exit → Type 0
-UsageMeansNoForm form e = e ≡ exit.Usage → form ≡ None
-
--- what a run takes of its source: nothing where its words have no form or ask for a workload, of a trace and of a text
--- for both ends at most one byte past those that it looks at, and of one message at most a piece more than what settles
--- no refusal
+-- what a run takes of its source: nothing where its words have no form or ask for a workload, of a text at most one
+-- byte past those that it looks at, and of one message at most a piece more than what settles no refusal
 unfoldable pub TakesFor : {S : Type 0} → (S → Option (List ℕ)) → Option Form → S → S → Type 0
 TakesFor left None old new = new ≡ old
-TakesFor left (Some forms.Replay) old new = TakesOnePast (left old) (left new)
-TakesFor left (Some forms.Pair) old new = TakesOnePast (left old) (left new)
 TakesFor left (Some forms.Show) old new = TakesNoMore (left old) (left new)
 TakesFor left (Some forms.Check) old new = TakesNoMore (left old) (left new)
 TakesFor left (Some (forms.Bench seed nodes messages)) old new = new ≡ old
+TakesFor left (Some other) old new = TakesOnePast (left old) (left new)
 
 -- where the source of one message failed, nothing that was taken of it settles a refusal: no source is asked behind one
 unfoldable pub AsksForMore : Option Form → Option (List ℕ) → Option (List ℕ) → Exit → Type 0
@@ -61,11 +70,9 @@ AsksForMore other old new e = ⊤
 -- a run that reads its source ends well only where that is at its end
 unfoldable pub ReadsToEnd : Option Form → Option (List ℕ) → Option (List ℕ) → Exit → Type 0
 ReadsToEnd None old new e = ⊤
-ReadsToEnd (Some forms.Replay) old new e = DoneAtEnd old new e
-ReadsToEnd (Some forms.Pair) old new e = DoneAtEnd old new e
-ReadsToEnd (Some forms.Show) old new e = DoneAtEnd old new e
-ReadsToEnd (Some forms.Check) old new e = DoneAtEnd old new e
 ReadsToEnd (Some (forms.Bench seed nodes messages)) old new e = ⊤
+ReadsToEnd (Some (forms.Device w)) old new e = EndsBehindInput old new e
+ReadsToEnd (Some other) old new e = DoneAtEnd old new e
 
 -- the status that the program ends with; 12 is none
 abbrev pub status_of : Exit → ℕ

@@ -2,16 +2,34 @@
 #![tactic(auto)]
 
 mod adapters;
+mod commands;
+mod ends;
 mod heap;
+mod outside;
+mod reach;
 mod run;
 #[cfg(test)]
 mod tests;
 
 use adapters::{StdSink, StdSource};
+use dm_base::Memory;
+use dm_exit::Exit;
+use ends::{ended, given_words};
 use heap::keep_heap;
-use run::{ended, run_words};
+use outside::{RandomNonces, ReadyUpdater, TcpDialer, TcpDoor};
+use reach::Reach;
+use run::run;
 use std::process::ExitCode;
+use std::time::Duration;
 use std::{env, io};
+
+// Where the system gives no seed for nonces.
+const NO_SEED: u8 = 1;
+
+// How long a connection may take in all.
+fn connection_time() -> Duration {
+    Duration::from_secs(30)
+}
 
 // The words behind the program's name.
 fn words_of(rt: &HostRuntime) -> io::Result<Vec<String>> {
@@ -22,10 +40,32 @@ fn words_of(rt: &HostRuntime) -> io::Result<Vec<String>> {
     Ok(words)
 }
 
+fn run_all(rt: &HostRuntime, nonces: RandomNonces) -> Exit {
+    let words = match given_words(rt.alloc(), words_of(rt)) {
+        Ok(words) => words,
+        Err(Memory) => return Exit::NoMemory,
+    };
+    let mut source = StdSource::new(rt.reader());
+    let mut sink = StdSink::new(io::writer(rt));
+    let mut reach = Reach {
+        dialer: TcpDialer::new(rt, connection_time()),
+        door: TcpDoor::new(rt, connection_time()),
+        updater: ReadyUpdater,
+        nonces,
+    };
+    run(
+        rt.alloc(),
+        words.as_slice(),
+        &mut source,
+        &mut sink,
+        &mut reach,
+    )
+}
+
 fn main(rt: HostRuntime) -> ExitCode {
     keep_heap(rt.alloc());
-    let mut source = StdSource::new(rt.reader());
-    let mut sink = StdSink::new(io::writer(&rt));
-    let exit = run_words(rt.alloc(), words_of(&rt), &mut source, &mut sink);
-    ended(exit)
+    match RandomNonces::new(&rt) {
+        Ok(nonces) => ended(run_all(&rt, nonces)),
+        Err(_) => ExitCode::from(NO_SEED),
+    }
 }

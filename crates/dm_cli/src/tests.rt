@@ -1,13 +1,19 @@
 ghost use Rattle.std.specs.Prelude.{◌<◌};
+ghost use Rattle.dm_outside.specs.Streams.{AreUntouched};
 
 // One table of runs over sources and sinks in memory.
+mod loopback;
+mod managing;
+mod serving;
 mod texts;
 
+use crate::reach::Reach;
 use crate::run::run;
 use crate::tests::texts::{BEHIND, FRONT, TREE_BEHIND, TREE_FRONT, Text, bytes_of};
 use anyhow::Result;
 use dm_base::{Bytes, List, MemSink, MemSource};
 use dm_exit::Exit;
+use dm_outside::{MemDialer, MemDoor, MemNonces, MemStream, MemUpdater};
 use std::alloc::Global;
 
 /// A run, and what it must answer and write.
@@ -279,6 +285,21 @@ const ROWS: [Row; 35] = [
     },
 ];
 
+// What is outside where no dial succeeds, these connections come, and no update is to be made.
+pub fn reach_of(
+    alloc: Global,
+    conns: List<Option<MemStream>>,
+) -> Reach<MemDialer, MemDoor, MemUpdater, MemNonces>
+    requires { AreUntouched conns }
+{
+    Reach {
+        dialer: MemDialer::new(alloc, List::new(alloc)),
+        door: MemDoor::new(alloc, true, conns),
+        updater: MemUpdater::new(alloc, List::new(alloc)),
+        nonces: MemNonces::new(List::new(alloc)),
+    }
+}
+
 // Runs a row on an input, and says whether it answers as the row says and writes the output.
 fn writes(alloc: Global, row: &Row, input: &[u8], output: &[u8]) -> Result<bool>
     requires { 0 < row.now.piece }
@@ -293,7 +314,8 @@ fn writes(alloc: Global, row: &Row, input: &[u8], output: &[u8]) -> Result<bool>
         List::of_vec(Vec::from_slice(alloc, row.source_fails)?),
     );
     let mut sink = MemSink::new(alloc, List::of_vec(Vec::from_slice(alloc, row.sink_fails)?));
-    let exit = run(alloc, words.as_slice(), &mut source, &mut sink);
+    let mut reach = reach_of(alloc, List::new(alloc));
+    let exit = run(alloc, words.as_slice(), &mut source, &mut sink, &mut reach);
     Ok(exit == row.exit && sink.bytes() == output)
 }
 

@@ -1,12 +1,11 @@
 -- Before the first byte came, no reply is settled.
-use Rattle.std.proofs.Common.{◌≡◌, ◌<◌, ◌≤◌, ◌++◌, ℕ, List, [], ◌∷◌, inl, refl, sym, ap, subst, rules, arith, length, length-append}
+use Rattle.std.proofs.Common.{◌≡◌, ◌++◌, ℕ, List, [], ◌∷◌, inl, refl, sym, ap, subst, rules, arith, length, length-append}
 use Rattle.std.specs.Prelude.{codes, None}
 use Rattle.std.specs.declared.option.Option.{Option}
 use Rattle.std.specs.Io.KnownBytes.{Consumes}
 use Rattle.std.proofs.KnownBytes.{Consumes-nil}
 use Rattle.httparse.specs.Grammar.{ResponseHead, print_response, ReadsResponse, lf}
 use Rattle.httparse.proofs.GrammarLemmas.{response_unique, ReadsResponse-append}
-use Rattle.dm_heads.specs.declared.extents.HeadVerdict.{HeadVerdict}
 use Rattle.dm_heads.specs.declared.heads.HeadKind.TheVariants as kind
 use Rattle.dm_heads.specs.Messages.{HasHead, HasNoHead, MayBecomeHead}
 use Rattle.dm_heads.specs.Asking.{Wants, Asked, AskedUnsettled}

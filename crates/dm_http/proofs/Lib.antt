@@ -1,2 +1,4 @@
 pub mod Putting
 pub mod FirstAsk
+pub mod Served
+pub mod Unread

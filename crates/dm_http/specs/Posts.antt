@@ -1,5 +1,5 @@
 -- What one exchange of a client does to its connection.
-use Rattle.std.specs.Prelude.{◌≡◌, ◌⊎◌, ℕ, List, [], take, Option, Result, Ok, Err}
+use Rattle.std.specs.Prelude.{◌≡◌, ◌⊎◌, ℕ, List, [], take, Option, Result, Err}
 use Rattle.std.specs.Io.KnownBytes.{Appends}
 use Rattle.dm_base.specs.Outside.{Rose}
 use Rattle.dm_heads.specs.declared.errors.HttpError.{HttpError}

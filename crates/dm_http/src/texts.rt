@@ -1,5 +1,6 @@
 // The heads that are written: each line ended by CR LF.
 ghost use Rattle.std.specs.Prelude.{◌≡◌, ◌++◌, OnOk, IfOk};
+ghost use Rattle.dm_http.specs.Replies.{message_reply};
 ghost use Rattle.dm_http.specs.Texts as Spec;
 
 use dm_base::{Bytes, Memory};
@@ -61,5 +62,19 @@ pub fn request_text(alloc: Global, host: &[u8], path: &[u8], body: &[u8]) -> Res
     put_length(&mut text, body.len())?;
     put_close(&mut text)?;
     text.extend(body)?;
+    Ok(text)
+}
+
+/// The reply that brings a message.
+#[tactic(auto, unfolding(crate::specs::Replies::message_reply))]
+pub fn message_text(alloc: Global, message: &[u8]) -> Result<Bytes, Memory>
+    ensures { IfOk result (λ text. text ≡ message_reply message.now) }
+{
+    let mut text = Bytes::new(alloc);
+    text.extend(b"HTTP/1.1 200 OK\r\n")?;
+    put_line(&mut text, b"Content-Type", MEDIA_TYPE)?;
+    put_length(&mut text, message.len())?;
+    put_close(&mut text)?;
+    text.extend(message)?;
     Ok(text)
 }

@@ -9,3 +9,4 @@ mod OnSchedule
 mod ReadyClients
 mod TextStarts
 mod RefusedTexts
+pub mod WholeTexts

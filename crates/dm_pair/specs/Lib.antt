@@ -6,3 +6,4 @@ pub mod Seen
 pub mod Schedules
 pub mod Begins
 pub mod Refused
+pub mod Whole

@@ -2,6 +2,7 @@
 
 ghost use Rattle.dm_pair.specs.Begins.{StartsAndJobsBegin, TextsBegin};
 ghost use Rattle.dm_pair.specs.Schedules.{RunsOnSchedules};
+ghost use Rattle.dm_pair.specs.Whole.{WholeTextsTellWorlds};
 
 use dm_job::laws::jobs_are_sound;
 
@@ -26,6 +27,15 @@ pub fn runs_on_schedules()
 /// ends.
 pub fn texts_begin()
     ensures { TextsBegin }
+{
+    jobs_are_sound();
+}
+
+/// Law: where no line of a text is refused, what is written for it ends with the tree of the client, the report of the
+/// server and `done` of the world that a schedule makes, from a client and a job such as schedules begin with. So the
+/// laws over schedules hold of the report that is written.
+pub fn whole_texts_tell_worlds()
+    ensures { WholeTextsTellWorlds }
 {
     jobs_are_sound();
 }

@@ -52,7 +52,7 @@ fn exit_of(fault: Fault) -> Exit
 }
 
 /// Ends a run whose trace is whole: puts the tree text and the last line.
-pub(crate) fn put_whole<K: Sink>(alloc: Global, out: &mut K, tree: &Tree, version: u8) -> Exit
+pub fn put_whole<K: Sink>(alloc: Global, out: &mut K, tree: &Tree, version: u8) -> Exit
     ensures bytes { PutsEnd (tree_and_done version (nodes tree.now.rows)) Exit.Done (K.got out.old)
         (K.got out.new) result }
     ensures count { SinkCause (K.faults out.old) (K.faults out.new) result }
@@ -82,7 +82,7 @@ fn put_bad<K: Sink>(alloc: Global, out: &mut K, number: u64, reason: LineReason)
 }
 
 /// Ends a run that halted before any event.
-pub(crate) fn put_halt<K: Sink>(alloc: Global, out: &mut K, halt: Halt) -> Exit
+pub fn put_halt<K: Sink>(alloc: Global, out: &mut K, halt: Halt) -> Exit
     ensures bytes { PutsHalt halt (K.got out.old) (K.got out.new) result }
     ensures count { SinkCause (K.faults out.old) (K.faults out.new) result }
 {

@@ -2,10 +2,10 @@
 #![tactic(auto)]
 
 pub mod answers;
-mod endings;
+pub mod endings;
 pub mod events;
 pub mod laws;
-mod reading;
+pub mod reading;
 pub mod trace;
 
 pub use answers::step;

@@ -46,8 +46,8 @@ fn halt_of(error: TakeError) -> Halt
     }
 }
 
-// At a line that isn't taken.
-fn halt_at(number: u64, error: LineError) -> Halt
+/// The halt at a line that isn't taken.
+pub fn halt_at(number: u64, error: LineError) -> Halt
     ensures { result ≡ halt_for number error }
 {
     match error {
@@ -56,8 +56,8 @@ fn halt_at(number: u64, error: LineError) -> Halt
     }
 }
 
-// Brings the next line in.
-fn next_line<S: Source>(lines: &mut Lines, src: &mut S, number: u64) -> Result<(), Halt>
+/// Brings the next line in, which `lines` has then. At the end of the input it is `Cut`.
+pub fn next_line<S: Source>(lines: &mut Lines, src: &mut S, number: u64) -> Result<(), Halt>
     ensures line { OnOk result (Between (seen lines.old (S.left src.old)) (seen lines.new (S.left src.new))
         (λ i j. Leads lines.new.line i j)) }
     ensures halt { IfErr result (λ h. OfInput (seen lines.old (S.left src.old))
@@ -81,11 +81,7 @@ fn next_line<S: Source>(lines: &mut Lines, src: &mut S, number: u64) -> Result<(
 }
 
 /// Reads the start section, line by line.
-pub(crate) fn read_start<S: Source>(
-    alloc: Global,
-    lines: &mut Lines,
-    src: &mut S,
-) -> Result<Started, Halt>
+pub fn read_start<S: Source>(alloc: Global, lines: &mut Lines, src: &mut S) -> Result<Started, Halt>
     requires { room lines.old < 2 ^ 60 }
     ensures start { StartsAs (seen lines.old (S.left src.old)) (seen lines.new (S.left src.new)) 1
         (opening First) result }
@@ -117,7 +113,7 @@ pub(crate) fn read_start<S: Source>(
 }
 
 /// Reads that nothing stands behind the `end` line. The source isn't asked behind a line that stands there.
-pub(crate) fn read_end<S: Source>(lines: &mut Lines, src: &mut S, number: u64) -> Result<(), Halt>
+pub fn read_end<S: Source>(lines: &mut Lines, src: &mut S, number: u64) -> Result<(), Halt>
     ensures ending { EndsAs (seen lines.old (S.left src.old)) number result }
     ensures ended { OnOk result (OfKnown (S.left src.old) (λ _. IsAtEnd (S.left src.new))) }
     ensures asked { IfErr result (HaltsAsking lines.old.pending) }
@@ -143,7 +139,7 @@ pub(crate) fn read_end<S: Source>(lines: &mut Lines, src: &mut S, number: u64) -
 }
 
 /// Reads the next event. None comes at the `end` line.
-pub(crate) fn next_event<S: Source>(
+pub fn next_event<S: Source>(
     alloc: Global,
     lines: &mut Lines,
     src: &mut S,

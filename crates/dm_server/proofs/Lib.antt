@@ -6,3 +6,4 @@ pub mod Lefts
 pub mod Steps
 pub mod Fillings
 pub mod Services
+pub mod Taken

@@ -1,3 +1,4 @@
 pub mod Inside
 pub mod View
+pub mod Taking
 pub mod Working

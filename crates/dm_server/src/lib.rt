@@ -14,6 +14,7 @@ mod held;
 mod packages;
 mod sending;
 pub mod server;
+mod taking;
 mod working;
 
 pub use answers::Answer;

@@ -18,9 +18,10 @@ use Rattle.clap.specs.declared.error.kind.ErrorKind.{ErrorKind}
 use Rattle.clap.specs.declared.error.kind.ErrorKind.TheVariants as kind
 use Rattle.clap.proofs.OnLiterals.{clap_on_literals}
 use Rattle.dm_words.specs.Forms.{subcommand_in, subcommand_of as subcommand_named, is_plain, form_with, form_of}
+use Rattle.dm_words.specs.Forms.{three, five}
 use Rattle.dm_words.specs.Commands.{tool}
-use Rattle.dm_words.specs.declared.forms.Subcommand.{Subcommand}
-use Rattle.dm_words.specs.declared.forms.Subcommand.TheVariants as named_by
+use Rattle.dm_words.specs.declared.subcommands.Subcommand.{Subcommand}
+use Rattle.dm_words.specs.declared.subcommands.Subcommand.TheVariants as named_by
 
 pub simple : is_simple_and_free tool ≡ true
 unfolding clap_on_literals
@@ -33,6 +34,14 @@ no_words = refl
 one_replay : fault_of tool (codes "replay" ∷ []) ≡ []
 unfolding clap_on_literals
 one_replay = refl
+
+one_device : fault_of tool (codes "device" ∷ []) ≡ []
+unfolding clap_on_literals
+one_device = refl
+
+one_serve : fault_of tool (codes "serve" ∷ []) ≡ []
+unfolding clap_on_literals
+one_serve = refl
 
 one_pair : fault_of tool (codes "pair" ∷ []) ≡ []
 unfolding clap_on_literals
@@ -50,13 +59,27 @@ one_bench : fault_of tool (codes "bench" ∷ []) ≡ []
 unfolding clap_on_literals
 one_bench = refl
 
-one_other : (b : ℕ) (bs : List ℕ) → (b == 45) ≡ false → bytes_eq (codes "replay") (b ∷ bs) ≡ false
+one_conform : fault_of tool (codes "conform" ∷ []) ≡ []
+unfolding clap_on_literals
+one_conform = refl
+
+one_make : fault_of tool (codes "make" ∷ []) ≡ []
+unfolding clap_on_literals
+one_make = refl
+
+one_other : (b : ℕ) (bs : List ℕ) → (b == 45) ≡ false
+    → bytes_eq (codes "replay") (b ∷ bs) ≡ false
+    → bytes_eq (codes "device") (b ∷ bs) ≡ false
+    → bytes_eq (codes "serve") (b ∷ bs) ≡ false
     → bytes_eq (codes "pair") (b ∷ bs) ≡ false
-    → bytes_eq (codes "show") (b ∷ bs) ≡ false → bytes_eq (codes "check") (b ∷ bs) ≡ false
+    → bytes_eq (codes "show") (b ∷ bs) ≡ false
+    → bytes_eq (codes "check") (b ∷ bs) ≡ false
     → bytes_eq (codes "bench") (b ∷ bs) ≡ false
+    → bytes_eq (codes "conform") (b ∷ bs) ≡ false
+    → bytes_eq (codes "make") (b ∷ bs) ≡ false
     → fault_of tool ((b ∷ bs) ∷ []) ≡ kind.UnknownArgument ∷ kind.InvalidSubcommand ∷ []
 unfolding clap_on_literals
-one_other b bs h k o l m n = simp (h, k, o, l, m, n) refl
+one_other b bs low h0 h1 h2 h3 h4 h5 h6 h7 h8 = simp (low, h0, h1, h2, h3, h4, h5, h6, h7, h8) refl
 
 -- ---- one word
 
@@ -75,6 +98,14 @@ named_replay : told (subcommand_of tool (codes "replay" ∷ [])) ≡ Some named_
 unfolding clap_on_literals
 named_replay = refl
 
+named_device : told (subcommand_of tool (codes "device" ∷ [])) ≡ Some named_by.Device
+unfolding clap_on_literals
+named_device = refl
+
+named_serve : told (subcommand_of tool (codes "serve" ∷ [])) ≡ Some named_by.Serve
+unfolding clap_on_literals
+named_serve = refl
+
 named_pair : told (subcommand_of tool (codes "pair" ∷ [])) ≡ Some named_by.Pair
 unfolding clap_on_literals
 named_pair = refl
@@ -90,6 +121,14 @@ named_check = refl
 named_bench : told (subcommand_of tool (codes "bench" ∷ [])) ≡ Some named_by.Bench
 unfolding clap_on_literals
 named_bench = refl
+
+named_conform : told (subcommand_of tool (codes "conform" ∷ [])) ≡ Some named_by.Conform
+unfolding clap_on_literals
+named_conform = refl
+
+named_make : told (subcommand_of tool (codes "make" ∷ [])) ≡ Some named_by.Make
+unfolding clap_on_literals
+named_make = refl
 
 none_among : (k : ErrorKind) (ks : Kinds) → ks ≡ [] → IsAmong k ks → ⊥
 none_among k [] is h = h
@@ -116,37 +155,70 @@ turned a b h = turned_by (bytes_eq b a) refl
     turned_by false is = refl
     turned_by true is = absurd (never (sym ((bytes_eq-Decides a b).1 (sym ((bytes_eq-Decides b a).0 is))) ∙ h))
 
-other_word : (b : ℕ) (bs : List ℕ) (r p s c n : Bool) → (b == 45) ≡ false → bytes_eq (b ∷ bs) (codes "replay") ≡ r
-    → bytes_eq (b ∷ bs) (codes "pair") ≡ p
-    → bytes_eq (b ∷ bs) (codes "show") ≡ s
-    → bytes_eq (b ∷ bs) (codes "check") ≡ c
-    → bytes_eq (b ∷ bs) (codes "bench") ≡ n → IsAnswered ((b ∷ bs) ∷ [])
-other_word b bs true p s c n low is_r is_p is_s is_c is_n =
-    subst (λ word. IsAnswered (word ∷ [])) (sym ((bytes_eq-Decides (b ∷ bs) (codes "replay")).0 is_r))
+other_word : (b : ℕ) (bs : List ℕ) (t0 t1 t2 t3 t4 t5 t6 t7 t8 : Bool) → (b == 45) ≡ false
+    → bytes_eq (b ∷ bs) (codes "replay") ≡ t0
+    → bytes_eq (b ∷ bs) (codes "device") ≡ t1
+    → bytes_eq (b ∷ bs) (codes "serve") ≡ t2
+    → bytes_eq (b ∷ bs) (codes "pair") ≡ t3
+    → bytes_eq (b ∷ bs) (codes "show") ≡ t4
+    → bytes_eq (b ∷ bs) (codes "check") ≡ t5
+    → bytes_eq (b ∷ bs) (codes "bench") ≡ t6
+    → bytes_eq (b ∷ bs) (codes "conform") ≡ t7
+    → bytes_eq (b ∷ bs) (codes "make") ≡ t8
+    → IsAnswered ((b ∷ bs) ∷ [])
+other_word b bs true t1 t2 t3 t4 t5 t6 t7 t8 low is0 is1 is2 is3 is4 is5 is6 is7 is8 =
+    subst (λ word. IsAnswered (word ∷ [])) (sym ((bytes_eq-Decides (b ∷ bs) (codes "replay")).0 is0))
     (subcommand (codes "replay") named_by.Replay one_replay named_replay refl)
-other_word b bs false true s c n low is_r is_p is_s is_c is_n =
-    subst (λ word. IsAnswered (word ∷ [])) (sym ((bytes_eq-Decides (b ∷ bs) (codes "pair")).0 is_p))
+other_word b bs false true t2 t3 t4 t5 t6 t7 t8 low is0 is1 is2 is3 is4 is5 is6 is7 is8 =
+    subst (λ word. IsAnswered (word ∷ [])) (sym ((bytes_eq-Decides (b ∷ bs) (codes "device")).0 is1))
+    (subcommand (codes "device") named_by.Device one_device named_device refl)
+other_word b bs false false true t3 t4 t5 t6 t7 t8 low is0 is1 is2 is3 is4 is5 is6 is7 is8 =
+    subst (λ word. IsAnswered (word ∷ [])) (sym ((bytes_eq-Decides (b ∷ bs) (codes "serve")).0 is2))
+    (subcommand (codes "serve") named_by.Serve one_serve named_serve refl)
+other_word b bs false false false true t4 t5 t6 t7 t8 low is0 is1 is2 is3 is4 is5 is6 is7 is8 =
+    subst (λ word. IsAnswered (word ∷ [])) (sym ((bytes_eq-Decides (b ∷ bs) (codes "pair")).0 is3))
     (subcommand (codes "pair") named_by.Pair one_pair named_pair refl)
-other_word b bs false false true c n low is_r is_p is_s is_c is_n =
-    subst (λ word. IsAnswered (word ∷ [])) (sym ((bytes_eq-Decides (b ∷ bs) (codes "show")).0 is_s))
+other_word b bs false false false false true t5 t6 t7 t8 low is0 is1 is2 is3 is4 is5 is6 is7 is8 =
+    subst (λ word. IsAnswered (word ∷ [])) (sym ((bytes_eq-Decides (b ∷ bs) (codes "show")).0 is4))
     (subcommand (codes "show") named_by.Show one_show named_show refl)
-other_word b bs false false false true n low is_r is_p is_s is_c is_n =
-    subst (λ word. IsAnswered (word ∷ [])) (sym ((bytes_eq-Decides (b ∷ bs) (codes "check")).0 is_c))
+other_word b bs false false false false false true t6 t7 t8 low is0 is1 is2 is3 is4 is5 is6 is7 is8 =
+    subst (λ word. IsAnswered (word ∷ [])) (sym ((bytes_eq-Decides (b ∷ bs) (codes "check")).0 is5))
     (subcommand (codes "check") named_by.Check one_check named_check refl)
-other_word b bs false false false false true low is_r is_p is_s is_c is_n =
-    subst (λ word. IsAnswered (word ∷ [])) (sym ((bytes_eq-Decides (b ∷ bs) (codes "bench")).0 is_n))
+other_word b bs false false false false false false true t7 t8 low is0 is1 is2 is3 is4 is5 is6 is7 is8 =
+    subst (λ word. IsAnswered (word ∷ [])) (sym ((bytes_eq-Decides (b ∷ bs) (codes "bench")).0 is6))
     (subcommand (codes "bench") named_by.Bench one_bench named_bench refl)
-other_word b bs false false false false false low is_r is_p is_s is_c is_n =
+other_word b bs false false false false false false false true t8 low is0 is1 is2 is3 is4 is5 is6 is7 is8 =
+    subst (λ word. IsAnswered (word ∷ [])) (sym ((bytes_eq-Decides (b ∷ bs) (codes "conform")).0 is7))
+    (subcommand (codes "conform") named_by.Conform one_conform named_conform refl)
+other_word b bs false false false false false false false false true low is0 is1 is2 is3 is4 is5 is6 is7 is8 =
+    subst (λ word. IsAnswered (word ∷ [])) (sym ((bytes_eq-Decides (b ∷ bs) (codes "make")).0 is8))
+    (subcommand (codes "make") named_by.Make one_make named_make refl)
+other_word b bs false false false false false false false false false low is0 is1 is2 is3 is4 is5 is6 is7 is8 =
     refused ((b ∷ bs) ∷ []) kind.UnknownArgument (kind.InvalidSubcommand ∷ [])
-    (one_other b bs low (turned (b ∷ bs) (codes "replay") is_r) (turned (b ∷ bs) (codes "pair") is_p)
-    (turned (b ∷ bs) (codes "show") is_s) (turned (b ∷ bs) (codes "check") is_c)
-    (turned (b ∷ bs) (codes "bench") is_n))
-    (no_subcommand (b ∷ bs) is_r is_p is_s is_c is_n)
+    (one_other b bs low
+    (turned (b ∷ bs) (codes "replay") is0)
+    (turned (b ∷ bs) (codes "device") is1)
+    (turned (b ∷ bs) (codes "serve") is2)
+    (turned (b ∷ bs) (codes "pair") is3)
+    (turned (b ∷ bs) (codes "show") is4)
+    (turned (b ∷ bs) (codes "check") is5)
+    (turned (b ∷ bs) (codes "bench") is6)
+    (turned (b ∷ bs) (codes "conform") is7)
+    (turned (b ∷ bs) (codes "make") is8))
+    (no_subcommand (b ∷ bs) is0 is1 is2 is3 is4 is5 is6 is7 is8)
   where
-    no_subcommand : (word : List ℕ) → bytes_eq word (codes "replay") ≡ false → bytes_eq word (codes "pair") ≡ false
-        → bytes_eq word (codes "show") ≡ false → bytes_eq word (codes "check") ≡ false
-        → bytes_eq word (codes "bench") ≡ false → subcommand_named word ≡ None
-    no_subcommand word r p s c n = simp (r, p, s, c, n) refl
+    no_subcommand : (word : List ℕ)
+        → bytes_eq word (codes "replay") ≡ false
+        → bytes_eq word (codes "device") ≡ false
+        → bytes_eq word (codes "serve") ≡ false
+        → bytes_eq word (codes "pair") ≡ false
+        → bytes_eq word (codes "show") ≡ false
+        → bytes_eq word (codes "check") ≡ false
+        → bytes_eq word (codes "bench") ≡ false
+        → bytes_eq word (codes "conform") ≡ false
+        → bytes_eq word (codes "make") ≡ false
+        → subcommand_named word ≡ None
+    no_subcommand word h0 h1 h2 h3 h4 h5 h6 h7 h8 = simp (h0, h1, h2, h3, h4, h5, h6, h7, h8) refl
 
 no_hyphen : (b : ℕ) (t : Bool) → (b == 45) ≡ t → (not t && true) ≡ true → t ≡ false
 no_hyphen b false is h = refl
@@ -156,9 +228,17 @@ pub answered : (words : List (List ℕ)) → length words ≤ 1 → list_all is_
 answered [] few plain = refused [] kind.MissingSubcommand [] no_words refl
 answered ([] ∷ words) few plain = cc
 answered ((b ∷ bs) ∷ []) few plain =
-    other_word b bs (bytes_eq (b ∷ bs) (codes "replay")) (bytes_eq (b ∷ bs) (codes "pair"))
-    (bytes_eq (b ∷ bs) (codes "show")) (bytes_eq (b ∷ bs) (codes "check")) (bytes_eq (b ∷ bs) (codes "bench"))
-    (no_hyphen b (b == 45) refl plain) refl refl refl refl refl
+    other_word b bs
+    (bytes_eq (b ∷ bs) (codes "replay"))
+    (bytes_eq (b ∷ bs) (codes "device"))
+    (bytes_eq (b ∷ bs) (codes "serve"))
+    (bytes_eq (b ∷ bs) (codes "pair"))
+    (bytes_eq (b ∷ bs) (codes "show"))
+    (bytes_eq (b ∷ bs) (codes "check"))
+    (bytes_eq (b ∷ bs) (codes "bench"))
+    (bytes_eq (b ∷ bs) (codes "conform"))
+    (bytes_eq (b ∷ bs) (codes "make"))
+    (no_hyphen b (b == 45) refl plain) refl refl refl refl refl refl refl refl refl
 answered ((b ∷ bs) ∷ word ∷ words) few plain = absurd (omega (arith, few))
 
 -- ---- the answers of clap
@@ -259,3 +339,39 @@ no_form bytes (w ∷ words) first some front is =
 pub too_few : {S : Type 0} (bytes : S → List ℕ) (words : List S) → length words < 1 → None ≡ form_of (map bytes words)
 too_few bytes [] few = refl
 too_few bytes (w ∷ words) few = absurd (omega (arith, few))
+
+-- ---- more words, or fewer, than a form has
+
+pub fewer_than_three : {S : Type 0} (bytes : S → List ℕ) (words : List S) → length words < 3
+    → None ≡ three (map bytes words)
+fewer_than_three bytes [] few = refl
+fewer_than_three bytes (a ∷ []) few = refl
+fewer_than_three bytes (a ∷ b ∷ []) few = refl
+fewer_than_three bytes (a ∷ b ∷ c ∷ words) few = absurd (omega (arith, few))
+
+pub more_than_three : {S : Type 0} (bytes : S → List ℕ) (words : List S) → 4 ≤ length words
+    → None ≡ three (map bytes words)
+more_than_three bytes [] many = refl
+more_than_three bytes (a ∷ []) many = refl
+more_than_three bytes (a ∷ b ∷ []) many = refl
+more_than_three bytes (a ∷ b ∷ c ∷ []) many = absurd (omega (arith, many))
+more_than_three bytes (a ∷ b ∷ c ∷ d ∷ words) many = refl
+
+pub fewer_than_five : {S : Type 0} (bytes : S → List ℕ) (words : List S) → length words < 5
+    → None ≡ five (map bytes words)
+fewer_than_five bytes [] few = refl
+fewer_than_five bytes (a ∷ []) few = refl
+fewer_than_five bytes (a ∷ b ∷ []) few = refl
+fewer_than_five bytes (a ∷ b ∷ c ∷ []) few = refl
+fewer_than_five bytes (a ∷ b ∷ c ∷ d ∷ []) few = refl
+fewer_than_five bytes (a ∷ b ∷ c ∷ d ∷ e ∷ words) few = absurd (omega (arith, few))
+
+pub more_than_five : {S : Type 0} (bytes : S → List ℕ) (words : List S) → 6 ≤ length words
+    → None ≡ five (map bytes words)
+more_than_five bytes [] many = refl
+more_than_five bytes (a ∷ []) many = refl
+more_than_five bytes (a ∷ b ∷ []) many = refl
+more_than_five bytes (a ∷ b ∷ c ∷ []) many = refl
+more_than_five bytes (a ∷ b ∷ c ∷ d ∷ []) many = refl
+more_than_five bytes (a ∷ b ∷ c ∷ d ∷ e ∷ []) many = absurd (omega (arith, many))
+more_than_five bytes (a ∷ b ∷ c ∷ d ∷ e ∷ f ∷ words) many = refl

@@ -13,12 +13,18 @@ bare = record (new_app (codes "dmtool")) {
   };
 }
 
--- with those that read a whole text
-abbrev pub of_texts : App
-of_texts = with_subcommand (with_subcommand bare (new_app (codes "replay")).top) (new_app (codes "pair")).top
+-- with those that read a trace or a job
+abbrev pub of_ends : App
+of_ends =
+    with_subcommand (with_subcommand (with_subcommand (with_subcommand bare (new_app (codes "replay")).top)
+    (new_app (codes "device")).top) (new_app (codes "serve")).top) (new_app (codes "pair")).top
+
+-- with those that read a message or nothing
+abbrev pub of_works : App
+of_works =
+    with_subcommand (with_subcommand (with_subcommand of_ends (new_app (codes "show")).top)
+    (new_app (codes "check")).top) (new_app (codes "bench")).top
 
 -- the tool with its subcommands
 abbrev pub tool : App
-tool =
-    with_subcommand (with_subcommand (with_subcommand of_texts (new_app (codes "show")).top)
-    (new_app (codes "check")).top) (new_app (codes "bench")).top
+tool = with_subcommand (with_subcommand of_works (new_app (codes "conform")).top) (new_app (codes "make")).top

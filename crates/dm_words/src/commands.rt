@@ -2,7 +2,7 @@
 ghost use Rattle.std.specs.Prelude.{◌≡◌, false, IfOk};
 ghost use Rattle.clap.specs.Words.{app_of};
 ghost use Rattle.clap.specs.declared.builder.command.Command.TheViews.{out-Command as fields_of};
-ghost use Rattle.dm_words.specs.Commands.{bare, of_texts, tool};
+ghost use Rattle.dm_words.specs.Commands.{bare, of_ends, of_works, tool};
 
 use clap::Command;
 use std::alloc::{AllocError, Global};
@@ -19,21 +19,33 @@ fn bare_command<'a>(alloc: Global) -> Command<'a>
         .subcommand_required(true)
 }
 
-// With those that read a whole text.
-fn text_commands<'a>(alloc: Global) -> Result<Command<'a>, AllocError>
-    ensures app { IfOk result (λ command. app_of command ≡ of_texts) }
+// With those that read a trace or a job.
+fn end_commands<'a>(alloc: Global) -> Result<Command<'a>, AllocError>
+    ensures app { IfOk result (λ command. app_of command ≡ of_ends) }
     ensures local { IfOk result (λ command. (fields_of command).has_globals ≡ false) }
 {
     let one = bare_command(alloc).subcommand(Command::new(alloc, "replay"))?;
-    one.subcommand(Command::new(alloc, "pair"))
+    let two = one.subcommand(Command::new(alloc, "device"))?;
+    let three = two.subcommand(Command::new(alloc, "serve"))?;
+    three.subcommand(Command::new(alloc, "pair"))
+}
+
+// With those that read a message, or nothing.
+fn work_commands<'a>(alloc: Global) -> Result<Command<'a>, AllocError>
+    ensures app { IfOk result (λ command. app_of command ≡ of_works) }
+    ensures local { IfOk result (λ command. (fields_of command).has_globals ≡ false) }
+{
+    let four = end_commands(alloc)?;
+    let five = four.subcommand(Command::new(alloc, "show"))?;
+    let six = five.subcommand(Command::new(alloc, "check"))?;
+    six.subcommand(Command::new(alloc, "bench"))
 }
 
 /// The tool with its subcommands.
 pub fn tool_command<'a>(alloc: Global) -> Result<Command<'a>, AllocError>
     ensures app { IfOk result (λ command. app_of command ≡ tool) }
 {
-    let two = text_commands(alloc)?;
-    let three = two.subcommand(Command::new(alloc, "show"))?;
-    let four = three.subcommand(Command::new(alloc, "check"))?;
-    four.subcommand(Command::new(alloc, "bench"))
+    let seven = work_commands(alloc)?;
+    let eight = seven.subcommand(Command::new(alloc, "conform"))?;
+    eight.subcommand(Command::new(alloc, "make"))
 }

@@ -1,7 +1,9 @@
 //! The words of a command line: which form they have.
 #![tactic(auto)]
 
+mod behind;
 mod commands;
-mod forms;
+pub mod forms;
+mod subcommands;
 
-pub use forms::{Form, USAGE, read_form};
+pub use forms::{DeviceWords, Form, ServeWords, USAGE, read_form};

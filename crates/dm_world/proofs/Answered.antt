@@ -474,7 +474,7 @@ number-said : (o : Option ℕ) (n : ℕ) → is_number o n ≡ true → o ≡ So
 number-said None n h = cc
 number-said (Some k) n h = ap Some (eq-of k n h)
 
-abbrev AllStand : List Reply → List (InSession Deed) → Type 0
+abbrev pub AllStand : List Reply → List (InSession Deed) → Type 0
 AllStand downs = Each (StandsInMessage downs)
 
 more-sent : (downs : List Reply) (o : Option Reply) (xs : List (InSession Deed)) → AllStand downs xs
@@ -515,7 +515,7 @@ deeds-stand w k d nonce (Some s) e = by (client.takes_message (Some s) d.message
         (number-said (session_of d.message) s.progress.number mine) (λ x h. h)) tt
     by false t = tt
 
-abbrev Stand : World → Type 0
+abbrev pub Stand : World → Type 0
 Stand w = AllStand w.downs w.executed
 
 up-stands : (w : World) (o : Option Parts) (nonce : List ℕ) → Stand w → Stand (up_delivered w o nonce)
@@ -540,7 +540,7 @@ happens-stands w (clock_moves stamp) h = h
 happens-stands w is_lost h = h
 happens-stands w finds_no_memory h = h
 
-run-stands : (w : World) (es : List Happening) → Stand w → Stand (run w es)
+pub run-stands : (w : World) (es : List Happening) → Stand w → Stand (run w es)
 run-stands w [] h = h
 run-stands w (e ∷ es) h = run-stands (happens w e) es (happens-stands w e h)
 

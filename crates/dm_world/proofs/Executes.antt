@@ -20,11 +20,11 @@ use Rattle.dm_world.specs.Acts.{seq_members_acts, command_acts, acts, doing_acts
 use Rattle.dm_world.specs.Packing.{ExecutesAll}
 use Rattle.dm_ends.specs.Commands.{origin_of}
 
-abbrev deed_acts : List Deed → List Act
+abbrev pub deed_acts : List Deed → List Act
 deed_acts [] = []
 deed_acts (d ∷ ds) = doing_acts d.doing ++ deed_acts ds
 
-deeds-append : (a b : List Deed) → deed_acts (a ++ b) ≡ deed_acts a ++ deed_acts b
+pub deeds-append : (a b : List Deed) → deed_acts (a ++ b) ≡ deed_acts a ++ deed_acts b
 deeds-append [] b = refl
 deeds-append (d ∷ ds) b =
     ap (λ x. doing_acts d.doing ++ x) (deeds-append ds b)
@@ -63,7 +63,7 @@ all-seq-deeds o (m ∷ ms) =
     ∙ ap (λ x. x ++ deed_acts (members_deeds o ms)) (seq-deeds o m)
     ∙ ap (λ x. seq_member_acts m ++ x) (all-seq-deeds o ms)
 
-command-deeds : (o : Origin) (c : Command) → deed_acts (command_deeds o c) ≡ command_acts c
+pub command-deeds : (o : Origin) (c : Command) → deed_acts (command_deeds o c) ≡ command_acts c
 command-deeds o (command.Plain p) = item-deeds o false p 0 p.items
 command-deeds o (command.Alert a) = refl
 command-deeds o (command.Atomic b) = ap (λ x. block named.Atomic ∷ x) (inner-deeds o true b.members)
@@ -71,7 +71,7 @@ command-deeds o (command.Sequence b) = ap (λ x. block named.Sequence ∷ x) (al
 command-deeds o (command.Status c) = refl
 command-deeds o (command.Results c) = refl
 
-message-deeds : (o : Origin) (cs : List Command) → deed_acts (all_deeds o cs) ≡ acts cs
+pub message-deeds : (o : Origin) (cs : List Command) → deed_acts (all_deeds o cs) ≡ acts cs
 message-deeds o [] = refl
 message-deeds o (c ∷ cs) =
     deeds-append (command_deeds o c) (all_deeds o cs)
@@ -84,7 +84,7 @@ done-append (d ∷ ds) b =
     ap (λ x. doing_acts d.what.doing ++ x) (done-append ds b)
     ∙ sym (append_assoc (doing_acts d.what.doing) (deeds_acts ds) (deeds_acts b))
 
-session-deeds : (n : ℕ) (ds : List Deed) → deeds_acts (in_session n ds) ≡ deed_acts ds
+pub session-deeds : (n : ℕ) (ds : List Deed) → deeds_acts (in_session n ds) ≡ deed_acts ds
 session-deeds n [] = refl
 session-deeds n (d ∷ ds) = ap (λ x. doing_acts d.doing ++ x) (session-deeds n ds)
 

@@ -34,7 +34,7 @@ use Rattle.dm_service.specs.Matching.{found_in, takes_item, takes_items, takes_f
 use Rattle.dm_service.specs.Laws.{found_at}
 use Rattle.dm_service.proofs.Codes.{later_in, find_named}
 use Rattle.dm_world.specs.World.{InSession}
-use Rattle.dm_world.specs.Report.{as_kept}
+use Rattle.dm_world.specs.Places.{as_kept}
 use Rattle.dm_world.proofs.Lists.{either, Each}
 use Rattle.dm_world.proofs.Joins.{same-key}
 use Rattle.dm_world.proofs.Flows.{Going, with_bytes, WasFoundAs, GoesOn, TellsOf, IsPiece, behind, Flow, behind-found}

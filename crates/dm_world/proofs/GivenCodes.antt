@@ -1,5 +1,5 @@
--- Each code that the server holds was given by the client to that command of the job.
-use Rattle.std.proofs.Common.{suc, ◌≡◌, ℕ, Bool, List, [], ◌∷◌, ◌++◌, map, Option, None, Some, refl, sym, ◌∙◌, ap}
+-- What stands under a MsgID and a CmdID in a message of the server is what was executed under them.
+use Rattle.std.proofs.Common.{suc, ◌≡◌, ℕ, Bool, List, [], ◌∷◌, ◌++◌, Option, None, Some, refl, sym, ◌∙◌, ap}
 use Rattle.std.proofs.Common.{subst, arith, inl, inr, true, false}
 use Rattle.std.specs.List.{Contains}
 use Rattle.syncml_types.specs.declared.values.Item.{Item}
@@ -19,20 +19,14 @@ use Rattle.dm_job.specs.declared.job.JobEntry.{JobEntry}
 use Rattle.dm_service.specs.declared.sent.Sent.{Sent}
 use Rattle.dm_service.specs.Service.{Session as Serving}
 use Rattle.dm_world.specs.Deeds.{Deed, step_deeds, member_deeds, members_deeds, command_deeds, all_deeds}
-use Rattle.dm_world.specs.Acts.{doing_acts}
-use Rattle.dm_world.specs.World.{Reply, run}
-use Rattle.dm_world.specs.Start.{at_start}
-use Rattle.dm_world.specs.Commands.{outline, StandsInMessage, StandsAs, IsWholeDeed}
-use Rattle.dm_world.specs.Report.{CodesAreGiven}
+use Rattle.dm_world.specs.World.{Reply}
+use Rattle.dm_world.specs.Commands.{StandsInMessage, StandsAs}
 use Rattle.dm_world.proofs.Lists.{Each, StandsIn, each-append, each-within, picked}
 use Rattle.dm_world.proofs.Numbers.{session_number, IsRead}
 use Rattle.dm_world.proofs.Lockstep.{DownOk, Below, Falls, message_of}
-use Rattle.dm_world.proofs.Happens.{run-sound, start-sound, schedule-range}
 use Rattle.dm_world.proofs.SaysMade.{each-contains}
-use Rattle.dm_world.proofs.Answered.{executes_the_sent}
 use Rattle.dm_world.proofs.Rising.{rises-one}
-use Rattle.dm_world.proofs.Noted.{ReplyRises, all-rise}
-use Rattle.dm_world.proofs.ToldMade.{told-as-made}
+use Rattle.dm_world.proofs.Noted.{ReplyRises}
 
 -- ---- what stands in a message answers to its MsgID
 
@@ -113,7 +107,7 @@ said-number r n read e = same (session_number r.message) n (session_of r.message
 -- ---- what was executed under these two numbers is the command of the job
 
 -- what stands in a message under a CmdID is what was executed under it
-same-deed : (packages : List (List JobEntry)) (downs : List Reply) (n : ℕ) (x : Sent) (d : Deed)
+pub same-deed : (packages : List (List JobEntry)) (downs : List Reply) (n : ℕ) (x : Sent) (d : Deed)
     → Falls message_of downs → Each (λ (r : Reply). IsRead r.message) downs → Each ReplyRises downs
     → (h : StandsAs packages downs n x)
     → StandsInMessage downs (record { session = n; what = d }) → d.post.msg ≡ x.msg → d.post.command ≡ x.command
@@ -136,37 +130,7 @@ same-deed packages downs n x d falls read rising h s e f =
     rises-one 1 rise.0 (all_deeds (origin_of h.reply.message) h.reply.message.body) h.deed d rise.1 h.within within
     (h.command_is ∙ sym f)
 
-each-read : (v : Option Serving) (ups : List Parts) (downs : List Reply) → Each (DownOk v ups) downs
+pub each-read : (v : Option Serving) (ups : List Parts) (downs : List Reply) → Each (DownOk v ups) downs
     → Each (λ (r : Reply). IsRead r.message) downs
 each-read v ups [] h = tt
 each-read v ups (r ∷ rs) h = (down-read v ups r h.0, each-read v ups rs h.1)
-
-pub codes_are_given : CodesAreGiven
-codes_are_given c job hs place code start range told =
-    let w = run (at_start c job) hs in
-    let x = told-as-made c job hs place code start range told in
-    let n = x.session.progress.number in
-    let done = x.executed in
-    let sound = run-sound (at_start c job) hs (schedule-range c hs range) (start-sound c job start) in
-    let stands = executes_the_sent c job hs (record { session = n; what = done.deed }) start range done.within in
-    let same =
-    same-deed job.packages w.downs n x.command done.deed sound.downs_fall
-    (each-read w.server.session w.ups w.downs sound.downs_ok) (all-rise c job hs start) x.stands stands done.msg_is
-    done.command_is in
-    record {
-      session = n;
-      deed = done.deed;
-      was_executed = done.within;
-      act = x.stands.act;
-      act_is = subst (λ (d : Deed). map outline (doing_acts d.doing) ≡ x.stands.act ∷ []) same x.stands.act_is;
-      number = x.command.number;
-      of_job = x.stands.of_job;
-      place_is = x.number;
-      last = subst IsWholeDeed same (x.stands.last x.counts);
-      made = record {
-        post = x.made.post;
-        within = x.made.within;
-        msg_is = x.made.msg_is ∙ sym done.msg_is;
-        command_is = x.made.command_is ∙ sym done.command_is;
-      };
-    }

@@ -177,13 +177,13 @@ run-fair job many w (e ∷ es) r i held h =
 
 -- ---- the beginning: a job asks for whole steps
 
-abbrev AreWhole : List Act → Type 0
+abbrev pub AreWhole : List Act → Type 0
 AreWhole [] = Unit {0}
 AreWhole (block name ∷ xs) = AreWhole xs
 AreWhole (does s true ∷ xs) = ⊥
 AreWhole (does s false ∷ xs) = AreWhole xs
 
-whole-append : (a b : List Act) → AreWhole a → AreWhole b → AreWhole (a ++ b)
+pub whole-append : (a b : List Act) → AreWhole a → AreWhole b → AreWhole (a ++ b)
 whole-append [] b h k = k
 whole-append (block name ∷ a) b h k = whole-append a b h k
 whole-append (does s true ∷ a) b h k = absurd h
@@ -218,7 +218,7 @@ seq-whole (seq_member.Single (member.One p) ∷ ms) h =
 seq-whole (seq_member.Single (member.Alert c) ∷ ms) h = absurd h.0
 seq-whole (seq_member.Atomic b ∷ ms) h = absurd h.0
 
-command-whole : (c : Command) → IsJobCommand c → AreWhole (command_acts c)
+pub command-whole : (c : Command) → IsJobCommand c → AreWhole (command_acts c)
 command-whole (command.Plain p) h = step-whole false p h
 command-whole (command.Alert a) h = absurd h
 command-whole (command.Atomic b) h = members-whole true b.members h.1
@@ -233,7 +233,7 @@ entries-whole (e ∷ es) h =
 
 -- ---- what comes behind a part is the rest of it
 
-whole-behind : (a b : List Act) → AreWhole (a ++ b) → AreWhole b
+pub whole-behind : (a b : List Act) → AreWhole (a ++ b) → AreWhole b
 whole-behind [] b h = h
 whole-behind (block name ∷ a) b h = whole-behind a b h
 whole-behind (does s true ∷ a) b h = absurd h
@@ -285,7 +285,7 @@ begun-order packages executed whole h =
     by None e w = tt
     by (Some p) e w = part-next p h.0 e w
 
-job-whole : (c : Machine) (job : Job) → IsWorldStart c job → AreWhole (job_acts job.packages)
+pub job-whole : (c : Machine) (job : Job) → IsWorldStart c job → AreWhole (job_acts job.packages)
 job-whole c job h = entries-whole (all_entries job.packages) h.sound.entries
 
 start-fair : (c : Machine) (job : Job) → IsWorldStart c job

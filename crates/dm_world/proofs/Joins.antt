@@ -94,7 +94,7 @@ pub record Splits (n : ℕ) (all part rest : List Act) : Type 0 where
   pub rest_is : rest ≡ again ++ does (record step { value = drop n step.value }) more ∷ []
   pub blocks : AllBlocks again
 
-past-blocks : (p : Step) (again xs : List Act) → AllBlocks again → join (Some p) (again ++ xs) ≡ join (Some p) xs
+pub past-blocks : (p : Step) (again xs : List Act) → AllBlocks again → join (Some p) (again ++ xs) ≡ join (Some p) xs
 past-blocks p [] xs h = refl
 past-blocks p (block name ∷ acs) xs h = past-blocks p acs xs h
 past-blocks p (does s more ∷ acs) xs h = absurd h

@@ -48,3 +48,15 @@ pub mod ServerKeeps
 pub mod ClientKeeps
 pub mod WholeValues
 pub mod Heads
+pub mod Rows
+pub mod RowEntries
+pub mod RowJob
+pub mod RowSent
+pub mod RowNotes
+pub mod Stay
+pub mod RowTaken
+pub mod RowWorld
+pub mod PlacedCodes
+pub mod PlacedActs
+pub mod PlacedLast
+pub mod Leaving

@@ -70,7 +70,7 @@ AreOf packages = AllByRecursion (Contains (all_entries packages))
 abbrev pub JobIs : List (List JobEntry) → Type 0
 JobIs packages = (e : JobEntry) → Contains (all_entries packages) e → OneEach e.command × WholeEach e.command
 
-one-id : (c : Command) → 0 < ids_in c
+pub one-id : (c : Command) → 0 < ids_in c
 unfolding ids_in
 one-id (command.Plain p) = omega arith
 one-id (command.Alert a) = omega arith
@@ -164,7 +164,7 @@ more-marks packages ds more msg xs f h =
     }) xs h
 
 -- of a command from this number on
-abbrev AreJobActs : List (List JobEntry) → ℕ → List Act → Type 0
+abbrev pub AreJobActs : List (List JobEntry) → ℕ → List Act → Type 0
 AreJobActs packages number xs = (j : ℕ) (a : Act) → slice_get xs j ≡ Some a → IsJobAct packages (number + j) a
 
 row-marks : (packages : List (List JobEntry)) (ds : List Deed) (xs : List Act) (k msg number n : ℕ) → Marked ds k xs
@@ -261,7 +261,7 @@ alone-marks packages ds (a ∷ b ∷ xs) k msg c m e some f =
     (f (suc (length xs)) last.0 last.2))
 
 -- the acts of an entry are those of the job from its number on
-entry-acts : (packages : List (List JobEntry)) (first : ℕ) (e : JobEntry) → Contains (all_entries packages) e
+pub entry-acts : (packages : List (List JobEntry)) (first : ℕ) (e : JobEntry) → Contains (all_entries packages) e
     → first ≡ e.number
     → AreJobActs packages first (outlines e.command)
 entry-acts packages first e within is j a at =

@@ -59,11 +59,11 @@ use Rattle.dm_world.proofs.Marks.{WaitsOf, AreOf, JobIs, HasMark, job-carries, r
 
 -- ---- what the server has to send
 
-record Notes (packages : List (List JobEntry)) (v : Service) : Type 0 where
-  job : AreOf packages (all_entries v.job.packages)
-  packages_are : AreOf packages (all_entries v.packages)
-  newest : AreOf packages v.newest
-  queue : AllByRecursion (WaitsOf packages) v.queue
+pub record Notes (packages : List (List JobEntry)) (v : Service) : Type 0 where
+  pub job : AreOf packages (all_entries v.job.packages)
+  pub packages_are : AreOf packages (all_entries v.packages)
+  pub newest : AreOf packages v.newest
+  pub queue : AllByRecursion (WaitsOf packages) v.queue
 
 answers-wait : (packages : List (List JobEntry)) (cs : List Command) → Each IsReport cs
     → AllByRecursion (WaitsOf packages) (map answer_waiting cs)
@@ -89,7 +89,7 @@ put-back-of : (packages : List (List JobEntry)) (p : List JobEntry) (ps : List (
 put-back-of packages [] ps h k = k
 put-back-of packages (e ∷ es) ps h k = all-append (Contains (all_entries packages)) (e ∷ es) (all_entries ps) h k
 
-gives-notes : (packages : List (List JobEntry)) (v : Service) (s : Session) → Notes packages v
+pub gives-notes : (packages : List (List JobEntry)) (v : Service) (s : Session) → Notes packages v
     → Notes packages (gives_up v s)
 unfolding gives_up
 gives-notes packages v s h = record {
@@ -99,13 +99,14 @@ gives-notes packages v s h = record {
   queue = others-wait packages v.queue h.queue;
 }
 
-tells-notes : (packages : List (List JobEntry)) (v : Service) (s : Session) (m : Parts) (code : ℕ) → Notes packages v
+pub tells-notes : (packages : List (List JobEntry)) (v : Service) (s : Session) (m : Parts) (code : ℕ)
+    → Notes packages v
     → Notes packages (tells v s m code)
 tells-notes packages v s m code h =
     either (Notes packages) (passes code) {x = with_matched v s (matched_in v s m)} {y = v}
     (record { job = h.job; packages_are = h.packages_are; newest = h.newest; queue = h.queue }) h
 
-answers-notes : (packages : List (List JobEntry)) (v : Service) (m : Parts) (code : ℕ) (nonce : List ℕ)
+pub answers-notes : (packages : List (List JobEntry)) (v : Service) (m : Parts) (code : ℕ) (nonce : List ℕ)
     → Notes packages v
     → Notes packages (queues_answers v m code nonce)
 answers-notes packages v m code nonce h =
@@ -137,7 +138,7 @@ queues-notes packages v (p ∷ ps) is e h =
       queue = all-append (WaitsOf packages) v.queue (map job_waiting p) h.queue (job-waits packages p is first);
     }
 
-package-notes : (packages : List (List JobEntry)) (v : Service) (t : Standing) → JobIs packages → Notes packages v
+pub package-notes : (packages : List (List JobEntry)) (v : Service) (t : Standing) → JobIs packages → Notes packages v
     → Notes packages (next_package v t)
 package-notes packages v t is h =
     either (Notes packages) (t.accepted && t.heard && not (list_any is_of_job v.queue))
@@ -161,10 +162,10 @@ record Noted (packages : List (List JobEntry)) (old : List Sent) (n : ℕ) (x : 
   known : IfSome x.session (Known packages old (server.reply_of x) n)
   rising : IfSome (server.reply_of x) IsRising
 
-abbrev IsIn : List Sent → List Sent → Type 0
+abbrev pub IsIn : List Sent → List Sent → Type 0
 IsIn xs old = (y : Sent) → Contains xs y → Contains old y
 
-next-numbers : (v : Service) (p : Progress) (m : Parts)
+pub next-numbers : (v : Service) (p : Progress) (m : Parts)
     → ((header_for v p m).session ≡ decimal p.number) × ((header_for v p m).msg ≡ p.standing.own + 1)
 unfolding next_header
 next-numbers v p m = (refl, refl)
@@ -197,7 +198,7 @@ fill-marks packages ws h room msg heard all =
     let n = cut h room (commands_of (take whole es)) (drop whole es) in
     out-marks packages _ msg 1 whole n ws (tail_commands (tail_of (next_rest n (drop whole es)) heard)) all
 
-fill-waits : (packages : List (List JobEntry)) (ws : List Waiting) (h : Header) (room : ℕ) (heard : Bool)
+pub fill-waits : (packages : List (List JobEntry)) (ws : List Waiting) (h : Header) (room : ℕ) (heard : Bool)
     → AllByRecursion (WaitsOf packages) ws
     → AllByRecursion (WaitsOf packages)
     (carried_on (fill (map (λ (w : Waiting). w.entry) ws) h room heard).left
@@ -262,15 +263,15 @@ ended-noted packages v s old within h = record {
 -- ---- a message
 
 -- the session in a step has sent nothing else
-abbrev Within : List Sent → Option Session → Type 0
+abbrev pub Within : List Sent → Option Session → Type 0
 Within old o = IfSome o (λ (t : Session). IsIn t.sent old)
 
-session-within : (old : List Sent) (o : Option Session) (s : Session) → Within old o → IsIn s.sent old
+pub session-within : (old : List Sent) (o : Option Session) (s : Session) → Within old o → IsIn s.sent old
     → IsIn (session_or o s).sent old
 session-within old None s h k = k
 session-within old (Some t) s h k = h
 
-status-within : (v : Service) (s : Session) (failed : Bool) (status : ℕ) (old : List Sent) → IsIn s.sent old
+pub status-within : (v : Service) (s : Session) (failed : Bool) (status : ℕ) (old : List Sent) → IsIn s.sent old
     → Within old v.session
     → Within old (after_status v s failed status).session
 unfolding gives_up
@@ -278,13 +279,13 @@ status-within v s failed status old h k =
     either (λ (w : Service). Within old w.session) (not failed && is_denied status) {x = gives_up v s} {y = v}
     (λ y i. h y (filter_in (λ (x : Sent). not (holds_number v.newest x.number)) s.sent y i)) k
 
-status-notes : (packages : List (List JobEntry)) (v : Service) (s : Session) (failed : Bool) (status : ℕ)
+pub status-notes : (packages : List (List JobEntry)) (v : Service) (s : Session) (failed : Bool) (status : ℕ)
     → Notes packages v
     → Notes packages (after_status v s failed status)
 status-notes packages v s failed status h =
     either (Notes packages) (not failed && is_denied status) {x = gives_up v s} {y = v} (gives-notes packages v s h) h
 
-tells-within : (v : Service) (s : Session) (m : Parts) (code : ℕ) (old : List Sent) → IsIn s.sent old
+pub tells-within : (v : Service) (s : Session) (m : Parts) (code : ℕ) (old : List Sent) → IsIn s.sent old
     → Within old v.session
     → Within old (tells v s m code).session
 tells-within v s m code old h k =
@@ -358,7 +359,7 @@ opens-noted packages v n m nonce is h =
 
 -- ---- in the world
 
-abbrev AllNoted : List (List JobEntry) → List Reply → Session → Type 0
+abbrev pub AllNoted : List (List JobEntry) → List Reply → Session → Type 0
 AllNoted packages downs t =
     (y : Sent) → Contains t.sent y → StandsAs packages downs t.progress.number y
 
@@ -532,10 +533,10 @@ unfolding server_runs.next server_runs.answer_now server.takes server.after serv
 arrival-stands packages downs v u nonce is h k =
     by-number packages downs v (server.number_of u) u nonce is refl h k
 
-record WorldNotes (packages : List (List JobEntry)) (w : World) : Type 0 where
-  notes : Notes packages w.server
-  noted : IfSome w.server.session (AllNoted packages w.downs)
-  rising : Each ReplyRises w.downs
+pub record WorldNotes (packages : List (List JobEntry)) (w : World) : Type 0 where
+  pub notes : Notes packages w.server
+  pub noted : IfSome w.server.session (AllNoted packages w.downs)
+  pub rising : Each ReplyRises w.downs
 
 up-notes : (packages : List (List JobEntry)) (w : World) (o : Option Parts) (nonce : List ℕ) → JobIs packages
     → WorldNotes packages w
@@ -593,7 +594,7 @@ session-noted : (packages : List (List JobEntry)) (downs : List Reply) (o : Opti
     → AllNoted packages downs s
 session-noted packages downs o s h e = subst (λ o. IfSome o (AllNoted packages downs)) e h
 
-all-notes : (c : Machine) (job : Job) (hs : List Happening) → IsWorldStart c job
+pub all-notes : (c : Machine) (job : Job) (hs : List Happening) → IsWorldStart c job
     → WorldNotes job.packages (run (at_start c job) hs)
 all-notes c job hs start =
     run-notes job.packages (at_start c job) hs (job-is job.packages start.sound.entries) (start-notes c job)

@@ -276,6 +276,28 @@ entry-joined o (command.Results r) begun n i xs h = refl
 entry-joined o (command.Alert a) begun n i xs h = cc
 entry-joined o (command.Status s) begun n i xs h = cc
 
+-- a command that has acts where it can be cut
+abbrev pub HasActs : Command → Type 0
+HasActs (command.Plain p) = Unit {0}
+HasActs (command.Alert a) = Unit {0}
+HasActs (command.Atomic b) = Unit {0}
+HasActs (command.Sequence b) = Unit {0}
+HasActs (command.Status s) = Unit {0}
+HasActs (command.Results r) = ⊥
+
+pub entry-split : (c : Command) (begun : Bool) (n : ℕ) (i : Item) → HasActs c → cut_item c ≡ Some i
+    → Splits n (command_acts c) (command_acts (part_of (record { command = c; begun = begun }) n))
+    (command_acts (rest_of (record { command = c; begun = begun }) n).command)
+unfolding part_of rest_of
+entry-split (command.Plain p) begun n i x h = plain-split false begun n p i h
+entry-split (command.Atomic b) begun n i x h =
+    splits-block n named.Atomic _ _ _ (members-split true begun n b.members i h)
+entry-split (command.Sequence b) begun n i x h =
+    splits-block n named.Sequence _ _ _ (sequence-split begun n b.members i h)
+entry-split (command.Results r) begun n i x h = absurd x
+entry-split (command.Alert a) begun n i x h = cc
+entry-split (command.Status s) begun n i x h = cc
+
 -- where a part goes out, there is an item to cut
 has-item : (o : Option Item) (k : ℕ) (passes : ℕ → Bool) → greatest passes (length (data_in o) - 1) ≡ suc k
     → (i : Item) × (o ≡ Some i)
@@ -313,7 +335,7 @@ pub commands-append : (a b : List Entry) → commands_of (a ++ b) ≡ commands_o
 commands-append [] b = refl
 commands-append (e ∷ es) b = ap (λ x. e.command ∷ x) (commands-append es b)
 
-cut-there : (header : Header) (room : ℕ) (before : List Command) (es : List Entry) (e : Entry) (rest : List Entry)
+pub cut-there : (header : Header) (room : ℕ) (before : List Command) (es : List Entry) (e : Entry) (rest : List Entry)
     (k : ℕ)
     → es ≡ e ∷ rest
     → cut header room before es ≡ suc k

@@ -255,7 +255,8 @@ gains-live job done s v y downs ups b d x f h = by h.how
         (arith, id, own, last, low))
     by (inr (inr k)) = inl (sym (pending-taken s y downs b d x f) ∙ k.none)
 
-gains : (job done : List Act) (s : Opened) (v : Service) (y : Option Serving) (downs : List Reply) (ups : List Parts)
+pub gains : (job done : List Act) (s : Opened) (v : Service) (y : Option Serving) (downs : List Reply)
+    (ups : List Parts)
     (r : Option ℕ) (b : ℕ) (d : Reply)
     → s.progress.number ≡ b
     → NextOk b s y d

@@ -1,7 +1,7 @@
 -- What the server holds of codes and values was told in messages of the client.
 use Rattle.std.proofs.Common.{zero, suc, ◌≡◌, ◌==◌, ℕ, List, [], ◌∷◌, Option, None, Some}
 use Rattle.std.proofs.Common.{refl, ◌∙◌, ap, subst, arith, ◌⊎◌, inl, inr, get_or, replicate}
-use Rattle.std.specs.Prelude.{Ok, slice_get, ◌&&◌, ◌++◌, map}
+use Rattle.std.specs.Prelude.{Ok, slice_get, ◌++◌, map}
 use Rattle.std.specs.List.{Contains}
 use Rattle.syncml_types.specs.declared.command.Step.{Step}
 use Rattle.syncml_types.specs.declared.command.Command.TheVariants as command

@@ -1,7 +1,7 @@
--- Each code that the server holds was made by the client for what the server sent as that command.
+-- A code that is told to the server was made by the client for what the server notes as sent.
 use Rattle.std.proofs.Common.{zero, suc, ◌≡◌, ◌<◌, ◌+◌, ◌-◌, ◌==◌, ◌&&◌, ◌^◌, ℕ, Bool, true, false, cond, not, List, []}
-use Rattle.std.proofs.Common.{◌∷◌, ◌++◌, replicate, get_or, Option, None, Some, IfSome, refl, sym, ◌∙◌, ap}
-use Rattle.std.proofs.Common.{subst, arith, ◌⊎◌, inl, inr, nat_lt, append_assoc}
+use Rattle.std.proofs.Common.{◌∷◌, ◌++◌, Option, None, Some, IfSome, refl, sym, ◌∙◌, ap}
+use Rattle.std.proofs.Common.{subst, arith, ◌⊎◌, inl, inr, nat_lt}
 use Rattle.std.specs.Prelude.{slice_get, is_some}
 use Rattle.std.specs.List.{Contains, list_any, filter}
 use Rattle.std.proofs.lemmas.List.{append-nil}
@@ -12,15 +12,11 @@ use Rattle.dm_headers.specs.Checks.{fault_of, is_denied, passes}
 use Rattle.dm_headers.specs.Standings.{Heard, hears}
 use Rattle.dm_atomic.specs.Made.{Made, Status}
 use Rattle.dm_ends.specs.Commands.{is_abort, session_of}
-use Rattle.dm_job.specs.declared.job.Job.{Job}
 use Rattle.dm_job.specs.declared.job.JobEntry.{JobEntry}
-use Rattle.dm_job.specs.Sound.{all_entries}
-use Rattle.dm_machine.specs.Machine.{Machine}
 use Rattle.dm_service.specs.declared.sent.Carried.{Carried}
 use Rattle.dm_service.specs.declared.sent.Sent.{Sent}
-use Rattle.dm_service.specs.Service.{Waiting, Told, Session, Service}
-use Rattle.dm_service.specs.Matching.{untold}
-use Rattle.dm_service.specs.Packages.{commands_in, next_package, holds_number}
+use Rattle.dm_service.specs.Service.{Waiting, Session, Service}
+use Rattle.dm_service.specs.Packages.{next_package, holds_number}
 use Rattle.dm_service.specs.Packages.{gives_up}
 use Rattle.dm_service.specs.Sending.{in_a_row, last_alone, rest_holds, but_the_last, part_holds, goes_out}
 use Rattle.dm_service.specs.Sending.{sends}
@@ -35,35 +31,12 @@ use Rattle.dm_service.proofs.Codes.{codes_are_told, still_within, told_still}
 use Rattle.dm_service.specs.Events.{arrival}
 use Rattle.dm_world.specs.World.{InSession, World, Happening, opens, up_comes, down_comes, update_ends, clock_moves}
 use Rattle.dm_world.specs.World.{is_lost}
-use Rattle.dm_world.specs.World.{with_new, replied, finds_no_memory, made_by, up_delivered, down_delivered}
+use Rattle.dm_world.specs.World.{finds_no_memory, made_by, up_delivered, down_delivered}
 use Rattle.dm_world.specs.World.{happens, run, Reply}
-use Rattle.dm_world.specs.Start.{at_start, IsWorldStart, IsInRange, IsSchedule}
-use Rattle.dm_world.specs.Commands.{WasMade, SaysWhatItMade, WasExecuted, StandsAs}
+use Rattle.dm_world.specs.Commands.{WasMade, SaysWhatItMade, StandsAs}
 use Rattle.dm_world.proofs.Lists.{either, Each, each-append}
 use Rattle.dm_world.proofs.Numbers.{eq-of}
-use Rattle.dm_world.proofs.Ranges.{all-first}
-use Rattle.dm_world.proofs.SaysMade.{each-contains, made-later, says_the_made}
-use Rattle.dm_world.proofs.Answered.{answers_the_executed}
-use Rattle.dm_world.proofs.Noted.{stands-later, notes_the_sent}
-
--- ---- a code by its numbers
-
--- The code of the command of the job at a place: at some time of the schedule the server had noted that the command
--- went out, whole or by its last part, in its present session under a MsgID and a CmdID. The server's message has it
--- under these two, the client executed what stands there in that session, and made a Status with this code for it.
-pub record WasToldAsMade (c : Machine) (job : Job) (hs : List Happening) (place code : ℕ) : Type 0 where
-  pub before : List Happening
-  pub behind : List Happening
-  pub are : before ++ behind ≡ hs
-  pub session : Session
-  pub is_open : (run (at_start c job) before).server.session ≡ Some session
-  pub command : Sent
-  pub was_sent : Contains session.sent command
-  pub counts : command.counts ≡ true
-  pub number : command.number - 1 ≡ place
-  pub stands : StandsAs job.packages (run (at_start c job) hs).downs session.progress.number command
-  pub executed : WasExecuted (run (at_start c job) hs).executed session.progress.number command.msg command.command
-  pub made : WasMade (run (at_start c job) hs).made session.progress.number command.msg command.command code
+use Rattle.dm_world.proofs.SaysMade.{each-contains, made-later}
 
 -- ---- what goes out has CmdIDs from 1 on
 
@@ -203,7 +176,7 @@ happens-ids w (clock_moves stamp) h = h
 happens-ids w is_lost h = h
 happens-ids w finds_no_memory h = h
 
-run-ids : (w : World) (es : List Happening) → HaveIds w.server → HaveIds (run w es).server
+pub run-ids : (w : World) (es : List Happening) → HaveIds w.server → HaveIds (run w es).server
 run-ids w [] h = h
 run-ids w (e ∷ es) h = run-ids (happens w e) es (happens-ids w e h)
 
@@ -282,15 +255,15 @@ next-code v m nonce place code h = by (server.takes_message v m) h
 -- ---- and what was made for it
 
 -- a command that the server notes as sent, and the Status that the client made for it
-record NewCode (packages : List (List JobEntry)) (w : World) (place code : ℕ) : Type 0 where
-  session : Session
-  is_open : w.server.session ≡ Some session
-  command : Sent
-  was_sent : Contains session.sent command
-  counts : command.counts ≡ true
-  number : command.number - 1 ≡ place
-  stands : StandsAs packages w.downs session.progress.number command
-  made : WasMade w.made session.progress.number command.msg command.command code
+pub record NewCode (packages : List (List JobEntry)) (w : World) (place code : ℕ) : Type 0 where
+  pub session : Session
+  pub is_open : w.server.session ≡ Some session
+  pub command : Sent
+  pub was_sent : Contains session.sent command
+  pub counts : command.counts ≡ true
+  pub number : command.number - 1 ≡ place
+  pub stands : StandsAs packages w.downs session.progress.number command
+  pub made : WasMade w.made session.progress.number command.msg command.command code
 
 pub read-range : (o : Option ℕ) (n : ℕ) → server.in_range o ≡ Some n → o ≡ Some n
 read-range None n e = absurd (cc)
@@ -341,7 +314,7 @@ now-made packages w k m place code e says notes ids t =
       };
     }
 
-abbrev CodeIs : World → ℕ → ℕ → Type 0
+abbrev pub CodeIs : World → ℕ → ℕ → Type 0
 CodeIs w place code = code_at w.server.told place ≡ Some code
 
 up-code : (packages : List (List JobEntry)) (w : World) (k : ℕ) (o : Option Parts) (nonce : List ℕ)
@@ -364,7 +337,7 @@ down-code : (w : World) (o : Option Reply) (nonce : List ℕ) (place code : ℕ)
 down-code w None nonce place code h = h
 down-code w (Some d) nonce place code h = h
 
-happens-code : (packages : List (List JobEntry)) (w : World) (e : Happening) (place code : ℕ) → SaysWhatItMade w
+pub happens-code : (packages : List (List JobEntry)) (w : World) (e : Happening) (place code : ℕ) → SaysWhatItMade w
     → NotesIt packages w
     → HaveIds w.server
     → CodeIs (happens w e) place code
@@ -379,35 +352,6 @@ happens-code packages w (update_ends ok) place code says notes ids h = inl h
 happens-code packages w (clock_moves stamp) place code says notes ids h = inl h
 happens-code packages w is_lost place code says notes ids h = inl h
 happens-code packages w finds_no_memory place code says notes ids h = inl h
-
--- ---- what was sent stays sent
-
-abbrev pub IsLonger : List Reply → List Reply → Type 0
-IsLonger downs all = (new : Option Reply) × (all ≡ with_new downs new)
-
-down-longer : (w : World) (o : Option Reply) (nonce : List ℕ) → IsLonger w.downs (down_delivered w o nonce).downs
-down-longer w None nonce = (None, refl)
-down-longer w (Some d) nonce = (None, refl)
-
-up-longer : (w : World) (o : Option Parts) (nonce : List ℕ) → IsLonger w.downs (up_delivered w o nonce).downs
-up-longer w None nonce = (None, refl)
-up-longer w (Some m) nonce = (replied (server_runs.answer_now w.server (arrival m nonce)) m, refl)
-
-happens-longer : (w : World) (e : Happening) → IsLonger w.downs (happens w e).downs
-unfolding happens
-happens-longer w (opens account kind n) = (None, refl)
-happens-longer w (up_comes k nonce) = up-longer w (slice_get w.ups k) nonce
-happens-longer w (down_comes k nonce) = down-longer w (slice_get w.downs k) nonce
-happens-longer w (update_ends ok) = (None, refl)
-happens-longer w (clock_moves stamp) = (None, refl)
-happens-longer w is_lost = (None, refl)
-happens-longer w finds_no_memory = (None, refl)
-
-pub longer-stands : (packages : List (List JobEntry)) (downs all : List Reply) (n : ℕ) (x : Sent) → IsLonger downs all
-    → StandsAs packages downs n x
-    → StandsAs packages all n x
-longer-stands packages downs all n x l h =
-    subst (λ r. StandsAs packages r n x) (sym l.1) (stands-later packages downs l.0 n x h)
 
 -- ---- what was made stays made
 
@@ -435,7 +379,7 @@ happens-more w (clock_moves stamp) = same-made w.made
 happens-more w is_lost = same-made w.made
 happens-more w finds_no_memory = same-made w.made
 
-more-made : (made all : List (InSession Made)) (n msg cmd code : ℕ) → IsMore made all → WasMade made n msg cmd code
+pub more-made : (made all : List (InSession Made)) (n msg cmd code : ℕ) → IsMore made all → WasMade made n msg cmd code
     → WasMade all n msg cmd code
 more-made made all n msg cmd code x h =
     subst (λ l. WasMade l n msg cmd code) (sym x.1) (made-later made x.0 n msg cmd code h)
@@ -450,104 +394,3 @@ pub made-snoc : (w : World) (done : List Happening) (e : Happening)
     → IsMore (run w done).made (run w (done ++ e ∷ [])).made
 made-snoc w done e =
     subst (λ (x : World). IsMore (run w done).made x.made) (sym (run-snoc w done e)) (happens-more (run w done) e)
-
-pub downs-snoc : (w : World) (done : List Happening) (e : Happening)
-    → IsLonger (run w done).downs (run w (done ++ e ∷ [])).downs
-downs-snoc w done e =
-    subst (λ (x : World). IsLonger (run w done).downs x.downs) (sym (run-snoc w done e)) (happens-longer (run w done) e)
-
-abbrev Traced : Machine → Job → List Happening → Type 0
-Traced c job hs = (place code : ℕ) → CodeIs (run (at_start c job) hs) place code → WasToldAsMade c job hs place code
-
-told-before : (c : Machine) (job : Job) (done : List Happening) (e : Happening) (place code : ℕ) → IsWorldStart c job
-    → IsSchedule c (done ++ e ∷ [])
-    → WasToldAsMade c job done place code
-    → WasToldAsMade c job (done ++ e ∷ []) place code
-told-before c job done e place code start range h =
-    let n = h.session.progress.number in
-    let made = more-made _ _ n h.command.msg h.command.command code (made-snoc (at_start c job) done e) h.made in
-    record {
-      before = h.before;
-      behind = h.behind ++ e ∷ [];
-      are = sym (append_assoc h.before h.behind (e ∷ [])) ∙ ap (λ l. l ++ e ∷ []) h.are;
-      session = h.session;
-      is_open = h.is_open;
-      command = h.command;
-      was_sent = h.was_sent;
-      counts = h.counts;
-      number = h.number;
-      stands =
-          longer-stands job.packages _ _ n h.command
-          (downs-snoc (at_start c job) done e) h.stands;
-      executed = answers_the_executed c job (done ++ e ∷ []) n h.command.msg h.command.command code start range made;
-      made = made;
-    }
-
-told-now : (c : Machine) (job : Job) (done : List Happening) (e : Happening) (place code : ℕ) → IsWorldStart c job
-    → IsSchedule c (done ++ e ∷ [])
-    → NewCode job.packages (run (at_start c job) done) place code
-    → WasToldAsMade c job (done ++ e ∷ []) place code
-told-now c job done e place code start range h =
-    let n = h.session.progress.number in
-    let made = more-made _ _ n h.command.msg h.command.command code (made-snoc (at_start c job) done e) h.made in
-    record {
-      before = done;
-      behind = e ∷ [];
-      are = refl;
-      session = h.session;
-      is_open = h.is_open;
-      command = h.command;
-      was_sent = h.was_sent;
-      counts = h.counts;
-      number = h.number;
-      stands =
-          longer-stands job.packages _ _ n h.command
-          (downs-snoc (at_start c job) done e) h.stands;
-      executed = answers_the_executed c job (done ++ e ∷ []) n h.command.msg h.command.command code start range made;
-      made = made;
-    }
-
-step-traced : (c : Machine) (job : Job) (done : List Happening) (e : Happening) → IsWorldStart c job
-    → IsSchedule c (done ++ e ∷ [])
-    → Traced c job done
-    → Traced c job (done ++ e ∷ [])
-step-traced c job done e start all h place code k =
-    let range = all-first (IsInRange c) done (e ∷ []) all in
-    by
-    (happens-code job.packages (run (at_start c job) done) e place code (says_the_made c job done start range)
-    (λ s x. notes_the_sent c job done s x start range) (run-ids (at_start c job) done tt)
-    (subst (λ (x : World). CodeIs x place code) (run-snoc (at_start c job) done e) k))
-  where
-    by : CodeIs (run (at_start c job) done) place code
-        ⊎ NewCode job.packages (run (at_start c job) done) place code
-        → WasToldAsMade c job (done ++ e ∷ []) place code
-    by (inl x) = told-before c job done e place code start all (h place code x)
-    by (inr x) = told-now c job done e place code start all x
-
-all-traced : (c : Machine) (job : Job) (done es : List Happening) → IsWorldStart c job → IsSchedule c (done ++ es)
-    → Traced c job done
-    → Traced c job (done ++ es)
-all-traced c job done [] start range h = subst (Traced c job) (sym (append-nil done)) h
-all-traced c job done (e ∷ es) start range h =
-    let split : (done ++ e ∷ []) ++ es ≡ done ++ e ∷ es = append_assoc done (e ∷ []) es in
-    subst (Traced c job) split
-    (all-traced c job (done ++ e ∷ []) es start (subst (IsSchedule c) (sym split) range)
-    (step-traced c job done e start
-    (all-first (IsInRange c) (done ++ e ∷ []) es (subst (IsSchedule c) (sym split) range)) h))
-
--- at first nothing was told
-untold-at : (n place : ℕ) → get_or (replicate n untold) place untold ≡ untold
-untold-at zero place = refl
-untold-at (suc n) zero = refl
-untold-at (suc n) (suc place) = untold-at n place
-
-start-traced : (c : Machine) (job : Job) → Traced c job []
-start-traced c job place code h =
-    absurd (let e = ap (λ (t : Told). t.code) (untold-at (commands_in (all_entries job.packages)) place) in cc)
-
-pub told-as-made : (c : Machine) (job : Job) (hs : List Happening) (place code : ℕ) → IsWorldStart c job
-    → IsSchedule c hs
-    → code_at (run (at_start c job) hs).server.told place ≡ Some code
-    → WasToldAsMade c job hs place code
-told-as-made c job hs place code start range h =
-    all-traced c job [] hs start range (start-traced c job) place code h

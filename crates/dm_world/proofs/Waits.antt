@@ -66,7 +66,7 @@ answers-acts (c ∷ cs) = ap (λ x. command_acts c ++ x) (answers-acts cs)
 
 -- ---- the next package
 
-package-waits : (es : List JobEntry) → waiting_acts (map job_waiting es) ≡ entries_acts es
+pub package-waits : (es : List JobEntry) → waiting_acts (map job_waiting es) ≡ entries_acts es
 package-waits [] = refl
 package-waits (e ∷ es) = ap (λ x. command_acts e.command ++ x) (package-waits es)
 
@@ -156,7 +156,7 @@ report-acts (command.Sequence b) h = cc
 report-acts (command.Status c) h = refl
 report-acts (command.Results c) h = refl
 
-part-acts : (c : Command) (b : Bool) (n : ℕ) → is_report c ≡ true
+pub part-acts : (c : Command) (b : Bool) (n : ℕ) → is_report c ≡ true
     → command_acts (part_of (record { command = c; begun = b }) n) ≡ []
 unfolding part_of
 part-acts (command.Plain p) b n h = cc
@@ -229,12 +229,12 @@ out-acts msg id (suc whole) n (w ∷ ws) ok h =
 
 -- ---- what waits stays in order
 
-entries-drop : (n : ℕ) (ws : List Waiting) → drop n (entries_of ws) ≡ entries_of (drop n ws)
+pub entries-drop : (n : ℕ) (ws : List Waiting) → drop n (entries_of ws) ≡ entries_of (drop n ws)
 entries-drop zero ws = refl
 entries-drop (suc n) [] = refl
 entries-drop (suc n) (w ∷ ws) = entries-drop n ws
 
-same-carried : (ws : List Waiting) → carried_on (entries_of ws) ws ≡ ws
+pub same-carried : (ws : List Waiting) → carried_on (entries_of ws) ws ≡ ws
 same-carried [] = refl
 same-carried (w ∷ ws) = ap (λ x. w ∷ x) (same-carried ws)
 

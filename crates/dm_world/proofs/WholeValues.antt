@@ -1,6 +1,6 @@
--- Each value that the server holds is one that the client found for that command of the job, with all its bytes.
+-- Each value that the server holds at a place is one that the client found for what it executed for this place.
 use Rattle.std.proofs.Common.{◌≡◌, ◌≤◌, ℕ, List, [], ◌∷◌, ◌++◌, replicate, get_or, Option, None, Some, refl}
-use Rattle.std.proofs.Common.{sym, subst, arith, ◌⊎◌, inl, inr, append_assoc, zero, suc}
+use Rattle.std.proofs.Common.{sym, ◌∙◌, subst, arith, ◌⊎◌, inl, inr, append_assoc, zero, suc}
 use Rattle.std.specs.Prelude.{slice_get}
 use Rattle.std.specs.List.{Contains}
 use Rattle.std.proofs.lemmas.List.{append-nil}
@@ -10,10 +10,9 @@ use Rattle.syncml_types.specs.declared.command.ResultsCmd.{ResultsCmd}
 use Rattle.syncml_types.specs.declared.command.Command.{Command}
 use Rattle.syncml_types.specs.declared.command.Command.TheVariants as command
 use Rattle.syncml_types.specs.Message.{Parts}
-use Rattle.dm_atomic.specs.Made.{Made}
+use Rattle.dm_atomic.specs.Made.{Made, Result}
 use Rattle.dm_ends.specs.Commands.{session_of, origin_of}
 use Rattle.dm_job.specs.declared.job.Job.{Job}
-use Rattle.dm_job.specs.declared.job.JobEntry.{JobEntry}
 use Rattle.dm_job.specs.Sound.{all_entries}
 use Rattle.dm_machine.specs.Machine.{Machine}
 use Rattle.dm_service.specs.Service.{Told, Session as Serving}
@@ -27,7 +26,7 @@ use Rattle.dm_world.specs.World.{clock_moves, is_lost, finds_no_memory, down_del
 use Rattle.dm_world.specs.Start.{at_start, IsWorldStart, IsInRange, IsSchedule}
 use Rattle.dm_world.specs.Acts.{deeds_acts, job_acts}
 use Rattle.dm_world.specs.Commands.{SaysWhatItFound}
-use Rattle.dm_world.specs.Report.{IsFoundFor, ValuesAreFoundFor}
+use Rattle.dm_world.specs.Places.{IsExecutedAt, IsFoundAt, ValuesAreFoundByPlace}
 use Rattle.dm_world.proofs.Lists.{Each, each-within, picked}
 use Rattle.dm_world.proofs.Numbers.{session_number}
 use Rattle.dm_world.proofs.Lockstep.{UpOk, DownOk, Holds}
@@ -35,10 +34,10 @@ use Rattle.dm_world.proofs.Happens.{InRange, schedule-range}
 use Rattle.dm_world.proofs.Ranges.{all-first}
 use Rattle.dm_world.proofs.SaysMade.{each-contains, says_the_found}
 use Rattle.dm_world.proofs.Answered.{answers_the_executed, executes_the_sent}
-use Rattle.dm_world.proofs.Noted.{notes_the_sent}
 use Rattle.dm_world.proofs.GivenCodes.{IsOf, all-of, said-number, down-read}
 use Rattle.dm_world.proofs.InOrder.{all-fair}
-use Rattle.dm_world.proofs.ToldMade.{IsLonger, longer-stands, IsMore, NotesIt, run-snoc, made-snoc, downs-snoc}
+use Rattle.dm_world.proofs.ToldMade.{IsMore, run-snoc, made-snoc}
+use Rattle.dm_world.proofs.PlacedCodes.{IsMoreDone, done-snoc, at-later, done-at}
 use Rattle.dm_world.proofs.Position.{sent_by}
 use Rattle.dm_world.proofs.Flows.{Going, WasFoundAs, IsSilent, FoundNone}
 use Rattle.dm_world.proofs.Paired.{all-pairs}
@@ -234,36 +233,45 @@ start-keeps c job h = record {
 
 -- ---- each value
 
-now-found : (packages : List (List JobEntry)) (w : World) (place : ℕ) (value : Step) → NotesIt packages w
-    → CameNow w.made w.server place value
-    → IsFoundFor packages w place value
-now-found packages w place value notes h = record {
-  session = h.session.progress.number;
-  command = h.new.command;
-  place_is = h.new.place_is;
-  stands = notes h.session h.new.command h.is_open h.new.was_sent;
-  post = h.new.post;
-  found = h.new.found;
-  within = h.new.within;
-  msg_is = h.new.msg_is;
-  command_is = h.new.command_is;
-  value_is = h.new.value_is;
-}
+now-found : (c : Machine) (job : Job) (hs : List Happening) (place : ℕ) (value : Step) → IsWorldStart c job
+    → IsSchedule c hs
+    → CameNow (run (at_start c job) hs).made (run (at_start c job) hs).server place value
+    → IsFoundAt (run (at_start c job) hs) place value
+now-found c job hs place value start range h =
+    let w = run (at_start c job) hs in
+    let n = h.session.progress.number in
+    let y = h.new.command in
+    let post = h.new.post in
+    let status = all-pairs c job hs n post h.new.found h.new.within in
+    let done =
+    answers_the_executed c job hs n y.msg y.command status.0 start range
+    (record { post = post; within = status.1; msg_is = h.new.msg_is; command_is = h.new.command_is }) in
+    let at = done-at c job hs h.session y start range h.is_open h.new.was_sent done in
+    record {
+      k = at.k;
+      deed = at.deed;
+      executed = subst (λ p. IsExecutedAt w.executed at.k p at.deed) h.new.place_is at.at;
+      post = post;
+      found = h.new.found;
+      within =
+          subst (λ i. Contains w.made (record { session = i; what = Result post h.new.found })) (sym at.session)
+          h.new.within;
+      msg_is = h.new.msg_is ∙ sym at.msg_is;
+      command_is = h.new.command_is ∙ sym at.command_is;
+      value_is = h.new.value_is;
+    }
 
 more-contains : (made all : List (InSession Made)) (x : InSession Made) → IsMore made all → Contains made x
     → Contains all x
 more-contains made all x m h = subst (λ l. Contains l x) (sym m.1) (Contains-append_left made m.0 x h)
 
-later-value : (packages : List (List JobEntry)) (w x : World) (place : ℕ) (value : Step)
-    → IsMore w.made x.made
-    → IsLonger w.downs x.downs
-    → IsFoundFor packages w place value
-    → IsFoundFor packages x place value
-later-value packages w x place value more longer h = record {
-  session = h.session;
-  command = h.command;
-  place_is = h.place_is;
-  stands = longer-stands packages w.downs x.downs h.session h.command longer h.stands;
+later-value : (w x : World) (place : ℕ) (value : Step) → IsMore w.made x.made → IsMoreDone w.executed x.executed
+    → IsFoundAt w place value
+    → IsFoundAt x place value
+later-value w x place value more done h = record {
+  k = h.k;
+  deed = h.deed;
+  executed = at-later w.executed x.executed h.k place h.deed done h.executed;
   post = h.post;
   found = h.found;
   within = more-contains w.made x.made _ more h.within;
@@ -275,7 +283,7 @@ later-value packages w x place value more longer h = record {
 record Traced (c : Machine) (job : Job) (hs : List Happening) : Type 0 where
   keeps : KeepsWorld (run (at_start c job) hs)
   values : (place : ℕ) (value : Step) → Contains (found_at (run (at_start c job) hs).server.told place) value
-      → IsFoundFor job.packages (run (at_start c job) hs) place value
+      → IsFoundAt (run (at_start c job) hs) place value
 
 step-range : (c : Machine) (done : List Happening) (e : Happening) → IsSchedule c (done ++ e ∷ []) → InRange e
 step-range c done e range = of done (schedule-range c (done ++ e ∷ []) range)
@@ -296,8 +304,8 @@ step-traced c job done e start all h =
     record {
       keeps = subst KeepsWorld (sym same) kept.keeps;
       values = λ place value k.
-          later-value job.packages w (run (at_start c job) (done ++ e ∷ [])) place value
-          (made-snoc (at_start c job) done e) (downs-snoc (at_start c job) done e)
+          later-value w (run (at_start c job) (done ++ e ∷ [])) place value
+          (made-snoc (at_start c job) done e) (done-snoc (at_start c job) done e)
           (by place value
           (kept.values place value
           (subst (λ (x : World). Contains (found_at x.server.told place) value) same k)));
@@ -306,11 +314,10 @@ step-traced c job done e start all h =
     by : (place : ℕ) (value : Step)
         → Contains (found_at (run (at_start c job) done).server.told place) value
         ⊎ CameNow (run (at_start c job) done).made (run (at_start c job) done).server place value
-        → IsFoundFor job.packages (run (at_start c job) done) place value
+        → IsFoundAt (run (at_start c job) done) place value
     by place value (inl x) = h.values place value x
     by place value (inr x) =
-        now-found job.packages (run (at_start c job) done) place value
-        (λ s z. notes_the_sent c job done s z start (all-first (IsInRange c) done (e ∷ []) all)) x
+        now-found c job done place value start (all-first (IsInRange c) done (e ∷ []) all) x
 
 all-traced : (c : Machine) (job : Job) (done es : List Happening) → IsWorldStart c job → IsSchedule c (done ++ es)
     → Traced c job done
@@ -341,6 +348,6 @@ start-traced c job start = record {
     none : {A : Type 0} {x : A} → Contains [] x → ⊥
     none k = let low = k.1 in omega (arith, low)
 
-pub values_are_found_for : ValuesAreFoundFor
-values_are_found_for c job hs place value start range h =
+pub values_are_found_by_place : ValuesAreFoundByPlace
+values_are_found_by_place c job hs place value start range h =
     (all-traced c job [] hs start range (start-traced c job start)).values place value h

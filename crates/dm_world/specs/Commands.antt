@@ -115,7 +115,7 @@ abbrev pub outline : Act → Act
 outline (block name) = block name
 outline (does s more) = does (record s { value = [] }) false
 
--- none of it comes later
+-- none of a step comes later
 abbrev pub is_whole : Act → Bool
 is_whole (block name) = true
 is_whole (does s more) = not more
@@ -135,7 +135,7 @@ pub record IsJobAct (packages : List (List JobEntry)) (number : ℕ) (a : Act) :
   pub act_is : slice_get (outlines entry.command) at ≡ Some a
 
 -- A message of the server of this session and MsgID has the command of the job with this number, or one like it, under
--- this CmdID, whole or in part; where it is noted to count, none of it comes later.
+-- this CmdID, whole or in part; of a step that is noted to count none comes later. Of a container this says nothing.
 pub record StandsAs (packages : List (List JobEntry)) (downs : List Reply) (session : ℕ) (x : Sent) : Type 0 where
   pub at : ℕ
   pub reply : Reply

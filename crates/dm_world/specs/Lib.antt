@@ -8,3 +8,5 @@ pub mod Order
 pub mod Held
 pub mod Commands
 pub mod Report
+pub mod Places
+pub mod Leaving

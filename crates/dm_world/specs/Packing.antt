@@ -33,7 +33,7 @@ abbrev pub PacksAll : Type 0
 PacksAll = (part : Option Step) (es : List Entry) (h : Header) (room : ℕ) (heard : Bool) (later : List Act)
     → join part (sent_and_left (fill es h room heard) ++ later) ≡ join part (acts (commands_of es) ++ later)
 
--- of a message that is executed all that it asks for is executed, in order
+-- what counts as executed of a message that is executed are its acts, in order
 abbrev pub ExecutesAll : Type 0
 ExecutesAll = (c : Machine) (p : Progress) (m : Parts) (nonce : List ℕ) → is_executed p m (heard_by c p m nonce) ≡ true
     → deeds_acts (deeds_in c p m nonce) ≡ acts m.body

@@ -5,9 +5,11 @@
 ghost use Rattle.dm_world.specs.Lockstep.{TakesTurns, Understands};
 ghost use Rattle.dm_world.specs.Order.{RunsInOrder};
 ghost use Rattle.dm_world.specs.Held.{ReadsTheSent};
+ghost use Rattle.dm_world.specs.Leaving.{ExecutesAsSaid};
 ghost use Rattle.dm_world.specs.Start.{JobsAreInRange};
 ghost use Rattle.dm_world.specs.Commands.{AnswersTheExecuted, ExecutesTheSent, NotesTheSent, SaysTheFound, SaysTheMade};
-ghost use Rattle.dm_world.specs.Report.{CodesAreGiven, ReportsTheSaid, ValuesAreFoundFor};
+ghost use Rattle.dm_world.specs.Report.{ReportsTheSaid};
+ghost use Rattle.dm_world.specs.Places.{CodesAreGivenByPlace, PlacesAreTheJobs, ValuesAreFoundByPlace};
 ghost use Rattle.dm_world.specs.Packing.{ExecutesAll, PacksAll, PutsBack, QueuesReports, SendsOrKeeps};
 
 /// Law: the numbers of every job that is read are in the ranges of their types, so a schedule may begin with it.
@@ -33,15 +35,23 @@ pub fn reads_the_sent()
     ensures { ReadsTheSent }
 {}
 
-/// Law: a message and what it leaves of a queue are, the parts of a cut command joined, what waited there: nothing is
-/// lost, and nothing comes twice.
+/// Law: the containers and steps of a message that is filled from a queue, and those of what it leaves there, are, the
+/// parts of a cut command joined, those of what waited: none is lost, and none comes twice.
 pub fn packs_all()
     ensures { PacksAll }
 {}
 
-/// Law: of a message that the client executes all is executed that it asks for, in order.
+/// Law: what counts as executed of a message that the client executes are its containers and steps, in document order:
+/// what is listed deed by deed, with the numbers that its Status answers, is what the message's commands hold.
 pub fn executes_all()
     ensures { ExecutesAll }
+{}
+
+/// Law: what an accepted message leaves of the client's tree, of an unfinished object and of an open group is what is
+/// said to be executed of it, where its session goes on; where its session ends, the tree is that, or the one before an
+/// open group.
+pub fn executes_as_said()
+    ensures { ExecutesAsSaid }
 {}
 
 /// Law: the server's reply to a message that it accepts, and what it has still to send then, are, the parts of a cut
@@ -95,23 +105,30 @@ pub fn executes_the_sent()
 
 /// Law: on every schedule what the server notes in its present session as sent of the job stands so in its messages:
 /// under that MsgID and CmdID the command of that number, or one like it (a step but for its Data, a container but for
-/// its members), whole or in part.
+/// its members), whole or in part; of a step that is noted to count, the whole or the last part.
 pub fn notes_the_sent()
     ensures { NotesTheSent }
 {}
 
-/// Law: on every schedule each code that the server holds for a command of the job is one that the client gave to it:
-/// it executed that command, or one like it (a step but for its Data, a container but for its members), whole or its
-/// last part, and made a Status with this code for it.
-pub fn codes_are_given()
-    ensures { CodesAreGiven }
+/// Law: on every schedule what was executed for a place of the job is what the job has there, or a part of it: a
+/// container of the same name, or a step of the same verb, target, Format, Type and Correlator with bytes of its value.
+pub fn places_are_the_jobs()
+    ensures { PlacesAreTheJobs }
 {}
 
-/// Law: on every schedule each value that the server holds for a command of the job is one that the client found for
-/// that command, or one like it but for its Data, with its URI, its Format, its Type and all its bytes. Values are
-/// found for steps alone.
-pub fn values_are_found_for()
-    ensures { ValuesAreFoundFor }
+/// Law: on every schedule each code that the server holds at a place is that of a Status which the client made for the
+/// last of what it executed for this place of the job, in the session and under the MsgID and CmdID of that: nothing
+/// that is executed later is for this place. Of a step that was cut it is the last part. The place of what was executed
+/// is told by all that was executed before it.
+pub fn codes_are_given_by_place()
+    ensures { CodesAreGivenByPlace }
+{}
+
+/// Law: on every schedule each value that the server holds at a place is one that the client found for what it executed
+/// for this place of the job, in the session and under the MsgID and CmdID of that: with its URI, its Format, its Type
+/// and all its bytes.
+pub fn values_are_found_by_place()
+    ensures { ValuesAreFoundByPlace }
 {}
 
 /// Law: on every schedule each code that the server holds for its report is that of a Status in a message which the

@@ -357,7 +357,10 @@ pub enum Text {
 pub fn bytes_of(text: Text) -> &'static [u8] {
     match text {
         Text::Nothing => b"",
-        Text::Usage => b"usage: dmtool replay | pair | show | check | bench SEED NODES MESSAGES\n",
+        Text::Usage => {
+            b"usage: dmtool replay | device ADDRESS SERVER KIND SESSION PATH | serve ADDRESS COUNT | pair | show | \
+              check | bench SEED NODES MESSAGES | conform | make\n"
+        }
         Text::BadCut => b"bad 1 cut\n",
         Text::Workload => b"bench 5 ok 2 failed 3 tree 471189ee380a68b956a70ccff2afc07e\n",
         Text::OneGet => ONE_GET,

@@ -4,5 +4,5 @@ use Rattle.dm_cli.proofs.run.run_form.Goals as goal
 pub returns-in-Bench-clause-taken : goal.returns-in-Bench-clause-taken
 returns-in-Bench-clause-taken g c = untaken _ _ _
 
-pub returns-in-Bench-clause-source : goal.returns-in-Bench-clause-source
-returns-in-Bench-clause-source g c = c.run_bench.ensures.source _
+pub returns-in-Bench-clause-faults : goal.returns-in-Bench-clause-faults
+returns-in-Bench-clause-faults g c = c.run_bench.ensures.faults _

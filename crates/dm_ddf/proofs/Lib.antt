@@ -1,0 +1,6 @@
+mod Counts
+mod Makings
+mod Signs
+mod Telling
+mod Turns
+mod Walks

@@ -1,0 +1,10 @@
+pub mod Answered
+pub mod Breaches
+pub mod Conforming
+pub mod Fields
+pub mod Made
+pub mod Making
+pub mod Reading
+pub mod Refusals
+pub mod Rules
+pub mod Texts

@@ -1,0 +1,11 @@
+pub mod Posted
+pub mod Told
+pub mod Talking
+pub mod Beginning
+pub mod Joining
+pub mod Running
+pub mod Composing
+pub mod Bounds
+pub mod Putting
+pub mod Setups
+pub mod Devices

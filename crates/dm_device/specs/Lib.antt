@@ -1,0 +1,12 @@
+pub mod Exchanges
+pub mod Paths
+pub mod Outsides
+pub mod Sessions
+pub mod Holding
+pub mod Runs
+pub mod Ending
+pub mod Laws
+pub mod Inputs
+pub mod Reading
+pub mod Devices
+pub mod Managing

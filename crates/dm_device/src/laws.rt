@@ -1,0 +1,12 @@
+// What holds of every run, whatever the replies are.
+ghost use Rattle.dm_device.specs.Laws.{RunsAreBounded, SessionsAreBounded};
+
+/// A session makes at most 500,000 requests.
+pub fn sessions_are_bounded()
+    ensures { SessionsAreBounded }
+{}
+
+/// A run makes at most 1,000,001: those of two sessions, and one farewell.
+pub fn runs_are_bounded()
+    ensures { RunsAreBounded }
+{}

@@ -1,0 +1,17 @@
+//! `device`: a device's sessions with a server over HTTP, one connection an exchange.
+#![tactic(auto)]
+
+pub mod command;
+pub mod exchanging;
+mod input;
+pub mod laws;
+mod lines;
+mod paths;
+mod runs;
+mod sessions;
+pub mod tally;
+
+pub use command::device;
+pub use exchanging::{Heard, exchange};
+pub use laws::{runs_are_bounded, sessions_are_bounded};
+pub use tally::{Tally, Word};

@@ -1,0 +1,4 @@
+pub mod Visits
+pub mod Turns
+pub mod Serves
+pub mod Laws
