@@ -117,8 +117,8 @@ pub unreached : {D P U N : Type 0} (dials : D → ℕ) (doors : P → ℕ) (form
 unfolding Reaches
 unreached dials doors None reach = refl
 unreached dials doors (Some forms.Replay) reach = refl
-unreached dials doors (Some (forms.Device w)) reach = (refl, (omega arith, λ early. absurd early))
-unreached dials doors (Some (forms.Serve w)) reach = (refl, (refl, (refl, λ _. refl)))
+unreached dials doors (Some (forms.Device w)) reach = (refl, omega arith, λ early. absurd early)
+unreached dials doors (Some (forms.Serve w)) reach = (refl, refl, refl, λ _. refl)
 unreached dials doors (Some forms.Pair) reach = refl
 unreached dials doors (Some forms.Show) reach = refl
 unreached dials doors (Some forms.Check) reach = refl

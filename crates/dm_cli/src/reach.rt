@@ -1,10 +1,8 @@
 // What is outside a run besides its input and its output.
-use dm_outside::{Dialer, Door, Nonces, Updater};
-
-/// What a run may reach: what makes connections, what connections come to, what installs packages, and what gives
-/// nonces.
+/// What a run may reach: a `Dialer`, which makes connections, a `Door`, to which connections come, an `Updater`, which
+/// installs packages, and `Nonces`.
 #[derive(Drop)]
-pub struct Reach<D: Dialer + Drop, P: Door + Drop, U: Updater + Drop, N: Nonces + Drop> {
+pub struct Reach<D: Drop, P: Drop, U: Drop, N: Drop> {
     pub dialer: D,
     pub door: P,
     pub updater: U,

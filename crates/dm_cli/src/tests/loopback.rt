@@ -20,6 +20,11 @@ fn address_of(alloc: Global, place: SocketAddr) -> Result<String, AllocError> {
     format!(in alloc; "{place}")
 }
 
+// The first bytes, or none where there are fewer.
+fn front(bytes: &[u8], count: usize) -> &[u8] {
+    bytes.get(..count).unwrap_or_default()
+}
+
 #[test]
 fn bytes_go_both_ways(rt: HostRuntime) -> Result<(), Fail> {
     let mut door = TcpDoor::new(&rt, long());
@@ -31,10 +36,10 @@ fn bytes_go_both_ways(rt: HostRuntime) -> Result<(), Fail> {
     let mut buf = [0u8; 16];
     assert_eq!(rt; put_all(&mut near, b"question"), Ok(()));
     assert_eq!(rt; far.take(&mut buf), Ok(8));
-    assert_eq!(rt; &buf[..8], b"question".as_slice());
+    assert_eq!(rt; front(&buf, 8), b"question".as_slice());
     assert_eq!(rt; put_all(&mut far, b"answer"), Ok(()));
     assert_eq!(rt; near.take(&mut buf), Ok(6));
-    assert_eq!(rt; &buf[..6], b"answer".as_slice());
+    assert_eq!(rt; front(&buf, 6), b"answer".as_slice());
     dialer.close(near);
     assert_eq!(rt; far.take(&mut buf), Ok(0));
     door.close(far);
@@ -99,7 +104,7 @@ fn a_reply_outlives_what_is_unread(rt: HostRuntime) -> Result<(), Fail> {
     door.close(far);
     let mut buf = [0u8; 16];
     assert_eq!(rt; near.take(&mut buf), Ok(6));
-    assert_eq!(rt; &buf[..6], b"answer".as_slice());
+    assert_eq!(rt; front(&buf, 6), b"answer".as_slice());
     dialer.close(near);
     Ok(())
 }
