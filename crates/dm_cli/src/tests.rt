@@ -1,4 +1,4 @@
-ghost use Rattle.std.specs.Prelude.{◌<◌};
+ghost use Rattle.std.specs.Prelude.{◌≡◌, ◌<◌, []};
 ghost use Rattle.dm_outside.specs.Streams.{AreUntouched};
 
 // One table of runs over sources and sinks in memory.
@@ -291,6 +291,8 @@ pub fn reach_of(
     conns: List<Option<MemStream>>,
 ) -> Reach<MemDialer, MemDoor, MemUpdater, MemNonces>
     requires { AreUntouched conns }
+    ensures idle { result.dialer.calls.out ≡ [] }
+    ensures empty { result.door.doorway.out ≡ [] }
 {
     Reach {
         dialer: MemDialer::new(alloc, List::new(alloc)),

@@ -102,9 +102,10 @@ fn a_reply_without_a_message_blames_the_peer(rt: HostRuntime) -> Result<()> {
         List::new(alloc),
     );
     let mut conns = List::new(alloc);
-    for _ in 0..4 {
-        conns.push(None)?;
-    }
+    conns.push(None)?;
+    conns.push(None)?;
+    conns.push(None)?;
+    conns.push(None)?;
     conns.push(Some(reply))?;
     let (exit, sink) = managed(alloc, "s1", conns)?;
     assert_eq!(rt; exit, Exit::Peer);
