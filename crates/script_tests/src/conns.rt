@@ -1,27 +1,35 @@
 // A connection that a script tells. It tells nothing to proofs.
-ghost use Rattle.std.specs.Prelude.{◌≡◌, ◌<◌, None, refl, length};
+ghost use Rattle.std.specs.Prelude.{◌≡◌, ◌<◌, ◌+◌, None, refl, length};
+ghost use Rattle.std.specs.Prelude.{nat_lt};
 ghost use Rattle.dm_base.specs.Outside.{TakeCounts, PutCounts, PutsSome, TakesSome};
 
 use dm_base::{Bytes, Failed, Fault, Sink, Source, Stream};
 use std::alloc::Global;
 
+/// What a connection gives, and whether a read fails behind it.
+#[derive(Drop)]
+pub struct Reply {
+    pub bytes: Bytes,
+    pub is_cut: bool,
+}
+
 /// Gives its bytes and then ends, or fails there.
 #[derive(Drop)]
 pub struct ScriptConn {
-    reply: Bytes,
+    reply: Reply,
     at: usize,
-    is_cut: bool,
     got: Bytes,
     takes: u64,
     puts: u64,
 }
 
 impl ScriptConn {
-    pub fn new(alloc: Global, reply: Bytes, is_cut: bool) -> ScriptConn {
+    pub fn new(alloc: Global, reply: Reply) -> ScriptConn
+        ensures { (result.takes ≡ 0) × (result.puts ≡ 0) }
+    {
         ScriptConn {
             reply,
             at: 0,
-            is_cut,
             got: Bytes::new(alloc),
             takes: 0,
             puts: 0,
@@ -29,7 +37,9 @@ impl ScriptConn {
     }
 
     /// Whether a take or a put has failed.
-    pub fn has_failed(&self) -> bool {
+    pub fn has_failed(&self) -> bool
+        ensures { result ≡ nat_lt 0 (self.now.takes + self.now.puts) }
+    {
         self.takes > 0 || self.puts > 0
     }
 
@@ -47,8 +57,13 @@ impl Source for ScriptConn {
     ghost as_sink = { λ s. (None, s.puts) };
 
     fn take(&mut self, buf: &mut [u8]) -> Result<usize, Failed> {
-        let rest = self.reply.as_slice().get(self.at..).unwrap_or_default();
-        if rest.is_empty() && self.is_cut {
+        let rest = self
+            .reply
+            .bytes
+            .as_slice()
+            .get(self.at..)
+            .unwrap_or_default();
+        if rest.is_empty() && self.reply.is_cut {
             self.takes = self.takes.saturating_add(1);
             return Err(Failed);
         }

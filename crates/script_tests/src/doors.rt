@@ -1,41 +1,59 @@
 // What hands out the connections of a script. It tells nothing to proofs.
-ghost use Rattle.std.specs.Prelude.{None};
+ghost use Rattle.std.specs.Prelude.{◌≡◌, None, IfOk};
+ghost use Rattle.dm_base.specs.Outside.{PutCounts};
 
-use crate::conns::ScriptConn;
+use crate::conns::{Reply, ScriptConn};
 use dm_base::{Bytes, Fault, List, Memory};
 use dm_outside::{Dialer, Door};
 use std::alloc::Global;
 use std::collections::VecDeque;
 
-// The connections to come, and what those that are over got; none for a call that failed.
+// What the connections to come give, and what those that are over got; none for a call that failed.
 #[derive(Drop)]
 struct Desk {
-    conns: VecDeque<Option<ScriptConn>>,
+    alloc: Global,
+    replies: VecDeque<Option<Reply>>,
     got: List<Option<Bytes>>,
+    // Whether memory was lacking for what a connection got.
+    is_short: bool,
     faults: u64,
 }
 
 impl Desk {
-    fn new(alloc: Global, conns: List<Option<ScriptConn>>) -> Desk {
+    fn new(alloc: Global, replies: List<Option<Reply>>) -> Desk {
         Desk {
-            conns: VecDeque::from_vec(conns.into_vec()),
+            alloc,
+            replies: VecDeque::from_vec(replies.into_vec()),
             got: List::new(alloc),
+            is_short: false,
             faults: 0,
         }
     }
 
-    fn hand_out(&mut self) -> Result<ScriptConn, Fault> {
-        if let Some(Some(conn)) = self.conns.pop_front() {
-            return Ok(conn);
+    fn hand_out(&mut self) -> Result<ScriptConn, Fault>
+        ensures fresh { IfOk result (λ c. (c.takes ≡ 0) × (c.puts ≡ 0)) }
+        ensures count { PutCounts self.old.faults self.new.faults result }
+    {
+        if let Some(Some(reply)) = self.replies.pop_front() {
+            return Ok(ScriptConn::new(self.alloc, reply));
         }
         self.faults = self.faults.saturating_add(1);
         Err(Fault::Failed)
     }
 
-    fn note(&mut self, got: Option<Bytes>) {
+    fn note(&mut self, got: Option<Bytes>)
+        ensures { self.new.faults ≡ self.old.faults }
+    {
         if self.got.push(got).is_err() {
-            self.faults = self.faults.saturating_add(1);
+            self.is_short = true;
         }
+    }
+
+    fn into_got(self) -> Result<List<Option<Bytes>>, Memory> {
+        if self.is_short {
+            return Err(Memory);
+        }
+        Ok(self.got)
     }
 }
 
@@ -46,15 +64,15 @@ pub struct ScriptDialer {
 }
 
 impl ScriptDialer {
-    pub fn new(alloc: Global, conns: List<Option<ScriptConn>>) -> ScriptDialer {
+    pub fn new(alloc: Global, replies: List<Option<Reply>>) -> ScriptDialer {
         ScriptDialer {
-            desk: Desk::new(alloc, conns),
+            desk: Desk::new(alloc, replies),
         }
     }
 
     /// What the connections got, in order; none for a dial that failed.
-    pub fn into_got(self) -> List<Option<Bytes>> {
-        self.desk.got
+    pub fn into_got(self) -> Result<List<Option<Bytes>>, Memory> {
+        self.desk.into_got()
     }
 }
 
@@ -88,15 +106,15 @@ pub struct ScriptDoor {
 }
 
 impl ScriptDoor {
-    pub fn new(alloc: Global, conns: List<Option<ScriptConn>>) -> ScriptDoor {
+    pub fn new(alloc: Global, replies: List<Option<Reply>>) -> ScriptDoor {
         ScriptDoor {
-            desk: Desk::new(alloc, conns),
+            desk: Desk::new(alloc, replies),
         }
     }
 
     /// What the connections got, in order.
-    pub fn into_got(self) -> List<Option<Bytes>> {
-        self.desk.got
+    pub fn into_got(self) -> Result<List<Option<Bytes>>, Memory> {
+        self.desk.into_got()
     }
 }
 

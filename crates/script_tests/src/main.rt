@@ -11,6 +11,8 @@
 //! `got HEX` for each connection, and for each dial that failed `got -`, then `status NUMBER`.
 #![tactic(auto)]
 
+ghost use Rattle.std.specs.Prelude.{◌<◌};
+
 mod conns;
 mod doors;
 mod outcome;
@@ -31,10 +33,12 @@ use std::io::{Read, Write};
 
 const PIECE: usize = 65_536;
 
-fn run_device(alloc: Global, words: &DeviceWords, script: Script) -> Outcome {
+fn run_device(alloc: Global, words: &DeviceWords, script: Script) -> Result<Outcome, Memory>
+    requires { (0 < words.now.session) × (words.now.session < 4294967295) }
+{
     let mut source = MemSource::new(script.input, PIECE, List::new(alloc));
     let mut sink = MemSink::new(alloc, List::new(alloc));
-    let mut dialer = ScriptDialer::new(alloc, script.conns);
+    let mut dialer = ScriptDialer::new(alloc, script.replies);
     let mut updater = MemUpdater::new(alloc, script.updates);
     let mut nonces = MemNonces::new(script.nonces);
     let exit = device(
@@ -46,31 +50,31 @@ fn run_device(alloc: Global, words: &DeviceWords, script: Script) -> Outcome {
         &mut updater,
         &mut nonces,
     );
-    Outcome {
+    Ok(Outcome {
         sink,
-        got: dialer.into_got(),
+        got: dialer.into_got()?,
         exit,
-    }
+    })
 }
 
-fn run_serve(alloc: Global, words: &ServeWords, script: Script) -> Outcome {
+fn run_serve(alloc: Global, words: &ServeWords, script: Script) -> Result<Outcome, Memory> {
     let mut source = MemSource::new(script.input, PIECE, List::new(alloc));
     let mut sink = MemSink::new(alloc, List::new(alloc));
-    let mut door = ScriptDoor::new(alloc, script.conns);
+    let mut door = ScriptDoor::new(alloc, script.replies);
     let mut nonces = MemNonces::new(script.nonces);
     let exit = serve(alloc, words, &mut source, &mut sink, &mut door, &mut nonces);
-    Outcome {
+    Ok(Outcome {
         sink,
-        got: door.into_got(),
+        got: door.into_got()?,
         exit,
-    }
+    })
 }
 
 // Does what the words of a script ask for. Words of other forms are of none here.
 fn run_script(alloc: Global, script: Script) -> Result<Bytes, Memory> {
     let outcome = match read_form(alloc, script.words.as_slice())? {
-        Some(Form::Device(words)) => run_device(alloc, &words, script),
-        Some(Form::Serve(words)) => run_serve(alloc, &words, script),
+        Some(Form::Device(words)) => run_device(alloc, &words, script)?,
+        Some(Form::Serve(words)) => run_serve(alloc, &words, script)?,
         _ => Outcome {
             sink: MemSink::new(alloc, List::new(alloc)),
             got: List::new(alloc),

@@ -1,6 +1,6 @@
 // A script: the words of dmtool, what it reads, and what the outside gives it.
 
-use crate::conns::ScriptConn;
+use crate::conns::Reply;
 use dm_base::{Bytes, List, Memory, Nonce, hex_bytes, nonce};
 use dm_fields::{begins_with, two_fields};
 use std::alloc::Global;
@@ -10,7 +10,7 @@ use std::alloc::Global;
 pub struct Script {
     pub words: Vec<String>,
     pub input: Bytes,
-    pub conns: List<Option<ScriptConn>>,
+    pub replies: List<Option<Reply>>,
     pub nonces: List<Nonce>,
     pub updates: List<Option<bool>>,
 }
@@ -20,7 +20,7 @@ impl Script {
         Script {
             words: Vec::new(alloc),
             input: Bytes::new(alloc),
-            conns: List::new(alloc),
+            replies: List::new(alloc),
             nonces: List::new(alloc),
             updates: List::new(alloc),
         }
@@ -52,13 +52,15 @@ fn read_bytes(
     if word == b"input".as_slice() {
         script.input = bytes;
     } else if word == b"reply".as_slice() || word == b"conn".as_slice() {
-        script
-            .conns
-            .push(Some(ScriptConn::new(alloc, bytes, false)))?;
+        script.replies.push(Some(Reply {
+            bytes,
+            is_cut: false,
+        }))?;
     } else if word == b"cut".as_slice() {
-        script
-            .conns
-            .push(Some(ScriptConn::new(alloc, bytes, true)))?;
+        script.replies.push(Some(Reply {
+            bytes,
+            is_cut: true,
+        }))?;
     } else if word == b"nonce".as_slice() {
         let Some(given) = nonce(digits) else {
             return Ok(false);
@@ -89,7 +91,7 @@ fn read_line(script: &mut Script, alloc: Global, line: &[u8]) -> Result<bool, Me
         return Ok(true);
     }
     if line == b"fault".as_slice() {
-        script.conns.push(None)?;
+        script.replies.push(None)?;
         return Ok(true);
     }
     if begins_with(b"words", line) {
