@@ -59,11 +59,31 @@ fn images(alloc: Global) -> Result<bool, Memory> {
         return Ok(false);
     }
     let right = [
-        reads(alloc, disk.image(alloc, 1, 0, 9)?.as_slice(), b"\x09\x09\0\0\0\0\0\0")?,
-        reads(alloc, disk.image(alloc, 2, 0, 9)?.as_slice(), b"ab\0\0\0\0\0\0")?,
-        reads(alloc, disk.image(alloc, 4, 0, 9)?.as_slice(), b"a\x09\x09\0\0\0\0\0")?,
-        reads(alloc, disk.image(alloc, 4, 1, 9)?.as_slice(), b"acd\0\0\0\x09\0")?,
-        reads(alloc, disk.image(alloc, 4, 2, 9)?.as_slice(), b"acd\0\0\0e\0")?,
+        reads(
+            alloc,
+            disk.image(alloc, 1, 0, 9)?.as_slice(),
+            b"\x09\x09\0\0\0\0\0\0",
+        )?,
+        reads(
+            alloc,
+            disk.image(alloc, 2, 0, 9)?.as_slice(),
+            b"ab\0\0\0\0\0\0",
+        )?,
+        reads(
+            alloc,
+            disk.image(alloc, 4, 0, 9)?.as_slice(),
+            b"a\x09\x09\0\0\0\0\0",
+        )?,
+        reads(
+            alloc,
+            disk.image(alloc, 4, 1, 9)?.as_slice(),
+            b"acd\0\0\0\x09\0",
+        )?,
+        reads(
+            alloc,
+            disk.image(alloc, 4, 2, 9)?.as_slice(),
+            b"acd\0\0\0e\0",
+        )?,
     ];
     Ok(right == [true; 5])
 }

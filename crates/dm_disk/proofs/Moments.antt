@@ -1,5 +1,5 @@
 -- How a run of calls goes on.
-use Rattle.std.proofs.Common.{◌≡◌, inl, inr, ⊎_elim, ℕ, List, arith}
+use Rattle.std.proofs.Common.{inl, inr, ⊎_elim, ℕ, List, arith}
 use Rattle.dm_disk.specs.Disk.{DiskState, Elapses, LeavesOnly}
 
 pub leaves-none : (d : DiskState) (P : List ℕ → Type 0) → LeavesOnly d d P

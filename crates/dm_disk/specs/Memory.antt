@@ -17,12 +17,12 @@ pub record Snapshot : Type 0 where
   pub pending : List (ℕ × ℕ)
 
 -- no write is pending
-abbrev pub settled : List ℕ → Snapshot
-settled bytes = record { now = bytes; synced = bytes; pending = [] }
+abbrev pub at_rest : List ℕ → Snapshot
+at_rest bytes = record { now = bytes; synced = bytes; pending = [] }
 
 abbrev pub after_call : Snapshot → Call → Snapshot
 after_call s (Write at bytes) = record s { now = patched at bytes s.now; pending = (at, length bytes) ∷ s.pending }
-after_call s Sync = settled s.now
+after_call s Sync = at_rest s.now
 
 abbrev pub after_calls : Snapshot → List Call → Snapshot
 after_calls s [] = s
@@ -64,19 +64,19 @@ abbrev pub disk_of : List ℕ → List ℕ → MemState
 disk_of bytes fails = record { first = bytes; bytes = bytes; done = []; fails = fails; calls = 0; faults = 0 }
 
 -- a call that fails is one call and one fault more, and leaves what a read gives
-abbrev pub failed : MemState → MemState
-failed m = record m { calls = after m.calls; faults = after m.faults }
+abbrev pub after_fault : MemState → MemState
+after_fault m = record m { calls = after m.calls; faults = after m.faults }
 
 -- a read is one call more
 abbrev pub MemReads : MemState → MemState → Result (Unit {0}) Failed → Type 0
 MemReads old new (Ok u) = new ≡ record old { calls = after old.calls }
-MemReads old new (Err e) = new ≡ failed old
+MemReads old new (Err e) = new ≡ after_fault old
 
 -- a write or a sync is one call more, and is noted where it succeeds; for want of memory it is no call at all
 abbrev pub MemDoes : Call → List ℕ → MemState → MemState → Result (Unit {0}) Fault → Type 0
 MemDoes call bytes old new (Ok u) =
     new ≡ record old { bytes = bytes; done = old.done ++ call ∷ []; calls = after old.calls }
-MemDoes call bytes old new (Err fault.Failed) = new ≡ failed old
+MemDoes call bytes old new (Err fault.Failed) = new ≡ after_fault old
 MemDoes call bytes old new (Err fault.Memory) = new ≡ old
 
 abbrev pub disk_state : MemState → DiskState
@@ -84,9 +84,9 @@ disk_state m = record {
   size = length m.bytes;
   seen = Some m.bytes;
   tells = true;
-  may_leave = IsImage (after_calls (settled m.first) m.done);
+  may_leave = IsImage (after_calls (at_rest m.first) m.done);
   moment = length m.done;
-  left_since = IsLeftSince (settled m.first) m.done;
+  left_since = IsLeftSince (at_rest m.first) m.done;
   faults = m.faults;
 }
 
@@ -104,6 +104,6 @@ now_alone s (call ∷ calls) c h = now_alone (after_call s call) calls c h
 pub mem_disk : (m : MemState) → IsDisk (disk_state m)
 mem_disk m = record {
   long = refl;
-  counts_now = λ t c le h. now_counts (settled m.first) m.done t c h;
-  only_now = λ c h. now_alone (settled m.first) m.done c h;
+  counts_now = λ t c le h. now_counts (at_rest m.first) m.done t c h;
+  only_now = λ c h. now_alone (at_rest m.first) m.done c h;
 }

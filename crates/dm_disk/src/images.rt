@@ -1,7 +1,7 @@
 // What crashes may leave of a disk in memory.
 ghost use Rattle.std.specs.Prelude.{◌≡◌, ◌≤◌, ◌+◌, ◌∷◌, [], length, OnOk, IfOk, take};
 ghost use Rattle.dm_disk.specs.Disk.{IsTorn, patched};
-ghost use Rattle.dm_disk.specs.Memory.{settled, after_calls, after_call, IsImage, AreWithin, Snapshot};
+ghost use Rattle.dm_disk.specs.Memory.{at_rest, after_calls, after_call, IsImage, AreWithin, Snapshot};
 
 use crate::memory::{Call, MemDisk, overwrite};
 use dm_base::{Bytes, Memory};
@@ -55,7 +55,15 @@ fn apply(
             let at = *at as usize;
             let bytes = bytes.as_slice();
             overwrite(now, at, bytes);
-            tear(alloc, image, at, bytes, pending < whole, pending == whole, fill)?;
+            tear(
+                alloc,
+                image,
+                at,
+                bytes,
+                pending < whole,
+                pending == whole,
+                fill,
+            )?;
             Ok(pending.saturating_add(1))
         }
         Call::Sync => {
@@ -69,15 +77,9 @@ impl MemDisk {
     /// What a crash may have left once the first `done` of its writes and syncs had succeeded: of the writes that were
     /// pending then the first `whole` are there, the range of the next one is full of `fill`, and the others aren't
     /// there. So many writes and syncs succeeded.
-    pub fn image(
-        &self,
-        alloc: Global,
-        done: usize,
-        whole: usize,
-        fill: u8,
-    ) -> Result<Bytes, Memory>
+    pub fn image(&self, alloc: Global, done: usize, whole: usize, fill: u8) -> Result<Bytes, Memory>
         requires { done ≤ length self.now.done }
-        ensures image { IfOk result (λ v. IsImage (after_calls (settled self.now.first) (take done self.now.done)) v) }
+        ensures image { IfOk result (λ v. IsImage (after_calls (at_rest self.now.first) (take done self.now.done)) v) }
     {
         let mut now = self.first.to_vec(alloc)?;
         let mut image = self.first.to_vec(alloc)?;

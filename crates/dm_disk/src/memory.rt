@@ -33,7 +33,7 @@ pub struct MemDisk {
 
 impl Model for MemDisk {
     ghost use Rattle.std.specs.Prelude.{◌≡◌, length};
-    ghost use Rattle.dm_disk.specs.Memory.{MemState, settled, after_calls, AreWithin};
+    ghost use Rattle.dm_disk.specs.Memory.{MemState, at_rest, after_calls, AreWithin};
 
     ghost Value = { MemState };
 
@@ -46,7 +46,7 @@ impl Model for MemDisk {
       faults = m.faults;
     } };
 
-    ghost invariant = { λ m. (m.bytes.items ≡ (after_calls (settled m.first.items) m.done).now)
+    ghost invariant = { λ m. (m.bytes.items ≡ (after_calls (at_rest m.first.items) m.done).now)
         × (length m.bytes.items ≡ length m.first.items) × AreWithin (length m.first.items) m.done };
 }
 
@@ -150,7 +150,8 @@ impl Disk for MemDisk {
         requires { at + length bytes.now ≤ (disk_state self.old).size }
         ensures told { DiskWrites at bytes.now (disk_state self.old) (disk_state self.new) result }
         ensures fails { IsErrOf result Fault.Failed ↔ Contains self.old.fails (after self.old.calls) }
-        ensures state { MemDoes (call.Write at bytes.now) (patched at bytes.now self.old.bytes) self.old self.new result }
+        ensures state { MemDoes (call.Write at bytes.now) (patched at bytes.now self.old.bytes)
+            self.old self.new result }
     {
         if self.fails_now() {
             self.calls = self.calls.saturating_add(1);

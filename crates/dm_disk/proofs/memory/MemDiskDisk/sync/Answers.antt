@@ -1,6 +1,6 @@
 use Rattle.std.proofs.Common.{rules, ◌≡◌, ◌∙◌, ◌++◌, ◌∷◌, [], ap, subst, length}
 use Rattle.dm_disk.specs.declared.memory.Call.TheVariants.{Sync}
-use Rattle.dm_disk.specs.Memory.{MemState, settled, after_calls, AreWithin}
+use Rattle.dm_disk.specs.Memory.{MemState, at_rest, after_calls, AreWithin}
 use Rattle.dm_disk.proofs.Recorded.{sync_done, synced_inside}
 use Rattle.dm_disk.proofs.memory.MemDiskDisk.sync.Goals as goal
 
@@ -25,5 +25,5 @@ returns-clause-told c =
     (ap (λ (m : MemState). m.bytes) c.self.view_is)
     (more ∙ ap (λ (m : MemState). m.done ++ Sync ∷ []) c.self.view_is)
     (ap (λ (m : MemState). m.faults) c.self.view_is)
-    (subst (λ (m : MemState). m.bytes ≡ (after_calls (settled m.first) m.done).now) c.self.view_is c.self.invariant.0)
+    (subst (λ (m : MemState). m.bytes ≡ (after_calls (at_rest m.first) m.done).now) c.self.view_is c.self.invariant.0)
     (subst (λ (m : MemState). AreWithin (length m.first) m.done) c.self.view_is c.self.invariant.2)
