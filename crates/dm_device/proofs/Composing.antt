@@ -60,7 +60,9 @@ nothing_asked address requests s t same = record {
   dials = [];
   more = [];
   made = ap (λ (k : Calls). k.log) same ∙ sym (append-nil s.log);
-  few = omega arith;
+  path = [];
+  message = [];
+  cut = tt;
   posted = 0;
   matched = tt;
 }

@@ -49,7 +49,9 @@ part_of_both address rs qs hs s t p =
       dials = p.dials;
       more = p.more;
       made = p.made;
-      few = p.few;
+      path = p.path;
+      message = p.message;
+      cut = p.cut;
       posted = n.0;
       matched = subst (Matches address p.dials hs) n.1 p.matched;
     }
@@ -61,7 +63,9 @@ posted_then_part address rs qs hs gs s t u p q = record {
   more = q.more;
   made = q.made ∙ ap (λ l. l ++ (q.dials ++ q.more)) p.made ∙ append_assoc s.log p.dials (q.dials ++ q.more)
       ∙ ap (λ l. s.log ++ l) (sym (append_assoc p.dials q.dials q.more));
-  few = q.few;
+  path = q.path;
+  message = q.message;
+  cut = q.cut;
   posted = length rs + q.posted;
   matched = subst (Matches address (p.dials ++ q.dials) (hs ++ gs)) (sym (take-append-add rs qs q.posted))
       (matches_both address p.dials q.dials hs gs rs (take q.posted qs) p.matched q.matched);
@@ -74,7 +78,9 @@ all_in_part address rs hs s t p = record {
   dials = p.dials;
   more = [];
   made = p.made ∙ ap (λ l. s.log ++ l) (sym (append-nil p.dials));
-  few = omega arith;
+  path = [];
+  message = [];
+  cut = tt;
   posted = length rs;
   matched = subst (Matches address p.dials hs) (sym (take_all (length rs) rs (omega arith))) p.matched;
 }

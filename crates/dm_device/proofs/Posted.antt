@@ -2,7 +2,7 @@
 use Rattle.std.proofs.Common.{◌≡◌, ◌<◌, ◌+◌, ◌++◌, ◌⊎◌, ℕ, suc, zero, List, [], ◌∷◌, inl, inr, refl, sym, ap, subst}
 use Rattle.std.proofs.Common.{◌∙◌}
 use Rattle.std.proofs.Common.{arith, length, take, drop, Ok, Err, Some, None, append-nil, length-append}
-use Rattle.std.specs.Prelude.{IfOk, Option, Result}
+use Rattle.std.specs.Prelude.{Option, Result}
 use Rattle.std.specs.Io.KnownBytes.{Appends, IsAtEnd}
 use Rattle.dm_base.specs.Outside.{Rose}
 use Rattle.dm_base.specs.declared.outside.Fault.TheVariants as fault
@@ -18,7 +18,8 @@ use Rattle.dm_outside.specs.Calls.{Closed, Dial, failed, talked, Calls, Dials, D
 use Rattle.dm_outside.specs.Calls.{given_back, HasOut, CloseCounts, IsIdle}
 use Rattle.dm_device.specs.declared.exchanging.Heard.{Heard}
 use Rattle.dm_device.specs.declared.exchanging.Heard.TheVariants as heard
-use Rattle.dm_device.specs.Exchanges.{heard_of, IsExchange, ExchangeDoes, Exchanges, ExchangeCounts}
+use Rattle.dm_device.specs.Exchanges.{heard_of, IsExchange, IsCutDial, ExchangeDoes, Exchanges}
+use Rattle.dm_device.specs.Exchanges.{ExchangeCounts}
 
 -- ---- the dial and the close
 
@@ -44,19 +45,24 @@ round s t u address held c idle dialled closed =
     closed ∙ ap (λ w. given_back w w.out c) dialled
     ∙ ap (λ o. given_back (handed_out s address held) (o ++ (record { address = address; held = held }) ∷ []) c) idle
 
+-- what a dial brought, or what was done of it for want of memory
+abbrev Brought : List ℕ → List ℕ → Dial → Result Heard Memory → Type 0
+Brought address request d (Ok h) = IsExchange address d h request
+Brought address request d (Err e) = IsCutDial address request (d ∷ [])
+
 -- by what was heard: one dial was made, and this is it
 does : (s u : Calls) (address request : List ℕ) (d : Dial) (r : Result Heard Memory) → u.out ≡ []
-    → u.log ≡ s.log ++ d ∷ [] → IfOk r (λ h. IsExchange address d h request) → ExchangeDoes address request r s u
+    → u.log ≡ s.log ++ d ∷ [] → Brought address request d r → ExchangeDoes address request r s u
 does s u address request d (Ok h) out log is = (out, d, log, is)
-does s u address request d (Err e) out log is = (out, (d ∷ [], log, omega arith))
+does s u address request d (Err e) out log is = (out, (d ∷ [], log, is))
 
 pub exchanged : {C : Type 0} (left got : C → Option (List ℕ)) (takes puts : C → ℕ) (c0 c1 : C)
     (told0 told1 told2 : Option Calls) (address request : List ℕ) (r : Result Heard Memory)
     → IsIdle told0 → Dials told0 told1 address left got (Ok c0)
     → DialerCloses told1 told2 (closed_conn left got takes puts c1)
     → ((held : List ℕ) → left c0 ≡ Some held → got c0 ≡ Some []
-    → IfOk r (λ h. IsExchange address
-    (talked (record { address = address; held = held }) (closed_conn left got takes puts c1)) h request))
+    → Brought address request (talked (record { address = address; held = held }) (closed_conn left got takes puts c1))
+    r)
     → Exchanges told0 told2 address request r
 unfolding Exchanges
 exchanged left got takes puts c0 c1 None None None address request r idle d k f = tt
@@ -88,7 +94,7 @@ not_asked left got None None address request idle d = tt
 not_asked left got None (Some t) address request idle d = absurd d
 not_asked left got (Some s) None address request idle d = absurd d
 not_asked left got (Some s) (Some t) address request idle d =
-    (ap (λ (w : Calls). w.out) d ∙ idle, ([], ap (λ (w : Calls). w.log) d ∙ sym (append-nil s.log), omega arith))
+    (ap (λ (w : Calls). w.out) d ∙ idle, ([], ap (λ (w : Calls). w.log) d ∙ sym (append-nil s.log), tt))
 
 -- ---- the post
 
@@ -142,9 +148,9 @@ pub came : (left0 left1 got0 got1 : Option (List ℕ)) (takes0 takes1 puts0 puts
     (r : Result (List ℕ) HttpError)
     → (takes0 ≡ 0) × (puts0 ≡ 0) → left0 ≡ Some held → got0 ≡ Some []
     → PutsRequest got0 got1 request r → TakesReply left0 left1 r → StreamCounts takes0 takes1 puts0 puts1 r
-    → IfOk (heard_of r) (λ h. IsExchange address
+    → Brought address request
     (talked (record { address = address; held = held }) (record { faults = takes1 + puts1; got = got1; left = left1 }))
-    h request)
+    (heard_of r)
 unfolding PutsRequest TakesReply ReceivesBody StreamCounts
 came l0 l1 g0 g1 t0 t1 p0 p1 address request held (Ok body) fresh holds new put taken count = (
   refl,
@@ -156,7 +162,10 @@ came l0 l1 g0 g1 t0 t1 p0 p1 address request held (Err error.Failed) fresh holds
   failed_some t0 t1 p0 p1 fresh.0 fresh.1 count,
   (put.0, got_is g0 g1 (take put.0 request) new put.1),
 )
-came l0 l1 g0 g1 t0 t1 p0 p1 address request held (Err error.Memory) fresh holds new put taken count = tt
+came l0 l1 g0 g1 t0 t1 p0 p1 address request held (Err error.Memory) fresh holds new put taken count = (
+  refl,
+  (put.0, got_is g0 g1 (take put.0 request) new put.1),
+)
 came l0 l1 g0 g1 t0 t1 p0 p1 address request held (Err error.BadHead) fresh holds new put taken count = (
   refl,
   (none_failed t0 t1 p0 p1 fresh count, got_is g0 g1 request new put),

@@ -20,6 +20,7 @@ use Rattle.dm_exit.specs.Puts.{PutsPrefix, PutsPart}
 use Rattle.dm_device.specs.declared.exchanging.Heard.{Heard}
 use Rattle.dm_device.specs.declared.tally.Word.{Word}
 use Rattle.dm_device.specs.declared.tally.Word.TheVariants as word
+use Rattle.dm_http.specs.Texts.{request_text}
 use Rattle.dm_device.specs.Exchanges.{Exchanges}
 use Rattle.dm_device.specs.Outsides.{Outside, outside_of, OfTold}
 use Rattle.dm_device.specs.Sessions.{Going, Session, session, bytes_or_none}
@@ -421,14 +422,24 @@ updater_failed told0 told1 c m is gives =
     (λ us vs g. g ∙ ap (λ o. us ++ (record { bytes = bytes_or_none o; answer = None }) ∷ []) is)
     (if_told told0 told1 _ gives)
 
-pub posted_one : (told0 told1 : Option Calls) (address request : List ℕ) (r : Result Heard Memory)
-    → Exchanges told0 told1 address request r → OfTold told0 told1 (PartDoes address (request ∷ []) (unheard r))
+pub posted_one : (told0 told1 : Option Calls) (address path message : List ℕ) (r : Result Heard Memory)
+    → Exchanges told0 told1 address (request_text address path message) r
+    → OfTold told0 told1 (PartDoes address (request_text address path message ∷ []) (unheard r))
 unfolding Exchanges
-posted_one told0 told1 address request (Ok h) x =
+posted_one told0 told1 address path message (Ok h) x =
     told_as told0 told1 _ _
     (λ s t d. (h ∷ [], record { dials = d.1 ∷ []; made = d.2; matched = (d.3, tt) }))
     (if_told told0 told1 _ x)
-posted_one told0 told1 address request (Err m) x =
+posted_one told0 told1 address path message (Err m) x =
     told_as told0 told1 _ _
-    (λ s t d. record { dials = []; more = d.1.0; made = d.1.1; few = d.1.2; posted = 0; matched = tt })
+    (λ s t d. record {
+      dials = [];
+      more = d.1.0;
+      made = d.1.1;
+      path = path;
+      message = message;
+      cut = d.1.2;
+      posted = 0;
+      matched = tt;
+    })
     (if_told told0 told1 _ x)

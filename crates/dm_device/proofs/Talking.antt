@@ -11,7 +11,7 @@ use Rattle.dm_machine.specs.Machine.{Session as Open}
 use Rattle.dm_machine.specs.Events.{message, Answer as Answered, sent, kept}
 use Rattle.dm_machine.specs.History.{answer_now, next}
 use Rattle.dm_outside.specs.declared.told.Update.{Update}
-use Rattle.dm_outside.specs.Calls.{Dial, Calls}
+use Rattle.dm_outside.specs.Calls.{Closed, Dial, failed, talked, Calls}
 use Rattle.dm_outside.specs.Updates.{first_nonce, GivesNonce}
 use Rattle.dm_session.specs.declared.answers.Answer.{Answer}
 use Rattle.dm_session.specs.declared.answers.Answer.TheVariants as told
@@ -21,12 +21,15 @@ use Rattle.dm_device.specs.declared.exchanging.Heard.TheVariants as heard
 use Rattle.dm_device.specs.declared.tally.Word.{Word}
 use Rattle.dm_device.specs.declared.tally.Word.TheVariants as word
 use Rattle.dm_device.specs.declared.tally.Tally.{Tally}
-use Rattle.dm_device.specs.Exchanges.{IsExchange, ExchangeDoes, ExchangeCounts, Exchanges, Matches}
+use Rattle.dm_http.specs.Texts.{request_text}
+use Rattle.dm_device.specs.Paths.{path_of}
+use Rattle.dm_device.specs.Exchanges.{IsExchange, ExchangeDoes, ExchangeCounts, Exchanges, Matches, GotWhole, GotPart}
+use Rattle.dm_device.specs.Exchanges.{IsCutDial}
 use Rattle.dm_device.specs.Outsides.{Outside, outside_of, OfTold, IsPosted}
 use Rattle.dm_device.specs.Sessions.{Going, Turn, Session, at_first, turn, answers, accepts, loses, session, asks}
 use Rattle.dm_device.specs.Sessions.{asks_all}
 use Rattle.dm_device.specs.Sessions.{word_of_loss, after_loss}
-use Rattle.dm_device.specs.Sessions.{stopped, unless_over, request_of}
+use Rattle.dm_device.specs.Sessions.{stopped, unless_over, request_of, bytes_or_none}
 use Rattle.dm_device.specs.Holding.{going_at, turned_by, UsesOne, TurnDoes, GivesUpAt, session_at}
 use Rattle.dm_device.specs.Holding.{SessionDoes, Holds, SessionCounts}
 use Rattle.dm_device.proofs.Told.{told_then, told_as, told_same, if_told, StepDoes, step_told}
@@ -238,10 +241,30 @@ so_far_ends told0 told1 told2 left0 left1 left2 c d e t w address path h v far x
 
 -- ---- memory was wanting
 
+whole_part : (c : Closed) (request : List ℕ) → GotWhole c request → GotPart c request
+whole_part c request got =
+    (length request, got.1 ∙ ap Some (sym (take_all (length request) request (omega arith))))
+
+-- the request that was cut goes to a path, with a message
+asked_part : (address path : List ℕ) (c : Machine) (more : List Dial) → IsCutDial address (asks address path c) more
+    → IsCutDial address (request_text address (path_of c.resp_uri path) (bytes_or_none (sent_last c))) more
+unfolding asks
+asked_part address path c more cut = cut
+
+-- an exchange that brought something got its request, or a part of it
+cut_of : (address : List ℕ) (d : Dial) (h : Heard) (request : List ℕ) → IsExchange address d h request
+    → IsCutDial address request (d ∷ [])
+cut_of address (failed a) heard.Fault request x = x
+cut_of address (failed a) heard.Refused request x = absurd x
+cut_of address (failed a) (heard.Body body) request x = absurd x
+cut_of address (talked t c) heard.Fault request x = (x.0, x.2)
+cut_of address (talked t c) heard.Refused request x = (x.0, whole_part c request x.1)
+cut_of address (talked t c) (heard.Body body) request x = (x.0, whole_part c request x.1)
+
 known_wants : (address path : List ℕ) (c d e : Machine) (t : Tally) (m : Memory) (x y z : Outside) (more : List Dial)
-    → KnownSoFar address path c d t x y → z.calls.log ≡ y.calls.log ++ more → length more ≤ 1
+    → KnownSoFar address path c d t x y → z.calls.log ≡ y.calls.log ++ more → IsCutDial address (asks address path d) more
     → UsesOne y.nonces z.nonces → z.updates ≡ y.updates → SessionDoes address path c e (Err m) x z
-known_wants address path c d e t m x y z more far grown few used same =
+known_wants address path c d e t m x y z more far grown cut used same =
     let hs = far.0 in
     let rs = far.1 in
     let p = far.2 in
@@ -255,7 +278,9 @@ known_wants address path c d e t m x y z more far grown few used same =
           dials = p.dials;
           more = more;
           made = grown ∙ ap (λ l. l ++ more) p.made ∙ append_assoc x.calls.log p.dials more;
-          few = few;
+          path = path_of d.resp_uri path;
+          message = bytes_or_none (sent_last d);
+          cut = asked_part address path d more cut;
           posted = length rs;
           matched = subst (Matches address p.dials hs)
               (sym (ap (take (length rs)) asked ∙ take_all (length rs) rs (omega arith))) p.matched;
@@ -286,8 +311,8 @@ pub wants_in_turn : (told0 told1 told2 : Option Calls) (left0 left1 left2 : Opti
 unfolding Holds
 wants_in_turn told0 told1 told2 left0 left1 left2 c d e t w address path h m far x turned us =
     told_then (outside_of told0 us left0) (outside_of told1 us left1) (outside_of told2 us left2) _ _ _
-    (λ s y z now step. known_wants address path c d e t m s y z (step.0.1 ∷ []) now step.0.2 (omega arith) step.1
-    step.2)
+    (λ s y z now step. known_wants address path c d e t m s y z (step.0.1 ∷ []) now step.0.2
+    (cut_of address step.0.1 h (asks address path d) step.0.3) step.1 step.2)
     (far us)
     (step_told told1 told2 us left1 left2 address (asks address path d) (Ok h) (TurnDoes d e t w h (Err m)) x turned)
 

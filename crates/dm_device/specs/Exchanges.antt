@@ -1,5 +1,5 @@
 -- One exchange, in what the dialer tells.
-use Rattle.std.specs.Prelude.{◌≡◌, ◌<◌, ◌≤◌, ◌++◌, ◌∷◌, [], ℕ, List, length, take, Option, Some, Result, Ok, Err, ⊤}
+use Rattle.std.specs.Prelude.{◌≡◌, ◌<◌, ◌++◌, ◌∷◌, [], ℕ, List, take, Option, Some, Result, Ok, Err, ⊤}
 use Rattle.dm_base.specs.Outside.{Rose}
 use Rattle.dm_base.specs.declared.bytes.Memory.{Memory}
 use Rattle.dm_heads.specs.declared.errors.HttpError.{HttpError}
@@ -36,14 +36,21 @@ IsExchange address (talked h c) heard.Fault request = (h.address ≡ address) ×
 IsExchange address (talked h c) heard.Refused request =
     (h.address ≡ address) × GotWhole c request × ((e : HttpError) × Brings kind.Reply h.held (Err e))
 
+-- no dial, or one to the address, whose connection got a prefix of the request
+abbrev pub IsCutDial : List ℕ → List ℕ → List Dial → Type 0
+IsCutDial address request [] = ⊤
+IsCutDial address request (failed a ∷ []) = a ≡ address
+IsCutDial address request (talked h c ∷ []) = (h.address ≡ address) × GotPart c request
+IsCutDial address request other = ⊥
+
 -- a dial more at most was made, for want of memory
-abbrev pub OneMore : Calls → Calls → Type 0
-OneMore s t = (ds : List Dial) × (t.log ≡ s.log ++ ds) × (length ds ≤ 1)
+abbrev pub OneMore : List ℕ → List ℕ → Calls → Calls → Type 0
+OneMore address request s t = (ds : List Dial) × (t.log ≡ s.log ++ ds) × IsCutDial address request ds
 
 abbrev pub ExchangeDoes : List ℕ → List ℕ → Result Heard Memory → Calls → Calls → Type 0
 ExchangeDoes address request (Ok h) s t =
     (t.out ≡ []) × (d : Dial) × (t.log ≡ s.log ++ d ∷ []) × IsExchange address d h request
-ExchangeDoes address request (Err e) s t = (t.out ≡ []) × OneMore s t
+ExchangeDoes address request (Err e) s t = (t.out ≡ []) × OneMore address request s t
 
 -- by the answer: one dial was made, and this is what it brought; for want of memory one dial at most
 unfoldable pub Exchanges : Option Calls → Option Calls → List ℕ → List ℕ → Result Heard Memory → Type 0

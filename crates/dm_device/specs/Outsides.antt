@@ -1,9 +1,10 @@
 -- What the outside of a run tells, and what was posted.
-use Rattle.std.specs.Prelude.{◌≡◌, ◌≤◌, ◌++◌, ℕ, List, length, take, Option, Some, None, ⊤}
+use Rattle.std.specs.Prelude.{◌≡◌, ◌++◌, ℕ, List, take, Option, Some, None, ⊤}
 use Rattle.dm_outside.specs.declared.told.Update.{Update}
 use Rattle.dm_outside.specs.Calls.{Dial, Calls}
 use Rattle.dm_device.specs.declared.exchanging.Heard.{Heard}
-use Rattle.dm_device.specs.Exchanges.{Matches}
+use Rattle.dm_http.specs.Texts.{request_text}
+use Rattle.dm_device.specs.Exchanges.{IsCutDial, Matches}
 
 -- what the outside tells: the calls of the dialer, what the updater was given, and the nonces that are left
 pub record Outside : Type 0 where
@@ -31,13 +32,16 @@ pub record IsPosted (address : List ℕ) (requests : List (List ℕ)) (hs : List
     pub made : after.log ≡ before.log ++ dials
     pub matched : Matches address dials hs requests
 
--- the first of them were posted, and at most one dial more was made
+-- the first of them were posted, and at most one dial more was made, to the address: its connection got a prefix of a
+-- request there
 pub record IsPostedInPart (address : List ℕ) (requests : List (List ℕ)) (hs : List Heard) (before after : Calls)
     : Type 0
   where
     pub dials : List Dial
     pub more : List Dial
     pub made : after.log ≡ before.log ++ (dials ++ more)
-    pub few : length more ≤ 1
+    pub path : List ℕ
+    pub message : List ℕ
+    pub cut : IsCutDial address (request_text address path message) more
     pub posted : ℕ
     pub matched : Matches address dials hs (take posted requests)
