@@ -1,19 +1,18 @@
-ghost use Rattle.std.specs.Prelude.{◌≡◌, ◌<◌, []};
-ghost use Rattle.dm_outside.specs.Streams.{AreUntouched};
+ghost use Rattle.std.specs.Prelude.{◌<◌};
 
 // One table of runs over sources and sinks in memory.
 mod loopback;
 mod managing;
+mod reaching;
 mod serving;
 mod texts;
 
-use crate::reach::Reach;
 use crate::run::run;
+use crate::tests::reaching::reach_of;
 use crate::tests::texts::{BEHIND, FRONT, TREE_BEHIND, TREE_FRONT, Text, bytes_of};
 use anyhow::Result;
 use dm_base::{Bytes, List, MemSink, MemSource};
 use dm_exit::Exit;
-use dm_outside::{MemDialer, MemDoor, MemNonces, MemStream, MemUpdater};
 use std::alloc::Global;
 
 /// A run, and what it must answer and write.
@@ -284,23 +283,6 @@ const ROWS: [Row; 35] = [
         ..PLAIN
     },
 ];
-
-// What is outside where no dial succeeds, these connections come, and no update is to be made.
-pub fn reach_of(
-    alloc: Global,
-    conns: List<Option<MemStream>>,
-) -> Reach<MemDialer, MemDoor, MemUpdater, MemNonces>
-    requires { AreUntouched conns }
-    ensures idle { result.dialer.calls.out ≡ [] }
-    ensures empty { result.door.doorway.out ≡ [] }
-{
-    Reach {
-        dialer: MemDialer::new(alloc, List::new(alloc)),
-        door: MemDoor::new(alloc, true, conns),
-        updater: MemUpdater::new(alloc, List::new(alloc)),
-        nonces: MemNonces::new(List::new(alloc)),
-    }
-}
 
 // Runs a row on an input, and says whether it answers as the row says and writes the output.
 fn writes(alloc: Global, row: &Row, input: &[u8], output: &[u8]) -> Result<bool>

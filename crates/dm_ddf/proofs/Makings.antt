@@ -26,7 +26,7 @@ use Rattle.dm_ddf.specs.declared.rules.Rule.{Rule}
 use Rattle.dm_ddf.specs.Rules.{is_inner, is_needed, has_named}
 use Rattle.dm_ddf.specs.Making.{numbered_name, free_name, made_name, made_node, first_format, has_format_for}
 use Rattle.dm_ddf.specs.Making.{Making, without_node, with_rule_node, may_be_made, made_at, made_below, after_rule}
-use Rattle.dm_ddf.specs.Making.{after_rules, only_root, least_tree}
+use Rattle.dm_ddf.specs.Making.{after_rules, only_root, asked_tree}
 use Rattle.dm_ddf.specs.Made.{making_of, AreLive, ComesAt, GoesThrough}
 
 pub ok_then : {X E : Type 0} {p q : X → Type 0} (r : Result X E) → ((x : X) → p x → q x) → IfOk r p → IfOk r q
@@ -351,8 +351,8 @@ nothing_left (x ∷ xs) (suc n) h = nothing_left xs n (omega (arith, h))
 pub end_is : (rules : List Rule) (t : Tree) (ids : List (Option ℕ)) (at : ℕ) → length rules ≤ at
     → after_rules rules (record { nodes = only_root; paths = Some [] ∷ [] }) (drop 1 rules)
     ≡ after_rules rules (making_of t ids) (drop at rules)
-    → nodes t.rows ≡ least_tree rules
-unfolding least_tree
+    → nodes t.rows ≡ asked_tree rules
+unfolding asked_tree
 end_is rules t ids at low whole =
     sym (ap (λ (m : Making). m.nodes) (whole
     ∙ ap (after_rules rules (making_of t ids)) (nothing_left rules at low)))

@@ -1,4 +1,4 @@
--- The least tree that conforms to a description, made rule by rule.
+-- The tree that a description asks for, made rule by rule.
 use Rattle.std.specs.Prelude.{◌&&◌, ◌||◌, ◌+◌, ℕ, zero, suc, Bool}
 use Rattle.std.specs.Prelude.{not, if◌then◌else◌, List, [], ◌∷◌, ◌++◌, get_or, codes}
 use Rattle.std.specs.Prelude.{Option, Some, None, drop}
@@ -83,6 +83,6 @@ after_rules rules m [] = m
 after_rules rules m (rule ∷ others) = after_rules rules (after_rule rules m rule) others
 
 -- the root stands for the top, which comes before all rules
-unfoldable pub least_tree : List Rule → Nodes
-least_tree rules =
+unfoldable pub asked_tree : List Rule → Nodes
+asked_tree rules =
     (after_rules rules (record { nodes = only_root; paths = Some [] ∷ [] }) (drop 1 rules)).nodes

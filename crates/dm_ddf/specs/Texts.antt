@@ -25,7 +25,7 @@ use Rattle.dm_ddf.specs.declared.reader.DdfProgress.TheVariants as progress
 use Rattle.dm_ddf.specs.declared.conforming.Why.{Why}
 use Rattle.dm_ddf.specs.declared.conforming.Why.TheVariants as why
 use Rattle.dm_ddf.specs.Breaches.{first_breach}
-use Rattle.dm_ddf.specs.Making.{least_tree}
+use Rattle.dm_ddf.specs.Making.{asked_tree}
 use Rattle.dm_ddf.specs.Reading.{progress_after, described}
 
 -- ---- lines one after another
@@ -136,13 +136,13 @@ behind_ddf d = then_read (setup_from d.1 d.2) (λ told. Ok (verdict_line d.0 tol
 unfoldable pub conform_of : List ℕ → Result (List ℕ) Refused
 conform_of text = then_read (ddf_from 1 progress.First (segments text)) behind_ddf
 
--- the tree text, of version 1, of the least tree
-abbrev pub least_text : Ddf → List ℕ
-least_text d = tree_text 1 (least_tree d.rules)
+-- the tree text, of version 1, of the tree that a description asks for
+abbrev pub asked_text : Ddf → List ℕ
+asked_text d = tree_text 1 (asked_tree d.rules)
 
 -- what is told of a text with a description alone
 unfoldable pub make_of : List ℕ → Result (List ℕ) Refused
-make_of text = then_read (ddf_of text) (λ d. Ok (least_text d))
+make_of text = then_read (ddf_of text) (λ d. Ok (asked_text d))
 
 -- ---- what is written and answered
 

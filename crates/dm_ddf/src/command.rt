@@ -78,7 +78,7 @@ pub fn conform<S: Source, K: Sink>(alloc: Global, src: &mut S, out: &mut K) -> E
     put_answer(alloc, out, conform_text(alloc, input.as_slice()))
 }
 
-/// Makes the least tree that conforms to a description: reads the whole input, a description, and writes the tree text
+/// Makes the tree that a description asks for: reads the whole input, a description, and writes the tree text
 /// of version 1 and `done`. It answers as `conform` does, and takes no more of the source.
 pub fn make<S: Source, K: Sink>(alloc: Global, src: &mut S, out: &mut K) -> Exit
     ensures output { OfKnown (S.left src.old) (λ bytes. Ends (text_said make_of bytes) (exit_of_text make_of bytes)

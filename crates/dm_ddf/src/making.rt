@@ -1,4 +1,4 @@
-// The least tree that conforms to a description.
+// The tree that a description asks for, made rule by rule.
 ghost use Rattle.std.specs.Prelude.{ℕ, ◌≡◌, ◌&&◌, ◌<◌, ◌++◌, ◌∷◌, []};
 ghost use Rattle.std.specs.Prelude.{length, get_or, None, Some, IfOk, IfSome, IsTrue, Option};
 ghost use Rattle.std.specs.Prelude.{OnOk, true, false};
@@ -248,13 +248,13 @@ fn make_node(
     put_below(alloc, tree, parent, name, node)
 }
 
-/// The least tree that conforms to a description: the root with the access list `Add=*&Get=*`, and below each node one
+/// The tree that a description asks for: the root with the access list `Add=*&Get=*`, and below each node one
 /// for each rule of which one at least is needed there. It takes the rule's name, or for `*` the first of `x1`, `x2`
 /// and so on that no rule beside it has; the first of its Formats; as a leaf the Type text/plain and no byte; and no
 /// access list and no title of its own. Of rules that no text can say, those are passed over whose node couldn't stand
 /// in a tree. It goes through the rules once, and for each `*` through those beside it.
 pub fn make_tree(alloc: Global, ddf: &Ddf) -> Result<Tree, Memory>
-    ensures { IfOk result (λ tree. nodes tree.rows ≡ Spec.least_tree ddf.now.rules) }
+    ensures { IfOk result (λ tree. nodes tree.rows ≡ Spec.asked_tree ddf.now.rules) }
 {
     let rules = ddf.rules.as_slice();
     let mut tree = bare_tree(alloc)?;

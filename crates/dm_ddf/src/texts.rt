@@ -157,9 +157,9 @@ pub(crate) fn conform_text(alloc: Global, text: &[u8]) -> Result<Bytes, DdfError
     }
 }
 
-// The text of the least tree, and the last line.
-fn least_text(alloc: Global, ddf: &Ddf) -> Result<Bytes, Memory>
-    ensures { IfOk result (λ out. out ≡ Spec.least_text ddf.now ++ codes "done" ++ line_feed) }
+// The text of the tree that is asked for, and the last line.
+fn asked_text(alloc: Global, ddf: &Ddf) -> Result<Bytes, Memory>
+    ensures { IfOk result (λ out. out ≡ Spec.asked_text ddf.now ++ codes "done" ++ line_feed) }
 {
     let tree = make_tree(alloc, ddf)?;
     let mut out = tree_text(alloc, &tree, 1)?;
@@ -175,7 +175,7 @@ pub(crate) fn make_text(alloc: Global, text: &[u8]) -> Result<Bytes, DdfError>
         Ok(ddf) => ddf,
         Err(error) => return Err(error),
     };
-    match least_text(alloc, &ddf) {
+    match asked_text(alloc, &ddf) {
         Ok(out) => Ok(out),
         Err(_) => Err(DdfError::Memory),
     }

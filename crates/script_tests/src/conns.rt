@@ -24,6 +24,7 @@ pub struct ScriptConn {
 }
 
 impl ScriptConn {
+    /// A connection that was just made.
     pub fn new(alloc: Global, reply: Reply) -> ScriptConn
         ensures { (result.takes ≡ 0) × (result.puts ≡ 0) }
     {

@@ -64,6 +64,7 @@ pub struct ScriptDialer {
 }
 
 impl ScriptDialer {
+    /// Hands out connections that give these replies, in order; none where a dial is to fail.
     pub fn new(alloc: Global, replies: List<Option<Reply>>) -> ScriptDialer {
         ScriptDialer {
             desk: Desk::new(alloc, replies),
@@ -106,6 +107,7 @@ pub struct ScriptDoor {
 }
 
 impl ScriptDoor {
+    /// Lets connections in that give these replies, in order; none where an accept is to fail.
     pub fn new(alloc: Global, replies: List<Option<Reply>>) -> ScriptDoor {
         ScriptDoor {
             desk: Desk::new(alloc, replies),

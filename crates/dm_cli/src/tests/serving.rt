@@ -1,6 +1,6 @@
 // Runs of `serve` over a door in memory.
 use crate::run::run;
-use crate::tests::reach_of;
+use crate::tests::reaching::reach_of;
 use anyhow::Result;
 use dm_base::{Bytes, List, MemSink, MemSource};
 use dm_exit::Exit;

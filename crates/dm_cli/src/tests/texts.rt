@@ -354,6 +354,7 @@ pub enum Text {
     BothRun,
 }
 
+/// The bytes of a text.
 pub fn bytes_of(text: Text) -> &'static [u8] {
     match text {
         Text::Nothing => b"",
