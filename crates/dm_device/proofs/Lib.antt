@@ -9,3 +9,4 @@ pub mod Bounds
 pub mod Putting
 pub mod Setups
 pub mod Devices
+pub mod Rooms

@@ -10,3 +10,4 @@ pub mod Inputs
 pub mod Reading
 pub mod Devices
 pub mod Managing
+pub mod Rooms

@@ -13,5 +13,5 @@ pub mod tally;
 
 pub use command::device;
 pub use exchanging::{Heard, exchange};
-pub use laws::{runs_are_bounded, sessions_are_bounded};
+pub use laws::{requests_keep_to_the_room, runs_are_bounded, sessions_are_bounded};
 pub use tally::{Tally, Word};
