@@ -25,7 +25,7 @@ use Rattle.dm_device.specs.Sessions.{Going, Turn, Session, answers, arrives, del
 use Rattle.dm_device.specs.Sessions.{unless_over}
 use Rattle.dm_device.specs.Runs.{Route, Heards, Run, farewells, closing, closing_by, last_session, telling, follow_up}
 use Rattle.dm_device.specs.Runs.{leaves_update, behind_first, device_run, ended_well}
-use Rattle.dm_device.specs.Rooms.{KeepsToRoom, AllKeepToRoom, HeardBytes, IsNonceOfBytes, NoncesOfBytes, RunsKeepToRoom}
+use Rattle.dm_device.specs.Rooms.{IsAskedWithinRoom, AllAskedWithinRoom, HeardBytes, IsNonceOfBytes, NoncesOfBytes, RunsKeepToRoom}
 
 -- ---- nonces
 
@@ -110,7 +110,7 @@ rest_heard heard.Refused hs are = are
 rest_heard (heard.Body bytes) hs are = are.1
 
 record Held (account : ℕ) (address path : List ℕ) (s : Session) : Type 0 where
-  keep : AllKeepToRoom address path s.requests
+  keep : AllAskedWithinRoom address path s.requests
   stands : Stands account s.going
 
 unless_held : (account : ℕ) (address path : List ℕ) (w : Option Word) (g : Going) (s : Session)
@@ -132,13 +132,13 @@ session_held account address path g (h ∷ hs) s are =
 
 -- ---- what follows it
 
-keep_both : (address path : List ℕ) (xs ys : List (List ℕ)) → AllKeepToRoom address path xs
-    → AllKeepToRoom address path ys → AllKeepToRoom address path (xs ++ ys)
+keep_both : (address path : List ℕ) (xs ys : List (List ℕ)) → AllAskedWithinRoom address path xs
+    → AllAskedWithinRoom address path ys → AllAskedWithinRoom address path (xs ++ ys)
 keep_both address path [] ys p q = q
 keep_both address path (x ∷ xs) ys p q = (p.0, keep_both address path xs ys p.1 q)
 
 farewells_keep : (address path : List ℕ) (c : Machine) (w : Word) → IsShort c
-    → AllKeepToRoom address path (farewells address path c w)
+    → AllAskedWithinRoom address path (farewells address path c w)
 farewells_keep address path c word.Denied short = ((c, short, inr refl), tt)
 farewells_keep address path c word.Finished short = tt
 farewells_keep address path c word.Aborted short = tt
@@ -146,12 +146,12 @@ farewells_keep address path c word.GaveUp short = tt
 farewells_keep address path c word.Peer short = tt
 
 closing_keeps : (r : Route) (c : Machine) (ns : List (List ℕ)) (w : Option Word) → IsShort c
-    → AllKeepToRoom r.address r.path (closing_by r c ns w).requests
+    → AllAskedWithinRoom r.address r.path (closing_by r c ns w).requests
 closing_keeps r c ns None short = tt
 closing_keeps r c ns (Some w) short = farewells_keep r.address r.path c w short
 
 last_keeps : (account : ℕ) (r : Route) (number : ℕ) (s : Session) → Held account r.address r.path s
-    → AllKeepToRoom r.address r.path (last_session r number s).requests
+    → AllAskedWithinRoom r.address r.path (last_session r number s).requests
 last_keeps account r number s held =
     keep_both r.address r.path s.requests (closing_by r s.going.machine s.going.nonces s.word).requests held.keep
     (closing_keeps r s.going.machine s.going.nonces s.word held.stands.at.short)
@@ -164,14 +164,14 @@ telling_stands account number c ns answer low at nonces =
       nonces = nonces;
     }
 
-either_keeps : (b : Bool) (r : Route) (x y : Run) → AllKeepToRoom r.address r.path x.requests
-    → AllKeepToRoom r.address r.path y.requests → AllKeepToRoom r.address r.path (if b then x else y).requests
+either_keeps : (b : Bool) (r : Route) (x y : Run) → AllAskedWithinRoom r.address r.path x.requests
+    → AllAskedWithinRoom r.address r.path y.requests → AllAskedWithinRoom r.address r.path (if b then x else y).requests
 either_keeps true r x y p q = p
 either_keeps false r x y p q = q
 
 behind_keeps : (r : Route) (account number : ℕ) (c : Machine) (ns : List (List ℕ)) (h : Heards) (w : Option Word)
     → number + 1 < 2 ^ 32 → IsAt account c → NoncesOfBytes ns → HeardBytes h.second
-    → AllKeepToRoom r.address r.path (behind_first r account number c ns h w).requests
+    → AllAskedWithinRoom r.address r.path (behind_first r account number c ns h w).requests
 behind_keeps r account number c ns h None low at nonces are = tt
 behind_keeps r account number c ns h (Some w) low at nonces are =
     either_keeps (leaves_update w c) r (follow_up r account (number + 1) c ns h.updated h.second) (closing r c ns w)

@@ -11,13 +11,13 @@ use Rattle.dm_device.specs.Runs.{Route, Heards, farewell_bytes, device_run}
 
 -- a request has the message that a machine sent last, spelled canonically and within the room that its server told last,
 -- or its farewell, which is within any room
-abbrev pub KeepsToRoom : List ℕ → List ℕ → List ℕ → Type 0
-KeepsToRoom address path request = (c : Machine) × IsShort c
+abbrev pub IsAskedWithinRoom : List ℕ → List ℕ → List ℕ → Type 0
+IsAskedWithinRoom address path request = (c : Machine) × IsShort c
     × ((request ≡ asks address path c) ⊎ (request ≡ request_of address path c (farewell_bytes c)))
 
-abbrev pub AllKeepToRoom : List ℕ → List ℕ → List (List ℕ) → Type 0
-AllKeepToRoom address path [] = ⊤
-AllKeepToRoom address path (r ∷ rs) = KeepsToRoom address path r × AllKeepToRoom address path rs
+abbrev pub AllAskedWithinRoom : List ℕ → List ℕ → List (List ℕ) → Type 0
+AllAskedWithinRoom address path [] = ⊤
+AllAskedWithinRoom address path (r ∷ rs) = IsAskedWithinRoom address path r × AllAskedWithinRoom address path rs
 
 -- bodies are bytes
 abbrev pub HeardBytes : List Heard → Type 0
@@ -39,4 +39,4 @@ RunsKeepToRoom =
     (r : Route) (account number : ℕ) (g : Going) (h : Heards)
     → IsReadyMachine g.machine → IsShort g.machine → account < length g.machine.accounts → number + 1 < 2 ^ 32
     → HeardBytes h.first → HeardBytes h.second → NoncesOfBytes g.nonces
-    → AllKeepToRoom r.address r.path (device_run r account number g h).requests
+    → AllAskedWithinRoom r.address r.path (device_run r account number g h).requests
