@@ -1,6 +1,7 @@
 -- A run over all of the outside, from its parts.
 use Rattle.std.proofs.Common.{◌≡◌, ◌+◌, ℕ, true, false, List, [], refl, sym, ◌∙◌, arith, Ok, Err, None}
-use Rattle.std.proofs.Common.{inl, inr, append-nil, ap}
+use Rattle.std.proofs.Common.{inl, inr, append-nil, ap, Some}
+use Rattle.std.specs.Io.KnownBytes.{Keeps}
 use Rattle.std.specs.Prelude.{Option}
 use Rattle.dm_base.specs.declared.bytes.Memory.{Memory}
 use Rattle.dm_machine.specs.declared.kinds.Kind.{Kind}
@@ -15,6 +16,7 @@ use Rattle.dm_device.specs.declared.tally.Word.{Word}
 use Rattle.dm_device.specs.Outsides.{Outside, outside_of, OfTold, IsPostedInPart}
 use Rattle.dm_device.specs.Runs.{Route, begun, follow_up, leaves_update}
 use Rattle.dm_device.specs.Ending.{IsCutShort, HoldDoes, CloseDoes, MayHaveGiven, TellDoes, FollowDoes, RunDoes}
+use Rattle.dm_exit.proofs.Parts.{prefix_none}
 use Rattle.dm_device.proofs.Putting.{empty_prefix}
 use Rattle.dm_device.proofs.Told.{told_then, told_as, told_same}
 use Rattle.dm_device.proofs.Running.{updates_told, follows_whole, follows_cut, run_cut, run_closes, run_follows}
@@ -112,12 +114,11 @@ follows_for_memory told u0 u1 n r account number c d m old tells =
 
 -- ---- the whole run
 
-pub run_for_memory : (told : Option Calls) (us : Option (List Update)) (n : Option (List (List ℕ))) (r : Route)
-    (account : ℕ) (kind : Kind) (number : ℕ) (c : Machine) (old : Option (List ℕ))
-    → OfTold (outside_of told us n) (outside_of told us n) (RunDoes r account kind number c old old exit.NoMemory)
-run_for_memory told us n r account kind number c old =
-    told_same (outside_of told us n) _
-    (λ s. run_cut r account number (begun c account kind number s.nonces) [] exit.NoMemory s s old old tt
+-- nothing was done at all
+pub run_untouched : (r : Route) (account : ℕ) (kind : Kind) (number : ℕ) (c : Machine) (old new : Option (List ℕ))
+    (s : Outside) → Keeps old new → RunDoes r account kind number c old new exit.NoMemory s s
+run_untouched r account kind number c old new s kept =
+    run_cut r account number (begun c account kind number s.nonces) [] exit.NoMemory s s old new tt
     (record {
       posts = nothing_asked r.address [] s.calls s.calls refl;
       given = 0;
@@ -125,8 +126,18 @@ run_for_memory told us n r account kind number c old =
       used = 0;
       few = omega arith;
       nonces = refl;
-      text = empty_prefix old [];
-    }))
+      text = prefix_none old new [] kept;
+    })
+
+keeps_itself : (x : Option (List ℕ)) → Keeps x x
+keeps_itself None = tt
+keeps_itself (Some bytes) = refl
+
+pub run_for_memory : (told : Option Calls) (us : Option (List Update)) (n : Option (List (List ℕ))) (r : Route)
+    (account : ℕ) (kind : Kind) (number : ℕ) (c : Machine) (old : Option (List ℕ))
+    → OfTold (outside_of told us n) (outside_of told us n) (RunDoes r account kind number c old old exit.NoMemory)
+run_for_memory told us n r account kind number c old =
+    told_same (outside_of told us n) _ (λ s. run_untouched r account kind number c old old s (keeps_itself old))
 
 pub run_short : (d0 d1 : Option Calls) (us : Option (List Update)) (n0 n1 : Option (List (List ℕ))) (r : Route)
     (account : ℕ) (kind : Kind) (number : ℕ) (c e : Machine) (x : Exit) (old new : Option (List ℕ)) → IsCutShort x

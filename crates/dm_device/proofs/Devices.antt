@@ -22,16 +22,15 @@ use Rattle.dm_replay.specs.Trace.{Stop, bad, ids_of}
 use Rattle.dm_replay.proofs.Ended.{halt_of_text, halt_not_done}
 use Rattle.dm_replay.proofs.Faults.{end_is_no_fault}
 use Rattle.dm_words.specs.declared.forms.DeviceWords.{DeviceWords}
-use Rattle.dm_device.specs.declared.exchanging.Heard.{Heard}
 use Rattle.dm_device.specs.Inputs.{setup_of}
 use Rattle.dm_device.specs.Reading.{ReadsSetup}
 use Rattle.dm_device.specs.Outsides.{Outside, OfTold}
-use Rattle.dm_device.specs.Runs.{Run, route_of, IsCut}
+use Rattle.dm_device.specs.Runs.{route_of}
 use Rattle.dm_device.specs.Ending.{IsAnswer, RunDoes}
 use Rattle.dm_device.specs.Devices.{IsEarly, IsBehindInput, EndsBehindInput, RunsAs, RunsWith, RunsBy, RunsOver}
 use Rattle.dm_device.specs.Devices.{Devices, IsOfDevice, usage_line}
 use Rattle.dm_device.specs.Managing.{IsManaged}
-use Rattle.dm_device.proofs.Composing.{run_for_memory}
+use Rattle.dm_device.proofs.Composing.{run_untouched}
 use Rattle.dm_device.proofs.Told.{told_as, told_same}
 
 -- ---- the answers
@@ -148,26 +147,11 @@ text_of_device other t = tt
 pub halt_of_device : (h : Halt) (old new : Option (List ℕ)) (e : Exit) → PutsHalt h old new e → IsOfDevice e
 halt_of_device h old new e p = text_of_device e (halt_of_text h old new e p)
 
-cut_kept : (address : List ℕ) (r : Run) (hs : List Heard) (s t : Outside) (old new : Option (List ℕ)) → Keeps old new
-    → IsCut address r hs s t old old → IsCut address r hs s t old new
-cut_kept address r hs s t old new kept cut = record {
-  posts = cut.posts;
-  given = cut.given;
-  updates = cut.updates;
-  used = cut.used;
-  few = cut.few;
-  nonces = cut.nonces;
-  text = prefix_none old new r.text kept;
-}
-
 -- memory was wanting before the run
 wanting_run : (w : DeviceWords) (told : Setup) (account : ℕ) (old new : Option (List ℕ)) (s : Outside) → Keeps old new
     → RunsAs w told (Some account) old new exit.NoMemory s s
 wanting_run w told account old new s kept =
-    let ran : RunDoes (route_of w told.version) account w.kind w.session (client_of told) old old exit.NoMemory s s =
-    run_for_memory (Some s.calls) (Some s.updates) (Some s.nonces) (route_of w told.version) account w.kind w.session
-    (client_of told) old in
-    (ran.0, cut_kept _ _ _ s s old new kept ran.1)
+    run_untouched (route_of w told.version) account w.kind w.session (client_of told) old new s kept
 
 wanting_as : (w : DeviceWords) (told : Setup) (at : Option ℕ) (old new : Option (List ℕ)) (s : Outside) → Keeps old new
     → RunsAs w told at old new exit.NoMemory s s

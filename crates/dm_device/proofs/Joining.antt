@@ -13,7 +13,8 @@ use Rattle.dm_exit.proofs.Parts.{prefix_of_front, prefix_behind}
 use Rattle.dm_device.specs.declared.exchanging.Heard.{Heard}
 use Rattle.dm_device.specs.Exchanges.{Matches}
 use Rattle.dm_device.specs.Outsides.{Outside, IsPosted, IsPostedInPart}
-use Rattle.dm_device.specs.Runs.{Run, both_parts, IsDone, IsCut, EndsPart}
+use Rattle.dm_device.specs.Runs.{Run, both_parts, IsDone, IsCut, EndsPart, EndsInOrder}
+use Rattle.dm_device.specs.Ending.{IsCutShort}
 
 -- ---- requests
 
@@ -154,3 +155,19 @@ ends_both address a b hs gs exit.StoreFull s t u old mid new p q =
     (done_both address a b hs gs s t u old mid new p q.0, q.1)
 ends_both address a b hs gs exit.BadStore s t u old mid new p q =
     (done_both address a b hs gs s t u old mid new p q.0, q.1)
+
+-- the second is done behind the first
+pub in_order : (address : List ℕ) (a b : Run) (hs gs : List Heard) (e : Exit) (s t u : Outside)
+    (old mid new : Option (List ℕ)) → IsDone address a hs s t old mid → EndsPart address b gs e t u mid new
+    → EndsInOrder address a b hs gs e s u old new
+in_order address a b hs gs exit.WriteFault s t u old mid new p q = inr (t, mid, p, q)
+in_order address a b hs gs exit.NoMemory s t u old mid new p q = inr (t, mid, p, q)
+in_order address a b hs gs other s t u old mid new p q = tt
+
+-- or nothing of it
+pub first_alone : (address : List ℕ) (a b : Run) (hs gs : List Heard) (e : Exit) (s t : Outside)
+    (old new : Option (List ℕ)) → IsCutShort e → IsCut address a hs s t old new
+    → EndsInOrder address a b hs gs e s t old new
+first_alone address a b hs gs exit.WriteFault s t old new short cut = inl cut
+first_alone address a b hs gs exit.NoMemory s t old new short cut = inl cut
+first_alone address a b hs gs other s t old new short cut = tt

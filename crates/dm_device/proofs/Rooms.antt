@@ -8,7 +8,7 @@ use Rattle.syncml_codec.specs.Decoding.{read_of}
 use Rattle.wbxml_tokens.specs.declared.reason.Refusal.{Refusal}
 use Rattle.dm_machine.specs.declared.kinds.Kind.TheVariants.{ByClient}
 use Rattle.dm_machine.specs.Events.{Event, Answer, clocked, sent, kept, again, stale, stranger, no_session, refused}
-use Rattle.dm_machine.specs.Events.{exhausted, ended, acted, not_now, message, opened, act}
+use Rattle.dm_machine.specs.Events.{exhausted, ended, acted, not_now, opened, act}
 use Rattle.dm_machine.specs.History.{answer_now, next}
 use Rattle.dm_machine.specs.Laws.{IsShort}
 use Rattle.dm_machine.specs.Machine.{Machine}
@@ -21,11 +21,11 @@ use Rattle.dm_device.specs.declared.exchanging.Heard.{Heard}
 use Rattle.dm_device.specs.declared.exchanging.Heard.TheVariants as heard
 use Rattle.dm_device.specs.declared.tally.Word.{Word}
 use Rattle.dm_device.specs.declared.tally.Word.TheVariants as word
-use Rattle.dm_device.specs.Sessions.{Going, Turn, Session, answers, arrives, delivered, turn, session, asks, stopped}
+use Rattle.dm_device.specs.Sessions.{Going, Session, answers, arrives, delivered, turn, session}
 use Rattle.dm_device.specs.Sessions.{unless_over}
 use Rattle.dm_device.specs.Runs.{Route, Heards, Run, farewells, closing, closing_by, last_session, telling, follow_up}
 use Rattle.dm_device.specs.Runs.{leaves_update, behind_first, device_run, ended_well}
-use Rattle.dm_device.specs.Rooms.{IsAskedWithinRoom, AllAskedWithinRoom, HeardBytes, IsNonceOfBytes, NoncesOfBytes, RunsKeepToRoom}
+use Rattle.dm_device.specs.Rooms.{AllAskedWithinRoom, HeardBytes, IsNonceOfBytes, NoncesOfBytes, RunsKeepToRoom}
 
 -- ---- nonces
 

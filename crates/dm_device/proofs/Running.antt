@@ -28,12 +28,12 @@ use Rattle.dm_device.specs.Holding.{session_at, SessionDoes, Holds}
 use Rattle.dm_device.specs.Runs.{Route, Heards, heard_in, Run, line_by, session_line, session_part, closing}
 use Rattle.dm_device.specs.Runs.{closing_by, last_session, given_part, follow_up}
 use Rattle.dm_device.specs.Runs.{leaves_update, behind_first, device_run, exit_of_word, ended_well, IsDone, IsCut}
-use Rattle.dm_device.specs.Runs.{EndsPart, IsRun}
+use Rattle.dm_device.specs.Runs.{EndsPart, IsRun, behind_session}
 use Rattle.dm_device.specs.Ending.{IsCutShort, HoldDoes, unheard, PartDoes, CloseDoes, Gave}
 use Rattle.dm_device.specs.Ending.{InstallDoes, FollowDoes}
 use Rattle.dm_device.proofs.Putting.{empty_prefix}
 use Rattle.dm_device.proofs.Told.{told_as, if_told}
-use Rattle.dm_device.proofs.Joining.{all_in_part, cut_first, cut_second, ends_both}
+use Rattle.dm_device.proofs.Joining.{all_in_part, cut_first, cut_second, ends_both, in_order, first_alone}
 
 -- ---- a session and its line
 
@@ -355,6 +355,7 @@ run_cut r account number g hs e s t old new short cut =
           (cut_first r.address (session_part number x)
           (behind_first r account number x.going.machine x.going.nonces h x.word) hs s t old new
           (behind_nonces r account number x.going.machine x.going.nonces hs [] x.word) cut)),
+      first_alone r.address (session_part number x) (behind_session r account number x h) hs [] e s t old new short cut,
     )
 
 pub run_closes : (r : Route) (account number : ℕ) (g : Going) (hs : List Heard) (d : Machine) (w : Word) (e : Exit)
@@ -377,6 +378,8 @@ run_closes r account number g hs d w e s t u old mid new done over is leaves clo
           x.word) hs
           closes.0 e s t u old mid new done
           (subst (λ z. EndsPart r.address z closes.0 e t u mid new) (sym same) closes.1),
+      in_order r.address (session_part number x) (behind_session r account number x h) hs closes.0 e s t u old mid new
+          done (subst (λ z. EndsPart r.address z closes.0 e t u mid new) (sym same) closes.1),
     )
 
 pub run_follows : (r : Route) (account number : ℕ) (g : Going) (hs : List Heard) (d : Machine) (w : Word) (e : Exit)
@@ -400,6 +403,9 @@ run_follows r account number g hs d w e s t u old mid new done over is leaves fo
       ends_both r.address (session_part number x) (behind_first r account number x.going.machine x.going.nonces h
           x.word) hs
           (follows.1 ++ follows.2) e s t u old mid new done
+          (subst (λ z. EndsPart r.address z (follows.1 ++ follows.2) e t u mid new) (sym same) follows.3),
+      in_order r.address (session_part number x) (behind_session r account number x h) hs (follows.1 ++ follows.2) e s
+          t u old mid new done
           (subst (λ z. EndsPart r.address z (follows.1 ++ follows.2) e t u mid new) (sym same) follows.3),
     )
 

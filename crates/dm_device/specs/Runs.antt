@@ -1,5 +1,5 @@
 -- A whole run: a session, and behind it a farewell, or an update and one more session.
-use Rattle.std.specs.Prelude.{◌≡◌, ◌≤◌, ◌+◌, ◌++◌, ℕ, Bool, true, false, if◌then◌else◌, List, [], ◌∷◌, drop, take}
+use Rattle.std.specs.Prelude.{◌≡◌, ◌≤◌, ◌+◌, ◌++◌, ◌⊎◌, ⊤, ℕ, Bool, true, false, if◌then◌else◌, List, [], ◌∷◌, drop, take}
 use Rattle.std.specs.Prelude.{codes}
 use Rattle.std.specs.Prelude.{Option, Some, None, option_map}
 use Rattle.std.specs.Fmt.{decimal}
@@ -208,7 +208,27 @@ EndsPart address r hs exit.WriteFault before after old new = IsCut address r hs 
 EndsPart address r hs exit.NoMemory before after old new = IsCut address r hs before after old new
 EndsPart address r hs e before after old new = IsDone address r hs before after old new × (r.exit ≡ Some e)
 
--- by what was heard
+-- of two parts, one behind the other: nothing of the second was done, or all of the first
+abbrev pub IsCutInOrder : List ℕ → Run → Run → List Heard → List Heard → Outside → Outside → Option (List ℕ)
+    → Option (List ℕ) → Type 0
+IsCutInOrder address a b hs gs before after old new = IsCut address a hs before after old new
+    ⊎ ((between : Outside) × (mid : Option (List ℕ)) × IsDone address a hs before between old mid
+    × IsCut address b gs between after mid new)
+
+abbrev pub EndsInOrder : List ℕ → Run → Run → List Heard → List Heard → Exit → Outside → Outside → Option (List ℕ)
+    → Option (List ℕ) → Type 0
+EndsInOrder address a b hs gs exit.WriteFault before after old new = IsCutInOrder address a b hs gs before after old new
+EndsInOrder address a b hs gs exit.NoMemory before after old new = IsCutInOrder address a b hs gs before after old new
+EndsInOrder address a b hs gs e before after old new = ⊤
+
+-- what is behind a first session
+abbrev pub behind_session : Route → ℕ → ℕ → Session → Heards → Run
+behind_session r account number s h = behind_first r account number s.going.machine s.going.nonces h s.word
+
+-- by what was heard; nothing behind the first session is done before that is over and its line was put
 abbrev pub IsRun : Route → ℕ → ℕ → Going → Outside → Outside → Option (List ℕ) → Option (List ℕ) → Exit → Type 0
 IsRun r account number g before after old new e =
     (h : Heards) × EndsPart r.address (device_run r account number g h) (heard_in h) e before after old new
+    × EndsInOrder r.address (session_part number (session r.address r.path g h.first))
+    (behind_session r account number (session r.address r.path g h.first) h) h.first (h.second ++ h.parting) e
+    before after old new
