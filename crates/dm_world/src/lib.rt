@@ -5,7 +5,7 @@
 ghost use Rattle.dm_world.specs.Lockstep.{TakesTurns, Understands};
 ghost use Rattle.dm_world.specs.Order.{RunsInOrder};
 ghost use Rattle.dm_world.specs.Held.{ReadsTheSent};
-ghost use Rattle.dm_world.specs.Leaving.{ExecutesAsSaid};
+ghost use Rattle.dm_world.specs.Leaving.{ExecutesAsSaid, QueuesAsSaid};
 ghost use Rattle.dm_world.specs.Start.{JobsAreInRange};
 ghost use Rattle.dm_world.specs.Commands.{AnswersTheExecuted, ExecutesTheSent, NotesTheSent, SaysTheFound, SaysTheMade};
 ghost use Rattle.dm_world.specs.Report.{ReportsTheSaid};
@@ -52,6 +52,13 @@ pub fn executes_all()
 /// open group.
 pub fn executes_as_said()
     ensures { ExecutesAsSaid }
+{}
+
+/// Law: where a session goes on behind an accepted message, the client's next message is packed from a queue that is the
+/// header's answer, what waited, and the Statuses and Results that tell what was made, in its order: of what is said to
+/// be executed and of nothing else.
+pub fn queues_as_said()
+    ensures { QueuesAsSaid }
 {}
 
 /// Law: the server's reply to a message that it accepts, and what it has still to send then, are, the parts of a cut
