@@ -1,4 +1,5 @@
 // Runs of `device` over a dialer in memory.
+ghost use Rattle.std.specs.Prelude.{IfOk};
 ghost use Rattle.dm_outside.specs.Streams.{AreUntouched};
 
 use crate::reach::Reach;
@@ -67,20 +68,50 @@ fn text_of(alloc: Global, word: &[u8]) -> Result<Bytes> {
     Ok(text)
 }
 
+// A reply with the message that ends the session.
+fn last_reply(alloc: Global) -> Result<Bytes> {
+    let mut reply = Bytes::of_slice(alloc, HEAD)?;
+    if let Some(body) = hex_bytes(alloc, STATUSES)? {
+        reply.extend(body.as_slice())?;
+    }
+    Ok(reply)
+}
+
 #[test]
 fn one_request_finishes_a_session(rt: HostRuntime) -> Result<()> {
     let alloc = rt.alloc();
-    let mut reply = Bytes::of_slice(alloc, HEAD)?;
-    let body = hex_bytes(alloc, STATUSES)?;
-    assert!(rt; body.is_some());
-    if let Some(body) = body {
-        reply.extend(body.as_slice())?;
-    }
+    let reply = last_reply(alloc)?;
     let mut conns = List::new(alloc);
     conns.push(Some(MemStream::new(alloc, reply, 4096, List::new(alloc))))?;
     let (exit, sink) = managed(alloc, "s1", conns)?;
     assert_eq!(rt; exit, Exit::Done);
     assert_eq!(rt; sink.bytes(), text_of(alloc, b"finished")?.as_slice());
+    Ok(())
+}
+
+// A connection whose call of this number fails, and a good one behind it.
+fn bad_and_good(alloc: Global, number: u64) -> Result<List<Option<MemStream>>>
+    ensures { IfOk result AreUntouched }
+{
+    let mut fails = List::new(alloc);
+    fails.push(number)?;
+    let bad = MemStream::new(alloc, last_reply(alloc)?, 100, fails);
+    let good = MemStream::new(alloc, last_reply(alloc)?, 100, List::new(alloc));
+    let mut conns = List::new(alloc);
+    conns.push(Some(bad))?;
+    conns.push(Some(good))?;
+    Ok(conns)
+}
+
+// Each put and then each take of an exchange fails in turn; there are fewer of them than numbers here.
+#[test]
+fn a_fault_costs_its_exchange_alone(rt: HostRuntime) -> Result<()> {
+    let text = text_of(rt.alloc(), b"finished")?;
+    for number in 1..16 {
+        let (exit, sink) = managed(rt.alloc(), "s1", bad_and_good(rt.alloc(), number)?)?;
+        assert_eq!(rt; exit, Exit::Done);
+        assert_eq!(rt; sink.bytes(), text.as_slice());
+    }
     Ok(())
 }
 
