@@ -1,5 +1,5 @@
 use dm_base::{
-    Bytes, Failed, Fault, Form, LineOut, LineReason, Lines, List, MemSink, MemSource, Memory,
+    Bytes, Failed, Fault, FieldForm, LineOut, LineReason, Lines, List, MemSink, MemSource, Memory,
     TakeError, field, hex_bytes, hex_into, is_field, nonce, num, put_all, take_all,
 };
 use std::alloc::{AllocError, Global};
@@ -48,64 +48,64 @@ fn numbers_are_read() -> bool {
 }
 
 struct FormRow {
-    form: Form,
+    form: FieldForm,
     text: &'static str,
     want: bool,
 }
 
 const FORMS: [FormRow; 11] = [
     FormRow {
-        form: Form::Word,
+        form: FieldForm::Word,
         text: "",
         want: false,
     },
     FormRow {
-        form: Form::Id,
+        form: FieldForm::Id,
         text: "-",
         want: false,
     },
     FormRow {
-        form: Form::Id,
+        form: FieldForm::Id,
         text: "a*",
         want: false,
     },
     FormRow {
-        form: Form::Id,
+        form: FieldForm::Id,
         text: "a",
         want: true,
     },
     FormRow {
-        form: Form::Opt,
+        form: FieldForm::Opt,
         text: "-",
         want: true,
     },
     FormRow {
-        form: Form::Hex,
+        form: FieldForm::Hex,
         text: "-",
         want: true,
     },
     FormRow {
-        form: Form::Hex,
+        form: FieldForm::Hex,
         text: "",
         want: false,
     },
     FormRow {
-        form: Form::Nonce,
+        form: FieldForm::Nonce,
         text: "-",
         want: false,
     },
     FormRow {
-        form: Form::Num,
+        form: FieldForm::Num,
         text: "00",
         want: false,
     },
     FormRow {
-        form: Form::Num,
+        form: FieldForm::Num,
         text: "18446744073709551615",
         want: true,
     },
     FormRow {
-        form: Form::Num,
+        form: FieldForm::Num,
         text: "18446744073709551616",
         want: false,
     },

@@ -1,7 +1,7 @@
 // One reading of a document, in pieces.
 ghost use Rattle.std.specs.Prelude.{◌≡◌, ◌<◌, OnOk, Ok as Fine, None as Nothing};
-ghost use Rattle.wbxml_tokens.specs.Reading.{reading, refusal_of, ended};
-ghost use Rattle.wbxml_tokens.specs.Taking.{taken};
+ghost use Rattle.wbxml_tokens.specs.Reading.{reading, refusal_of, refused_at_end};
+ghost use Rattle.wbxml_tokens.specs.Taking.{taken_all};
 ghost use Rattle.codec_bench.specs.Folding.{folding, FoldsMessage};
 
 use crate::fold::Fold;
@@ -23,7 +23,7 @@ pub enum Way {
 
 // Refuses where the bytes so far are no whole document.
 fn end(reader: &Reader) -> Result<(), FeedError>
-    ensures { OnOk result (ended Nothing reader.now ≡ Nothing) }
+    ensures { OnOk result (refused_at_end Nothing reader.now ≡ Nothing) }
 {
     match reader.refusal_at_end() {
         Some(refusal) => Err(FeedError::Refused(refusal)),
@@ -34,7 +34,7 @@ fn end(reader: &Reader) -> Result<(), FeedError>
 // Folds the tokens of a document that is read at once.
 fn read_at_once(alloc: Global, bytes: &[u8], fold: &mut Fold) -> Result<(), FeedError>
     ensures whole { OnOk result (refusal_of bytes.now ≡ Nothing) }
-    ensures folded { OnOk result (taken folding fold.old (reading bytes.now).tokens ≡ Fine fold.new) }
+    ensures folded { OnOk result (taken_all folding fold.old (reading bytes.now).tokens ≡ Fine fold.new) }
 {
     let mut reader = Reader::new(alloc);
     reader.feed(bytes, fold)?;

@@ -2,7 +2,7 @@
 use dm_base::{Bytes, Memory};
 use std::alloc::Global;
 use std::test::Fail;
-use syncml_shape::{Place, Verdict, judge, place_of};
+use syncml_shape::{ChildPlace, ShapeVerdict, judge, place_of};
 use wbxml_tables::Element;
 use wbxml_tables::Element::{
     EAlert, EAtomic, EChal, ECmd, ECmdID, ECmdRef, ECorrelator, ECred, EData, EEMI, EExec, EFinal,
@@ -66,13 +66,13 @@ fn judge_both(
     tokens: &mut Vec<Token>,
     front: &[Piece],
     pieces: &[Piece],
-) -> Result<Verdict, Memory> {
+) -> Result<ShapeVerdict, Memory> {
     push_all(alloc, tokens, front)?;
     push_all(alloc, tokens, pieces)?;
     judge(alloc, tokens.as_slice())
 }
 
-fn judged(alloc: Global, front: &[Piece], pieces: &[Piece]) -> Result<Verdict, Memory> {
+fn judged(alloc: Global, front: &[Piece], pieces: &[Piece]) -> Result<ShapeVerdict, Memory> {
     let mut tokens = Vec::new(alloc);
     let verdict = judge_both(alloc, &mut tokens, front, pieces);
     drop(tokens);
@@ -80,24 +80,24 @@ fn judged(alloc: Global, front: &[Piece], pieces: &[Piece]) -> Result<Verdict, M
 }
 
 // Whether the verdict is the wanted one, of which the place counts from behind a front.
-fn is_wanted(verdict: Verdict, front: usize, wanted: Verdict) -> bool {
+fn is_wanted(verdict: ShapeVerdict, front: usize, wanted: ShapeVerdict) -> bool {
     match (verdict, wanted) {
         (
-            Verdict::Refused { at, reason },
-            Verdict::Refused {
+            ShapeVerdict::Refused { at, reason },
+            ShapeVerdict::Refused {
                 at: place,
                 reason: why,
             },
         ) => { at >= front && at - front == place && reason == why }
-        (Verdict::Whole, Verdict::Whole) => true,
-        (Verdict::Unfinished, Verdict::Unfinished) => true,
+        (ShapeVerdict::Whole, ShapeVerdict::Whole) => true,
+        (ShapeVerdict::Unfinished, ShapeVerdict::Unfinished) => true,
         _ => false,
     }
 }
 
 struct Case {
     pieces: &'static [Piece],
-    verdict: Verdict,
+    verdict: ShapeVerdict,
 }
 
 fn all_are(alloc: Global, front: &[Piece], cases: &[Case]) -> Result<bool, Memory> {
@@ -113,13 +113,13 @@ fn all_are(alloc: Global, front: &[Piece], cases: &[Case]) -> Result<bool, Memor
     Ok(true)
 }
 
-const WHOLE: Verdict = Verdict::Whole;
+const WHOLE: ShapeVerdict = ShapeVerdict::Whole;
 
-const UNFINISHED: Verdict = Verdict::Unfinished;
+const UNFINISHED: ShapeVerdict = ShapeVerdict::Unfinished;
 
 macro_rules! at {
     ($at:literal, $reason:ident) => {
-        Verdict::Refused {
+        ShapeVerdict::Refused {
             at: $at,
             reason: Reason::$reason,
         }
@@ -311,7 +311,7 @@ fn judges_a_header(rt: HostRuntime) -> Result<(), Fail> {
 struct InParent {
     parent: Element,
     child: Element,
-    place: Option<Place>,
+    place: Option<ChildPlace>,
 }
 
 macro_rules! place {
@@ -326,7 +326,7 @@ macro_rules! place {
         InParent {
             parent: $parent,
             child: $child,
-            place: Some(Place {
+            place: Some(ChildPlace {
                 order: $order,
                 required: $required,
                 many: $many,

@@ -9,7 +9,7 @@ use syncml_shape::rows::{
     ALERT, ATOMIC, BODY, CHAL, CRED, EXEC, HEADER, ITEM, LOC, MESSAGE, PLAIN, RESULTS, SEQUENCE,
     STATUS,
 };
-use syncml_shape::{Choice, Kind, Outline, Row};
+use syncml_shape::{ChildRow, Choice, Kind, Outline};
 use wbxml_tables::Element;
 use wbxml_tables::Element::{
     EAdd, EAlert, EAnchor, EArchive, EAtomic, EChal, ECmd, ECmdID, ECmdRef, ECopy, ECred, EData,
@@ -25,7 +25,7 @@ use wbxml_tokens::{Reason, Stop};
 struct Context {
     in_body: bool,
     front: &'static [Piece],
-    rows: &'static [Row],
+    rows: &'static [ChildRow],
 }
 
 macro_rules! context {
@@ -107,13 +107,13 @@ fn take_all(outline: &mut Outline, alloc: Global, pieces: &[Piece]) -> bool {
     true
 }
 
-fn take_child(outline: &mut Outline, alloc: Global, row: &Row) -> bool {
+fn take_child(outline: &mut Outline, alloc: Global, row: &ChildRow) -> bool {
     take_all(outline, alloc, &[Open(element_in(row.choice))])
         && take_all(outline, alloc, least_in(row.choice))
         && take_all(outline, alloc, &[End])
 }
 
-fn take_required(outline: &mut Outline, alloc: Global, rows: &[Row]) -> bool {
+fn take_required(outline: &mut Outline, alloc: Global, rows: &[ChildRow]) -> bool {
     for row in rows {
         if row.required && !take_child(outline, alloc, row) {
             return false;
@@ -138,12 +138,12 @@ fn is_misplaced(outline: &mut Outline, alloc: Global, piece: Piece) -> bool {
     )
 }
 
-fn may_end(outline: &mut Outline, alloc: Global, rows: &[Row]) -> bool {
+fn may_end(outline: &mut Outline, alloc: Global, rows: &[ChildRow]) -> bool {
     take_required(outline, alloc, rows) && take_all(outline, alloc, &[End])
 }
 
 // Where what is required before this row stands, neither END nor what comes behind it is taken.
-fn needs_row(outline: &mut Outline, alloc: Global, rows: &[Row], at: usize) -> bool
+fn needs_row(outline: &mut Outline, alloc: Global, rows: &[ChildRow], at: usize) -> bool
     requires { at < length rows.now }
 {
     take_required(outline, alloc, &rows[..at])
@@ -164,7 +164,7 @@ fn needs_its_children(alloc: Global, context: &Context) -> bool {
     holds
 }
 
-fn takes_any(outline: &mut Outline, alloc: Global, rows: &[Row]) -> bool {
+fn takes_any(outline: &mut Outline, alloc: Global, rows: &[ChildRow]) -> bool {
     for row in rows {
         if !is_misplaced(outline, alloc, Open(element_in(row.choice))) {
             return true;
@@ -174,7 +174,7 @@ fn takes_any(outline: &mut Outline, alloc: Global, rows: &[Row]) -> bool {
 }
 
 // A second child of a row is taken exactly where the row has many.
-fn repeats(outline: &mut Outline, alloc: Global, before: &[Row], row: &Row) -> bool {
+fn repeats(outline: &mut Outline, alloc: Global, before: &[ChildRow], row: &ChildRow) -> bool {
     take_required(outline, alloc, before)
         && take_child(outline, alloc, row)
         && take_child(outline, alloc, row) == row.many
@@ -190,7 +190,7 @@ fn repeats_by_its_rows(alloc: Global, context: &Context) -> bool {
 }
 
 // Behind a child of a row none of the row before it comes.
-fn keeps_behind(outline: &mut Outline, alloc: Global, before: &[Row], row: &Row) -> bool {
+fn keeps_behind(outline: &mut Outline, alloc: Global, before: &[ChildRow], row: &ChildRow) -> bool {
     match before.last() {
         None => true,
         Some(last) => {

@@ -1,7 +1,7 @@
 // A taker that refuses one of the tokens that a reader hands it.
 ghost use Rattle.std.specs.Prelude.{◌≡◌, ◌-◌, Some, ⊤, OnOk};
 ghost use Rattle.codec_tests.specs.Counting.{refusal_of};
-ghost use Rattle.wbxml_tokens.specs.Taking.{Takes};
+ghost use Rattle.wbxml_tokens.specs.Taking.{TakesToken};
 
 use std::alloc::Global;
 use std::marker::Model;
@@ -28,7 +28,7 @@ impl Model for Counter {
 impl Counter {
     fn take(&mut self) -> Result<(), Reason>
         ensures ok { OnOk result (self.new ≡ self.old - 1) }
-        ensures taken { Takes Some (λ old new. ⊤) result self.old self.new (refusal_of self.old) }
+        ensures taken { TakesToken Some (λ old new. ⊤) result self.old self.new (refusal_of self.old) }
     {
         self.calls = self.calls.saturating_add(1);
         if self.takes == 0 {

@@ -13,10 +13,11 @@ use Rattle.dm_acl.specs.declared.values.Right.{Right}
 use Rattle.dm_acl.specs.declared.values.Right.TheVariants as right
 use Rattle.dm_acl.specs.declared.values.Servers.{Servers}
 use Rattle.dm_acl.specs.declared.values.Servers.TheVariants.{Everybody, Named}
-use Rattle.dm_acl.specs.declared.values.Entry.{Entry}
+use Rattle.dm_acl.specs.declared.values.AclEntry.{AclEntry}
 use Rattle.dm_acl.specs.Grammar.{is_name_byte, is_server_name, IsServers, IsEntry, servers_text, head_of, entry_text}
 use Rattle.dm_acl.specs.Grammar.{meant, meant_entry, unrepeated}
-use Rattle.dm_acl.specs.Reading.{names_in, named, servers_in, begins, right_in, entry_with, entry_behind, entry_in}
+use Rattle.dm_acl.specs.Reading.{names_in, named, servers_in, begins_entry, right_in, entry_with, entry_behind}
+use Rattle.dm_acl.specs.Reading.{entry_in}
 use Rattle.dm_acl.specs.Laws.{has_no}
 use Rattle.dm_acl.proofs.Splits.{and_true, both_true, not_true, split_joined, joined_split}
 
@@ -118,7 +119,7 @@ behind_head right.Get list = refl
 behind_head right.Replace list = refl
 
 -- the text of an entry is read as what it means
-pub entry_read : (e : Entry) → IsEntry e → entry_in (entry_text e) ≡ Some (meant_entry e)
+pub entry_read : (e : AclEntry) → IsEntry e → entry_in (entry_text e) ≡ Some (meant_entry e)
 entry_read e good =
     ap (entry_behind (entry_text e)) (right_read e.right (servers_text e.servers))
     ∙ ap (λ list. entry_with e.right (servers_in list)) (behind_head e.right (servers_text e.servers))
@@ -129,39 +130,39 @@ entry_read e good =
 eqb-both : (a b : ℕ) → Decides (a == b) (a ≡ b)
 eqb-both a b = (λ h. search (rules, tests), λ h. search (rules, tests))
 
-begun : (part : List ℕ) (r : Right) → begins part r ≡ true → part ≡ head_of r ++ drop (length (head_of r)) part
-begun part r h = (starts_is eqb-both part (head_of r) (begins part r) refl).0 h
+begun : (part : List ℕ) (r : Right) → begins_entry part r ≡ true → part ≡ head_of r ++ drop (length (head_of r)) part
+begun part r h = (starts_is eqb-both part (head_of r) (begins_entry part r) refl).0 h
 
-right_by : (part : List ℕ) (r got : Right) (t : Bool) (rest : Option Right) → begins part r ≡ t
-    → (rest ≡ Some got → begins part got ≡ true)
-    → (if t then Some r else rest) ≡ Some got → begins part got ≡ true
-right_by part r got true rest is below h = subst (λ r. begins part r ≡ true) (some_same r got h) is
+right_by : (part : List ℕ) (r got : Right) (t : Bool) (rest : Option Right) → begins_entry part r ≡ t
+    → (rest ≡ Some got → begins_entry part got ≡ true)
+    → (if t then Some r else rest) ≡ Some got → begins_entry part got ≡ true
+right_by part r got true rest is below h = subst (λ r. begins_entry part r ≡ true) (some_same r got h) is
   where
     some_same : (a b : Right) → Some a ≡ Some b → a ≡ b
     some_same a b e = cc
 right_by part r got false rest is below h = below h
 
-right_of : (part : List ℕ) (got : Right) → right_in part ≡ Some got → begins part got ≡ true
+right_of : (part : List ℕ) (got : Right) → right_in part ≡ Some got → begins_entry part got ≡ true
 right_of part got h =
-    right_by part right.Add got (begins part right.Add) _ refl
-    (right_by part right.Delete got (begins part right.Delete) _ refl
-    (right_by part right.Exec got (begins part right.Exec) _ refl
-    (right_by part right.Get got (begins part right.Get) _ refl
-    (right_by part right.Replace got (begins part right.Replace) None refl (λ e. absurd (none≢some e))))))
+    right_by part right.Add got (begins_entry part right.Add) _ refl
+    (right_by part right.Delete got (begins_entry part right.Delete) _ refl
+    (right_by part right.Exec got (begins_entry part right.Exec) _ refl
+    (right_by part right.Get got (begins_entry part right.Get) _ refl
+    (right_by part right.Replace got (begins_entry part right.Replace) None refl (λ e. absurd (none≢some e))))))
     h
 
-with_of : (r : Right) (o : Option Servers) (e : Entry) → entry_with r o ≡ Some e
+with_of : (r : Right) (o : Option Servers) (e : AclEntry) → entry_with r o ≡ Some e
     → (s : Servers) × (o ≡ Some s) × (e ≡ record { right = r; servers = s })
 with_of r None e h = absurd (none≢some h)
 with_of r (Some s) e h = (s, refl, cc)
 
-behind_of : (part : List ℕ) (o : Option Right) (e : Entry) → entry_behind part o ≡ Some e
+behind_of : (part : List ℕ) (o : Option Right) (e : AclEntry) → entry_behind part o ≡ Some e
     → (r : Right) × (o ≡ Some r) × (entry_with r (servers_in (drop (length (head_of r)) part)) ≡ Some e)
 behind_of part None e h = absurd (none≢some h)
 behind_of part (Some r) e h = (r, refl, h)
 
 -- what is read as an entry is the text of one, as what it means
-pub entry_from : (part : List ℕ) (e : Entry) → entry_in part ≡ Some e → (w : Entry) × IsEntry w × (part ≡ entry_text w)
+pub entry_from : (part : List ℕ) (e : AclEntry) → entry_in part ≡ Some e → (w : AclEntry) × IsEntry w × (part ≡ entry_text w)
     × (e ≡ meant_entry w)
 entry_from part e h =
     let named = behind_of part (right_in part) e h in
@@ -197,5 +198,5 @@ clear_head right.Exec list h = h
 clear_head right.Get list h = h
 clear_head right.Replace list h = h
 
-pub clear_entry : (e : Entry) → IsEntry e → has_no 38 (entry_text e) ≡ true
+pub clear_entry : (e : AclEntry) → IsEntry e → has_no 38 (entry_text e) ≡ true
 clear_entry e h = clear_head e.right (servers_text e.servers) (clear_servers e.servers h)

@@ -7,7 +7,7 @@ use Rattle.dm_acl.specs.declared.values.Right.{Right}
 use Rattle.dm_acl.specs.declared.values.Servers.{Servers}
 use Rattle.dm_acl.specs.declared.values.AclError.{AclError}
 use Rattle.dm_acl.specs.declared.values.AclError.TheVariants as error
-use Rattle.dm_acl.specs.declared.values.Entry.{Entry}
+use Rattle.dm_acl.specs.declared.values.AclEntry.{AclEntry}
 use Rattle.dm_acl.specs.declared.values.Entries.{Entries}
 use Rattle.dm_acl.specs.Grammar.{IsEntry, entry_text, entry_of, with_servers, with_entry, with_entries, meant_entry}
 use Rattle.dm_acl.specs.Reading.{entry_in, put_new, put_entry, after_part, go_on, after_parts}
@@ -27,7 +27,7 @@ same_fault a b e = cc
 -- ---- one part
 
 -- a part that is taken is an entry of a command that has none yet
-taken_by : (t : Bool) (acl next : Entries) (at : ℕ) (e : Entry) → put_new t acl at e ≡ Ok next
+taken_by : (t : Bool) (acl next : Entries) (at : ℕ) (e : AclEntry) → put_new t acl at e ≡ Ok next
     → (t ≡ false) × (next ≡ with_entry acl e)
 taken_by true acl next at e h = absurd (ok≢err next _ (sym h))
 taken_by false acl next at e h = (refl, sym (same_ok _ _ h))
@@ -36,15 +36,15 @@ not_some : {A : Type 0} (o : Option A) → is_some o ≡ false → o ≡ None
 not_some None h = refl
 not_some (Some x) h = cc
 
-taken_in : (o : Option Entry) (acl next : Entries) (at : ℕ) → put_entry acl at o ≡ Ok next
-    → (e : Entry) × (o ≡ Some e) × (entry_of acl e.right ≡ None) × (next ≡ with_entry acl e)
+taken_in : (o : Option AclEntry) (acl next : Entries) (at : ℕ) → put_entry acl at o ≡ Ok next
+    → (e : AclEntry) × (o ≡ Some e) × (entry_of acl e.right ≡ None) × (next ≡ with_entry acl e)
 taken_in None acl next at h = absurd (ok≢err next _ (sym h))
 taken_in (Some e) acl next at h =
     let got = taken_by (is_some (entry_of acl e.right)) acl next at e h in
     (e, refl, not_some (entry_of acl e.right) got.0, got.1)
 
 part_taken : (acl next : Entries) (at : ℕ) (part : List ℕ) → after_part acl at part ≡ Ok next
-    → (w : Entry) × IsEntry w × (part ≡ entry_text w) × (entry_of acl w.right ≡ None)
+    → (w : AclEntry) × IsEntry w × (part ≡ entry_text w) × (entry_of acl w.right ≡ None)
     × (next ≡ with_entry acl (meant_entry w))
 unfolding after_part
 part_taken acl next at part h =
@@ -54,12 +54,12 @@ part_taken acl next at part h =
       w,
       from.1,
       from.2,
-      subst (λ (e : Entry). entry_of acl e.right ≡ None) from.3 got.2,
+      subst (λ (e : AclEntry). entry_of acl e.right ≡ None) from.3 got.2,
       got.3 ∙ ap (with_entry acl) from.3,
     )
 
 -- an entry of a command that has none yet is taken
-part_read : (acl : Entries) (at : ℕ) (w : Entry) → IsEntry w → entry_of acl w.right ≡ None
+part_read : (acl : Entries) (at : ℕ) (w : AclEntry) → IsEntry w → entry_of acl w.right ≡ None
     → after_part acl at (entry_text w) ≡ Ok (with_entry acl (meant_entry w))
 unfolding after_part
 part_read acl at w good free =
@@ -67,9 +67,9 @@ part_read acl at w good free =
 
 -- a fault, as the entries so far show it
 abbrev pub IsFaultIn : Entries → List ℕ → Type 0
-IsFaultIn acl part = (e : Entry) → IsEntry e → part ≡ entry_text e → is_some (entry_of acl e.right) ≡ true
+IsFaultIn acl part = (e : AclEntry) → IsEntry e → part ≡ entry_text e → is_some (entry_of acl e.right) ≡ true
 
-refused_by : (t : Bool) (acl : Entries) (at bad : ℕ) (e : Entry) → put_new t acl at e ≡ Err (error.Malformed bad)
+refused_by : (t : Bool) (acl : Entries) (at bad : ℕ) (e : AclEntry) → put_new t acl at e ≡ Err (error.Malformed bad)
     → (bad ≡ at) × (t ≡ true)
 refused_by true acl at bad e h = (sym (same_fault at bad h), refl)
 refused_by false acl at bad e h = absurd (ok≢err _ _ h)
@@ -77,15 +77,15 @@ refused_by false acl at bad e h = absurd (ok≢err _ _ h)
 some≢none : {A : Type 0} (x : A) → None ≡ Some x → ⊥
 some≢none x h = cc
 
-same_some : (a b : Entry) → Some a ≡ Some b → a ≡ b
+same_some : (a b : AclEntry) → Some a ≡ Some b → a ≡ b
 same_some a b h = cc
 
-refused_in : (o : Option Entry) (acl : Entries) (at bad : ℕ) → put_entry acl at o ≡ Err (error.Malformed bad)
-    → (bad ≡ at) × ((e : Entry) → o ≡ Some e → is_some (entry_of acl e.right) ≡ true)
+refused_in : (o : Option AclEntry) (acl : Entries) (at bad : ℕ) → put_entry acl at o ≡ Err (error.Malformed bad)
+    → (bad ≡ at) × ((e : AclEntry) → o ≡ Some e → is_some (entry_of acl e.right) ≡ true)
 refused_in None acl at bad h = (sym (same_fault at bad h), λ e is. absurd (some≢none e is))
 refused_in (Some e) acl at bad h =
     let got = refused_by (is_some (entry_of acl e.right)) acl at bad e h in
-    (got.0, λ f is. subst (λ (e : Entry). is_some (entry_of acl e.right) ≡ true) (same_some e f is) got.1)
+    (got.0, λ f is. subst (λ (e : AclEntry). is_some (entry_of acl e.right) ≡ true) (same_some e f is) got.1)
 
 part_refused : (acl : Entries) (at bad : ℕ) (part : List ℕ) → after_part acl at part ≡ Err (error.Malformed bad)
     → (bad ≡ at) × IsFaultIn acl part
@@ -94,8 +94,8 @@ part_refused acl at bad part h =
     let got = refused_in (entry_in part) acl at bad h in
     (got.0, λ e good is. got.1 (meant_entry e) (ap entry_in is ∙ entry_read e good))
 
-fault_in : (o : Option Entry) (acl : Entries) (at : ℕ)
-    → ((e : Entry) → o ≡ Some e → is_some (entry_of acl e.right) ≡ true) → put_entry acl at o ≡ Err (error.Malformed at)
+fault_in : (o : Option AclEntry) (acl : Entries) (at : ℕ)
+    → ((e : AclEntry) → o ≡ Some e → is_some (entry_of acl e.right) ≡ true) → put_entry acl at o ≡ Err (error.Malformed at)
 fault_in None acl at h = refl
 fault_in (Some e) acl at h = ap (λ t. put_new t acl at e) (h e refl)
 
@@ -105,18 +105,18 @@ unfolding after_part
 part_fault acl at part fault =
     fault_in (entry_in part) acl at (λ e is.
     let from = entry_from part e is in
-    subst (λ (e : Entry). is_some (entry_of acl e.right) ≡ true) (sym from.3) (fault from.0 from.1 from.2))
+    subst (λ (e : AclEntry). is_some (entry_of acl e.right) ≡ true) (sym from.3) (fault from.0 from.1 from.2))
 
 -- a refusal is never want of memory
 part_told : (acl : Entries) (at : ℕ) (part : List ℕ) → after_part acl at part ≡ Err error.Memory → ⊥
 unfolding after_part
 part_told acl at part h = told_in (entry_in part) h
   where
-    told_by : (t : Bool) (e : Entry) → put_new t acl at e ≡ Err error.Memory → ⊥
+    told_by : (t : Bool) (e : AclEntry) → put_new t acl at e ≡ Err error.Memory → ⊥
     told_by true e h = cc
     told_by false e h = cc
 
-    told_in : (o : Option Entry) → put_entry acl at o ≡ Err error.Memory → ⊥
+    told_in : (o : Option AclEntry) → put_entry acl at o ≡ Err error.Memory → ⊥
     told_in None h = cc
     told_in (Some e) h = told_by (is_some (entry_of acl e.right)) e h
 
@@ -129,7 +129,7 @@ on_ok (Err e) f out h = absurd (ok≢err out e (sym h))
 
 -- parts that are all taken are entries of different commands
 pub parts_taken : (parts : List (List ℕ)) (acl out : Entries) (at : ℕ) → after_parts acl at parts ≡ Ok out
-    → (es : List Entry) × AllByRecursion IsEntry es × AreNew acl es × (parts ≡ map entry_text es)
+    → (es : List AclEntry) × AllByRecursion IsEntry es × AreNew acl es × (parts ≡ map entry_text es)
     × (out ≡ with_entries acl es)
 parts_taken [] acl out at h = ([], tt, tt, refl, sym (same_ok acl out h))
 parts_taken (part ∷ parts) acl out at h =
@@ -148,7 +148,7 @@ parts_taken (part ∷ parts) acl out at h =
     )
 
 -- such entries are all taken
-pub parts_read : (es : List Entry) (acl : Entries) (at : ℕ) → AllByRecursion IsEntry es → AreNew acl es
+pub parts_read : (es : List AclEntry) (acl : Entries) (at : ℕ) → AllByRecursion IsEntry es → AreNew acl es
     → after_parts acl at (map entry_text es) ≡ Ok (with_entries acl es)
 parts_read [] acl at good new = refl
 parts_read (e ∷ es) acl at good new =
@@ -166,7 +166,7 @@ on_err (Err d) f e h = inl (ap (λ x. Err x) (same_err d e h))
 
 -- entries, the part behind them at which reading stops, and the parts after it
 pub record Stops (acl : Entries) (at : ℕ) (parts : List (List ℕ)) (bad : ℕ) : Type 0 where
-  pub before : List Entry
+  pub before : List AclEntry
   pub part : List ℕ
   pub later : List (List ℕ)
   pub good : AllByRecursion IsEntry before
@@ -190,14 +190,14 @@ stops_here acl at bad part parts h =
       bad_is = omega (arith, got.0);
     }
 
-front_more : (e : Entry) (es : List Entry)
+front_more : (e : AclEntry) (es : List AclEntry)
     → length (front_text (e ∷ es)) ≡ length (entry_text e) + 1 + length (front_text es)
 front_more e es =
     let one = length-append (entry_text e ++ 38 ∷ []) (front_text es) in
     let two = length-append (entry_text e) (38 ∷ []) in
     omega (arith, one, two)
 
-stops_later : (acl next : Entries) (at bad : ℕ) (part : List ℕ) (parts : List (List ℕ)) (w : Entry)
+stops_later : (acl next : Entries) (at bad : ℕ) (part : List ℕ) (parts : List (List ℕ)) (w : AclEntry)
     → IsEntry w → part ≡ entry_text w → entry_of acl w.right ≡ None
     → Stops (with_entry acl (meant_entry w)) (at + (length part + 1)) parts bad → Stops acl at (part ∷ parts) bad
 stops_later acl next at bad part parts w good is free rest =
@@ -237,7 +237,7 @@ parts_stop (part ∷ parts) acl at bad h =
         stops_later acl next at bad part parts one.0 one.1 one.2 one.3 (rest next after)
 
 -- at a fault behind entries of different commands reading stops
-pub parts_stopped : (es : List Entry) (acl : Entries) (at : ℕ) (part : List ℕ) (later : List (List ℕ))
+pub parts_stopped : (es : List AclEntry) (acl : Entries) (at : ℕ) (part : List ℕ) (later : List (List ℕ))
     → AllByRecursion IsEntry es → AreNew acl es → IsFaultIn (with_entries acl es) part
     → after_parts acl at (map entry_text es ++ part ∷ later) ≡ Err (error.Malformed (at + length (front_text es)))
 parts_stopped [] acl at part later good new fault =
@@ -286,7 +286,7 @@ named_more acl named a s t alike r = by_put (put acl a r s) (put named a r t)
     by_put (inr kept) (inl same) = has_here acl a r s same.0 ∙ sym (has_here named a r t same.0)
     by_put (inr kept) (inr also) = ap is_some kept ∙ alike r ∙ sym (ap is_some also)
 
-pub alike_taken : (acl named : Entries) (at : ℕ) (part : List ℕ) (e : Entry) → AreNamedAlike acl named
+pub alike_taken : (acl named : Entries) (at : ℕ) (part : List ℕ) (e : AclEntry) → AreNamedAlike acl named
     → entry_in part ≡ Some e
     → entry_of named e.right ≡ None → after_part acl at part ≡ Ok (with_entry acl e)
 unfolding after_part
@@ -294,16 +294,16 @@ alike_taken acl named at part e alike is free =
     ap (put_entry acl at) is ∙ ap (λ t. put_new t acl at e) (alike e.right ∙ ap is_some free)
 
 pub alike_refused : (acl named : Entries) (at : ℕ) (part : List ℕ) → AreNamedAlike acl named
-    → ((e : Entry) → entry_in part ≡ Some e → is_some (entry_of named e.right) ≡ true)
+    → ((e : AclEntry) → entry_in part ≡ Some e → is_some (entry_of named e.right) ≡ true)
     → after_part acl at part ≡ Err (error.Malformed at)
 unfolding after_part
 alike_refused acl named at part alike has = fault_in (entry_in part) acl at (λ e is. alike e.right ∙ has e is)
 
 -- a part that is an entry of a command that has none yet
-pub entry_named : (o : Option Entry) (named : Entries) (right : Right)
-    → option_map (λ (e : Entry). e.right) o ≡ Some right
+pub entry_named : (o : Option AclEntry) (named : Entries) (right : Right)
+    → option_map (λ (e : AclEntry). e.right) o ≡ Some right
     → is_some (entry_of named right) ≡ false
-    → (e : Entry) × (o ≡ Some e) × (entry_of named e.right ≡ None) × (e.right ≡ right)
+    → (e : AclEntry) × (o ≡ Some e) × (entry_of named e.right ≡ None) × (e.right ≡ right)
 entry_named None named right is free = cc
 entry_named (Some e) named right is free =
     let same : e.right ≡ right = cc in

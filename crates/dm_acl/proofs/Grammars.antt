@@ -7,13 +7,13 @@ use Rattle.std.proofs.lemmas.List.Splits.{slice_split_none, slice_split_at}
 use borrow.Author.Tests.{tests}
 use Rattle.dm_acl.specs.declared.values.AclError.{AclError}
 use Rattle.dm_acl.specs.declared.values.AclError.TheVariants as error
-use Rattle.dm_acl.specs.declared.values.Entry.{Entry}
+use Rattle.dm_acl.specs.declared.values.AclEntry.{AclEntry}
 use Rattle.dm_acl.specs.declared.values.Entries.{Entries}
 use Rattle.dm_acl.specs.Grammar.{IsEntry, entry_text, entries_text, IsTextOf, no_entries, meaning, entries_in, printed}
 use Rattle.dm_acl.specs.Grammar.{IsAcl}
 use Rattle.dm_acl.specs.Reading.{parts_in, after_parts, parse_of, Answers}
 use Rattle.dm_acl.specs.Laws.{WhatIsReadIsMeant, WhatIsWrittenIsRead, has_no, front_text, IsBehind, HasFaultAt}
-use Rattle.dm_acl.specs.Laws.{IsRefusedAt, FirstFaultIsTold, OnlyFaultsAreTold, PrintedIsRead, PrintedIsNoLonger}
+use Rattle.dm_acl.specs.Laws.{IsMalformedAt, FirstFaultIsTold, OnlyFaultsAreTold, PrintedIsRead, PrintedIsNoLonger}
 use Rattle.dm_acl.specs.Laws.{PrintedIsShort, WhatIsReadIsReadAgain, ReadIsAcl, EntriesAllow, EntriesName}
 use Rattle.dm_acl.proofs.Parts.{some-parts}
 use Rattle.dm_acl.proofs.Splits.{none_passes, split_joined, clear_split, joined_split}
@@ -56,12 +56,12 @@ read_short text acl h = by_length (short_or_long text)
 
 -- ---- what is read is in the grammar
 
-some_map : (es : List Entry) → 0 < length (map entry_text es) → 0 < length es
+some_map : (es : List AclEntry) → 0 < length (map entry_text es) → 0 < length es
 some_map [] h = h
 some_map (e ∷ es) h = omega arith
 
 taken : (text : List ℕ) (acl : Entries) → parse_of text ≡ Ok acl
-    → (es : List Entry) × IsTextOf es text × (acl ≡ meaning es)
+    → (es : List AclEntry) × IsTextOf es text × (acl ≡ meaning es)
 taken text acl h =
     let short = read_short text acl h in
     let got = parts_taken (parts_in text) no_entries acl 0 (sym (parse_short text short) ∙ h) in
@@ -98,17 +98,17 @@ printed_is_short text acl h =
 
 -- ---- what is in the grammar is read
 
-clear_entries : (es : List Entry) → AllByRecursion IsEntry es
+clear_entries : (es : List AclEntry) → AllByRecursion IsEntry es
     → AllByRecursion (λ part. has_no 38 part ≡ true) (map entry_text es)
 clear_entries [] h = tt
 clear_entries (e ∷ es) h = (clear_entry e h.0, clear_entries es h.1)
 
-parts_of : (es : List Entry) → 0 < length es → AllByRecursion IsEntry es
+parts_of : (es : List AclEntry) → 0 < length es → AllByRecursion IsEntry es
     → parts_in (entries_text es) ≡ map entry_text es
 parts_of [] some good = absurd (omega arith)
 parts_of (e ∷ es) some good = split_joined 38 (entry_text e) (map entry_text es) (clear_entries (e ∷ es) good)
 
-written : (es : List Entry) (text : List ℕ) → 0 < length es → AllByRecursion IsEntry es → AreNew no_entries es
+written : (es : List AclEntry) (text : List ℕ) → 0 < length es → AllByRecursion IsEntry es → AreNew no_entries es
     → text ≡ entries_text es → length text ≤ 4096
     → parse_of text ≡ Ok (meaning es)
 written es text some good new is short =
@@ -149,7 +149,7 @@ joined_part part (l ∷ ls) = refl
 regroup : (e front more : List ℕ) → e ++ 38 ∷ (front ++ more) ≡ ((e ++ 38 ∷ []) ++ front) ++ more
 regroup e front more = sym (append_assoc (e ++ 38 ∷ []) front more ∙ append_assoc e (38 ∷ []) (front ++ more))
 
-joined_front : (es : List Entry) (part : List ℕ) (later : List (List ℕ))
+joined_front : (es : List AclEntry) (part : List ℕ) (later : List (List ℕ))
     → join_with_byte 38 (map entry_text es ++ part ∷ later) ≡ front_text es ++ (part ++ behind_text later)
 joined_front [] part later = joined_part part later
 joined_front (e ∷ es) part later =
@@ -188,16 +188,16 @@ fault_of text at s = record {
 same_fault : (a b : ℕ) → ◌≡◌ {A = Result Entries AclError} (Err (error.Malformed a)) (Err (error.Malformed b)) → a ≡ b
 same_fault a b h = cc
 
-told : (text : List ℕ) (at : ℕ) → parse_of text ≡ Err (error.Malformed at) → IsRefusedAt text at
+told : (text : List ℕ) (at : ℕ) → parse_of text ≡ Err (error.Malformed at) → IsMalformedAt text at
 told text at h = by_length (short_or_long text)
   where
-    by_length : (4096 < length text) ⊎ (length text ≤ 4096) → IsRefusedAt text at
+    by_length : (4096 < length text) ⊎ (length text ≤ 4096) → IsMalformedAt text at
     by_length (inl long) = inl (long, same_fault at 4096 (sym h ∙ parse_long text long))
     by_length (inr short) =
         inr (short, fault_of text at (parts_stop (parts_in text) no_entries 0 at (sym (parse_short text short) ∙ h)))
 
 -- a text is cut behind the entries before a fault
-cut_front : (es : List Entry) (more : List ℕ) → AllByRecursion IsEntry es
+cut_front : (es : List AclEntry) (more : List ℕ) → AllByRecursion IsEntry es
     → parts_in (front_text es ++ more) ≡ map entry_text es ++ parts_in more
 cut_front [] more good = refl
 cut_front (e ∷ es) more good =
@@ -230,7 +230,7 @@ refused text at short f =
     (λ e good is. has_from_named f.before no_entries e.right (f.fault e good is))
     ∙ ap (λ n. Err (error.Malformed n)) (omega (arith, f.at_is))
 
-refuses : (text : List ℕ) (at : ℕ) → IsRefusedAt text at → parse_of text ≡ Err (error.Malformed at)
+refuses : (text : List ℕ) (at : ℕ) → IsMalformedAt text at → parse_of text ≡ Err (error.Malformed at)
 refuses text at (inl long) = parse_long text long.0 ∙ ap (λ n. Err (error.Malformed n)) (sym long.1)
 refuses text at (inr short) = refused text at short.0 short.1
 

@@ -7,9 +7,9 @@ use Rattle.dm_acl.specs.declared.values.Right.{Right}
 use Rattle.dm_acl.specs.declared.values.Right.TheVariants as right
 use Rattle.dm_acl.specs.declared.values.Servers.{Servers}
 use Rattle.dm_acl.specs.declared.values.Servers.TheVariants.{Everybody, Named}
-use Rattle.dm_acl.specs.declared.values.Entry.{Entry}
+use Rattle.dm_acl.specs.declared.values.AclEntry.{AclEntry}
 use Rattle.dm_acl.specs.declared.values.Entries.{Entries}
-use Rattle.dm_acl.specs.Grammar.{servers_text, head_of, entry_text, entries_text, with_name, with_names, unrepeated}
+use Rattle.dm_acl.specs.Grammar.{servers_text, head_of, entry_text, entries_text, name_added, with_names, unrepeated}
 use Rattle.dm_acl.specs.Grammar.{meant, meant_entry, with_servers, with_entry, with_entries, no_entries, entry_for}
 use Rattle.dm_acl.specs.Grammar.{entries_in, printed}
 
@@ -39,7 +39,7 @@ name_by false names name = let e = size_append names (name ∷ []) in omega (ari
 names_size : (names more : List (List ℕ)) → size (with_names names more) ≤ size names + size more
 names_size names [] = omega arith
 names_size names (x ∷ xs) =
-    let a = names_size (with_name names x) xs in
+    let a = names_size (name_added names x) xs in
     let b = name_by (list_any (λ other. bytes_eq other x) names) names x in
     omega (arith, a, b)
 
@@ -90,7 +90,7 @@ cost_some : (r : Right) (s : Servers) → cost r (Some s) ≡ length (head_of r 
 unfolding cost
 cost_some r s = refl
 
-entries_total : (es : List Entry) (acl : Entries) → total (with_entries acl es) ≤ total acl + size (map entry_text es)
+entries_total : (es : List AclEntry) (acl : Entries) → total (with_entries acl es) ≤ total acl + size (map entry_text es)
 entries_total [] acl = omega arith
 entries_total (e ∷ es) acl =
     let a = entries_total es (with_entry acl (meant_entry e)) in
@@ -108,12 +108,12 @@ unfolding cost
 for_size r None = refl
 for_size r (Some s) = omega arith
 
-both_size : (xs ys : List Entry)
+both_size : (xs ys : List AclEntry)
     → size (map entry_text (xs ++ ys)) ≡ size (map entry_text xs) + size (map entry_text ys)
 both_size xs ys = ap size (map-append entry_text xs ys) ∙ size_append (map entry_text xs) (map entry_text ys)
 
 -- five lists of entries, one behind the other
-five_size : (a b c d e : List Entry) → size (map entry_text (a ++ b ++ c ++ d ++ e))
+five_size : (a b c d e : List AclEntry) → size (map entry_text (a ++ b ++ c ++ d ++ e))
     ≡ size (map entry_text a) + size (map entry_text b) + size (map entry_text c) + size (map entry_text d)
     + size (map entry_text e)
 five_size a b c d e =
@@ -137,7 +137,7 @@ in_total acl =
     omega (arith, all, a, d, e, g, r)
 
 -- what entries mean is printed in no more bytes than they are written in
-pub printed_shorter : (es : List Entry) → length (printed (with_entries no_entries es)) ≤ length (entries_text es)
+pub printed_shorter : (es : List AclEntry) → length (printed (with_entries no_entries es)) ≤ length (entries_text es)
 unfolding printed
 printed_shorter es =
     let acl = with_entries no_entries es in

@@ -8,9 +8,9 @@ use Rattle.dm_acl.specs.declared.values.Right.{Right}
 use Rattle.dm_acl.specs.declared.values.Right.TheVariants as right
 use Rattle.dm_acl.specs.declared.values.Servers.{Servers}
 use Rattle.dm_acl.specs.declared.values.Servers.TheVariants.{Everybody, Named}
-use Rattle.dm_acl.specs.declared.values.Entry.{Entry}
+use Rattle.dm_acl.specs.declared.values.AclEntry.{AclEntry}
 use Rattle.dm_acl.specs.declared.values.Entries.{Entries}
-use Rattle.dm_acl.specs.Grammar.{is_server_name, IsServers, IsEntry, Names, AreOnce, entry_of, with_name, with_names}
+use Rattle.dm_acl.specs.Grammar.{is_server_name, IsServers, IsEntry, Names, AreOnce, entry_of, name_added, with_names}
 use Rattle.dm_acl.specs.Grammar.{meant, meant_entry, with_entry, with_entries, no_entries, entry_for, entries_in}
 use Rattle.dm_acl.specs.Grammar.{AreMeant, IsAcl, allowed_by, allowed_in, allowed}
 use Rattle.dm_acl.specs.Laws.{Allow, is_one_of, AreDistinct, RepeatsAreLeftOut}
@@ -24,21 +24,21 @@ meant_good : (s : Servers) → IsServers s → AreMeant (Some (meant s))
 meant_good Everybody h = (tt, refl)
 meant_good (Named names) h = (good_from is_server_name [] names refl h, ap (λ ns. Named ns) (again names))
 
-meant_by : (acl : Entries) (e : Entry) (r : Right) → IsEntry e → AreMeant (entry_of acl r)
+meant_by : (acl : Entries) (e : AclEntry) (r : Right) → IsEntry e → AreMeant (entry_of acl r)
     → ((e.right ≡ r) × (entry_of (with_entry acl (meant_entry e)) r ≡ Some (meant e.servers)))
     ⊎ (entry_of (with_entry acl (meant_entry e)) r ≡ entry_of acl r)
     → AreMeant (entry_of (with_entry acl (meant_entry e)) r)
 meant_by acl e r good had (inl same) = subst AreMeant (sym same.1) (meant_good e.servers good)
 meant_by acl e r good had (inr kept) = subst AreMeant (sym kept) had
 
-meant_all : (es : List Entry) (acl : Entries) → AllByRecursion IsEntry es → ((r : Right) → AreMeant (entry_of acl r))
+meant_all : (es : List AclEntry) (acl : Entries) → AllByRecursion IsEntry es → ((r : Right) → AreMeant (entry_of acl r))
     → (r : Right) → AreMeant (entry_of (with_entries acl es) r)
 meant_all [] acl good had r = had r
 meant_all (e ∷ es) acl good had r =
     meant_all es (with_entry acl (meant_entry e)) good.1
     (λ r. meant_by acl e r good.0 (had r) (put acl e.right r (meant e.servers))) r
 
-pub acl_of : (es : List Entry) → 0 < length es → AllByRecursion IsEntry es → IsAcl (with_entries no_entries es)
+pub acl_of : (es : List AclEntry) → 0 < length es → AllByRecursion IsEntry es → IsAcl (with_entries no_entries es)
 acl_of [] some good = absurd (omega arith)
 acl_of (e ∷ es) some good = record {
   some = (e.right, has_from_named (e ∷ es) no_entries e.right (inl refl));
@@ -47,17 +47,17 @@ acl_of (e ∷ es) some good = record {
 
 -- ---- the entries in the order of the commands mean the access list
 
-all_append : (xs ys : List Entry) → AllByRecursion IsEntry xs → AllByRecursion IsEntry ys
+all_append : (xs ys : List AclEntry) → AllByRecursion IsEntry xs → AllByRecursion IsEntry ys
     → AllByRecursion IsEntry (xs ++ ys)
 all_append [] ys a b = b
 all_append (x ∷ xs) ys a b = (a.0, all_append xs ys a.1 b)
 
-new_append : (xs ys : List Entry) (acl : Entries) → AreNew acl xs → AreNew (with_entries acl xs) ys
+new_append : (xs ys : List AclEntry) (acl : Entries) → AreNew acl xs → AreNew (with_entries acl xs) ys
     → AreNew acl (xs ++ ys)
 new_append [] ys acl a b = b
 new_append (x ∷ xs) ys acl a b = (a.0, new_append xs ys (with_entry acl (meant_entry x)) a.1 b)
 
-with_append : (xs ys : List Entry) (acl : Entries) → with_entries acl (xs ++ ys) ≡ with_entries (with_entries acl xs) ys
+with_append : (xs ys : List AclEntry) (acl : Entries) → with_entries acl (xs ++ ys) ≡ with_entries (with_entries acl xs) ys
 with_append [] ys acl = refl
 with_append (x ∷ xs) ys acl = with_append xs ys (with_entry acl (meant_entry x))
 
@@ -97,12 +97,12 @@ for_new acl r None free = tt
 for_new acl r (Some s) free = (free, tt)
 
 -- what is known of entries that mean an access list
-record Mean (es : List Entry) (acl : Entries) : Type 0 where
+record Mean (es : List AclEntry) (acl : Entries) : Type 0 where
   good : AllByRecursion IsEntry es
   new : AreNew no_entries es
   means : with_entries no_entries es ≡ acl
 
-mean_more : (es : List Entry) (acl : Entries) (r : Right) (o : Option Servers) → AreMeant o → entry_of acl r ≡ None
+mean_more : (es : List AclEntry) (acl : Entries) (r : Right) (o : Option Servers) → AreMeant o → entry_of acl r ≡ None
     → Mean es acl → Mean (es ++ entry_for r o) (with_option acl r o)
 mean_more es acl r o h free m = record {
   good = all_append es (entry_for r o) m.good (for_good r o h);
@@ -141,7 +141,7 @@ entries_new acl is = (mean_in acl is).new
 pub entries_mean : (acl : Entries) → IsAcl acl → with_entries no_entries (entries_in acl) ≡ acl
 entries_mean acl is = (mean_in acl is).means
 
-some_named : (es : List Entry) (r : Right) → Names es r → 0 < length es
+some_named : (es : List AclEntry) (r : Right) → Names es r → 0 < length es
 some_named [] r h = absurd h
 some_named (e ∷ es) r h = omega arith
 
@@ -187,7 +187,7 @@ any_kept : (names more : List (List ℕ)) (server : List ℕ)
     ≡ (list_any (λ n. bytes_eq n server) names || list_any (λ n. bytes_eq n server) more)
 any_kept names [] server = sym (or_false (list_any (λ n. bytes_eq n server) names))
 any_kept names (x ∷ xs) server =
-    any_kept (with_name names x) xs server
+    any_kept (name_added names x) xs server
     ∙ ap (λ b. b || list_any (λ n. bytes_eq n server) xs)
     (any_by (list_any (λ other. bytes_eq other x) names) names x server refl)
     ∙ or_assoc (list_any (λ n. bytes_eq n server) names) (bytes_eq x server) (list_any (λ n. bytes_eq n server) xs)
@@ -225,7 +225,7 @@ distinct_by false names name is h = distinct_push names name h is
 
 distinct_from : (names more : List (List ℕ)) → AreDistinct names → AreDistinct (with_names names more)
 distinct_from names [] h = h
-distinct_from names (x ∷ xs) h = distinct_from (with_name names x) xs (distinct_by (is_one_of x names) names x refl h)
+distinct_from names (x ∷ xs) h = distinct_from (name_added names x) xs (distinct_by (is_one_of x names) names x refl h)
 
 pub repeats_are_left_out : RepeatsAreLeftOut
 repeats_are_left_out names = (distinct_from [] names tt, λ name. any_kept [] names name)
@@ -236,7 +236,7 @@ meant_allows : (s : Servers) (server : List ℕ) → allowed_by (meant s) server
 meant_allows Everybody server = refl
 meant_allows (Named names) server = any_kept [] names server
 
-not_named : (acl : Entries) (e : Entry) (r : Right) → (e.right ≡ r → ⊥)
+not_named : (acl : Entries) (e : AclEntry) (r : Right) → (e.right ≡ r → ⊥)
     → entry_of (with_entry acl (meant_entry e)) r ≡ entry_of acl r
 not_named acl e r other = by_put (put acl e.right r (meant e.servers))
   where
@@ -246,14 +246,14 @@ not_named acl e r other = by_put (put acl e.right r (meant e.servers))
     by_put (inl same) = absurd (other same.0)
     by_put (inr kept) = kept
 
-stays : (es : List Entry) (acl : Entries) (r : Right) → (Names es r → ⊥)
+stays : (es : List AclEntry) (acl : Entries) (r : Right) → (Names es r → ⊥)
     → entry_of (with_entries acl es) r ≡ entry_of acl r
 stays [] acl r none = refl
 stays (e ∷ es) acl r none =
     stays es (with_entry acl (meant_entry e)) r (λ named. none (inr named))
     ∙ not_named acl e r (λ same. none (inl same))
 
-allow_to : (es : List Entry) (acl : Entries) (server : List ℕ) (r : Right) → AreOnce es → Allow es server r
+allow_to : (es : List AclEntry) (acl : Entries) (server : List ℕ) (r : Right) → AreOnce es → Allow es server r
     → allowed (with_entries acl es) server r ≡ true
 allow_to [] acl server r once h = absurd h
 allow_to (e ∷ es) acl server r once (inl here) =
@@ -263,7 +263,7 @@ allow_to (e ∷ es) acl server r once (inl here) =
     ∙ meant_allows e.servers server ∙ here.1
 allow_to (e ∷ es) acl server r once (inr later) = allow_to es (with_entry acl (meant_entry e)) server r once.1 later
 
-allow_from : (es : List Entry) (acl : Entries) (server : List ℕ) (r : Right)
+allow_from : (es : List AclEntry) (acl : Entries) (server : List ℕ) (r : Right)
     → allowed (with_entries acl es) server r ≡ true → Allow es server r ⊎ (allowed acl server r ≡ true)
 allow_from [] acl server r h = inr h
 allow_from (e ∷ es) acl server r h =
@@ -287,7 +287,7 @@ none_allowed server r h = false_true (sym (ap (λ o. allowed_in o server) (none_
     false_true : false ≡ true → ⊥
     false_true e = cc
 
-pub entries_allow : (es : List Entry) (server : List ℕ) (r : Right) → AreOnce es
+pub entries_allow : (es : List AclEntry) (server : List ℕ) (r : Right) → AreOnce es
     → (allowed (with_entries no_entries es) server r ≡ true → Allow es server r)
     × (Allow es server r → allowed (with_entries no_entries es) server r ≡ true)
 entries_allow es server r once =

@@ -4,10 +4,10 @@ use Rattle.std.proofs.Common.{◌∙◌, Bool, true, false, if◌then◌else◌,
 use Rattle.std.specs.List.{list_any, list_all}
 use Rattle.std.proofs.lemmas.List.{at_drop_more, at_drop_all}
 use Rattle.std.proofs.lemmas.List.Folds.{list_all-append}
-use Rattle.dm_acl.specs.Grammar.{with_name, with_names, unrepeated}
+use Rattle.dm_acl.specs.Grammar.{name_added, with_names, unrepeated}
 
 pub names_more : (all : List (List ℕ)) (n m : ℕ) (name : List ℕ) (names new whole : List (List ℕ))
-    → m ≡ n + 1 → (n < length all) × (name ≡ get_or all n name) → new ≡ with_name names name
+    → m ≡ n + 1 → (n < length all) × (name ≡ get_or all n name) → new ≡ name_added names name
     → with_names names (drop n all) ≡ whole → with_names new (drop m all) ≡ whole
 names_more all n m name names new whole is turn h kept =
     ap (λ k. with_names new (drop k all)) is
@@ -24,22 +24,22 @@ names_all all n names whole is kept = sym (at_drop_all (with_names names) all n 
 
 with_append : (names xs ys : List (List ℕ)) → with_names names (xs ++ ys) ≡ with_names (with_names names xs) ys
 with_append names [] ys = refl
-with_append names (x ∷ xs) ys = with_append (with_name names x) xs ys
+with_append names (x ∷ xs) ys = with_append (name_added names x) xs ys
 
 again_by : (found : Bool) (names : List (List ℕ)) (name : List ℕ)
     → list_any (λ other. bytes_eq other name) names ≡ found
-    → unrepeated names ≡ names → unrepeated (with_name names name) ≡ with_name names name
+    → unrepeated names ≡ names → unrepeated (name_added names name) ≡ name_added names name
 again_by true names name is h =
-    let e : with_name names name ≡ names = ap (λ t. if t then names else names ++ name ∷ []) is in
+    let e : name_added names name ≡ names = ap (λ t. if t then names else names ++ name ∷ []) is in
     ap unrepeated e ∙ h ∙ sym e
 again_by false names name is h =
-    let e : with_name names name ≡ names ++ name ∷ [] = ap (λ t. if t then names else names ++ name ∷ []) is in
-    ap unrepeated e ∙ with_append [] names (name ∷ []) ∙ ap (λ t. with_name t name) h
+    let e : name_added names name ≡ names ++ name ∷ [] = ap (λ t. if t then names else names ++ name ∷ []) is in
+    ap unrepeated e ∙ with_append [] names (name ∷ []) ∙ ap (λ t. name_added t name) h
 
 again_from : (names more : List (List ℕ)) → unrepeated names ≡ names
     → unrepeated (with_names names more) ≡ with_names names more
 again_from names [] h = h
-again_from names (x ∷ xs) h = again_from (with_name names x) xs (again_by _ names x refl h)
+again_from names (x ∷ xs) h = again_from (name_added names x) xs (again_by _ names x refl h)
 
 pub again : (names : List (List ℕ)) → unrepeated (unrepeated names) ≡ unrepeated names
 again names = again_from [] names refl
@@ -63,7 +63,7 @@ pub good_from : (test : List ℕ → Bool) (names more : List (List ℕ)) → li
 good_from test names [] h m = h
 good_from test names (x ∷ xs) h m =
     let parts = and_true (test x) (list_all test xs) m in
-    good_from test (with_name names x) xs (good_by (list_any (λ other. bytes_eq other x) names) test names x h parts.0)
+    good_from test (name_added names x) xs (good_by (list_any (λ other. bytes_eq other x) names) test names x h parts.0)
     parts.1
   where
     and_true : (a b : Bool) → (a && b) ≡ true → (a ≡ true) × (b ≡ true)

@@ -5,7 +5,7 @@ use Rattle.std.specs.List.{join_with_byte, flat_map}
 use Rattle.dm_acl.specs.declared.values.Right.{Right}
 use Rattle.dm_acl.specs.declared.values.Right.TheVariants as right
 use Rattle.dm_acl.specs.declared.values.Servers.{Servers}
-use Rattle.dm_acl.specs.declared.values.Entry.{Entry}
+use Rattle.dm_acl.specs.declared.values.AclEntry.{AclEntry}
 use Rattle.dm_acl.specs.declared.values.Entries.{Entries}
 use Rattle.dm_acl.specs.Grammar.{head_of, servers_text, entry_text, entries_text, entry_for, entries_in, printed}
 use Rattle.dm_acl.specs.Printing.{behind_sign, with_entry_text}
@@ -24,7 +24,7 @@ names_put old mid new first more names is one rest =
 
 -- ---- entry by entry
 
-abbrev add_texts : List ℕ → List Entry → List ℕ
+abbrev add_texts : List ℕ → List AclEntry → List ℕ
 add_texts out [] = out
 add_texts out (e ∷ es) = add_texts (behind_sign out (entry_text e)) es
 
@@ -32,18 +32,18 @@ one : (out : List ℕ) (r : Right) (o : Option Servers) → with_entry_text out 
 one out r None = refl
 one out r (Some s) = refl
 
-more : (out : List ℕ) (xs ys : List Entry) → add_texts (add_texts out xs) ys ≡ add_texts out (xs ++ ys)
+more : (out : List ℕ) (xs ys : List AclEntry) → add_texts (add_texts out xs) ys ≡ add_texts out (xs ++ ys)
 more out [] ys = refl
 more out (x ∷ xs) ys = more (behind_sign out (entry_text x)) xs ys
 
-behind : (b : ℕ) (bs : List ℕ) (es : List Entry)
+behind : (b : ℕ) (bs : List ℕ) (es : List AclEntry)
     → add_texts (b ∷ bs) es ≡ (b ∷ bs) ++ flat_map (λ y. 38 ∷ y) (map entry_text es)
 behind b bs [] = sym (append-nil (b ∷ bs))
 behind b bs (e ∷ es) =
     behind b (bs ++ 38 ∷ entry_text e) es
     ∙ append_assoc (b ∷ bs) (38 ∷ entry_text e) (flat_map (λ y. 38 ∷ y) (map entry_text es))
 
-first : (r : Right) (s : Servers) (es : List Entry)
+first : (r : Right) (s : Servers) (es : List AclEntry)
     → add_texts (head_of r ++ servers_text s) es ≡ (head_of r ++ servers_text s)
     ++ flat_map (λ y. 38 ∷ y) (map entry_text es)
 first right.Add s es = behind _ _ es
@@ -52,11 +52,11 @@ first right.Exec s es = behind _ _ es
 first right.Get s es = behind _ _ es
 first right.Replace s es = behind _ _ es
 
-all : (es : List Entry) → add_texts [] es ≡ entries_text es
+all : (es : List AclEntry) → add_texts [] es ≡ entries_text es
 all [] = refl
 all (e ∷ es) = first e.right e.servers es ∙ sym (joined 38 (entry_text e) (map entry_text es))
 
-two : (out next : List ℕ) (xs : List Entry) (r : Right) (o : Option Servers) → out ≡ add_texts [] xs
+two : (out next : List ℕ) (xs : List AclEntry) (r : Right) (o : Option Servers) → out ≡ add_texts [] xs
     → next ≡ with_entry_text out r o → next ≡ add_texts [] (xs ++ entry_for r o)
 two out next xs r o before e =
     e ∙ one out r o ∙ ap (λ t. add_texts t (entry_for r o)) before ∙ more [] xs (entry_for r o)

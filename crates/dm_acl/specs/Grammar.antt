@@ -7,7 +7,7 @@ use Rattle.dm_acl.specs.declared.values.Right.{Right}
 use Rattle.dm_acl.specs.declared.values.Right.TheVariants as right
 use Rattle.dm_acl.specs.declared.values.Servers.{Servers}
 use Rattle.dm_acl.specs.declared.values.Servers.TheVariants.{Everybody, Named}
-use Rattle.dm_acl.specs.declared.values.Entry.{Entry}
+use Rattle.dm_acl.specs.declared.values.AclEntry.{AclEntry}
 use Rattle.dm_acl.specs.declared.values.Entries.{Entries}
 
 -- ---- what is written
@@ -25,16 +25,16 @@ abbrev pub IsServers : Servers → Type 0
 IsServers Everybody = ⊤
 IsServers (Named names) = list_all is_server_name names ≡ true
 
-abbrev pub IsEntry : Entry → Type 0
+abbrev pub IsEntry : AclEntry → Type 0
 IsEntry e = IsServers e.servers
 
 -- one of the entries is of this command
-abbrev pub Names : List Entry → Right → Type 0
+abbrev pub Names : List AclEntry → Right → Type 0
 Names [] right = ⊥
 Names (e ∷ es) right = (e.right ≡ right) ⊎ Names es right
 
 -- no two entries are of one command
-abbrev pub AreOnce : List Entry → Type 0
+abbrev pub AreOnce : List AclEntry → Type 0
 AreOnce [] = ⊤
 AreOnce (e ∷ es) = (Names es e.right → ⊥) × AreOnce es
 
@@ -51,15 +51,15 @@ head_of right.Get = codes "Get="
 head_of right.Replace = codes "Replace="
 
 -- a command, `=`, and whom it is allowed to
-abbrev pub entry_text : Entry → List ℕ
+abbrev pub entry_text : AclEntry → List ℕ
 entry_text e = head_of e.right ++ servers_text e.servers
 
 -- entries with `&` (byte 38) between them
-abbrev pub entries_text : List Entry → List ℕ
+abbrev pub entries_text : List AclEntry → List ℕ
 entries_text es = join_with_byte 38 (map entry_text es)
 
 -- a text of these entries: one or more, each command at most once, and at most 4,096 bytes
-pub record IsTextOf (es : List Entry) (text : List ℕ) : Type 0 where
+pub record IsTextOf (es : List AclEntry) (text : List ℕ) : Type 0 where
   pub some : 0 < length es
   pub good : AllByRecursion IsEntry es
   pub once : AreOnce es
@@ -85,16 +85,16 @@ with_servers acl right.Exec s = record acl { exec = Some s }
 with_servers acl right.Get s = record acl { get = Some s }
 with_servers acl right.Replace s = record acl { replace = Some s }
 
-abbrev pub with_entry : Entries → Entry → Entries
+abbrev pub with_entry : Entries → AclEntry → Entries
 with_entry acl e = with_servers acl e.right e.servers
 
 -- names with one more at the end, where it isn't among them
-abbrev pub with_name : List (List ℕ) → List ℕ → List (List ℕ)
-with_name names name = if list_any (λ other. bytes_eq other name) names then names else names ++ name ∷ []
+abbrev pub name_added : List (List ℕ) → List ℕ → List (List ℕ)
+name_added names name = if list_any (λ other. bytes_eq other name) names then names else names ++ name ∷ []
 
 abbrev pub with_names : List (List ℕ) → List (List ℕ) → List (List ℕ)
 with_names names [] = names
-with_names names (more ∷ mores) = with_names (with_name names more) mores
+with_names names (more ∷ mores) = with_names (name_added names more) mores
 
 -- names without repeats after the first
 abbrev pub unrepeated : List (List ℕ) → List (List ℕ)
@@ -104,15 +104,15 @@ abbrev pub meant : Servers → Servers
 meant Everybody = Everybody
 meant (Named names) = Named (unrepeated names)
 
-abbrev pub meant_entry : Entry → Entry
+abbrev pub meant_entry : AclEntry → AclEntry
 meant_entry e = record { right = e.right; servers = meant e.servers }
 
-abbrev pub with_entries : Entries → List Entry → Entries
+abbrev pub with_entries : Entries → List AclEntry → Entries
 with_entries acl [] = acl
 with_entries acl (e ∷ es) = with_entries (with_entry acl (meant_entry e)) es
 
 -- what entries mean
-abbrev pub meaning : List Entry → Entries
+abbrev pub meaning : List AclEntry → Entries
 meaning es = with_entries no_entries es
 
 -- ---- what is allowed
@@ -136,12 +136,12 @@ has_entry acl right = is_some (entry_of acl right)
 
 -- ---- the one written form
 
-abbrev pub entry_for : Right → Option Servers → List Entry
+abbrev pub entry_for : Right → Option Servers → List AclEntry
 entry_for right None = []
 entry_for right (Some s) = record { right = right; servers = s } ∷ []
 
 -- the entries, in the order of the commands
-abbrev pub entries_in : Entries → List Entry
+abbrev pub entries_in : Entries → List AclEntry
 entries_in acl =
     entry_for right.Add acl.add ++ entry_for right.Delete acl.delete ++ entry_for right.Exec acl.exec
     ++ entry_for right.Get acl.get ++ entry_for right.Replace acl.replace

@@ -4,7 +4,7 @@ use Rattle.std.specs.Prelude.{length, Ok, Err, ⊤}
 use Rattle.std.specs.List.{AllByRecursion, list_all, list_any, flat_map}
 use Rattle.dm_acl.specs.declared.values.Right.{Right}
 use Rattle.dm_acl.specs.declared.values.AclError.TheVariants as error
-use Rattle.dm_acl.specs.declared.values.Entry.{Entry}
+use Rattle.dm_acl.specs.declared.values.AclEntry.{AclEntry}
 use Rattle.dm_acl.specs.declared.values.Entries.{Entries}
 use Rattle.dm_acl.specs.Grammar.{IsEntry, Names, AreOnce, entry_text, IsTextOf, meaning, printed, IsAcl, allowed}
 use Rattle.dm_acl.specs.Grammar.{has_entry, allowed_by, unrepeated}
@@ -14,10 +14,10 @@ use Rattle.dm_acl.specs.Reading.{parse_of}
 
 abbrev pub WhatIsReadIsMeant : Type 0
 WhatIsReadIsMeant =
-    (text : List ℕ) (acl : Entries) → parse_of text ≡ Ok acl → (es : List Entry) × IsTextOf es text × (acl ≡ meaning es)
+    (text : List ℕ) (acl : Entries) → parse_of text ≡ Ok acl → (es : List AclEntry) × IsTextOf es text × (acl ≡ meaning es)
 
 abbrev pub WhatIsWrittenIsRead : Type 0
-WhatIsWrittenIsRead = (es : List Entry) (text : List ℕ) → IsTextOf es text → parse_of text ≡ Ok (meaning es)
+WhatIsWrittenIsRead = (es : List AclEntry) (text : List ℕ) → IsTextOf es text → parse_of text ≡ Ok (meaning es)
 
 -- ---- the first fault
 
@@ -26,7 +26,7 @@ abbrev pub has_no : ℕ → List ℕ → Bool
 has_no c text = list_all (λ b. not (b == c)) text
 
 -- entries, each with a `&` behind it
-abbrev pub front_text : List Entry → List ℕ
+abbrev pub front_text : List AclEntry → List ℕ
 front_text es = flat_map (λ e. entry_text e ++ 38 ∷ []) es
 
 -- nothing, or a `&` and more
@@ -35,12 +35,12 @@ IsBehind [] = ⊤
 IsBehind (b ∷ bs) = b ≡ 38
 
 -- a part is no entry, or an entry whose command the entries before it name
-abbrev pub IsFault : List Entry → List ℕ → Type 0
-IsFault before part = (e : Entry) → IsEntry e → part ≡ entry_text e → Names before e.right
+abbrev pub IsFault : List AclEntry → List ℕ → Type 0
+IsFault before part = (e : AclEntry) → IsEntry e → part ≡ entry_text e → Names before e.right
 
 -- good entries of different commands, and behind them a fault, at a place
 pub record HasFaultAt (text : List ℕ) (at : ℕ) : Type 0 where
-  pub before : List Entry
+  pub before : List AclEntry
   pub part : List ℕ
   pub rest : List ℕ
   pub good : AllByRecursion IsEntry before
@@ -52,11 +52,11 @@ pub record HasFaultAt (text : List ℕ) (at : ℕ) : Type 0 where
   pub at_is : at ≡ length (front_text before)
 
 -- where a text is refused: at its first fault; at 4,096 where it is longer
-abbrev pub IsRefusedAt : List ℕ → ℕ → Type 0
-IsRefusedAt text at = ((4096 < length text) × (at ≡ 4096)) ⊎ ((length text ≤ 4096) × HasFaultAt text at)
+abbrev pub IsMalformedAt : List ℕ → ℕ → Type 0
+IsMalformedAt text at = ((4096 < length text) × (at ≡ 4096)) ⊎ ((length text ≤ 4096) × HasFaultAt text at)
 
 abbrev pub FirstFaultIsTold : Type 0
-FirstFaultIsTold = (text : List ℕ) (at : ℕ) → (parse_of text ≡ Err (error.Malformed at)) ↔ IsRefusedAt text at
+FirstFaultIsTold = (text : List ℕ) (at : ℕ) → (parse_of text ≡ Err (error.Malformed at)) ↔ IsMalformedAt text at
 
 abbrev pub OnlyFaultsAreTold : Type 0
 OnlyFaultsAreTold = (text : List ℕ) → parse_of text ≡ Err error.Memory → ⊥
@@ -102,15 +102,15 @@ RepeatsAreLeftOut =
 -- ---- what entries as written allow
 
 -- an entry of the command that everybody or the server may use
-abbrev pub Allow : List Entry → List ℕ → Right → Type 0
+abbrev pub Allow : List AclEntry → List ℕ → Right → Type 0
 Allow [] server right = ⊥
 Allow (e ∷ es) server right = ((e.right ≡ right) × (allowed_by e.servers server ≡ true)) ⊎ Allow es server right
 
 -- a server is allowed a command where an entry as written allows it
 abbrev pub EntriesAllow : Type 0
-EntriesAllow = (es : List Entry) (server : List ℕ) (right : Right) → AreOnce es
+EntriesAllow = (es : List AclEntry) (server : List ℕ) (right : Right) → AreOnce es
     → (allowed (meaning es) server right ≡ true) ↔ Allow es server right
 
 -- a command has an entry where one is written
 abbrev pub EntriesName : Type 0
-EntriesName = (es : List Entry) (right : Right) → (has_entry (meaning es) right ≡ true) ↔ Names es right
+EntriesName = (es : List AclEntry) (right : Right) → (has_entry (meaning es) right ≡ true) ↔ Names es right

@@ -8,7 +8,7 @@ use Rattle.dm_acl.specs.declared.values.AclError.{AclError}
 use Rattle.dm_acl.specs.declared.values.AclError.TheVariants as error
 use Rattle.dm_acl.specs.declared.values.Servers.{Servers}
 use Rattle.dm_acl.specs.declared.values.Servers.TheVariants.{Everybody, Named}
-use Rattle.dm_acl.specs.declared.values.Entry.{Entry}
+use Rattle.dm_acl.specs.declared.values.AclEntry.{AclEntry}
 use Rattle.dm_acl.specs.declared.values.Entries.{Entries}
 use Rattle.dm_acl.specs.Grammar.{is_server_name, head_of, unrepeated, entry_of, with_entry, no_entries}
 
@@ -31,37 +31,37 @@ servers_in (b ∷ bs) =
     if bytes_eq (b ∷ bs) (codes "*") then Some Everybody
     else named (list_all is_server_name (names_in (b ∷ bs))) (names_in (b ∷ bs))
 
-abbrev pub begins : List ℕ → Right → Bool
-begins part right = starts_with nat_eq part (head_of right)
+abbrev pub begins_entry : List ℕ → Right → Bool
+begins_entry part right = starts_with nat_eq part (head_of right)
 
 -- the command with which a part begins
 abbrev pub right_in : List ℕ → Option Right
 right_in part =
-    if begins part right.Add then Some right.Add
-    else if begins part right.Delete then Some right.Delete
-    else if begins part right.Exec then Some right.Exec
-    else if begins part right.Get then Some right.Get
-    else if begins part right.Replace then Some right.Replace
+    if begins_entry part right.Add then Some right.Add
+    else if begins_entry part right.Delete then Some right.Delete
+    else if begins_entry part right.Exec then Some right.Exec
+    else if begins_entry part right.Get then Some right.Get
+    else if begins_entry part right.Replace then Some right.Replace
     else None
 
-abbrev pub entry_with : Right → Option Servers → Option Entry
+abbrev pub entry_with : Right → Option Servers → Option AclEntry
 entry_with right None = None
 entry_with right (Some servers) = Some (record { right = right; servers = servers })
 
-abbrev pub entry_behind : List ℕ → Option Right → Option Entry
+abbrev pub entry_behind : List ℕ → Option Right → Option AclEntry
 entry_behind part None = None
 entry_behind part (Some right) = entry_with right (servers_in (drop (length (head_of right)) part))
 
 -- the entry that a part of a text is
-abbrev pub entry_in : List ℕ → Option Entry
+abbrev pub entry_in : List ℕ → Option AclEntry
 entry_in part = entry_behind part (right_in part)
 
 -- entries with one more, where their command has none yet
-abbrev pub put_new : Bool → Entries → ℕ → Entry → Result Entries AclError
+abbrev pub put_new : Bool → Entries → ℕ → AclEntry → Result Entries AclError
 put_new true acl at e = Err (error.Malformed at)
 put_new false acl at e = Ok (with_entry acl e)
 
-abbrev pub put_entry : Entries → ℕ → Option Entry → Result Entries AclError
+abbrev pub put_entry : Entries → ℕ → Option AclEntry → Result Entries AclError
 put_entry acl at None = Err (error.Malformed at)
 put_entry acl at (Some e) = put_new (is_some (entry_of acl e.right)) acl at e
 

@@ -1,14 +1,14 @@
 // Where a text has its first fault. Nothing here takes memory.
 ghost use Rattle.std.specs.Prelude.{◌≡◌, ◌≤◌, Ok, Err, Some, None, true, length, is_some, IsOk, IsTrue, IsFalse};
 ghost use Rattle.std.specs.Prelude.{MatchOption, option_map};
-ghost use Rattle.dm_acl.specs.declared.values.Entry.{Entry};
+ghost use Rattle.dm_acl.specs.declared.values.AclEntry.{AclEntry};
 ghost use Rattle.dm_acl.specs.declared.values.AclError.TheVariants as error;
 ghost use Rattle.dm_acl.specs.declared.values.Servers.TheVariants.{Everybody};
 ghost use Rattle.dm_acl.specs.Grammar.{no_entries, entry_of, with_servers};
 ghost use Rattle.dm_acl.specs.Reading.{parts_in, servers_in, entry_in, after_parts};
 
 use crate::reading::{are_server_names, right_in};
-use crate::values::{Entries, Entry, Right, Servers};
+use crate::values::{AclEntry, Entries, Right, Servers};
 
 // Whether a list allows somebody, nobody or everybody.
 fn are_servers(list: &[u8]) -> bool
@@ -29,14 +29,14 @@ fn entry_right(part: &[u8]) -> Option<Right>
 // Notes the command of a part as named and answers true, where the part is an entry and no part before it named that
 // command. Whom the entry lists isn't kept: everybody stands for them.
 fn put_right(named: &mut Entries, part: &[u8]) -> bool
-    ensures new { IsTrue result → (e : Entry) × (entry_in part.now ≡ Some e)
+    ensures new { IsTrue result → (e : AclEntry) × (entry_in part.now ≡ Some e)
         × (entry_of named.old e.right ≡ None) × (named.new ≡ with_servers named.old e.right Everybody) }
-    ensures fault { IsFalse result → (e : Entry) → entry_in part.now ≡ Some e
+    ensures fault { IsFalse result → (e : AclEntry) → entry_in part.now ≡ Some e
         → is_some (entry_of named.old e.right) ≡ true }
 {
     match entry_right(part) {
         Some(right) if named.of(right).is_none() => {
-            named.put(Entry {
+            named.put(AclEntry {
                 right,
                 servers: Servers::Everybody,
             });

@@ -1,12 +1,13 @@
 // Texts are read entry by entry.
 ghost use Rattle.std.specs.Prelude.{◌≡◌, ◌≤◌, length, bytes_eq, IsTrue, IsOk, IfSome, IfOk, OnOk};
 ghost use Rattle.std.specs.List.{list_all, list_any};
-ghost use Rattle.dm_acl.specs.Grammar.{is_name_byte, is_server_name, head_of, with_name, unrepeated, no_entries};
+ghost use Rattle.dm_acl.specs.Grammar.{is_name_byte, is_server_name, head_of, name_added, unrepeated, no_entries};
 ghost use Rattle.dm_acl.specs.Grammar.{has_entry};
-ghost use Rattle.dm_acl.specs.Reading.{names_in, parts_in, servers_in, begins, right_in, entry_in, put_new, after_part};
+ghost use Rattle.dm_acl.specs.Reading.{names_in, parts_in, servers_in, begins_entry, right_in, entry_in, put_new};
+ghost use Rattle.dm_acl.specs.Reading.{after_part};
 ghost use Rattle.dm_acl.specs.Reading.{after_parts, Answers, Leaves};
 
-use crate::values::{AclError, Entries, Entry, Right, Servers};
+use crate::values::{AclEntry, AclError, Entries, Right, Servers};
 use dm_base::{Bytes, List, Memory};
 use std::alloc::Global;
 
@@ -43,7 +44,7 @@ pub(crate) fn is_among(names: &[Bytes], name: &[u8]) -> bool
 
 // Adds a name at the end, where it isn't among the names.
 fn add_name(alloc: Global, names: &mut List<Bytes>, name: &[u8]) -> Result<(), Memory>
-    ensures { OnOk result (names.new ≡ with_name names.old name.now) }
+    ensures { OnOk result (names.new ≡ name_added names.old name.now) }
 {
     if is_among(names.as_slice(), name) {
         return Ok(());
@@ -79,7 +80,7 @@ fn read_servers(alloc: Global, list: &[u8]) -> Result<Option<Servers>, Memory>
 }
 
 fn begins(part: &[u8], right: Right) -> bool
-    ensures value { result ≡ begins part.now right }
+    ensures value { result ≡ begins_entry part.now right }
     ensures fits { IsTrue result → length (head_of right) ≤ length part.now }
 {
     part.starts_with(right.head())
@@ -109,7 +110,7 @@ pub(crate) fn right_in(part: &[u8]) -> Option<Right>
 }
 
 // The entry that a part of a text is. None comes exactly where it is bad.
-fn read_entry(alloc: Global, part: &[u8]) -> Result<Option<Entry>, Memory>
+fn read_entry(alloc: Global, part: &[u8]) -> Result<Option<AclEntry>, Memory>
     ensures { IfOk result (λ entry. entry ≡ entry_in part.now) }
 {
     let Some(right) = right_in(part) else {
@@ -118,12 +119,12 @@ fn read_entry(alloc: Global, part: &[u8]) -> Result<Option<Entry>, Memory>
     let (_, list) = part.split_at(right.head().len());
     match read_servers(alloc, list)? {
         None => Ok(None),
-        Some(servers) => Ok(Some(Entry { right, servers })),
+        Some(servers) => Ok(Some(AclEntry { right, servers })),
     }
 }
 
 // Puts an entry, where its command has none yet.
-fn put_new(entries: &mut Entries, at: usize, entry: Entry) -> Result<(), AclError>
+fn put_new(entries: &mut Entries, at: usize, entry: AclEntry) -> Result<(), AclError>
     ensures { Leaves result entries.new (put_new (has_entry entries.old entry.right) entries.old at entry) }
 {
     if entries.of(entry.right).is_some() {

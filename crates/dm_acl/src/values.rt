@@ -35,7 +35,7 @@ pub enum Servers {
 
 /// An entry of a text.
 #[derive(Drop)]
-pub struct Entry {
+pub struct AclEntry {
     pub right: Right,
     pub servers: Servers,
 }
@@ -90,7 +90,7 @@ impl Entries {
         }
     }
 
-    pub(crate) fn put(&mut self, entry: Entry)
+    pub(crate) fn put(&mut self, entry: AclEntry)
         ensures { self.new ≡ with_entry self.old entry }
     {
         let servers = Some(entry.servers);

@@ -14,7 +14,7 @@ use Rattle.dm_undo.specs.declared.entries.Entry.TheVariants.{Record, Flipped}
 use Rattle.dm_undo.specs.Journals.{Journal}
 use Rattle.dm_undo.specs.Entries.{AreAlike, AreRecords, StaysWithin}
 use Rattle.dm_undo.specs.Trees.{Maps, maps_of, tree_at}
-use Rattle.dm_undo.specs.Marks.{Recalls as RecallsTrees, RecallsFrom}
+use Rattle.dm_undo.specs.Marks.{RecallsTrees, RecallsFrom}
 use Rattle.dm_undo.specs.Sound.{IsSound}
 use Rattle.dm_undo.proofs.Noted.{within-records}
 use Rattle.dm_undo.proofs.Told.{at_end}
@@ -26,7 +26,7 @@ use Rattle.dm_atomic.specs.declared.engine.EndedGroup.{EndedGroup}
 use Rattle.dm_atomic.specs.declared.marks.EngineMark.{EngineMark}
 use Rattle.dm_atomic.specs.Engine.{group_of, state_of, FitsObject, IsSoundEngine}
 use Rattle.dm_atomic.specs.Marks.{Whole, base_ids_of, whole_of, no_group, group_at, starts_of, tree_there, recalled}
-use Rattle.dm_atomic.specs.Marks.{past_of, past_at, no_past, IsOpenAt, IsHeld, Recalls, IsEarlier}
+use Rattle.dm_atomic.specs.Marks.{past_of, past_at, no_past, IsOpenAt, IsKnownStill, Recalls, IsEarlier}
 use Rattle.dm_atomic.proofs.Held.{at-end, group-kept, base-ids-kept, same-whole, same-past, entries-before}
 
 drop-none : {A : Type 0} (l : List A) (n : ℕ) → n ≡ 0 → drop n l ≡ l
@@ -118,7 +118,7 @@ module _ (e : Engine) (m : EngineMark) (s : IsSoundEngine e) (j : m.journal ≡ 
       (let q : m.inbox ≡ length e.inbox.objects - 1 = omega (arith, i) in q) a g
 
   -- no mark that is held was taken later
-  pub marked_latest : (k : EngineMark) → IsHeld e k → IsEarlier k m
+  pub marked_latest : (k : EngineMark) → IsKnownStill e k → IsEarlier k m
   marked_latest k h = record {
     journal = omega (arith, h.journal, j);
     inbox = omega (arith, h.inbox, i);
@@ -167,7 +167,7 @@ pub record GoesBack (e f : Engine) (m : EngineMark) : Type 0 where
   pub parts : f.parts ≡ take m.parts (group_at e m.groups).parts
   pub is_open : f.is_open ≡ m.is_open
 
-module _ (e f : Engine) (m : EngineMark) (h : IsHeld e m) (b : GoesBack e f m) where
+module _ (e f : Engine) (m : EngineMark) (h : IsKnownStill e m) (b : GoesBack e f m) where
   base : m.is_open ≡ true → tree_there f f.mark ≡ tree_there e (group_at e m.groups).mark
   base is = ap (tree_there f) b.mark ∙ (b.trees (group_at e m.groups).mark (h.group is).mark).1
 
@@ -307,7 +307,7 @@ module _ (e f : Engine) (m : EngineMark) (h : IsHeld e m) (b : GoesBack e f m) w
       ap (λ (i : Seen). take (k.inbox + 1) i.objects) b.inbox
       ∙ take-take (k.inbox + 1) (m.inbox + 1) e.inbox.objects (omega (arith, early.inbox))
 
-  earlier-held : (k : EngineMark) → IsHeld e k → IsEarlier k m → IsHeld f k
+  earlier-held : (k : EngineMark) → IsKnownStill e k → IsEarlier k m → IsKnownStill f k
   earlier-held k hk early = record {
     journal = omega (arith, b.long, early.journal);
     inbox = omega (
@@ -326,7 +326,7 @@ module _ (e f : Engine) (m : EngineMark) (h : IsHeld e m) (b : GoesBack e f m) w
     closed = hk.closed;
   }
 
-  earlier-there : (k : EngineMark) → IsHeld e k → IsEarlier k m → recalled f k ≡ recalled e k
+  earlier-there : (k : EngineMark) → IsKnownStill e k → IsEarlier k m → recalled f k ≡ recalled e k
   earlier-there k hk early =
       same-whole (tree_there f k.journal) (tree_there e k.journal) _ _ _ _ _ _ _ _
       (b.trees k.journal early.journal).1 (ap present (taken k early))
@@ -477,13 +477,13 @@ module _ (e f : Engine) (first : ℕ) (s : IsSoundEngine e) (x : Settles e f fir
   is-closed : (state_of f).group ≡ None → f.is_open ≡ false
   is-closed = closed-by f.is_open f.tree.rows f.journal.entries f.mark f.parts
 
-  mark-closed : (k : EngineMark) → f.is_open ≡ false → IsHeld f k → (b : Bool) → k.is_open ≡ b → k.is_open ≡ false
+  mark-closed : (k : EngineMark) → f.is_open ≡ false → IsKnownStill f k → (b : Bool) → k.is_open ≡ b → k.is_open ≡ false
   mark-closed k closed h true o =
       let again : f.is_open ≡ true = (h.group o).present (omega (arith, h.groups, ap length x.ended)) in
       absurd (cc)
   mark-closed k closed h false o = o
 
-  present-again : (k : EngineMark) → (state_of f).group ≡ None → IsHeld f k → recalled f k ≡ whole_of f
+  present-again : (k : EngineMark) → (state_of f).group ≡ None → IsKnownStill f k → recalled f k ≡ whole_of f
   present-again k closed h =
       let off = is-closed closed in
       let mark-off = mark-closed k off h k.is_open refl in

@@ -38,9 +38,9 @@ use Rattle.dm_atomic.specs.declared.engine.Engine.{Engine}
 use Rattle.dm_atomic.specs.declared.engine.EndedGroup.{EndedGroup}
 use Rattle.dm_atomic.specs.declared.reports.Report.{Report}
 use Rattle.dm_atomic.specs.Made.{told, notice}
-use Rattle.dm_atomic.specs.Run.{State, Group, Running, Ran, whole_step, started_by, by_what, one_piece, opened, opens}
+use Rattle.dm_atomic.specs.Run.{State, Group, Running, Ran, step_ran, started_by, by_what, one_piece, opened, opens}
 use Rattle.dm_atomic.specs.Engine.{group_of, state_of, running, CanRollBack, FitsObject, IsSoundEngine, Only, Acts}
-use Rattle.dm_atomic.specs.Engine.{Comes, Runs}
+use Rattle.dm_atomic.specs.Engine.{RunsStep, RunsTask}
 use Rattle.dm_atomic.proofs.Gathers.{gather-fits, present-holding}
 
 -- ---- the group, while edits are noted
@@ -129,7 +129,7 @@ same-state t u o g h a b e f k = ap (λ x. one x o g a) e ∙ ap (λ x. one u o 
 pub stepped : (e m f : Engine) (caller : List ℕ) (post : Post) (step : Step) (outcome : Outcome) → IsSoundEngine e
     → Only e m → Acts e m caller step outcome
     → f ≡ record m { started = if outcome.started then Some (started_by step) else m.started; starts = f.starts }
-    → state_of f ≡ (whole_step (running e caller) (state_of e) post None step).state
+    → state_of f ≡ (step_ran (running e caller) (state_of e) post None step).state
 stepped e m f caller post step outcome s o d is =
     ap state_of is
     ∙ ap (λ (x : Seen). one (nodes m.tree.rows) (present x.objects)
@@ -243,8 +243,8 @@ pub pieced : (e m : Engine) (caller : List ℕ) (post : Post) (piece : Piece) (w
     → m ≡ record e { inbox = holding e.inbox (gather e.inbox.max_obj (present e.inbox.objects) piece).object }
     → what ≡ (gather e.inbox.max_obj (present e.inbox.objects) piece).what
     → after ≡ before ++ told (notice (gather e.inbox.max_obj (present e.inbox.objects) piece).broken)
-    → Comes (by_what (running m caller) (state_of m) post None what) s report
-    → Runs (one_piece (running e caller) (state_of e) post piece) s report before after
+    → RunsStep (by_what (running m caller) (state_of m) post None what) s report
+    → RunsTask (one_piece (running e caller) (state_of e) post piece) s report before after
 pieced e m caller post piece what s report before after is w t c =
     let g = gather e.inbox.max_obj (present e.inbox.objects) piece in
     let r = running e caller in
@@ -383,8 +383,8 @@ pub pieced_ok : {E : Type 0} (result : Result Report E) (e m : Engine) (caller :
     → m ≡ record e { inbox = holding e.inbox (gather e.inbox.max_obj (present e.inbox.objects) piece).object }
     → what ≡ (gather e.inbox.max_obj (present e.inbox.objects) piece).what
     → after ≡ before ++ told (notice (gather e.inbox.max_obj (present e.inbox.objects) piece).broken)
-    → IfOk result (λ report. Comes (by_what (running m caller) (state_of m) post None what) s report)
-    → IfOk result (λ report. Runs (one_piece (running e caller) (state_of e) post piece) s report before after)
+    → IfOk result (λ report. RunsStep (by_what (running m caller) (state_of m) post None what) s report)
+    → IfOk result (λ report. RunsTask (one_piece (running e caller) (state_of e) post piece) s report before after)
 pieced_ok (Ok report) e m caller post piece what s before after is w t c =
     pieced e m caller post piece what s report before after is w t c
 pieced_ok (Err x) e m caller post piece what s before after is w t c = c
@@ -392,8 +392,8 @@ pieced_ok (Err x) e m caller post piece what s before after is w t c = c
 -- a piece that is a whole step as it stands is run as it stands
 pub passed_ok : {E : Type 0} (result : Result Report E) (e : Engine) (caller : List ℕ) (post : Post) (piece : Piece)
     (s : State) (out : List Command) → Takes e.inbox e.inbox piece (record { broken = None; what = Whole piece.step })
-    → IfOk result (λ report. Comes (whole_step (running e caller) (state_of e) post None piece.step) s report)
-    → IfOk result (λ report. Runs (one_piece (running e caller) (state_of e) post piece) s report out out)
+    → IfOk result (λ report. RunsStep (step_ran (running e caller) (state_of e) post None piece.step) s report)
+    → IfOk result (λ report. RunsTask (one_piece (running e caller) (state_of e) post piece) s report out out)
 passed_ok result e caller post piece s out t c =
     pieced_ok result e e caller post piece (Whole piece.step) s out out (ap (λ i. record e { inbox = i }) t.now) t.what
     (sym (append-nil out) ∙ ap (λ b. out ++ told (notice b)) t.broken) c

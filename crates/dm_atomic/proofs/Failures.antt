@@ -11,12 +11,12 @@ use Rattle.dm_commands.proofs.Refusals.{refused_right, refused_step}
 use Rattle.dm_atomic.specs.declared.tasks.Post.{Post}
 use Rattle.dm_atomic.specs.declared.tasks.Work.{Work}
 use Rattle.dm_atomic.specs.declared.tasks.Work.TheVariants as work
-use Rattle.dm_atomic.specs.Run.{State, Running, Ran, started_by, whole_step, by_what, by_work, one_step}
+use Rattle.dm_atomic.specs.Run.{State, Running, Ran, started_by, step_ran, by_what, by_work, one_step}
 use Rattle.dm_atomic.specs.Laws.{LeavesTree, FailedTaskLeavesTree, RefusedRightLeavesTree}
 
 step-leaves : (r : Running) (s : State) (post : Post) (broken : Option (List ℕ)) (step : Step)
     → ChangesNothing r.setting s.tree step
-    → LeavesTree s (whole_step r s post broken step)
+    → LeavesTree s (step_ran r s post broken step)
 step-leaves r s post broken step h = record {
   tree = h.tree;
   group = refl;
@@ -53,11 +53,11 @@ unfolding one_step
 refused_right_leaves r s task piece step text uri asked is_piece is_whole target reads asks is_no =
     let g = gather r.max_obj s.object piece in
     let after = record s { object = g.object } in
-    let same : by_work r s task.post task.work ≡ whole_step r after task.post g.broken step =
+    let same : by_work r s task.post task.work ≡ step_ran r after task.post g.broken step =
     ap (by_work r s task.post) is_piece ∙ ap (by_what r after task.post g.broken) is_whole in
     let h = refused_right r.setting s.tree step text uri asked target reads asks is_no in
     subst (λ ran. (is_success ran.report.code ≡ false) × LeavesTree s ran) (sym same) (
       h.code,
-      piece-leaves s (whole_step r after task.post g.broken step) piece r
+      piece-leaves s (step_ran r after task.post g.broken step) piece r
           (step-leaves r after task.post g.broken step h),
     )

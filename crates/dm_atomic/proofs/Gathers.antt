@@ -12,7 +12,7 @@ use Rattle.dm_objects.specs.declared.piece.Piece.{Piece}
 use Rattle.dm_objects.specs.declared.piece.What.{What}
 use Rattle.dm_objects.specs.declared.piece.What.TheVariants.{Whole, Buffered, Refused}
 use Rattle.dm_objects.specs.Gathering.{Came, came, skipped, first_of_several, single, write_piece, by_rules}
-use Rattle.dm_objects.specs.Gathering.{gather, continues, begun_by, whole_step}
+use Rattle.dm_objects.specs.Gathering.{gather, continues, begun_object, whole_step}
 use Rattle.dm_objects.specs.Seen.{present, is_unfinished, now_holding}
 use Rattle.dm_atomic.specs.Engine.{FitsObject, IsShortWhat}
 
@@ -34,14 +34,14 @@ single-fits max piece true e = record { object_fits = tt; what_fits = tt }
 single-fits max piece false e = record { object_fits = tt; what_fits = λ w. within max (length piece.step.value) e }
 
 filled-fits : (max : ℕ) (piece : Piece) (size : ℕ) (full : Bool) → size ≤ max
-    → CameFits max (if full then skipped piece 424 else came (Buffering (begun_by piece size)) Buffered)
+    → CameFits max (if full then skipped piece 424 else came (Buffering (begun_object piece size)) Buffered)
 filled-fits max piece size true h = record { object_fits = tt; what_fits = tt }
 filled-fits max piece size false h = record { object_fits = h; what_fits = tt }
 
 sized-fits : (max : ℕ) (piece : Piece) (size : ℕ) (large : Bool) → nat_lt max size ≡ large
     → CameFits max (if large then skipped piece 416
     else if nat_lt size (length piece.step.value) then skipped piece 424
-    else came (Buffering (begun_by piece size)) Buffered)
+    else came (Buffering (begun_object piece size)) Buffered)
 sized-fits max piece size true e = record { object_fits = tt; what_fits = tt }
 sized-fits max piece size false e =
     filled-fits max piece size (nat_lt size (length piece.step.value)) (within max size e)

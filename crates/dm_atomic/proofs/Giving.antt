@@ -15,7 +15,7 @@ use Rattle.dm_atomic.specs.Made.{Made, Status, reported, told, notice, IsInFront
 use Rattle.dm_atomic.specs.Tasks.{item_tasks, container_post}
 use Rattle.dm_atomic.specs.Run.{State, Running, Next, quietly, one_step, breaks_first, one_alone, in_sequence}
 use Rattle.dm_atomic.specs.Run.{run_member, run_members, run_sequence}
-use Rattle.dm_atomic.specs.Engine.{state_of, running, Gives, Runs}
+use Rattle.dm_atomic.specs.Engine.{state_of, running, Gives, RunsTask}
 use Rattle.dm_atomic.proofs.Tried.{running_stays}
 use Rattle.dm_atomic.proofs.Telling.{told_both, some_more}
 
@@ -116,13 +116,13 @@ member_still e f caller origin s next m before after c l = subst
 
 pub alone_gives : (r : Running) (s broken next : State) (t : Task) (report : Report)
     (out first second third : List Command) → Gives (breaks_first s t.work) broken out first
-    → Runs (one_step r broken t) next report first second → third ≡ second ++ told (reported report)
+    → RunsTask (one_step r broken t) next report first second → third ≡ second ++ told (reported report)
     → Gives (one_alone r s t) next out third
 alone_gives r s broken next t report out first second third b h e =
     let start = breaks_first s t.work in
     let same : one_step r broken t ≡ one_step r start.state t = ap (λ x. one_step r x t) b.state_is in
     let ran = one_step r start.state t in
-    let step : Runs ran next report first second = subst (λ x. Runs x next report first second) same h in
+    let step : RunsTask ran next report first second = subst (λ x. RunsTask x next report first second) same h in
     record {
       state_is = step.state_is;
       told_is = told_both out first third start.made (notice ran.broken ++ reported ran.report) b.told_is
@@ -158,11 +158,11 @@ gives_more n s out first second g = some_more out first second n.made g.told_is
 pub alone_steps : (e f : Engine) (caller : List ℕ) (s next : State) (t : Task) (report : Report)
     (out first second third : List Command) → f.tree.clock ≡ e.tree.clock → f.inbox.max_obj ≡ e.inbox.max_obj
     → Gives (breaks_first s t.work) (state_of f) out first
-    → Runs (one_step (running f caller) (state_of f) t) next report first second
+    → RunsTask (one_step (running f caller) (state_of f) t) next report first second
     → third ≡ second ++ told (reported report) → Gives (one_alone (running e caller) s t) next out third
 alone_steps e f caller s next t report out first second third c m b h w =
     alone_gives (running e caller) s (state_of f) next t report out first second third b
-    (subst (λ (r : Running). Runs (one_step r (state_of f) t) next report first second)
+    (subst (λ (r : Running). RunsTask (one_step r (state_of f) t) next report first second)
     (running_stays e f caller c m) h) w
 
 -- commands are run, one after the other

@@ -17,12 +17,12 @@ use Rattle.dm_undo.specs.declared.entries.Entry.TheVariants.{Record, Flipped}
 use Rattle.dm_undo.specs.Journals.{Journal}
 use Rattle.dm_undo.specs.Entries.{AreAlike, AreRecords}
 use Rattle.dm_undo.specs.Trees.{Maps, tree_at}
-use Rattle.dm_undo.specs.Marks.{Recalls as RecallsTrees}
+use Rattle.dm_undo.specs.Marks.{RecallsTrees}
 use Rattle.dm_undo.specs.Sound.{AreAllHeld}
 use Rattle.dm_undo.specs.Notes.{Notes}
 use Rattle.dm_undo.proofs.Shapes.{alike_self, alike_long, alike_drop, records_alike}
 use Rattle.dm_objects.specs.declared.object.Object.{Object}
-use Rattle.dm_objects.specs.Inside.{is_buffering_inside, stays, failed}
+use Rattle.dm_objects.specs.Inside.{is_buffering_inside, stays, failed_inside}
 use Rattle.dm_objects.specs.Seen.{Seen, present, is_unfinished, holding}
 use Rattle.dm_atomic.specs.declared.reports.Part.{Part}
 use Rattle.dm_atomic.specs.declared.reports.Started.{Started}
@@ -32,7 +32,7 @@ use Rattle.dm_atomic.specs.declared.marks.EngineMark.{EngineMark}
 use Rattle.dm_atomic.specs.Run.{Group}
 use Rattle.dm_atomic.specs.Engine.{group_of, FitsObject, IsSoundEngine}
 use Rattle.dm_atomic.specs.Marks.{Whole, base_ids_of, no_group, groups, group_at, starts_of, tree_there, recalled, Past}
-use Rattle.dm_atomic.specs.Marks.{past_at, IsOpenAt, IsHeld, Holds, ObjectsGo}
+use Rattle.dm_atomic.specs.Marks.{past_at, IsOpenAt, IsKnownStill, Holds, ObjectsGo}
 
 -- ---- the journal goes on
 
@@ -134,7 +134,7 @@ objects_next old new next e = subst (ObjectsGo old) (sym e)
     by_test true = record { more = []; objects = sym (append-nil old.objects); max_obj = refl }
     by_test false = record { more = next ∷ []; objects = refl; max_obj = refl }
 
-pub objects_failed : (old new : Seen) → new ≡ failed old → ObjectsGo old new
+pub objects_failed : (old new : Seen) → new ≡ failed_inside old → ObjectsGo old new
 objects_failed old new e = subst (ObjectsGo old) (sym e) (by_test (is_buffering_inside (present old.objects)))
   where
     by_test : (b : Bool) → ObjectsGo old (if b then holding old (stays (present old.objects)) else old)
@@ -277,7 +277,7 @@ taken : (old new : Seen) (n : ℕ) → ObjectsGo old new → n < length old.obje
 taken old new n o l = ap (take (n + 1)) o.objects ∙ take-append-le (n + 1) old.objects o.more (omega (arith, l))
 
 held-holds : (old new : Engine) (m : EngineMark) → JournalGoes old.journal new.journal old.tree.rows new.tree.rows
-    → ObjectsGo old.inbox new.inbox → StartsGo old new → GroupsGo old new → IsHeld old m → IsHeld new m
+    → ObjectsGo old.inbox new.inbox → StartsGo old new → GroupsGo old new → IsKnownStill old m → IsKnownStill new m
 held-holds old new m j o s g h = record {
   journal = omega (arith, h.journal, j.longer);
   inbox = omega (arith, h.inbox, ap length o.objects, length-append old.inbox.objects o.more);
@@ -325,7 +325,7 @@ same-whole t t' o o' g g' s s' i i' a b c d e =
     ∙ ap (λ x. all_of t' o' g' x i) d ∙ ap (all_of t' o' g' s') e
 
 recalled-holds : (old new : Engine) (m : EngineMark) → JournalGoes old.journal new.journal old.tree.rows new.tree.rows
-    → ObjectsGo old.inbox new.inbox → StartsGo old new → GroupsGo old new → IsHeld old m
+    → ObjectsGo old.inbox new.inbox → StartsGo old new → GroupsGo old new → IsKnownStill old m
     → recalled new m ≡ recalled old m
 recalled-holds old new m j o s g h =
     same-whole (tree_there new m.journal) (tree_there old m.journal) _ _ _ _ _ _ _ _
@@ -368,7 +368,7 @@ pub entries-before : (b : Bool) (m m' n n' : ℕ) → (b ≡ true → m ≡ m') 
 entries-before true m m' n n' h k = h refl
 entries-before false m m' n n' h k = k refl
 
-past-holds : (old new : Engine) (m : EngineMark) → GroupsGo old new → IsHeld old m → past_at new m ≡ past_at old m
+past-holds : (old new : Engine) (m : EngineMark) → GroupsGo old new → IsKnownStill old m → past_at new m ≡ past_at old m
 past-holds old new m g h =
     ap (λ n. past n m.inbox m.starts m.groups)
     (entries-before m.is_open (group_at new m.groups).mark (group_at old m.groups).mark m.journal m.journal

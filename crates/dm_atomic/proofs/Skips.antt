@@ -4,7 +4,7 @@ use Rattle.std.specs.Prelude.{if◌then◌else◌}
 use Rattle.dm_objects.specs.declared.object.Key.{Key}
 use Rattle.dm_objects.specs.declared.object.Object.{Object}
 use Rattle.dm_objects.specs.declared.object.Object.TheVariants.{Nothing, Buffering, Skipping}
-use Rattle.dm_objects.specs.Inside.{is_buffering_inside, stays, failed}
+use Rattle.dm_objects.specs.Inside.{is_buffering_inside, stays, failed_inside}
 use Rattle.dm_objects.specs.Seen.{Seen, present, holding}
 use Rattle.dm_atomic.specs.Engine.{FitsObject}
 use Rattle.dm_atomic.proofs.Gathers.{present-holding}
@@ -41,15 +41,15 @@ failed-max : (old : Seen) (b : Bool)
 failed-max old true = refl
 failed-max old false = refl
 
-pub failed_object : (old new : Seen) → new ≡ failed old → present new.objects ≡ stays (present old.objects)
+pub failed_object : (old new : Seen) → new ≡ failed_inside old → present new.objects ≡ stays (present old.objects)
 failed_object old new e =
     ap (λ (s : Seen). present s.objects) e ∙ failed-is old (is_buffering_inside (present old.objects)) refl
 
-pub failed_max : (old new : Seen) → new ≡ failed old → new.max_obj ≡ old.max_obj
+pub failed_max : (old new : Seen) → new ≡ failed_inside old → new.max_obj ≡ old.max_obj
 failed_max old new e =
     ap (λ (s : Seen). s.max_obj) e ∙ failed-max old (is_buffering_inside (present old.objects))
 
-pub failed_fits : (old new : Seen) → new ≡ failed old → FitsObject old.max_obj (present old.objects)
+pub failed_fits : (old new : Seen) → new ≡ failed_inside old → FitsObject old.max_obj (present old.objects)
     → FitsObject new.max_obj (present new.objects)
 failed_fits old new e f =
     subst (λ n. FitsObject n (present new.objects)) (sym (failed_max old new e))

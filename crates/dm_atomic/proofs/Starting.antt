@@ -32,9 +32,9 @@ use Rattle.dm_tree.proofs.Paths.{Ends, ends, none, last}
 use Rattle.dm_tree.proofs.LiveRows.{above-append, last_name-append}
 use Rattle.dm_tree.proofs.UpdateParts.{stands, has_update, has_no_update, changed_keeps_update}
 use Rattle.dm_commands.specs.Finding.{found_by}
-use Rattle.dm_commands.specs.Outcomes.{Setting, Done, refused, changed_to, found_in, unless, first_refusal, no_node}
+use Rattle.dm_commands.specs.Outcomes.{Setting, Done, refused, changed_to, done_finding, unless, first_refusal, no_node}
 use Rattle.dm_commands.specs.Outcomes.{node_at}
-use Rattle.dm_commands.specs.Updates.{state_of, state_after_write, rewritten, with_text, with_state}
+use Rattle.dm_commands.specs.Updates.{state_in_tree, state_after_write, rewritten, rewritten_at, with_state}
 use Rattle.dm_commands.specs.Table as table
 use Rattle.dm_commands.specs.Table.{act}
 use Rattle.dm_commands.proofs.Ended.{running_has}
@@ -78,7 +78,7 @@ abbrev pub state_path : Path → Path
 state_path p = p ++ codes "State" ∷ []
 
 pub number_at : (m : Nodes) (p : Path) (x : Node) → HasUpdate m p → get m (state_path p) ≡ Some x
-    → state_of m ≡ digits_value 10 x.value.bytes
+    → state_in_tree m ≡ digits_value 10 x.value.bytes
 number_at m p x has there =
     ap (λ o. digits_value 10 (option_map_or (value_at m) o [])) (update_is_found m p has).2
     ∙ ap (λ o. digits_value 10 (unwrap_or (option_map (λ (n : Node). n.value.bytes) o) [])) there
@@ -115,7 +115,7 @@ module _ (s : Setting) (m n : Nodes) (p : Path) (has : HasUpdate m p) (behind : 
   rest same = if same then n else insert n (state_path p) (rewritten s (node_at m (state_path p)) (decimal k))
 
   led : with_state s m n k ≡ rest (bytes_eq (value_at m (state_path p)) (decimal k))
-  led = ap (λ o. option_map_or (λ q. with_text s m n q (decimal k)) o n) (update_is_found m p has).2
+  led = ap (λ o. option_map_or (λ q. rewritten_at s m n q (decimal k)) o n) (update_is_found m p has).2
 
   here : node_at m (state_path p) ≡ has.state
   here = ap (λ o. unwrap_or o blank_node) has.state_stands.there
@@ -134,7 +134,7 @@ module _ (s : Setting) (m n : Nodes) (p : Path) (has : HasUpdate m p) (behind : 
     state = λ h. inr five;
   }
 
-  by_text : (same : Bool) → bytes_eq (value_at m (state_path p)) (decimal k) ≡ same → state_of (rest same) ≡ k
+  by_text : (same : Bool) → bytes_eq (value_at m (state_path p)) (decimal k) ≡ same → state_in_tree (rest same) ≡ k
   by_text true e =
       number_at n p has.state behind still
       ∙ ap (digits_value 10) (sym text ∙ same_bytes (value_at m (state_path p)) (decimal k) e) ∙ back
@@ -144,8 +144,8 @@ module _ (s : Setting) (m n : Nodes) (p : Path) (has : HasUpdate m p) (behind : 
       (here_insert n (state_path p) new)
       ∙ back
 
-  pub written : state_of (with_state s m n k) ≡ k
-  written = ap state_of led ∙ by_text (bytes_eq (value_at m (state_path p)) (decimal k)) refl
+  pub written : state_in_tree (with_state s m n k) ≡ k
+  written = ap state_in_tree led ∙ by_text (bytes_eq (value_at m (state_path p)) (decimal k)) refl
 
   rest_lasts : (same : Bool) → Lasts n (rest same)
   rest_lasts true = lasts_itself n
@@ -376,7 +376,7 @@ module _ (s : Setting) (m : Nodes) (step : Step) (p : Path) (order : IsUpdateInO
   y = changed s.clock (with_value x (table.replaced_value x step))
 
   abbrev installing : Bool
-  installing = is_role x.role role.PkgData && (state_of m == progressing)
+  installing = is_role x.role role.PkgData && (state_in_tree m == progressing)
 
   no_state : x.role ≡ role.State → ⊥
   no_state = not_state x.role (either (is_role x.role role.ReadOnly) (is_role x.role role.State)
@@ -384,7 +384,7 @@ module _ (s : Setting) (m : Nodes) (step : Step) (p : Path) (order : IsUpdateInO
 
   idle_then : is_role x.role role.PkgData ≡ true → is_updating m ≡ false
   idle_then is =
-      sym (ap (λ b. b && (state_of m == progressing)) is)
+      sym (ap (λ b. b && (state_in_tree m == progressing)) is)
       ∙ (either (is_role x.role role.ReadOnly || is_role x.role role.State) installing free).1
 
   valued_starts : Starts m (changed_to (insert m p y))
@@ -396,7 +396,7 @@ module _ (s : Setting) (m : Nodes) (step : Step) (p : Path) (order : IsUpdateInO
   -- the state that a write leads to isn't that of an update that runs
   led_idle : is_updating m ≡ false → ((next ≡ idle) ⊎ (next ≡ ready))
   led_idle e = by_empty (length step.value == 0)
-      (ap (λ b. unwrap_or (cond b None (Some (cond (length step.value == 0) idle ready))) (state_of m)) e)
+      (ap (λ b. unwrap_or (cond b None (Some (cond (length step.value == 0) idle ready))) (state_in_tree m)) e)
     where
       by_empty : (b : Bool) → next ≡ cond b idle ready → (next ≡ idle) ⊎ (next ≡ ready)
       by_empty true h = inl h
@@ -476,7 +476,7 @@ replace_starts s m step uri query.StructData anchored order = other_starts m uri
 get_starts : (s : Setting) (m : Nodes) (uri : Uri) → Starts m (table.get_ s m uri)
 get_starts s m uri =
     by_refusal (first_refusal (table.get_refusals s m uri)) m _
-    (λ _. nothing_starts m (found_in m (found_by s m uri uri.query)) refl refl)
+    (λ _. nothing_starts m (done_finding m (found_by s m uri uri.query)) refl refl)
 
 verb_starts : (s : Setting) (m : Nodes) (step : Step) (uri : Uri) (v : Verb) → IsAnchored m → IsUpdateInOrder m
     → Starts m (table.by_verb s m step uri v)

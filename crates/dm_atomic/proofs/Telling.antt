@@ -3,18 +3,18 @@ use Rattle.std.proofs.Common.{◌≡◌, Bool, true, false, List, [], ◌∷◌,
 use Rattle.std.specs.Prelude.{if◌then◌else◌, Result, Ok, Err, OnOk}
 use Rattle.std.proofs.lemmas.List.{append-nil, map-append}
 use Rattle.syncml_types.specs.declared.command.Command.{Command}
-use Rattle.dm_atomic.specs.Made.{Made, entry_of, is_withheld, told, IsInFront}
+use Rattle.dm_atomic.specs.Made.{Made, command_told, is_suppressed, told, IsInFront}
 
 told_if : (m : Made) (a b : List Made) (w : Bool)
-    → (if w then told a else entry_of m ∷ told a) ++ told b ≡ if w then told a ++ told b
-    else entry_of m ∷ (told a ++ told b)
+    → (if w then told a else command_told m ∷ told a) ++ told b ≡ if w then told a ++ told b
+    else command_told m ∷ (told a ++ told b)
 told_if m a b true = refl
 told_if m a b false = refl
 
 pub told_append : (a b : List Made) → told (a ++ b) ≡ told a ++ told b
 told_append [] b = refl
 told_append (m ∷ a) b =
-    ap (λ t. if is_withheld m then t else entry_of m ∷ t) (told_append a b) ∙ sym (told_if m a b (is_withheld m))
+    ap (λ t. if is_suppressed m then t else command_told m ∷ t) (told_append a b) ∙ sym (told_if m a b (is_suppressed m))
 
 -- one list of things is told behind another
 pub told_both : (out first second : List Command) (a b : List Made)

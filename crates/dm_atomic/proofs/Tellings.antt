@@ -24,7 +24,7 @@ use Rattle.dm_objects.specs.declared.piece.What.TheVariants.{Whole, Buffered, Re
 use Rattle.dm_objects.specs.Gathering.{gather}
 use Rattle.dm_objects.specs.Inside.{is_buffering_inside}
 use Rattle.dm_commands.specs.Outcomes.{Done, asked_by, node_at, is_success}
-use Rattle.dm_commands.specs.Updates.{rewritten, with_text, with_state, update_ended}
+use Rattle.dm_commands.specs.Updates.{rewritten, rewritten_at, with_state, update_ended}
 use Rattle.dm_commands.proofs.Ended.{running_has}
 use Rattle.dm_commands.specs.Table.{act}
 use Rattle.dm_atomic.specs.declared.tasks.Named.TheVariants as named
@@ -332,7 +332,7 @@ module _ (clock : Stamp) (m : Nodes) (p : Path) (has : HasUpdate m p) where
   same_end : (ok : Bool) → update_ended clock m ok ≡ ended_as ok
   same_end ok =
       ended clock m p has ok
-      ∙ sym (ap (λ o. option_map_or (λ q. with_text (asked_by [] clock) m (packed clock m p has ok) q
+      ∙ sym (ap (λ o. option_map_or (λ q. rewritten_at (asked_by [] clock) m (packed clock m p has ok) q
       (decimal (after_result ok))) o (packed clock m p has ok)) (update_is_found m p has).2)
 
   result_lasts : (ok : Bool) → Lasts m (update_ended clock m ok)

@@ -13,7 +13,7 @@ use Rattle.dm_atomic.specs.declared.engine.Engine.{Engine}
 use Rattle.dm_atomic.specs.Made.{Made, told, notice, IsInFront}
 use Rattle.dm_atomic.specs.Run.{State, Running, Ran, Tried, one_step, after_success, tried, continues_or}
 use Rattle.dm_atomic.specs.Run.{first_continues, left_by, left_object}
-use Rattle.dm_atomic.specs.Engine.{running, Only, Runs, Tries}
+use Rattle.dm_atomic.specs.Engine.{running, Only, RunsTask, Tries}
 use Rattle.dm_atomic.proofs.Telling.{told_both, some_more}
 
 -- ---- who asks, and how large an object may be
@@ -27,10 +27,10 @@ running_stays e f caller c m =
     asking clock max = record { setting = asked_by caller clock; max_obj = max }
 
 pub runs_still : (e f : Engine) (caller : List ℕ) (s next : State) (t : Task) (report : Report)
-    (before after : List Command) → Only e f → Runs (one_step (running f caller) s t) next report before after
-    → Runs (one_step (running e caller) s t) next report before after
+    (before after : List Command) → Only e f → RunsTask (one_step (running f caller) s t) next report before after
+    → RunsTask (one_step (running e caller) s t) next report before after
 runs_still e f caller s next t report before after o h =
-    subst (λ (r : Running). Runs (one_step r s t) next report before after)
+    subst (λ (r : Running). RunsTask (one_step r s t) next report before after)
     (running_stays e f caller o.clock o.max_obj) h
 
 -- ---- what is left to be run
@@ -84,7 +84,7 @@ code_is f report e = ap (λ (x : Report). is_success x.code) (sym e)
 pub trying_goes_on : (r : Running) (first s next : State) (ts : List Task) (k : ℕ) (t : Task) (report : Report)
     (done more : List Report) (before now after : List Command)
     → IsTrying r first s ts (drop k ts) done before now → k < length ts → t ≡ get_or ts k t
-    → Runs (one_step r s t) next report now after → is_success report.code ≡ true → more ≡ done ++ report ∷ []
+    → RunsTask (one_step r s t) next report now after → is_success report.code ≡ true → more ≡ done ++ report ∷ []
     → IsTrying r first next ts (drop (k + 1) ts) more before after
 trying_goes_on r first s next ts k t report done more before now after i l is h ok m =
     let f = one_step r s t in
@@ -104,7 +104,7 @@ trying_goes_on r first s next ts k t report done more before now after i l is h 
 pub trying_stops : (r : Running) (first s next : State) (ts : List Task) (k : ℕ) (t : Task) (report : Report)
     (done : List Report) (before now after : List Command)
     → IsTrying r first s ts (drop k ts) done before now → k < length ts → t ≡ get_or ts k t
-    → Runs (one_step r s t) next report now after → is_success report.code ≡ false
+    → RunsTask (one_step r s t) next report now after → is_success report.code ≡ false
     → Tries (tried r first ts) next done ts (Some (report, k + 1)) before after
 trying_stops r first s next ts k t report done before now after i l is h bad =
     let f = one_step r s t in
@@ -151,7 +151,7 @@ trying_breaks r first s ts rest done before now after i = some_more before now a
 -- a step more, which a want of memory cuts off
 pub trying_is_cut : (r : Running) (first s next : State) (ts rest : List Task) (t : Task) (report : Report)
     (done : List Report) (before now after : List Command) → IsTrying r first s ts rest done before now
-    → Runs (one_step r s t) next report now after → IsInFront before after
+    → RunsTask (one_step r s t) next report now after → IsInFront before after
 trying_is_cut r first s next ts rest t report done before now after i h =
     some_more before now after i.notices i.told_is (told (notice (one_step r s t).broken), h.told_is)
 

@@ -19,7 +19,7 @@ use Rattle.dm_tree.proofs.Devices.{update_is_found}
 use Rattle.dm_tree.proofs.NodesKept.{some_node, still_insert}
 use Rattle.dm_tree.proofs.UpdateParts.{changed_keeps_update}
 use Rattle.dm_commands.specs.Outcomes.{asked_by, node_at}
-use Rattle.dm_commands.specs.Updates.{state_of, rewritten, with_text, with_state, package_at, update_ended}
+use Rattle.dm_commands.specs.Updates.{state_in_tree, rewritten, rewritten_at, with_state, package_at, update_ended}
 use Rattle.dm_commands.proofs.Ended.{running_has, none_left_out}
 use Rattle.dm_commands.proofs.Updating.{state_text}
 use Rattle.dm_commands.proofs.UpdateParts.{data_not_state}
@@ -28,10 +28,10 @@ use Rattle.dm_atomic.specs.Updates.{is_updating, update_of, begun, BegunWithItsU
 
 -- ---- the update that a tree tells of
 
-same_state : (m : Nodes) (b : Bool) → is_updating m ≡ b → b ≡ true → state_of m ≡ progressing
+same_state : (m : Nodes) (b : Bool) → is_updating m ≡ b → b ≡ true → state_in_tree m ≡ progressing
 same_state m b e f = grind (arith, nat_tests, e, f)
 
-pub runs : (m : Nodes) → is_updating m ≡ true → state_of m ≡ progressing
+pub runs : (m : Nodes) → is_updating m ≡ true → state_in_tree m ≡ progressing
 runs m e = same_state m true e refl
 
 -- where its nodes aren't all there, none runs
@@ -56,12 +56,12 @@ some_of m p e update =
     ∙ ap (λ o. option_map started_at o) update)
 
 module _ (m : Nodes) (q : Path) (n : Node) (is : state_node m ≡ Some q) (there : get m q ≡ Some n) where
-  number : state_of m ≡ digits_value 10 n.value.bytes
+  number : state_in_tree m ≡ digits_value 10 n.value.bytes
   number =
       ap (λ o. digits_value 10 (option_map_or (value_at m) o [])) is
       ∙ ap (λ o. digits_value 10 (unwrap_or (option_map (λ (x : Node). x.value.bytes) o) [])) there
 
-  five : IsUpdateInOrder m → state_of m ≡ progressing → is_update_state n.value.bytes ≡ true
+  five : IsUpdateInOrder m → state_in_tree m ≡ progressing → is_update_state n.value.bytes ≡ true
   five order e =
       let has = running_has m order e in
       let place : has.0 ++ codes "State" ∷ [] ≡ q = same_path _ _ (sym (update_is_found m has.0 has.1).2 ∙ is) in
@@ -156,12 +156,12 @@ module _ (clock : Stamp) (m : Nodes) (p : Path) (has : HasUpdate m p) where
       })).in_order order
 
   pub ended : (ok : Bool) → update_ended clock m ok
-      ≡ with_text (asked_by [] clock) m (packed ok) state_path (decimal (after_result ok))
+      ≡ rewritten_at (asked_by [] clock) m (packed ok) state_path (decimal (after_result ok))
   unfolding update_ended
   ended ok =
       ap (λ o. with_state (asked_by [] clock) m (option_map_or (package_at clock m ok) o m) (after_result ok))
       (update_is_found m p has).1
-      ∙ ap (λ o. option_map_or (λ q. with_text (asked_by [] clock) m (packed ok) q (decimal (after_result ok))) o
+      ∙ ap (λ o. option_map_or (λ q. rewritten_at (asked_by [] clock) m (packed ok) q (decimal (after_result ok))) o
       (packed ok))
       (update_is_found m p has).2
 

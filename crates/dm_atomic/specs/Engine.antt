@@ -104,12 +104,12 @@ pub record Gives (wanted : Next) (s : State) (before after : List Command) : Typ
   pub told_is : after ≡ before ++ told wanted.made
 
 -- a step was run
-pub record Comes (ran : Ran) (s : State) (report : Report) : Type 0 where
+pub record RunsStep (ran : Ran) (s : State) (report : Report) : Type 0 where
   pub state_is : s ≡ ran.state
   pub report_is : report ≡ ran.report
 
 -- a task was run; of an object that it broke was told
-pub record Runs (ran : Ran) (s : State) (report : Report) (before after : List Command) : Type 0 where
+pub record RunsTask (ran : Ran) (s : State) (report : Report) (before after : List Command) : Type 0 where
   pub state_is : s ≡ ran.state
   pub report_is : report ≡ ran.report
   pub told_is : after ≡ before ++ told (notice ran.broken)

@@ -49,8 +49,8 @@ uri_in None = []
 uri_in (Some text) = if is_ok (parse_of text) then text ∷ [] else []
 
 -- what tells it; CmdIDs are set on sending
-abbrev pub entry_of : Made → Command
-entry_of (Status post code) = commands.Status (record {
+abbrev pub command_told : Made → Command
+command_told (Status post code) = commands.Status (record {
   id = 0;
   msg_ref = post.msg;
   cmd_ref = post.command;
@@ -61,7 +61,7 @@ entry_of (Status post code) = commands.Status (record {
   code = code;
   items = [];
 })
-entry_of (Result post found) = commands.Results (record {
+command_told (Result post found) = commands.Results (record {
   id = 0;
   msg_ref = Some post.msg;
   cmd_ref = post.command;
@@ -70,7 +70,7 @@ entry_of (Result post found) = commands.Results (record {
   source_ref = None;
   items = source_item found.uri (Some (found_meta found)) found.value ∷ [];
 })
-entry_of (Broken target) = commands.Alert (record {
+command_told (Broken target) = commands.Alert (record {
   id = 0;
   no_resp = false;
   code = 1225;
@@ -78,15 +78,15 @@ entry_of (Broken target) = commands.Alert (record {
   items = map (λ uri. source_item uri None None) (uri_in (Some target));
 })
 
-abbrev pub is_withheld : Made → Bool
-is_withheld (Status post code) = post.quiet
-is_withheld (Result post found) = false
-is_withheld (Broken target) = false
+abbrev pub is_suppressed : Made → Bool
+is_suppressed (Status post code) = post.quiet
+is_suppressed (Result post found) = false
+is_suppressed (Broken target) = false
 
 -- a Status that is suppressed is made, and not told
 abbrev pub told : List Made → List Command
 told [] = []
-told (m ∷ ms) = if is_withheld m then told ms else entry_of m ∷ told ms
+told (m ∷ ms) = if is_suppressed m then told ms else command_told m ∷ told ms
 
 -- what stood before is in front
 abbrev pub IsInFront : List Command → List Command → Type 0

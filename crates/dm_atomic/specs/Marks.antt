@@ -109,7 +109,7 @@ pub record IsOpenAt (e : Engine) (m : EngineMark) : Type 0 where
   pub update : IsUpdateInOrder (tree_there e (group_at e m.groups).mark).nodes
 
 -- all that stood there is known still; where no group was open there were no parts
-pub record IsHeld (e : Engine) (m : EngineMark) : Type 0 where
+pub record IsKnownStill (e : Engine) (m : EngineMark) : Type 0 where
   pub journal : m.journal ≤ length e.journal.entries
   pub inbox : m.inbox < length e.inbox.objects
   pub starts : m.starts ≤ length e.starts.items
@@ -121,7 +121,7 @@ pub record IsHeld (e : Engine) (m : EngineMark) : Type 0 where
 
 -- the mark can be gone back to, and this stood there
 pub record Recalls (e : Engine) (m : EngineMark) (w : Whole) : Type 0 where
-  pub held : IsHeld e m
+  pub held : IsKnownStill e m
   pub there : recalled e m ≡ w
 
 -- every subtree that is parked is held by a record of the journal: none was left over
@@ -132,7 +132,7 @@ LeavesNone e = AreAllHeld e.journal.entries e.tree.rows
 -- it; and where no subtree was left over, none is
 pub record Holds (old new : Engine) : Type 0 where
   pub marks : (m : EngineMark) (w : Whole) → Recalls old m w → Recalls new m w
-  pub pasts : (m : EngineMark) → IsHeld old m → past_at new m ≡ past_at old m
+  pub pasts : (m : EngineMark) → IsKnownStill old m → past_at new m ≡ past_at old m
   pub parked : LeavesNone old → LeavesNone new
 
 -- objects were held, one behind the other

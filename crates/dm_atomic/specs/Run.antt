@@ -73,15 +73,15 @@ ran s post code broken = record { state = s; report = record { post = post; code
 abbrev pub alert_code : ℕ → ℕ
 alert_code code = if code == 1222 || code == 1225 then 200 else 406
 
-abbrev pub path_of : Result Uri UriError → Path
-path_of (Ok uri) = uri.path
-path_of (Err e) = []
+abbrev pub uri_path : Result Uri UriError → Path
+uri_path (Ok uri) = uri.path
+uri_path (Err e) = []
 
 abbrev pub started_by : Step → Started
-started_by step = record { node = path_of (parse_of (unwrap_or step.target [])); correlator = step.correlator }
+started_by step = record { node = uri_path (parse_of (unwrap_or step.target [])); correlator = step.correlator }
 
-abbrev pub whole_step : Running → State → Post → Option (List ℕ) → Step → Ran
-whole_step r s post broken step =
+abbrev pub step_ran : Running → State → Post → Option (List ℕ) → Step → Ran
+step_ran r s post broken step =
     let done = act r.setting s.tree step in
     record {
       state = record s { tree = done.tree; started = if done.started then Some (started_by step) else s.started };
@@ -90,7 +90,7 @@ whole_step r s post broken step =
     }
 
 abbrev pub by_what : Running → State → Post → Option (List ℕ) → What → Ran
-by_what r s post broken (Whole step) = whole_step r s post broken step
+by_what r s post broken (Whole step) = step_ran r s post broken step
 by_what r s post broken Buffered = ran s post 213 broken
 by_what r s post broken (Refused code) = ran s post code broken
 

@@ -28,7 +28,7 @@ max_obj_of e = e.inbox.max_obj
 
 -- an update runs where State is 60
 abbrev pub is_updating : Nodes → Bool
-is_updating m = tree.state_of m == progressing
+is_updating m = tree.state_in_tree m == progressing
 
 -- the update that a tree tells of, which is that of its update node; the Correlator isn't in the tree
 abbrev pub update_of : Nodes → Option Started

@@ -2,7 +2,7 @@
 ghost use Rattle.std.specs.Prelude.{◌≡◌, [], ◌∷◌, ◌++◌, IfOk, OnOk, OnErr, Some, None, map};
 ghost use Rattle.syncml_types.specs.declared.command.Command.TheVariants as commands;
 ghost use Rattle.dm_atomic.specs.Made.{Status, Result as AResult, Broken, reported, all_reported, notice, found_meta};
-ghost use Rattle.dm_atomic.specs.Made.{source_item, uri_in, entry_of, told, IsInFront};
+ghost use Rattle.dm_atomic.specs.Made.{source_item, uri_in, command_told, told, IsInFront};
 
 use crate::reports::Report;
 use crate::tasks::{Post, name_of};
@@ -26,7 +26,7 @@ fn uri_in(alloc: Global, text: &Option<Bytes>) -> Result<List<Bytes>, Memory>
 }
 
 fn status_of(alloc: Global, post: &Post, code: u32) -> Result<StatusCmd, Memory>
-    ensures { IfOk result (λ status. commands.Status status ≡ entry_of (Status post.now code)) }
+    ensures { IfOk result (λ status. commands.Status status ≡ command_told (Status post.now code)) }
 {
     Ok(StatusCmd {
         id: 0,
@@ -97,7 +97,7 @@ fn found_items(alloc: Global, found: Found) -> Result<List<Item>, Memory>
 }
 
 fn results_of(alloc: Global, post: &Post, found: Found) -> Result<ResultsCmd, Memory>
-    ensures { IfOk result (λ results. commands.Results results ≡ entry_of (AResult post.now found)) }
+    ensures { IfOk result (λ results. commands.Results results ≡ command_told (AResult post.now found)) }
 {
     Ok(ResultsCmd {
         id: 0,
@@ -157,7 +157,7 @@ fn broken_items(alloc: Global, target: &[u8]) -> Result<List<Item>, Memory>
 }
 
 fn alert_of(alloc: Global, target: &[u8]) -> Result<AlertCmd, Memory>
-    ensures { IfOk result (λ alert. commands.Alert alert ≡ entry_of (Broken target.now)) }
+    ensures { IfOk result (λ alert. commands.Alert alert ≡ command_told (Broken target.now)) }
 {
     Ok(AlertCmd {
         id: 0,

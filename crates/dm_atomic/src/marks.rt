@@ -2,7 +2,7 @@
 ghost use Rattle.std.specs.Prelude.{◌≡◌, ◌≤◌, ◌∷◌, ◌++◌, [], if◌then◌else◌, None, take, length, get_or, vec_capacity};
 ghost use Rattle.dm_atomic.specs.Engine.{state_of, IsSoundEngine};
 ghost use Rattle.dm_atomic.specs.Updates.{clock_of, max_obj_of};
-ghost use Rattle.dm_atomic.specs.Marks.{Whole, whole_of, past_of, past_at, no_past, groups, no_group, IsHeld};
+ghost use Rattle.dm_atomic.specs.Marks.{Whole, whole_of, past_of, past_at, no_past, groups, no_group, IsKnownStill};
 ghost use Rattle.dm_atomic.specs.Marks.{IsEarlier, Recalls, LeavesNone};
 ghost use Rattle.dm_atomic.specs.Run.{committed};
 ghost use Rattle.dm_atomic.specs.Stays.{committed_ids};
@@ -32,7 +32,7 @@ impl Engine {
         requires sound { IsSoundEngine self.now }
         ensures recalls { Recalls self.now result (whole_of self.now) }
         ensures past { past_at self.now result ≡ past_of self.now }
-        ensures latest { (k : AMark) → IsHeld self.now k → IsEarlier k result }
+        ensures latest { (k : AMark) → IsKnownStill self.now k → IsEarlier k result }
     {
         EngineMark {
             journal: self.journal.mark(),
@@ -49,7 +49,7 @@ impl Engine {
     /// memory.
     pub fn back(&mut self, mark: EngineMark)
         requires sound { IsSoundEngine self.old }
-        requires held { IsHeld self.old mark }
+        requires held { IsKnownStill self.old mark }
         ensures whole { (w : Whole) → Recalls self.old mark w → whole_of self.new ≡ w }
         ensures past { past_of self.new ≡ past_at self.old mark }
         ensures earlier { (k : AMark) (w : Whole) → Recalls self.old k w → IsEarlier k mark → Recalls self.new k w }
@@ -95,7 +95,7 @@ impl Engine {
     /// Gives the working tree back, as it was when `show_committed` gave the mark. It takes no memory.
     pub fn hide_committed(&mut self, mark: EngineMark)
         requires sound { IsSoundEngine self.old }
-        requires held { IsHeld self.old mark }
+        requires held { IsKnownStill self.old mark }
         ensures whole { (w : Whole) → Recalls self.old mark w → whole_of self.new ≡ w }
         ensures past { past_of self.new ≡ past_at self.old mark }
         ensures clock { clock_of self.new ≡ clock_of self.old }

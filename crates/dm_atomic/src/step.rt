@@ -7,9 +7,9 @@ ghost use Rattle.dm_objects.specs.InPlace.{what_of};
 ghost use Rattle.dm_commands.specs.Promises.{IsShortStep, is_moved, none_moved};
 ghost use Rattle.dm_atomic.specs.Made.{IsInFront, told, notice};
 ghost use Rattle.dm_atomic.specs.Run.{one_step as step_run, one_piece as piece_run, by_what as what_run};
-ghost use Rattle.dm_atomic.specs.Run.{whole_step as whole_run, alert_code as code_of_alert, path_of as path_in};
+ghost use Rattle.dm_atomic.specs.Run.{step_ran as whole_run, alert_code as code_of_alert, uri_path as path_in};
 ghost use Rattle.dm_atomic.specs.Run.{started_by as start_by};
-ghost use Rattle.dm_atomic.specs.Engine.{state_of, running, IsSoundEngine, IsShortWhat, Only, Acts, Comes, Runs};
+ghost use Rattle.dm_atomic.specs.Engine.{state_of, running, IsSoundEngine, IsShortWhat, Only, Acts, RunsStep, RunsTask};
 ghost use Rattle.dm_atomic.specs.Marks.{whole_of, Holds};
 ghost use Rattle.dm_atomic.specs.Stays.{work_covers, what_covers, StayBut};
 
@@ -124,7 +124,7 @@ impl Engine {
     fn whole_step(&mut self, caller: &[u8], post: &Post, step: &mut Step) -> Result<Report, Memory>
         requires sound { IsSoundEngine self.old }
         requires short { IsShortStep step.old }
-        ensures ok { IfOk result (λ report. Comes
+        ensures ok { IfOk result (λ report. RunsStep
             (whole_run (running self.old caller.now) (state_of self.old) post.now None step.old) (state_of self.new)
             report) }
         ensures only { Only self.old self.new }
@@ -156,7 +156,7 @@ impl Engine {
     ) -> Result<Report, Memory>
         requires sound { IsSoundEngine self.old }
         requires short { IsShortWhat (what_of sort step.old) }
-        ensures ok { IfOk result (λ report. Comes
+        ensures ok { IfOk result (λ report. RunsStep
             (what_run (running self.old caller.now) (state_of self.old) post.now None (what_of sort step.old))
             (state_of self.new) report) }
         ensures only { Only self.old self.new }
@@ -181,7 +181,7 @@ impl Engine {
         out: &mut List<Command>,
     ) -> Result<Report, Memory>
         requires sound { IsSoundEngine self.old }
-        ensures ok { IfOk result (λ report. Runs
+        ensures ok { IfOk result (λ report. RunsTask
             (piece_run (running self.old caller.now) (state_of self.old) post.now piece.old) (state_of self.new) report
             out.old out.new) }
         ensures err { OnErr result (IsInFront out.old out.new) }
@@ -230,7 +230,7 @@ impl Engine {
         out: &mut List<Command>,
     ) -> Result<Report, Memory>
         requires sound { IsSoundEngine self.old }
-        ensures ok { IfOk result (λ report. Runs
+        ensures ok { IfOk result (λ report. RunsTask
             (step_run (running self.old caller.now) (state_of self.old) task.old) (state_of self.new) report
             out.old out.new) }
         ensures err { OnErr result (IsInFront out.old out.new) }

@@ -16,8 +16,8 @@ abbrev pub base64_of : List ℕ → List ℕ
 base64_of bytes = encode_of standard bytes
 
 -- the bytes of a base64 text; none where padding is missing or spare bits aren't zero
-abbrev pub nonce_of : List ℕ → Option (List ℕ)
-nonce_of text = result_ok (decode_of standard text)
+abbrev pub decoded_nonce : List ℕ → Option (List ℕ)
+decoded_nonce text = result_ok (decode_of standard text)
 
 -- MD5 of the text of MD5 of `user:password`, a colon and the nonce
 abbrev pub digest_of : List ℕ → List ℕ → List ℕ → List ℕ

@@ -18,7 +18,8 @@ use Rattle.dm_base.specs.declared.outside.TakeError.TheVariants.{Read, TooLong, 
 use Rattle.dm_base.specs.declared.lines.LineOut.TheVariants as line_out
 use Rattle.dm_base.specs.declared.lines.LineReason.TheVariants as reason
 use Rattle.dm_base.specs.Outside.{OfKnown, TakesSome}
-use Rattle.dm_base.specs.Lines.{LinesState, FillsPending, ReadsLine, ahead, behind, IsFeedless, IsLongLine, CountsTaken}
+use Rattle.dm_base.specs.Lines.{LinesState, FillsPending, ReadsLine, ahead, behind_pending, IsFeedless, IsLongLine}
+use Rattle.dm_base.specs.Lines.{CountsTaken}
 use Rattle.dm_base.specs.Lines.{AskedForMore, LeavesNoLine, HasFeed, IsPastRoom, room, line_limit}
 
 -- no line feed among the first n bytes
@@ -63,8 +64,8 @@ line_given a left old new at r found short same is rest kept =
       omega (arith, long, short),
       omega (arith, long, found.0, same),
       subst (λ s. Consumes a (ahead s left) (new.line ++ 10 ∷ [])) (sym rest)
-          (subst (λ l. Consumes a (prepend_known (drop (at + 1) old.pending) (behind old left)) (l ++ 10 ∷ [])) (sym is)
-          (gave_line a (behind old left) old.pending _ at found.0 found.1 refl kept)),
+          (subst (λ l. Consumes a (prepend_known (drop (at + 1) old.pending) (behind_pending old left)) (l ++ 10 ∷ [])) (sym is)
+          (gave_line a (behind_pending old left) old.pending _ at found.0 found.1 refl kept)),
     )
 
 pub too_long : (a b : Option (List ℕ)) (bytes : List ℕ) (n r : ℕ) → n ≤ length bytes → 8400000 < n → length bytes ≤ r
@@ -86,7 +87,7 @@ pub long_line : (a left : Option (List ℕ)) (s : LinesState) (n r : ℕ) → n 
     → IsClear s.pending n
     → room s ≡ r → Keeps a (ahead s left) → ReadsLine r a (ahead s left) s.line (Ok (line_out.Bad reason.Long))
 long_line a left s n r within long clear same kept =
-    (kept, too_long a (behind s left) s.pending n r within long (omega (arith, same)) clear kept)
+    (kept, too_long a (behind_pending s left) s.pending n r within long (omega (arith, same)) clear kept)
 
 -- bytes that were taken became pending
 pub pending_more : (a left rest : Option (List ℕ)) (bytes more : List ℕ) → Keeps a (prepend_known bytes left)
@@ -158,7 +159,7 @@ line_stops a left rest first old new n Read fill all short clear same kept =
     subst (λ s. Keeps a (ahead s rest)) (sym fill.0) (kept_ahead a left rest old kept fill.1)
 line_stops a left rest first old new n TooLong fill all short clear same kept =
     let full = fill.1 in
-    past_room a (behind old left) old.pending (room first) kept fill.2 (omega (arith, same, full))
+    past_room a (behind_pending old left) old.pending (room first) kept fill.2 (omega (arith, same, full))
     (omega (arith, all, short)) (subst (λ m. IsClear old.pending m) all clear)
 line_stops a left rest first old new n Memory fill all short clear same kept =
     subst (λ s. Keeps a (ahead s rest)) (sym fill.0) (kept_ahead a left rest old kept fill.1)
@@ -182,7 +183,7 @@ pub filled_ahead : (a : Option (List ℕ)) (old new : LinesState) (left rest : O
 filled_ahead a old new left rest false e h kept = cc
 filled_ahead a old new left rest true e h kept =
     subst (λ s. Keeps a (ahead s rest)) (sym h.2)
-    (pending_more a (behind old left) (prepend_known [] rest) old.pending h.0 kept
+    (pending_more a (behind_pending old left) (prepend_known [] rest) old.pending h.0 kept
     (behind_taken left rest old.past [] h.0 h.3 refl h.4))
 
 pub filled_taken : (a : Option (List ℕ)) (old new : LinesState) (left rest : Option (List ℕ)) (b : Bool) (first : ℕ)

@@ -6,8 +6,8 @@ use Rattle.std.specs.Result.{result_ok}
 use Rattle.std.specs.Str.{all_ascii_digits}
 use Rattle.std.specs.Str.Parse.{digits_value}
 use Rattle.hex.specs.Hex.{decode_of, decode_sized, encode_lower, is_hex_digit}
-use Rattle.dm_base.specs.declared.fields.Form.{Form}
-use Rattle.dm_base.specs.declared.fields.Form.TheVariants.{Word, Id, Short, Opt, Hex, Key, Nonce, Num}
+use Rattle.dm_base.specs.declared.fields.FieldForm.{FieldForm}
+use Rattle.dm_base.specs.declared.fields.FieldForm.TheVariants.{Word, Id, Short, Opt, Hex, Key, Nonce, Num}
 use Rattle.dm_base.specs.declared.values.Nonce.{Nonce as Challenge}
 
 -- the parts of a line between its spaces
@@ -61,8 +61,8 @@ is_key text = is_hex text && nat_le (length text) 128
 abbrev pub is_nonce : List ℕ → Bool
 is_nonce text = length text == 32 && list_all is_hex_digit text
 
-abbrev pub nonce_of : List ℕ → Option Challenge
-nonce_of text = option_map (λ bytes. record { bytes = bytes }) (result_ok (decode_sized text 16))
+abbrev pub challenge_of : List ℕ → Option Challenge
+challenge_of text = option_map (λ bytes. record { bytes = bytes }) (result_ok (decode_sized text 16))
 
 -- decimal digits without a sign or a leading zero
 abbrev pub is_numeral : List ℕ → Bool
@@ -77,7 +77,7 @@ abbrev pub num_of : List ℕ → Option ℕ
 num_of text = if is_num text then Some (digits_value 10 text) else None
 
 -- whether a text is of a form
-abbrev pub is_form : Form → List ℕ → Bool
+abbrev pub is_form : FieldForm → List ℕ → Bool
 is_form Word text = is_word text
 is_form Id text = is_id text
 is_form Short text = is_short text

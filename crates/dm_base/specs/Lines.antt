@@ -44,12 +44,12 @@ pub record LinesState : Type 0 where
   pub taken : ℕ
 
 -- what stands behind the pending bytes: the byte past the limit, and the bytes that the source has left
-abbrev pub behind : LinesState → Option (List ℕ) → Option (List ℕ)
-behind state left = prepend_known state.past left
+abbrev pub behind_pending : LinesState → Option (List ℕ) → Option (List ℕ)
+behind_pending state left = prepend_known state.past left
 
 -- what is still to come
 abbrev pub ahead : LinesState → Option (List ℕ) → Option (List ℕ)
-ahead state left = prepend_known state.pending (behind state left)
+ahead state left = prepend_known state.pending (behind_pending state left)
 
 -- how many of these bytes a run looks at: those that are pending, and those that may yet be taken
 abbrev pub room : LinesState → ℕ
@@ -133,8 +133,8 @@ FillsPending old new left rest (Ok true) =
 FillsPending old new left rest (Ok false) = (new ≡ record old { line = new.line }) × Keeps left rest × (old.past ≡ []) × IsAtEnd left
 FillsPending old new left rest (Err take_error.TooLong) =
     CountsTaken left rest old.taken new.taken × (run_limit ≤ old.taken)
-    × OfKnown (behind old left) (λ bytes. 0 < length bytes)
-    × (new.pending ≡ old.pending) × Keeps (behind old left) (behind new rest)
+    × OfKnown (behind_pending old left) (λ bytes. 0 < length bytes)
+    × (new.pending ≡ old.pending) × Keeps (behind_pending old left) (behind_pending new rest)
 FillsPending old new left rest (Err take_error.Read) = (new ≡ record old { line = new.line }) × Keeps left rest × (old.past ≡ [])
 FillsPending old new left rest (Err take_error.Memory) =
     (new ≡ record old { line = new.line }) × Keeps left rest × (old.past ≡ [])

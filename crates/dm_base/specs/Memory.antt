@@ -19,11 +19,11 @@ pub record SinkState : Type 0 where
   pub faults : ℕ
 
 -- one call more, or the last number that a count has
-abbrev pub after : ℕ → ℕ
-after n = min (n + 1) (2 ^ 64 - 1)
+abbrev pub one_more : ℕ → ℕ
+one_more n = min (n + 1) (2 ^ 64 - 1)
 
 -- a put is one call more, which takes the whole piece or fails; for want of memory it is no call at all
 abbrev pub SinkPuts : SinkState → SinkState → List ℕ → Result ℕ Fault → Type 0
-SinkPuts old new piece (Ok n) = new ≡ record old { got = old.got ++ piece; calls = after old.calls }
-SinkPuts old new piece (Err fault.Failed) = new ≡ record old { calls = after old.calls; faults = after old.faults }
+SinkPuts old new piece (Ok n) = new ≡ record old { got = old.got ++ piece; calls = one_more old.calls }
+SinkPuts old new piece (Err fault.Failed) = new ≡ record old { calls = one_more old.calls; faults = one_more old.faults }
 SinkPuts old new piece (Err fault.Memory) = new ≡ old

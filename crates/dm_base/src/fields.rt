@@ -5,7 +5,7 @@ ghost use Rattle.std.specs.List.{list_all};
 ghost use Rattle.std.specs.Char.{is_ascii_digit};
 ghost use Rattle.hex.specs.Hex.{encode_lower, is_hex_digit};
 ghost use Rattle.dm_base.specs.Fields.{field_of, parts, is_form, is_visible, is_word, is_short, is_acl_sign, is_id};
-ghost use Rattle.dm_base.specs.Fields.{is_hex, is_numeral, num_of, nonce_of, hex_of, hex_text};
+ghost use Rattle.dm_base.specs.Fields.{is_hex, is_numeral, num_of, challenge_of, hex_of, hex_text};
 
 use crate::bytes::{Bytes, Memory};
 use crate::digits::{block_bytes, many_bytes, put_digits, short_bytes};
@@ -14,7 +14,7 @@ use std::alloc::Global;
 
 /// The forms that a field may have.
 #[derive(Clone, Copy, Debug, PartialEq, Eq)]
-pub enum Form {
+pub enum FieldForm {
     /// 1 to 255 bytes of 21 to 7E.
     Word,
     /// A server's name: a `Short` without `&`, `+`, `=` and `*` that isn't `-`.
@@ -108,18 +108,18 @@ pub fn field(line: &[u8], n: usize) -> Option<&[u8]>
 }
 
 /// Whether the text is of a form.
-pub fn is_field(form: Form, text: &[u8]) -> bool
+pub fn is_field(form: FieldForm, text: &[u8]) -> bool
     ensures { result ≡ is_form form text.now }
 {
     match form {
-        Form::Word => is_word(text),
-        Form::Id => is_id(text),
-        Form::Short => is_short(text),
-        Form::Opt => is_short(text),
-        Form::Hex => is_hex(text),
-        Form::Key => is_hex(text) && text.len() <= 128,
-        Form::Nonce => text.len() == 32 && all_hex(text),
-        Form::Num => num(text).is_some(),
+        FieldForm::Word => is_word(text),
+        FieldForm::Id => is_id(text),
+        FieldForm::Short => is_short(text),
+        FieldForm::Opt => is_short(text),
+        FieldForm::Hex => is_hex(text),
+        FieldForm::Key => is_hex(text) && text.len() <= 128,
+        FieldForm::Nonce => text.len() == 32 && all_hex(text),
+        FieldForm::Num => num(text).is_some(),
     }
 }
 
@@ -138,7 +138,7 @@ pub fn num(text: &[u8]) -> Option<u64>
 
 /// The bytes of a `Nonce`. None comes exactly where the text isn't one.
 pub fn nonce(text: &[u8]) -> Option<Nonce>
-    ensures { result ≡ nonce_of text.now }
+    ensures { result ≡ challenge_of text.now }
 {
     if text.len() != 32 {
         return None;

@@ -17,7 +17,7 @@ pub mod wholes;
 
 pub use boxed::Boxed;
 pub use bytes::{Bytes, Memory};
-pub use fields::{Form, field, hex_bytes, hex_into, is_field, nonce, num};
+pub use fields::{FieldForm, field, hex_bytes, hex_into, is_field, nonce, num};
 pub use lines::{LineOut, LineReason, Lines, RUN_LIMIT};
 pub use list::List;
 pub use memory::{MemSink, MemSource};

@@ -2,7 +2,7 @@
 ghost use Rattle.std.specs.Prelude.{◌≡◌, ◌<◌, ◌≤◌, ◌+◌, ◌↔◌, ◌++◌, List, [], ℕ, Option, Some, length, take, drop};
 ghost use Rattle.std.specs.Prelude.{Contains, IsErr, IsErrOf, IsOk, IsTrue, OnOk, OnErr, min};
 ghost use Rattle.dm_base.specs.Outside.{TakeCounts, PutCounts, PutsSome, TakesSome};
-ghost use Rattle.dm_base.specs.Memory.{SourceState, SinkState, SinkPuts, after};
+ghost use Rattle.dm_base.specs.Memory.{SourceState, SinkState, SinkPuts, one_more};
 
 use crate::bytes::Bytes;
 use crate::list::List;
@@ -81,9 +81,9 @@ impl Source for MemSource {
         requires { 0 < length buf.old }
         ensures bytes { TakesSome (Some self.old.left) (Some self.new.left) result buf.new }
         ensures count { TakeCounts self.old.faults self.new.faults result }
-        ensures fails { IsErr result ↔ Contains self.old.fails (after self.old.calls) }
+        ensures fails { IsErr result ↔ Contains self.old.fails (one_more self.old.calls) }
         ensures piece { OnOk result (length self.old.left ≤ length self.new.left + self.old.piece) }
-        ensures calls { self.new.calls ≡ after self.old.calls }
+        ensures calls { self.new.calls ≡ one_more self.old.calls }
         ensures rest { (self.new.fails ≡ self.old.fails) × (self.new.piece ≡ self.old.piece) }
     {
         self.calls = self.calls.saturating_add(1);
@@ -144,7 +144,7 @@ impl Sink for MemSink {
         requires { 0 < length piece.now }
         ensures bytes { PutsSome (Some self.old.got) (Some self.new.got) result piece.now }
         ensures count { PutCounts self.old.faults self.new.faults result }
-        ensures fails { IsErrOf result Fault.Failed ↔ Contains self.old.fails (after self.old.calls) }
+        ensures fails { IsErrOf result Fault.Failed ↔ Contains self.old.fails (one_more self.old.calls) }
         ensures state { SinkPuts self.old self.new piece.now result }
     {
         let call = self.calls.saturating_add(1);

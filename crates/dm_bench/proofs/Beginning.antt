@@ -1,6 +1,6 @@
 -- The client begins with what the lines told.
 use Rattle.std.proofs.Common.{◌≡◌, ℕ, ap, ◌∙◌}
-use Rattle.dm_machine.specs.declared.kinds.Kind.TheVariants.{ByClient}
+use Rattle.dm_machine.specs.declared.kinds.Initiator.TheVariants.{ByClient}
 use Rattle.dm_machine.specs.Machine.{Machine}
 use Rattle.dm_machine.specs.Events.{opened}
 use Rattle.dm_machine.specs.History.{next}

@@ -1,6 +1,8 @@
 -- The groups and the leaves of a workload come into the tree one after another.
-use Rattle.std.proofs.Common.{◌≡◌, ◌≢◌, ◌≤◌, ◌<◌, ◌+◌, ◌*◌, ◌/◌, ◌%◌, ◌^◌, ◌==◌, ℕ, zero, suc, Bool, true, false, not, cond}
-use Rattle.std.proofs.Common.{List, [], ◌∷◌, ◌++◌, length, Option, None, Some, Ok, Err, refl, sym, ap, subst, ◌∙◌, arith}
+use Rattle.std.proofs.Common.{◌≡◌, ◌≢◌, ◌≤◌, ◌<◌, ◌+◌, ◌*◌, ◌/◌, ◌%◌, ◌^◌, ◌==◌, ℕ, zero, suc, Bool, true, false, not}
+use Rattle.std.proofs.Common.{cond}
+use Rattle.std.proofs.Common.{List, [], ◌∷◌, ◌++◌, length, Option, None, Some, Ok, Err, refl, sym, ap, subst, ◌∙◌}
+use Rattle.std.proofs.Common.{arith}
 use Rattle.std.proofs.lemmas.Bool.{and_from}
 use Rattle.std.proofs.lemmas.Bool.Decides.{nat_tests}
 use Rattle.std.proofs.lemmas.Fmt.{decimal_injective}
@@ -28,7 +30,8 @@ use Rattle.dm_start.specs.Growing.{interior_line, leaf_line, acl_line, title_lin
 use Rattle.dm_fields.specs.Refusing.{or_refused}
 use Rattle.dm_start.specs.Growing.{with_leaf, nodes_after}
 use Rattle.dm_start.specs.Start.{Setup, Section, telling, after_line, begin_line, with_nodes}
-use Rattle.dm_bench.specs.Start.{Leads, Ends, group_uri, leaf_uri, leaf_line as line_of, group_lines, lines_at, leaf_lines}
+use Rattle.dm_bench.specs.Start.{Leads, EndsSection, group_uri, leaf_uri, workload_leaf as line_of, group_lines}
+use Rattle.dm_bench.specs.Start.{lines_at, leaf_lines}
 use Rattle.dm_bench.proofs.Leading.{leads_on, no_group, some_group, leads_by, leads_more}
 use Rattle.dm_bench.proofs.Naming.{group_path, leaf_path, uri_of, group_read, leaf_read, group_limits, leaf_limits}
 use Rattle.dm_bench.proofs.Naming.{group_parts, leaf_fields, value_read, few_digits, within}
@@ -178,7 +181,7 @@ by_fields : (told : Setup) (line : List ℕ) → after_line (telling phase.Nodes
 unfolding after_line nodes_after
 by_fields told line = refl
 
-pub ends : (told : Setup) → Ends (telling phase.Nodes told) told
+pub ends : (told : Setup) → EndsSection (telling phase.Nodes told) told
 unfolding after_line
 ends told = refl
 

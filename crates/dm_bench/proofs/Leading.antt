@@ -7,8 +7,8 @@ use Rattle.std.specs.Prelude.{codes, if◌then◌else◌}
 use Rattle.dm_start.specs.declared.heads.Head.TheVariants.{First}
 use Rattle.dm_start.specs.declared.telling.Phase.TheVariants as phase
 use Rattle.dm_start.specs.Start.{Setup, Section, opening, telling, after_line, behind_line, lines_after}
-use Rattle.dm_bench.specs.Start.{Leads, Ends, head_lines, group_uri, group_lines, lines_at, leaf_lines, start_of}
-use Rattle.dm_bench.specs.Start.{told_in}
+use Rattle.dm_bench.specs.Start.{Leads, EndsSection, head_lines, group_uri, group_lines, lines_at, leaf_lines, start_of}
+use Rattle.dm_bench.specs.Start.{setup_told}
 
 pub leads_on : (xs ys : List (List ℕ)) (s t u : Section) → Leads s xs t → Leads t ys u → Leads s (xs ++ ys) u
 leads_on [] ys s t u first behind = subst (λ p. Leads p ys u) first behind
@@ -63,19 +63,19 @@ leads_more leaf s t u before now =
 
 -- ---- the whole section
 
-pub leads_to : (lines : List (List ℕ)) (n : ℕ) (s t : Section) (told : Setup) → Leads s lines t → Ends t told
+pub leads_to : (lines : List (List ℕ)) (n : ℕ) (s t : Section) (told : Setup) → Leads s lines t → EndsSection t told
     → lines_after n s (lines ++ codes "begin" ∷ []) ≡ Ok (telling phase.Begun told)
 leads_to [] n s t told is ends =
-    ap (λ r. behind_line n r (λ next. lines_after (n + 1) next [])) (subst (λ p. Ends p told) is ends)
+    ap (λ r. behind_line n r (λ next. lines_after (n + 1) next [])) (subst (λ p. EndsSection p told) is ends)
 leads_to (x ∷ xs) n s t told is ends =
     ap (λ r. behind_line n r (λ next. lines_after (n + 1) next (xs ++ codes "begin" ∷ []))) is.1
     ∙ leads_to xs (n + 1) is.0 t told is.2 ends
 
 pub told_is : (nodes : ℕ) (s t u : Section) (told : Setup) → s ≡ opening First → Leads s head_lines t
-    → Leads t (leaf_lines nodes) u → Ends u told → told ≡ start_of nodes
+    → Leads t (leaf_lines nodes) u → EndsSection u told → told ≡ start_of nodes
 unfolding start_of
 told_is nodes s t u told first head leaves ends =
     let led : Leads (opening First) (head_lines ++ leaf_lines nodes) u =
     subst (λ p. Leads p (head_lines ++ leaf_lines nodes) u) first
     (leads_on head_lines (leaf_lines nodes) s t u head leaves) in
-    sym (ap told_in (leads_to (head_lines ++ leaf_lines nodes) 1 (opening First) u told led ends))
+    sym (ap setup_told (leads_to (head_lines ++ leaf_lines nodes) 1 (opening First) u told led ends))

@@ -1,6 +1,8 @@
 -- The URIs of groups and leaves are read as their paths, and the lines that bring them in are parted into their fields.
-use Rattle.std.proofs.Common.{◌≡◌, ◌≤◌, ◌<◌, ◌+◌, ◌/◌, ◌%◌, ◌^◌, ◌==◌, ℕ, zero, suc, Bool, true, false, not, List, [], ◌∷◌}
-use Rattle.std.proofs.Common.{◌++◌, length, get_or, Option, None, Some, Ok, Err, refl, sym, ap, subst, ◌∙◌, arith, inr, append_assoc, cond, rules}
+use Rattle.std.proofs.Common.{◌≡◌, ◌≤◌, ◌<◌, ◌+◌, ◌/◌, ◌%◌, ◌^◌, ◌==◌, ℕ, zero, suc, Bool, true, false, not, List, []}
+use Rattle.std.proofs.Common.{◌∷◌}
+use Rattle.std.proofs.Common.{◌++◌, length, get_or, Option, None, Some, Ok, Err, refl, sym, ap, subst, ◌∙◌, arith, inr}
+use Rattle.std.proofs.Common.{append_assoc, cond, rules}
 use Rattle.std.proofs.lemmas.Bool.{and_parts, and_from}
 use Rattle.std.proofs.lemmas.Bool.Decides.{nat_tests}
 use Rattle.std.proofs.lemmas.Fmt.{decimal_by_steps, length-decimal-le, decimal_nonempty}
@@ -24,7 +26,7 @@ use Rattle.dm_uri.specs.Names.{is_name_byte, has_name_form, is_short_name, is_wi
 use Rattle.dm_uri.specs.Reading.{parse_of}
 use Rattle.dm_uri.proofs.BothWays.{reads_grammar}
 use Rattle.dm_tree.specs.Nodes.{Path}
-use Rattle.dm_bench.specs.Start.{group_uri, leaf_uri, leaf_line}
+use Rattle.dm_bench.specs.Start.{group_uri, leaf_uri, workload_leaf}
 
 -- the paths of a group and of a leaf
 abbrev pub group_path : ℕ → Path
@@ -196,14 +198,14 @@ group_parts n l =
 
 -- a leaf's line, word by word
 line_is : (n : ℕ)
-    → leaf_line n
+    → workload_leaf n
     ≡ codes "leaf" ++ 32 ∷ (leaf_uri n ++ 32 ∷ (codes "chr" ++ 32 ∷ (codes "text/plain" ++ 32 ∷ hex_text (decimal n))))
 line_is n =
     append_assoc (codes "leaf " ++ leaf_uri n) (codes " chr text/plain ") (hex_text (decimal n))
     ∙ append_assoc (codes "leaf ") (leaf_uri n) (codes " chr text/plain " ++ hex_text (decimal n))
 
 pub leaf_parts : (n : ℕ) → n < 65536 → list_all no_space (hex_text (decimal n)) ≡ true
-    → parts (leaf_line n)
+    → parts (workload_leaf n)
     ≡ codes "leaf" ∷ leaf_uri n ∷ codes "chr" ∷ codes "text/plain" ∷ hex_text (decimal n) ∷ []
 leaf_parts n l hex =
     let text = hex_text (decimal n) in
@@ -257,7 +259,7 @@ hex_spaceless text bytes h = by_dash (bytes_eq text (codes "-")) (nat_lt 0 (leng
     by_dash false false is e = absurd (cc)
 
 pub leaf_fields : HexIsReadAgain → (n : ℕ) → n < 65536
-    → parts (leaf_line n)
+    → parts (workload_leaf n)
     ≡ codes "leaf" ∷ leaf_uri n ∷ codes "chr" ∷ codes "text/plain" ∷ hex_text (decimal n) ∷ []
 leaf_fields again n l =
     leaf_parts n l (hex_spaceless (hex_text (decimal n)) (decimal n) (value_read again n l))

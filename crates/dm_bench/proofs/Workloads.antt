@@ -1,5 +1,6 @@
 -- No line of a workload's start section is refused.
-use Rattle.std.proofs.Common.{◌≡◌, ◌≢◌, ◌≤◌, ◌<◌, ◌+◌, ℕ, true, false, List, [], ◌∷◌, ◌++◌, None, Some, Ok, refl, sym, ap, subst, ◌∙◌}
+use Rattle.std.proofs.Common.{◌≡◌, ◌≢◌, ◌≤◌, ◌<◌, ◌+◌, ℕ, true, false, List, [], ◌∷◌, ◌++◌, None, Some, Ok, refl, sym}
+use Rattle.std.proofs.Common.{ap, subst, ◌∙◌}
 use Rattle.std.proofs.Common.{arith}
 use Rattle.std.specs.Prelude.{codes, IsTrue}
 use Rattle.std.specs.FinMap.{get, insert, len, empty, get-empty, get-insert, len-empty}
@@ -16,19 +17,21 @@ use Rattle.dm_tree.specs.declared.nodes.Role.TheVariants as role
 use Rattle.dm_tree.specs.Nodes.{Path, Nodes, tree_order, first_stamp, made, counted, root_node, with_acl}
 use Rattle.dm_tree.proofs.Paths.{tree_total}
 use Rattle.dm_tree.proofs.RowMaps.{insert_here, insert_beside}
-use Rattle.dm_start.specs.declared.heads.Device.{Device}
+use Rattle.dm_start.specs.declared.heads.DeviceInfo.{DeviceInfo}
 use Rattle.dm_start.specs.declared.heads.Head.TheVariants as head
 use Rattle.dm_start.specs.declared.telling.Phase.TheVariants as phase
-use Rattle.dm_start.specs.Growing.{new_node, interior_value, start_acl, bare_tree, device_part, all_inserted, start_nodes}
+use Rattle.dm_start.specs.Growing.{new_node, interior_value, start_acl, bare_tree, device_part, all_inserted}
+use Rattle.dm_start.specs.Growing.{start_nodes}
 use Rattle.dm_start.specs.Growing.{nodes_after, with_acl_at, with_one}
 use Rattle.dm_fields.specs.Refusing.{or_refused}
-use Rattle.dm_start.specs.Start.{Setup, Section, opening, telling, after_line, lines_after, section_of_lines, with_nodes}
-use Rattle.dm_bench.specs.Start.{Leads, head_lines, leaf_lines, start_lines, told_in, start_of, WorkloadIsTold}
+use Rattle.dm_start.specs.Start.{Setup, Section, opening, telling, after_line, lines_after, section_of_lines}
+use Rattle.dm_start.specs.Start.{with_nodes}
+use Rattle.dm_bench.specs.Start.{Leads, head_lines, leaf_lines, start_lines, setup_told, start_of, WorkloadIsTold}
 use Rattle.dm_bench.proofs.Leading.{head_leads, leads_on, leads_to}
 use Rattle.dm_bench.proofs.Naming.{group_path, leaf_path}
 use Rattle.dm_bench.proofs.Growing.{Grown, top_path, insert_most, stands, grown_by, ends, leaves_led}
 
-abbrev device : Device
+abbrev device : DeviceInfo
 device = record {
   dev_id = codes "d";
   man = codes "m";
@@ -180,4 +183,4 @@ workload_is_told again nodes few =
     let is : section_of_lines (start_lines nodes) ≡ Ok (telling phase.Begun led.behind) =
     leads_to (head_lines ++ leaf_lines nodes) 1 (opening head.First) (telling phase.Nodes led.behind) led.behind all
     (ends led.behind) in
-    is ∙ ap (λ told. Ok (telling phase.Begun told)) (sym (ap told_in is))
+    is ∙ ap (λ told. Ok (telling phase.Begun told)) (sym (ap setup_told is))

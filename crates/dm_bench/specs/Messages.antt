@@ -10,7 +10,7 @@ use Rattle.syncml_types.specs.declared.command.Member.TheVariants as member
 use Rattle.syncml_types.specs.declared.command.Command.{Command}
 use Rattle.syncml_types.specs.declared.command.Command.TheVariants as command
 use Rattle.syncml_types.specs.Message.{Parts}
-use Rattle.dm_bench.specs.Words.{word, after}
+use Rattle.dm_bench.specs.Words.{word, state_after}
 use Rattle.dm_bench.specs.Start.{leaf_uri}
 
 abbrev pub loc : List ℕ → Loc
@@ -21,8 +21,8 @@ item target value =
     record { target = Some (loc target); source = None; meta = None; value = Some value; more = false }
 
 -- a Replace without Meta
-abbrev pub replace : ℕ → List ℕ → List ℕ → Member
-replace id target value = member.One (record {
+abbrev pub plain_replace : ℕ → List ℕ → List ℕ → Member
+plain_replace id target value = member.One (record {
   verb = Replace;
   id = id;
   no_resp = false;
@@ -33,21 +33,21 @@ replace id target value = member.One (record {
 
 -- a word gives the leaf, and the next one the value
 abbrev pub leaf_write : ℕ → ℕ → ℕ → Member
-leaf_write id nodes s = replace id (leaf_uri (word s % nodes)) (decimal (word (after 1 s)))
+leaf_write id nodes s = plain_replace id (leaf_uri (word s % nodes)) (decimal (word (state_after 1 s)))
 
 -- in one of eight messages no node stands at the target of the last Replace
 abbrev pub last_target : ℕ → ℕ → List ℕ
-last_target nodes s = if word s % 8 == 0 then codes "./B/none" else leaf_uri (word (after 1 s) % nodes)
+last_target nodes s = if word s % 8 == 0 then codes "./B/none" else leaf_uri (word (state_after 1 s) % nodes)
 
 abbrev pub last_write : ℕ → ℕ → ℕ → Member
-last_write id nodes s = replace id (last_target nodes s) (decimal (word (after 2 s)))
+last_write id nodes s = plain_replace id (last_target nodes s) (decimal (word (state_after 2 s)))
 
 abbrev pub members : ℕ → ℕ → List Member
 members nodes s =
     leaf_write 2 nodes s
-    ∷ leaf_write 3 nodes (after 2 s)
-    ∷ leaf_write 4 nodes (after 4 s)
-    ∷ last_write 5 nodes (after 6 s)
+    ∷ leaf_write 3 nodes (state_after 2 s)
+    ∷ leaf_write 4 nodes (state_after 4 s)
+    ∷ last_write 5 nodes (state_after 6 s)
     ∷ []
 
 abbrev pub header : ℕ → Header

@@ -9,22 +9,22 @@ use Rattle.syncml_codec.specs.Decoding.{read_of}
 use Rattle.dm_machine.specs.Machine.{Machine}
 use Rattle.dm_machine.specs.Events.{Event, message, Answer, sent}
 use Rattle.dm_machine.specs.History.{answer_now, next}
-use Rattle.dm_bench.specs.declared.running.Tally.{Tally}
-use Rattle.dm_bench.specs.Words.{after}
+use Rattle.dm_bench.specs.declared.running.AtomicCounts.{AtomicCounts}
+use Rattle.dm_bench.specs.Words.{state_after}
 use Rattle.dm_bench.specs.Messages.{message_of}
 
 -- how far a workload has come: the client, the words to come, and what was counted
-pub record Run : Type 0 where
+pub record WorkloadRun : Type 0 where
   pub machine : Machine
   pub words : ℕ
-  pub tally : Tally
+  pub tally : AtomicCounts
 
-abbrev pub run_of : Machine → ℕ → Tally → Run
-run_of machine words tally = record { machine = machine; words = words; tally = tally }
+abbrev pub workload_run : Machine → ℕ → AtomicCounts → WorkloadRun
+workload_run machine words tally = record { machine = machine; words = words; tally = tally }
 
 -- nothing was counted
-abbrev pub begun : Machine → ℕ → Run
-begun machine words = run_of machine words (record { ok = 0; failed = 0 })
+abbrev pub first_run : Machine → ℕ → WorkloadRun
+first_run machine words = workload_run machine words (record { ok = 0; failed = 0 })
 
 -- ---- what is counted
 
@@ -33,14 +33,14 @@ tells_atomic code (command.Status c) = c.code == code && bytes_eq c.cmd (codes "
 tells_atomic code other = false
 
 -- the answer is a message that tells this code of an Atomic
-abbrev pub tells : ℕ → Answer → Bool
-tells code (sent m) = list_any (tells_atomic code) m.body
-tells code other = false
+abbrev pub tells_code : ℕ → Answer → Bool
+tells_code code (sent m) = list_any (tells_atomic code) m.body
+tells_code code other = false
 
-abbrev pub counted : Tally → Answer → Tally
-counted t a = record {
-  ok = t.ok + (if tells 200 a then 1 else 0);
-  failed = t.failed + (if tells 507 a then 1 else 0);
+abbrev pub tallied : AtomicCounts → Answer → AtomicCounts
+tallied t a = record {
+  ok = t.ok + (if tells_code 200 a then 1 else 0);
+  failed = t.failed + (if tells_code 507 a then 1 else 0);
 }
 
 -- ---- the run
@@ -50,14 +50,14 @@ abbrev pub delivery : ℕ → ℕ → ℕ → Event
 delivery nodes number s = message (read_of (canonical (message_of nodes number s))) (replicate 16 0)
 
 -- with the message of this number delivered
-unfoldable pub with_message : ℕ → ℕ → Run → Run
+unfoldable pub with_message : ℕ → ℕ → WorkloadRun → WorkloadRun
 with_message nodes number r = record {
   machine = next r.machine (delivery nodes number r.words);
-  words = after 9 r.words;
-  tally = counted r.tally (answer_now r.machine (delivery nodes number r.words));
+  words = state_after 9 r.words;
+  tally = tallied r.tally (answer_now r.machine (delivery nodes number r.words));
 }
 
 -- with so many messages delivered, from number 1 on
-unfoldable pub with_messages : ℕ → Run → ℕ → Run
+unfoldable pub with_messages : ℕ → WorkloadRun → ℕ → WorkloadRun
 with_messages nodes r zero = r
 with_messages nodes r (suc done) = with_message nodes (suc done) (with_messages nodes r done)

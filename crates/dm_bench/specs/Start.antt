@@ -6,7 +6,7 @@ use Rattle.std.specs.FinMap.{empty}
 use Rattle.dm_base.specs.Fields.{hex_text}
 use Rattle.dm_base.specs.declared.lines.LineReason.{LineReason}
 use Rattle.dm_tree.specs.Nodes.{first_stamp}
-use Rattle.dm_machine.specs.declared.kinds.Kind.TheVariants.{ByClient}
+use Rattle.dm_machine.specs.declared.kinds.Initiator.TheVariants.{ByClient}
 use Rattle.dm_machine.specs.Machine.{Machine}
 use Rattle.dm_machine.specs.Events.{opened}
 use Rattle.dm_machine.specs.History.{next}
@@ -39,15 +39,15 @@ head_lines =
     ∷ []
 
 -- a leaf holds its number
-abbrev pub leaf_line : ℕ → List ℕ
-leaf_line leaf = codes "leaf " ++ leaf_uri leaf ++ codes " chr text/plain " ++ hex_text (decimal leaf)
+abbrev pub workload_leaf : ℕ → List ℕ
+workload_leaf leaf = codes "leaf " ++ leaf_uri leaf ++ codes " chr text/plain " ++ hex_text (decimal leaf)
 
 -- the group stands in front of its first leaf
 abbrev pub group_lines : ℕ → List (List ℕ)
 group_lines leaf = if leaf % 256 == 0 then (codes "interior " ++ group_uri (leaf / 256)) ∷ [] else []
 
 abbrev pub lines_at : ℕ → List (List ℕ)
-lines_at leaf = group_lines leaf ++ leaf_line leaf ∷ []
+lines_at leaf = group_lines leaf ++ workload_leaf leaf ∷ []
 
 -- those of all leaves below this number
 abbrev pub leaf_lines : ℕ → List (List ℕ)
@@ -60,8 +60,8 @@ start_lines nodes = head_lines ++ leaf_lines nodes ++ codes "begin" ∷ []
 -- ---- what they tell
 
 -- nothing
-abbrev pub untold : Setup
-untold = record {
+abbrev pub empty_setup : Setup
+empty_setup = record {
   version = 1;
   limits = record { max_msg = 65536; max_obj = 4194304 };
   accounts = [];
@@ -70,14 +70,14 @@ untold = record {
 }
 
 -- what a whole section told; of lines that are none, nothing
-abbrev pub told_in : Result Section (ℕ × LineReason) → Setup
-told_in (Ok (telling p told)) = told
-told_in (Ok (opening h)) = untold
-told_in (Err why) = untold
+abbrev pub setup_told : Result Section (ℕ × LineReason) → Setup
+setup_told (Ok (telling p told)) = told
+setup_told (Ok (opening h)) = empty_setup
+setup_told (Err why) = empty_setup
 
 -- what the lines of a tree with so many leaves tell
 unfoldable pub start_of : ℕ → Setup
-start_of nodes = told_in (section_of_lines (start_lines nodes))
+start_of nodes = setup_told (section_of_lines (start_lines nodes))
 
 -- the client with the account's session 1, which the client asks for
 unfoldable pub begun_machine : ℕ → Machine
@@ -91,8 +91,8 @@ Leads s [] t = t ≡ s
 Leads s (line ∷ lines) t = (next : Section) × (after_line s line ≡ Ok next) × Leads next lines t
 
 -- the last line leads from here to its end
-abbrev pub Ends : Section → Setup → Type 0
-Ends s told = after_line s (codes "begin") ≡ Ok (telling phase.Begun told)
+abbrev pub EndsSection : Section → Setup → Type 0
+EndsSection s told = after_line s (codes "begin") ≡ Ok (telling phase.Begun told)
 
 -- a client can be made of the start, with an account
 pub record MayBegin (start : Start) : Type 0 where

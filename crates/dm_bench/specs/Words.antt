@@ -11,6 +11,6 @@ unfoldable pub rest : ℕ → ℕ
 rest s = (mix_u64 s).1
 
 -- the state behind so many words
-abbrev pub after : ℕ → ℕ → ℕ
-after zero s = s
-after (suc n) s = after n (rest s)
+abbrev pub state_after : ℕ → ℕ → ℕ
+state_after zero s = s
+state_after (suc n) s = state_after n (rest s)

@@ -2,8 +2,8 @@
 ghost use Rattle.std.specs.Prelude.{◌≡◌, ◌<◌, ◌%◌, IfOk, OnOk};
 ghost use Rattle.std.specs.Fmt.{decimal};
 ghost use Rattle.dm_bench.specs.Start.{leaf_uri};
-ghost use Rattle.dm_bench.specs.Words as Words;
-ghost use Rattle.dm_bench.specs.Words.{after};
+ghost use Rattle.dm_bench.specs.Words;
+ghost use Rattle.dm_bench.specs.Words.{state_after};
 ghost use Rattle.dm_bench.specs.Messages as Spec;
 
 use crate::names::add_leaf;
@@ -50,7 +50,7 @@ fn loc(uri: Bytes) -> Loc
 }
 
 fn replace(alloc: Global, id: u32, target: Bytes, value: Bytes) -> Result<Member, Memory>
-    ensures { IfOk result (λ member. member ≡ Spec.replace id target value) }
+    ensures { IfOk result (λ member. member ≡ Spec.plain_replace id target value) }
 {
     let mut items = List::with_room(alloc, 1)?;
     items.push(Item {
@@ -74,7 +74,7 @@ fn replace(alloc: Global, id: u32, target: Bytes, value: Bytes) -> Result<Member
 fn leaf_write(alloc: Global, id: u32, nodes: u32, words: &mut SplitMix64) -> Result<Member, Memory>
     requires { 0 < nodes }
     ensures member { IfOk result (λ member. member ≡ Spec.leaf_write id nodes words.old) }
-    ensures rest { OnOk result (words.new ≡ after 2 words.old) }
+    ensures rest { OnOk result (words.new ≡ state_after 2 words.old) }
 {
     let target = next_leaf(alloc, nodes, words)?;
     let value = next_value(alloc, words)?;
@@ -85,7 +85,7 @@ fn leaf_write(alloc: Global, id: u32, nodes: u32, words: &mut SplitMix64) -> Res
 fn last_target(alloc: Global, nodes: u32, words: &mut SplitMix64) -> Result<Bytes, Memory>
     requires { 0 < nodes }
     ensures uri { IfOk result (λ uri. uri ≡ Spec.last_target nodes words.old) }
-    ensures rest { OnOk result (words.new ≡ after 2 words.old) }
+    ensures rest { OnOk result (words.new ≡ state_after 2 words.old) }
 {
     let decides = next(words);
     let leaf = next_leaf(alloc, nodes, words)?;
@@ -99,7 +99,7 @@ fn last_target(alloc: Global, nodes: u32, words: &mut SplitMix64) -> Result<Byte
 fn last_write(alloc: Global, id: u32, nodes: u32, words: &mut SplitMix64) -> Result<Member, Memory>
     requires { 0 < nodes }
     ensures member { IfOk result (λ member. member ≡ Spec.last_write id nodes words.old) }
-    ensures rest { OnOk result (words.new ≡ after 3 words.old) }
+    ensures rest { OnOk result (words.new ≡ state_after 3 words.old) }
 {
     let target = last_target(alloc, nodes, words)?;
     let value = next_value(alloc, words)?;
@@ -109,7 +109,7 @@ fn last_write(alloc: Global, id: u32, nodes: u32, words: &mut SplitMix64) -> Res
 fn members(alloc: Global, nodes: u32, words: &mut SplitMix64) -> Result<List<Member>, Memory>
     requires { 0 < nodes }
     ensures members { IfOk result (λ members. members ≡ Spec.members nodes words.old) }
-    ensures rest { OnOk result (words.new ≡ after 9 words.old) }
+    ensures rest { OnOk result (words.new ≡ state_after 9 words.old) }
 {
     let mut members = List::with_room(alloc, 4)?;
     members.push(leaf_write(alloc, 2, nodes, words)?)?;
@@ -160,7 +160,7 @@ pub fn message(
 ) -> Result<Message, Memory>
     requires { 0 < nodes }
     ensures message { IfOk result (λ m. m ≡ Spec.message_of nodes number words.old) }
-    ensures rest { OnOk result (words.new ≡ after 9 words.old) }
+    ensures rest { OnOk result (words.new ≡ state_after 9 words.old) }
 {
     let members = members(alloc, nodes, words)?;
     match Message::new(header(alloc, number)?, body(alloc, members)?, true) {

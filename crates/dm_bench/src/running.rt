@@ -4,7 +4,7 @@ ghost use Rattle.std.specs.List.{list_any};
 ghost use Rattle.dm_machine.specs.Events.{Answer as Answered};
 ghost use Rattle.dm_session.specs.View.{Tells};
 ghost use Rattle.dm_bench.specs.Running as Spec;
-ghost use Rattle.dm_bench.specs.Running.{run_of};
+ghost use Rattle.dm_bench.specs.Running.{workload_run};
 
 use crate::messages::message;
 use dm_base::{Memory, Nonce};
@@ -20,7 +20,7 @@ const NONCE: Nonce = Nonce { bytes: [0; 16] };
 
 /// How many Atomics were answered 200, and how many 507.
 #[derive(Clone, Copy, Debug, PartialEq, Eq)]
-pub struct Tally {
+pub struct AtomicCounts {
     pub ok: u32,
     pub failed: u32,
 }
@@ -45,7 +45,7 @@ fn any_tells(body: &[Command], code: u32) -> bool
 // Whether the answer is a message that tells this code of an Atomic.
 #[tactic(auto, using(crate::proofs::Delivering::other_tells, crate::proofs::Delivering::some_tells, crate::proofs::Delivering::none_tells))]
 fn tells(client: &Client, answer: Answer, code: u32) -> bool
-    ensures { (a : Answered) → Tells answer client.now.machine a → result ≡ Spec.tells code a }
+    ensures { (a : Answered) → Tells answer client.now.machine a → result ≡ Spec.tells_code code a }
 {
     match answer {
         Answer::Sent => match client.sent() {
@@ -64,10 +64,10 @@ fn one_if(told: bool) -> u32
 }
 
 // With the answer to a message more.
-fn counted(tally: Tally, client: &Client, answer: Answer) -> Tally
+fn counted(tally: AtomicCounts, client: &Client, answer: Answer) -> AtomicCounts
     requires ok { tally.ok + 1 < 2 ^ 32 }
     requires failed { tally.failed + 1 < 2 ^ 32 }
-    ensures counts { (a : Answered) → Tells answer client.now.machine a → result ≡ Spec.counted tally a }
+    ensures counts { (a : Answered) → Tells answer client.now.machine a → result ≡ Spec.tallied tally a }
     ensures ok { result.ok ≤ tally.ok + 1 }
     ensures failed { result.failed ≤ tally.failed + 1 }
 {
@@ -75,7 +75,7 @@ fn counted(tally: Tally, client: &Client, answer: Answer) -> Tally
     let fails = tells(client, answer, 507);
     let ok = one_if(succeeds);
     let failed = one_if(fails);
-    Tally {
+    AtomicCounts {
         ok: tally.ok + ok,
         failed: tally.failed + failed,
     }
@@ -86,15 +86,15 @@ fn deliver(
     alloc: Global,
     client: &mut Client,
     words: &mut SplitMix64,
-    tally: Tally,
+    tally: AtomicCounts,
     nodes: u32,
     number: u32,
-) -> Result<Tally, Memory>
+) -> Result<AtomicCounts, Memory>
     requires some { 0 < nodes }
     requires ok { tally.ok + 1 < 2 ^ 32 }
     requires failed { tally.failed + 1 < 2 ^ 32 }
-    ensures run { IfOk result (λ t. run_of client.new.machine words.new t
-        ≡ Spec.with_message nodes number (run_of client.old.machine words.old tally)) }
+    ensures run { IfOk result (λ t. workload_run client.new.machine words.new t
+        ≡ Spec.with_message nodes number (workload_run client.old.machine words.old tally)) }
     ensures ok { IfOk result (λ t. t.ok ≤ tally.ok + 1) }
     ensures failed { IfOk result (λ t. t.failed ≤ tally.failed + 1) }
 {
@@ -111,15 +111,15 @@ pub fn deliver_all(
     seed: u64,
     nodes: u32,
     messages: u32,
-) -> Result<Tally, Memory>
+) -> Result<AtomicCounts, Memory>
     requires { 0 < nodes }
     ensures machine { OnOk result (client.new.machine
-        ≡ (Spec.with_messages nodes (Spec.begun client.old.machine seed) messages).machine) }
+        ≡ (Spec.with_messages nodes (Spec.first_run client.old.machine seed) messages).machine) }
     ensures tally { IfOk result (λ t. t
-        ≡ (Spec.with_messages nodes (Spec.begun client.old.machine seed) messages).tally) }
+        ≡ (Spec.with_messages nodes (Spec.first_run client.old.machine seed) messages).tally) }
 {
     let mut words = SplitMix64::seed_from_u64(seed);
-    let mut tally = Tally { ok: 0, failed: 0 };
+    let mut tally = AtomicCounts { ok: 0, failed: 0 };
     'deliveries: for done in 0..messages {
         tally = deliver(alloc, client, &mut words, tally, nodes, done + 1)?;
     }

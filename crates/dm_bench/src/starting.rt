@@ -7,7 +7,7 @@ ghost use Rattle.dm_bench.specs.Start.{Leads, MayBegin};
 use crate::names::{GROUP, add_group, add_leaf};
 use dm_base::{Bytes, Memory, hex_into};
 use dm_decimals::decimal_text;
-use dm_machine::Kind;
+use dm_machine::Initiator;
 use dm_session::Client;
 use dm_start::{Start, StartReader};
 use std::alloc::Global;
@@ -58,7 +58,7 @@ fn take_group(reader: &mut StartReader, line: &mut Bytes, leaf: u32) -> Result<(
 }
 
 fn put_leaf(alloc: Global, line: &mut Bytes, leaf: u32) -> Result<(), Memory>
-    ensures { OnOk result (line.new ≡ Spec.leaf_line leaf) }
+    ensures { OnOk result (line.new ≡ Spec.workload_leaf leaf) }
 {
     line.cut_to(0);
     line.extend(b"leaf ")?;
@@ -100,7 +100,7 @@ fn take_leaves(alloc: Global, reader: &mut StartReader, nodes: u32) -> Result<()
 // Takes the last line.
 fn finish(mut reader: StartReader) -> Result<Start, Memory>
     requires { is_begun (section_at reader) ≡ false }
-    ensures told { IfOk result (λ start. Spec.Ends (section_at reader) (told_of start)) }
+    ensures told { IfOk result (λ start. Spec.EndsSection (section_at reader) (told_of start)) }
     ensures client { IfOk result MayBegin }
 {
     match reader.line(b"begin") {
@@ -130,7 +130,7 @@ pub fn begun(alloc: Global, nodes: u32) -> Result<Client, Memory>
 {
     let start = start(alloc, nodes)?;
     let mut client = Client::new(alloc, start.accounts, start.tree, start.limits)?;
-    match client.begin(0, Kind::ByClient, 1) {
+    match client.begin(0, Initiator::ByClient, 1) {
         Ok(()) => Ok(client),
         Err(_) => Err(Memory),
     }

@@ -6,12 +6,12 @@ ghost use Rattle.dm_start.specs.TreeText.{tree_text as text_of};
 ghost use Rattle.dm_exit.specs.Answers.{IsOfText};
 ghost use Rattle.dm_exit.specs.Causes.{SinkCause};
 ghost use Rattle.dm_exit.specs.Puts.{PutsEnd};
-ghost use Rattle.dm_bench.specs.Running.{begun as begun_run, with_messages};
+ghost use Rattle.dm_bench.specs.Running.{first_run as begun_run, with_messages};
 ghost use Rattle.dm_bench.specs.Workload as Spec;
 ghost use Rattle.dm_bench.specs.Workload.{bench_text, run_text};
 
 use crate::hashing::Hashing;
-use crate::running::{Tally, deliver_all};
+use crate::running::{AtomicCounts, deliver_all};
 use crate::starting::begun;
 use dm_base::{Bytes, Memory, Sink, hex_into};
 use dm_decimals::put_decimal;
@@ -32,7 +32,12 @@ fn digest_of(alloc: Global, tree: &Tree) -> Result<[u8; 16], Memory>
     }
 }
 
-fn summary(alloc: Global, messages: u32, tally: Tally, digest: &[u8]) -> Result<Bytes, Memory>
+fn summary(
+    alloc: Global,
+    messages: u32,
+    tally: AtomicCounts,
+    digest: &[u8],
+) -> Result<Bytes, Memory>
     ensures { IfOk result (λ line. line ≡ Spec.summary messages tally digest.now) }
 {
     let mut line = Bytes::of_slice(alloc, b"bench ")?;

@@ -15,7 +15,7 @@ use Rattle.dm_exit.proofs.Parts.{ends_put, prefix_none, end_of_text, end_not_don
 use Rattle.dm_check.specs.declared.message.Received.{Received}
 use Rattle.dm_check.specs.declared.message.Received.TheVariants as received
 use Rattle.dm_check.specs.Receiving.{Receives, MessageAtEnd}
-use Rattle.dm_check.specs.Answers.{shown, checked, exit_of, show_text, check_text, message_exit}
+use Rattle.dm_check.specs.Answers.{check_answer, checked, exit_of, show_text, check_text, message_exit}
 use Rattle.dm_check.specs.Kept.{read_in, checked_in}
 
 -- ---- a text and its answer
@@ -37,13 +37,13 @@ read_received bytes (received.Refused refusal) h = h
 -- ---- the listing
 
 shown_by : (bytes : List ℕ) (r : Result Parts Refusal) (old new : Option (List ℕ)) (e : Exit) → read_of bytes ≡ r
-    → Ends (shown r) (exit_of r) old new e
+    → Ends (check_answer r) (exit_of r) old new e
     → Ends (show_text bytes) (message_exit bytes) old new e
 unfolding show_text message_exit
-shown_by bytes r old new e is h = subst (λ x. Ends (shown x) (exit_of x) old new e) (sym is) h
+shown_by bytes r old new e is h = subst (λ x. Ends (check_answer x) (exit_of x) old new e) (sym is) h
 
 pub all_shown : (left : Option (List ℕ)) (r : Received) (text : List ℕ) (good : Exit) (old new : Option (List ℕ))
-    (e : Exit) → OfKnown left (Receives (Ok r)) → text ≡ shown (read_in r)
+    (e : Exit) → OfKnown left (Receives (Ok r)) → text ≡ check_answer (read_in r)
     → good ≡ exit_of (read_in r) → PutsEnd text good old new e
     → OfKnown left (λ bytes. Ends (show_text bytes) (message_exit bytes) old new e)
 all_shown None r text good old new e h same is p = tt

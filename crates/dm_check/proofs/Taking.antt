@@ -11,7 +11,7 @@ use Rattle.wbxml_tokens.specs.declared.reason.FeedError.{FeedError}
 use Rattle.wbxml_tokens.specs.declared.reason.FeedError.TheVariants as errors
 use Rattle.wbxml_tokens.specs.Reading.{reading, reads}
 use Rattle.syncml_grammar.specs.Building.{Building}
-use Rattle.syncml_codec.specs.Decoding.{settled, built, first_of, read_of, TellsSettled}
+use Rattle.syncml_codec.specs.Decoding.{settled, built, first_refused, read_of, TellsSettled}
 use Rattle.syncml_codec.proofs.Unrefused.{sound_within}
 use Rattle.syncml_codec.proofs.Decoded.{settled_more, settled_read}
 use Rattle.dm_check.specs.declared.message.Received.{Received}
@@ -26,7 +26,7 @@ pub nothing_settled : settled [] ≡ None
 unfolding settled reads
 nothing_settled = refl
 
-sound_by : (r : Result Building Refusal) (o : Option Refusal) → first_of r o ≡ None → o ≡ None
+sound_by : (r : Result Building Refusal) (o : Option Refusal) → first_refused r o ≡ None → o ≡ None
 sound_by (Ok b) o h = h
 sound_by (Err f) o h = cc
 

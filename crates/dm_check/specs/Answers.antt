@@ -18,9 +18,9 @@ ok_line bytes spelling same =
     codes "ok " ++ decimal bytes ++ codes " " ++ decimal spelling
     ++ (if same then codes " canonical" else codes " other") ++ line_feed
 
-abbrev pub shown : Result Parts Refusal → List ℕ
-shown (Ok message) = listing_of message
-shown (Err refusal) = refused_line refusal ++ line_feed
+abbrev pub check_answer : Result Parts Refusal → List ℕ
+check_answer (Ok message) = listing_of message
+check_answer (Err refusal) = refused_line refusal ++ line_feed
 
 abbrev pub checked : List ℕ → Result Parts Refusal → List ℕ
 checked bytes (Ok message) =
@@ -33,7 +33,7 @@ exit_of (Err refusal) = exit.BadInput
 
 -- the text of `show`: the listing of the message that the bytes spell, or their refusal
 unfoldable pub show_text : List ℕ → List ℕ
-show_text bytes = shown (read_of bytes)
+show_text bytes = check_answer (read_of bytes)
 
 -- the text of `check`: the lengths of the bytes and of the canonical spelling, and whether they are the same; or the
 -- refusal

@@ -57,7 +57,7 @@ fn is_canonical(
 
 /// The text of `show`.
 pub fn show_lines(alloc: Global, received: &Received) -> Result<Bytes, Memory>
-    ensures { IfOk result (λ text. text ≡ Spec.shown (read_in received.now)) }
+    ensures { IfOk result (λ text. text ≡ Spec.check_answer (read_in received.now)) }
 {
     match received {
         Received::Message { message, .. } => listing(alloc, message),

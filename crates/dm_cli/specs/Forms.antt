@@ -16,7 +16,7 @@ use Rattle.dm_ddf.specs.Texts.{conform_of, make_of, text_said, exit_of_text}
 use Rattle.dm_device.specs.Devices.{Devices, EndsBehindInput, usage_line}
 use Rattle.dm_device.specs.Outsides.{outside_of as device_outside}
 use Rattle.dm_serving.specs.Serves.{Serves}
-use Rattle.dm_serving.specs.Turns.{outside_of}
+use Rattle.dm_serving.specs.Turns.{door_and_nonces}
 use Rattle.dm_cli.specs.Reaching.{ReachTold}
 use Rattle.dm_words.specs.declared.forms.Form.{Form}
 use Rattle.dm_words.specs.declared.forms.Form.TheVariants as forms
@@ -38,7 +38,7 @@ Runs (Some (forms.Device w)) left before after old new e = OfKnown left (λ byte
     (device_outside before.dialer before.updates before.nonces) (device_outside after.dialer after.updates after.nonces)
     old new e)
 Runs (Some (forms.Serve w)) left before after old new e = OfKnown left (λ bytes. Serves w bytes
-    (outside_of before.door before.nonces) (outside_of after.door after.nonces) old new e)
+    (door_and_nonces before.door before.nonces) (door_and_nonces after.door after.nonces) old new e)
 Runs (Some forms.Pair) left before after old new e =
     OfKnown left (λ bytes. Ends (pair_text bytes) (pair_exit bytes) old new e)
 Runs (Some forms.Show) left before after old new e =
@@ -75,18 +75,18 @@ ReadsToEnd (Some (forms.Device w)) old new e = EndsBehindInput old new e
 ReadsToEnd (Some other) old new e = DoneAtEnd old new e
 
 -- the status that the program ends with; 12 is none
-abbrev pub status_of : Exit → ℕ
-status_of exit.Done = 0
-status_of exit.Usage = 2
-status_of exit.BadInput = 3
-status_of exit.ReadFault = 4
-status_of exit.WriteFault = 5
-status_of exit.NoMemory = 6
-status_of exit.GaveUp = 7
-status_of exit.Denied = 8
-status_of exit.TooLong = 9
-status_of exit.DoorFault = 10
-status_of exit.Peer = 11
-status_of exit.DiskFault = 13
-status_of exit.StoreFull = 14
-status_of exit.BadStore = 15
+abbrev pub process_status : Exit → ℕ
+process_status exit.Done = 0
+process_status exit.Usage = 2
+process_status exit.BadInput = 3
+process_status exit.ReadFault = 4
+process_status exit.WriteFault = 5
+process_status exit.NoMemory = 6
+process_status exit.GaveUp = 7
+process_status exit.Denied = 8
+process_status exit.TooLong = 9
+process_status exit.DoorFault = 10
+process_status exit.Peer = 11
+process_status exit.DiskFault = 13
+process_status exit.StoreFull = 14
+process_status exit.BadStore = 15

@@ -3,7 +3,7 @@ ghost use Rattle.std.specs.Prelude.{◌≡◌, ◌≢◌, [], ⊤, Result, Ok, E
 ghost use Rattle.std.specs.IoError.{error_kind};
 ghost use Rattle.std.specs.declared.io.ErrorKind.TheVariants.{InvalidData};
 ghost use Rattle.std.specs.Process.{exit_status};
-ghost use Rattle.dm_cli.specs.Forms.{status_of};
+ghost use Rattle.dm_cli.specs.Forms.{process_status};
 
 use dm_base::Memory;
 use dm_exit::Exit;
@@ -29,7 +29,7 @@ pub fn given_words(alloc: Global, words: io::Result<Vec<String>>) -> Result<Vec<
 
 // The status that the program ends with.
 fn status(exit: Exit) -> u8
-    ensures { result ≡ status_of exit }
+    ensures { result ≡ process_status exit }
 {
     match exit {
         Exit::Done => 0,
@@ -51,7 +51,7 @@ fn status(exit: Exit) -> u8
 
 /// What the program ends with.
 pub fn ended(exit: Exit) -> ExitCode
-    ensures { exit_status result ≡ status_of exit }
+    ensures { exit_status result ≡ process_status exit }
 {
     ExitCode::from(status(exit))
 }

@@ -14,7 +14,7 @@ use Rattle.dm_tree.proofs.RowPaths.{one_row, same_number}
 use Rattle.dm_tree.proofs.RowMaps.{id_of}
 use Rattle.dm_tree.proofs.Paths.{Ends, ends, none, last}
 use Rattle.dm_tree.proofs.LiveRows.{above-append, last_name-append, has_parent, root_path, node_there}
-use Rattle.dm_commands.specs.Table.{is_root, beside, is_own_name, is_taken_beside}
+use Rattle.dm_commands.specs.Table.{is_root_path, beside, is_own_name, is_taken_beside}
 
 -- ---- the node above
 
@@ -44,11 +44,11 @@ top_alone rows tree k live e =
 pub not_zero : (k : ℕ) → 0 < k → (k == 0) ≡ false
 not_zero k more = grind (arith, nat_tests)
 
-is_deeper : (q : Path) (n : List ℕ) → is_root (q ++ n ∷ []) ≡ false
+is_deeper : (q : Path) (n : List ℕ) → is_root_path (q ++ n ∷ []) ≡ false
 is_deeper q n = not_zero (length (q ++ n ∷ [])) (omega (arith, length-append q (n ∷ [])))
 
-pub split-ends : (p q : Path) (n : List ℕ) → p ≡ q ++ n ∷ [] → (is_root p ≡ false) × (above p ≡ q) × (p ≡ q ++ n ∷ [])
-split-ends p q n e = (ap is_root e ∙ is_deeper q n, ap above e ∙ above-append q n, e)
+pub split-ends : (p q : Path) (n : List ℕ) → p ≡ q ++ n ∷ [] → (is_root_path p ≡ false) × (above p ≡ q) × (p ≡ q ++ n ∷ [])
+split-ends p q n e = (ap is_root_path e ∙ is_deeper q n, ap above e ∙ above-append q n, e)
 
 -- ---- names beside it
 

@@ -20,14 +20,14 @@ use Rattle.dm_tree.proofs.Devices.{update_is_found}
 use Rattle.dm_tree.proofs.NodesKept.{some_node}
 use Rattle.dm_tree.proofs.LiveRows.{node_there}
 use Rattle.dm_commands.specs.Outcomes.{asked_by}
-use Rattle.dm_commands.specs.Updates.{state_of, rewritten, with_state, package_at, update_ended}
+use Rattle.dm_commands.specs.Updates.{state_in_tree, rewritten, with_state, package_at, update_ended}
 use Rattle.dm_commands.specs.Places.{IsStateAt}
 use Rattle.dm_commands.proofs.Keeping.{state_there}
 use Rattle.dm_commands.proofs.Updating.{state_at, state_led}
 use Rattle.dm_commands.proofs.UpdateParts.{data_not_state}
 
 -- where the state is that of a running update, the update part is there
-pub running_has : (m : Nodes) → IsUpdateInOrder m → state_of m ≡ progressing → (q : Path) × HasUpdate m q
+pub running_has : (m : Nodes) → IsUpdateInOrder m → state_in_tree m ≡ progressing → (q : Path) × HasUpdate m q
 running_has m (inr has) e = has
 running_has m (inl without) e = by_state (state_node m) refl
   where
@@ -42,7 +42,7 @@ running_has m (inl without) e = by_state (state_node m) refl
         absurd (cc)
 
 -- none of its nodes is left out
-pub none_left_out : (m : Nodes) → IsUpdateInOrder m → state_of m ≡ progressing
+pub none_left_out : (m : Nodes) → IsUpdateInOrder m → state_in_tree m ≡ progressing
     → (pkg_data m ≡ None) ⊎ (state_node m ≡ None) → ⊥
 none_left_out m order e (inl h) =
     let has = running_has m order e in
@@ -64,7 +64,7 @@ pub record AreFound (rows : List Row) (found : UpdateIds) : Type 0 where
       × (state_node (nodes rows) ≡ Some (path_of rows found.state)))
 
 module _ (rows : List Row) (tree : IsTree rows) (order : IsUpdateInOrder (nodes rows))
-    (running : state_of (nodes rows) ≡ progressing) (found : UpdateIds) (are : AreFound rows found) where
+    (running : state_in_tree (nodes rows) ≡ progressing) (found : UpdateIds) (are : AreFound rows found) where
   has : (q : Path) × HasUpdate (nodes rows) q
   has = running_has (nodes rows) order running
 

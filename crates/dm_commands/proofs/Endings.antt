@@ -17,8 +17,8 @@ use Rattle.dm_undo.specs.Journals.{Journal}
 use Rattle.dm_undo.specs.Notes.{Notes}
 use Rattle.dm_undo.proofs.Noted.{notes-none, notes-one, notes-then}
 use Rattle.dm_commands.specs.declared.outcome.Outcome.{Outcome}
-use Rattle.dm_commands.specs.Outcomes.{Done, refused, changed_to, first_refusal, first_of, node_at}
-use Rattle.dm_commands.specs.Promises.{Ends, KeepIdsBut, none_moved}
+use Rattle.dm_commands.specs.Outcomes.{Done, refused, changed_to, first_refusal, refused_or, node_at}
+use Rattle.dm_commands.specs.Promises.{CarriesOut, KeepIdsBut, none_moved}
 use Rattle.dm_commands.proofs.Tables.{none-refused, one-refused}
 
 -- ---- what is noted
@@ -52,7 +52,7 @@ noted-two old made new x y z u v e r f t s =
 
 pub ends-refused : (moved : Path → Bool) (journal : Journal) (tree : Tree) (code : ℕ) (outcome : Outcome)
     → outcome ≡ record { code = code; results = []; started = false }
-    → Ends (refused (nodes tree.rows) code) moved journal tree journal tree outcome
+    → CarriesOut (refused (nodes tree.rows) code) moved journal tree journal tree outcome
 ends-refused moved journal tree code outcome e = record {
   does = record {
     tree = refl;
@@ -70,7 +70,7 @@ pub ends-changed : (m : Nodes) (moved : Path → Bool) (old : Journal) (before :
     → outcome ≡ record { code = 200; results = []; started = false }
     → nodes now.rows ≡ m → KeepIdsBut moved (ids before.rows) (ids now.rows)
     → Notes old before.rows new now.rows → now.clock ≡ before.clock
-    → Ends (changed_to m) moved old before new now outcome
+    → CarriesOut (changed_to m) moved old before new now outcome
 ends-changed m moved old before new now outcome e tree kept notes clock = record {
   does = record {
     tree = tree;
@@ -87,7 +87,7 @@ pub ends-started : (m : Nodes) (old : Journal) (before : Tree) (new : Journal) (
     → outcome ≡ record { code = 202; results = []; started = true }
     → nodes now.rows ≡ m → KeepIdsBut none_moved (ids before.rows) (ids now.rows)
     → Notes old before.rows new now.rows → now.clock ≡ before.clock
-    → Ends (record { tree = m; code = 202; found = []; started = true }) none_moved old before new now outcome
+    → CarriesOut (record { tree = m; code = 202; found = []; started = true }) none_moved old before new now outcome
 ends-started m old before new now outcome e tree kept notes clock = record {
   does = record {
     tree = tree;
@@ -131,18 +131,18 @@ second-put before made k j new value e other path =
 pub refused-ends : (rs : List (Bool × ℕ)) (effect : Done) (code : ℕ) (moved : Path → Bool) (journal : Journal)
     (tree : Tree)
     (outcome : Outcome) → first_refusal rs ≡ Some code
-    → Ends (refused (nodes tree.rows) code) moved journal tree journal tree outcome
-    → Ends (first_of rs (nodes tree.rows) effect) moved journal tree journal tree outcome
+    → CarriesOut (refused (nodes tree.rows) code) moved journal tree journal tree outcome
+    → CarriesOut (refused_or rs (nodes tree.rows) effect) moved journal tree journal tree outcome
 refused-ends rs effect code moved journal tree outcome e ends =
-    subst (λ d. Ends d moved journal tree journal tree outcome) (sym (one-refused rs (nodes tree.rows) effect code e))
+    subst (λ d. CarriesOut d moved journal tree journal tree outcome) (sym (one-refused rs (nodes tree.rows) effect code e))
     ends
 
 pub passed-ends : (rs : List (Bool × ℕ)) (m : Nodes) (effect : Done) (moved : Path → Bool) (old : Journal)
     (before : Tree)
     (new : Journal) (now : Tree) (outcome : Outcome) → first_refusal rs ≡ None
-    → Ends effect moved old before new now outcome → Ends (first_of rs m effect) moved old before new now outcome
+    → CarriesOut effect moved old before new now outcome → CarriesOut (refused_or rs m effect) moved old before new now outcome
 passed-ends rs m effect moved old before new now outcome e ends =
-    subst (λ d. Ends d moved old before new now outcome) (sym (none-refused rs m effect e)) ends
+    subst (λ d. CarriesOut d moved old before new now outcome) (sym (none-refused rs m effect e)) ends
 
 -- ---- what is put at a path
 

@@ -35,7 +35,7 @@ use Rattle.dm_tree.proofs.DeviceTrees.{changed_keeps_device, added_keeps_device,
 use Rattle.dm_tree.proofs.DeviceTrees.{renamed_keeps_device}
 use Rattle.dm_fumo.specs.States.{idle, ready, progressing, after_write}
 use Rattle.dm_commands.specs.Outcomes.{Setting, Done, refused, unless, first_refusal, no_node, node_at}
-use Rattle.dm_commands.specs.Updates.{state_of, state_after_write, rewritten, with_text, with_state}
+use Rattle.dm_commands.specs.Updates.{state_in_tree, state_after_write, rewritten, rewritten_at, with_state}
 use Rattle.dm_commands.specs.Table as table
 use Rattle.dm_commands.specs.Table.{act}
 use Rattle.dm_commands.specs.Laws.{StepKeepsUpdate, StepKeepsDevice}
@@ -227,7 +227,7 @@ same_value m p x y there interior permanent role_is value = changed_keeps m p x 
 -- State has another text, in a tree in which it still stands as it did
 state_rewritten : (s : Setting) (m n : Nodes) (q : Path) (text : List ℕ) → state_node m ≡ Some q
     → ((x : Node) → get m q ≡ Some x → get n q ≡ Some x)
-    → is_update_state text ≡ true → KeepsBoth n (with_text s m n q text)
+    → is_update_state text ≡ true → KeepsBoth n (rewritten_at s m n q text)
 state_rewritten s m n q text stands still five = by_test (bytes_eq (value_at m q) text)
   where
     by_test : (b : Bool) → KeepsBoth n (cond b n (insert n q (rewritten s (node_at m q) text)))
@@ -250,7 +250,7 @@ state_led : (s : Setting) (m n : Nodes) (state : ℕ)
 state_led s m n state still five = by_place (state_node m) refl
   where
     by_place : (o : Option Path) → state_node m ≡ o
-        → KeepsBoth n (option_map_or (λ q. with_text s m n q (decimal state)) o n)
+        → KeepsBoth n (option_map_or (λ q. rewritten_at s m n q (decimal state)) o n)
     by_place None is = itself n
     by_place (Some q) is = state_rewritten s m n q (decimal state) is (λ x. still q x is) five
 
@@ -332,12 +332,12 @@ module _ (s : Setting) (m : Nodes) (step : Step) (p : Path) (x : Node) (there : 
   not_owned : is_role x.role role.ReadOnly || is_role x.role role.State ≡ false
   not_owned =
       (either (is_role x.role role.ReadOnly || is_role x.role role.State)
-      (is_role x.role role.PkgData && (state_of m == progressing)) free).0
+      (is_role x.role role.PkgData && (state_in_tree m == progressing)) free).0
 
-  not_installing : is_role x.role role.PkgData && (state_of m == progressing) ≡ false
+  not_installing : is_role x.role role.PkgData && (state_in_tree m == progressing) ≡ false
   not_installing =
       (either (is_role x.role role.ReadOnly || is_role x.role role.State)
-      (is_role x.role role.PkgData && (state_of m == progressing)) free).1
+      (is_role x.role role.PkgData && (state_in_tree m == progressing)) free).1
 
   no_read_only : x.role ≡ role.ReadOnly → ⊥
   no_read_only =
@@ -377,10 +377,10 @@ module _ (s : Setting) (m : Nodes) (step : Step) (p : Path) (x : Node) (there : 
   package_keeps : is_role x.role role.PkgData ≡ true
       → Keeps step m (with_state s m (insert m p new) (state_after_write m (length step.value == 0)))
   package_keeps is =
-      let idle_now : (state_of m == progressing) ≡ false =
-      sym (ap (λ b. b && (state_of m == progressing)) is) ∙ not_installing in
+      let idle_now : (state_in_tree m == progressing) ≡ false =
+      sym (ap (λ b. b && (state_in_tree m == progressing)) is) ∙ not_installing in
       let led = state_led s m (insert m p new) (state_after_write m (length step.value == 0)) state_stays
-      (written_state (state_of m) (length step.value == 0) idle_now) in
+      (written_state (state_in_tree m) (length step.value == 0) idle_now) in
       record {
         update = (and_then_update m (insert m p new) _ value_keeps.update led.update);
         device = λ text device.

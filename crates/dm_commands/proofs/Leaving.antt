@@ -28,7 +28,7 @@ use Rattle.dm_tree.proofs.RowMaps.{insert_beside}
 use Rattle.dm_tree.proofs.SubtreeCuts.{get-pruned}
 use Rattle.dm_fumo.specs.States.{progressing}
 use Rattle.dm_commands.specs.Outcomes.{Setting, Done, unless, first_refusal, no_node, node_at}
-use Rattle.dm_commands.specs.Updates.{state_after_write, with_text, with_state, rewritten}
+use Rattle.dm_commands.specs.Updates.{state_after_write, rewritten_at, with_state, rewritten}
 use Rattle.dm_commands.specs.Table as table
 use Rattle.dm_commands.specs.Table.{act, beside}
 use Rattle.dm_commands.specs.Promises.{moves, is_name_query}
@@ -94,7 +94,7 @@ state_led s m n q state other = by_place (state_node m) refl
     by_text at beside_it false = insert_beside n at q (rewritten s (node_at m at) (decimal state)) beside_it
 
     by_place : (o : Option Path) → state_node m ≡ o
-        → Leaves n q (option_map_or (λ at. with_text s m n at (decimal state)) o n)
+        → Leaves n q (option_map_or (λ at. rewritten_at s m n at (decimal state)) o n)
     by_place None is = refl
     by_place (Some at) is =
         by_text at (λ same. other (is ∙ ap (λ x. Some x) (sym same))) (bytes_eq (value_at m at) (decimal state))

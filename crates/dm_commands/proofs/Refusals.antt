@@ -19,9 +19,9 @@ use Rattle.dm_acl.specs.declared.values.Right.{Right}
 use Rattle.dm_acl.specs.declared.values.Right.TheVariants as right
 use Rattle.dm_tree.specs.Nodes.{Path, Nodes, above}
 use Rattle.dm_tree.specs.Rights.{allows}
-use Rattle.dm_commands.specs.Outcomes.{Setting, Done, refused, first_refusal, first_of, unless, no_node, node_at}
+use Rattle.dm_commands.specs.Outcomes.{Setting, Done, refused, first_refusal, refused_or, unless, no_node, node_at}
 use Rattle.dm_commands.specs.Outcomes.{is_success}
-use Rattle.dm_commands.specs.Table.{is_copy, has_query, is_root, exec_refusals, get_refusals, add_refusals}
+use Rattle.dm_commands.specs.Table.{is_copy, has_query, is_root_path, exec_refusals, get_refusals, add_refusals}
 use Rattle.dm_commands.specs.Table.{value_refusals, acl_refusals, acl_decider, name_refusals, title_refusals}
 use Rattle.dm_commands.specs.Table.{replace_other, replace_prop, replace, delete_refusals, uri_or_code, by_verb}
 use Rattle.dm_commands.specs.Table.{target_in, target_unless, target_of, at_target, act}
@@ -54,7 +54,7 @@ both false b e = absurd (cc)
 
 -- one of the refusals holds
 refuses : (rs : List (Bool × ℕ)) (m : Nodes) (effect : Done) → fails rs ≡ true → list_any (λ r. r.0) rs ≡ true
-    → IsNothing m (first_of rs m effect)
+    → IsNothing m (refused_or rs m effect)
 refuses [] m effect all any = absurd (cc)
 refuses (r ∷ rs) m effect all any =
     let parts = both (not (is_success r.1)) (fails rs) all in
@@ -128,7 +128,7 @@ module _ (s : Setting) (m : Nodes) (step : Step) (uri : Uri) where
       (second (no_node m uri.path) (allows m uri.path s.caller right.Get) _ is_no)
   verb_refused verb.Add is_no =
       refuses (add_refusals s m step uri) m _ refl
-      (fifth (has_query uri.query) (is_root uri.path) (no_node m (above uri.path))
+      (fifth (has_query uri.query) (is_root_path uri.path) (no_node m (above uri.path))
       (not (node_at m (above uri.path)).interior) (allows m (above uri.path) s.caller right.Add) _ is_no)
   verb_refused verb.Replace is_no = replace_refused uri.query is_no
   verb_refused verb.Delete is_no =
@@ -172,7 +172,7 @@ data Settled (m : Nodes) (d : Done) : Type 0 where
   comes_to_nothing : IsNothing m d → Settled m d
 
 settled_first : (rs : List (Bool × ℕ)) (m : Nodes) (effect : Done) → fails rs ≡ true → Settled m effect
-    → Settled m (first_of rs m effect)
+    → Settled m (refused_or rs m effect)
 settled_first [] m effect all e = e
 settled_first (r ∷ rs) m effect all e =
     let parts = both (not (is_success r.1)) (fails rs) all in
@@ -239,7 +239,7 @@ refused_step s m step is_no = by_end (settled_act s m step)
 -- ---- what starts the update
 
 starts_not : (rs : List (Bool × ℕ)) (m : Nodes) (effect : Done) → effect.started ≡ false
-    → (first_of rs m effect).started ≡ false
+    → (refused_or rs m effect).started ≡ false
 starts_not rs m effect is_no = by_first (first_refusal rs)
   where
     by_first : (o : Option ℕ) → (unless o m effect).started ≡ false
@@ -300,7 +300,7 @@ Blames x [] = ⊤
 Blames x (r ∷ rs) = ((r.1 == 425) ≡ true → r.0 ≡ true → x ≡ false) × Blames x rs
 
 denied_first : (rs : List (Bool × ℕ)) (m : Nodes) (effect : Done) (x : Bool) → Blames x rs
-    → (effect.code == 425) ≡ false → ((first_of rs m effect).code == 425) ≡ true → x ≡ false
+    → (effect.code == 425) ≡ false → ((refused_or rs m effect).code == 425) ≡ true → x ≡ false
 denied_first [] m effect x b is_no h = absurd (cc)
 denied_first (r ∷ rs) m effect x b is_no h =
     elim r.0 as (λ c. r.0 ≡ c → ((unless (cond c (Some r.1) (first_refusal rs)) m effect).code == 425) ≡ true

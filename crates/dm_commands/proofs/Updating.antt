@@ -28,7 +28,7 @@ use Rattle.dm_commands.specs.declared.updates.State.{State}
 use Rattle.dm_commands.specs.Places.{IsStateAt}
 use Rattle.dm_commands.specs.Outcomes.{Setting, node_at}
 use Rattle.dm_commands.specs.Table.{has_bad_meta, kept_format, kept_media, replaced_value}
-use Rattle.dm_commands.specs.Updates.{state_of, state_after_write, rewritten, with_text, with_state}
+use Rattle.dm_commands.specs.Updates.{state_in_tree, state_after_write, rewritten, rewritten_at, with_state}
 
 -- ---- the nodes of the update
 
@@ -213,8 +213,8 @@ module _ (s : Setting) (rows : List Row) (shape : IsShaped rows) (found : State)
   number_is : digits_value 10 (value_at (nodes rows) (path_of rows found.id)) ≡ found.state
   number_is = sym (at.state ∙ ap (λ o. digits_value 10 (option_map_or (value_at (nodes rows)) o [])) at.path)
 
-  written_at : with_state s (nodes rows) after n ≡ with_text s (nodes rows) after (path_of rows found.id) (decimal n)
-  written_at = ap (λ o. option_map_or (λ q. with_text s (nodes rows) after q (decimal n)) o after) at.path
+  written_at : with_state s (nodes rows) after n ≡ rewritten_at s (nodes rows) after (path_of rows found.id) (decimal n)
+  written_at = ap (λ o. option_map_or (λ q. rewritten_at s (nodes rows) after q (decimal n)) o after) at.path
 
   pub state_led : digits_value 10 (decimal n) ≡ n → found.state ≢ n
       → with_state s (nodes rows) after n
@@ -291,7 +291,7 @@ may_not n may e = let never : not (may_exec progressing) ≡ true = refl in
     let now : not (may_exec progressing) ≡ false = ap (λ k. not (may_exec k)) (sym e) ∙ may in cc
 
 -- what a write leads to
-pub led_to : (m : Nodes) (state next : ℕ) (empty is : Bool) → state ≡ state_of m → is ≡ empty
+pub led_to : (m : Nodes) (state next : ℕ) (empty is : Bool) → state ≡ state_in_tree m → is ≡ empty
     → next ≡ unwrap_or (after_write state is) state
     → state_after_write m empty ≡ next
 led_to m state next empty is e f g =

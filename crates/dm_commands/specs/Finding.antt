@@ -23,8 +23,8 @@ use Rattle.dm_commands.specs.Outcomes.{Setting, node_at}
 -- ---- a node
 
 -- a node's Format, which is `node` at an interior one, and a leaf's Type
-abbrev pub found_at : List ℕ → Node → Option (List ℕ) → Found
-found_at uri node value = record {
+abbrev pub found_node : List ℕ → Node → Option (List ℕ) → Found
+found_node uri node value = record {
   uri = uri;
   format = node.value.format;
   media = if node.interior then None else Some node.value.media;
@@ -77,12 +77,12 @@ abbrev pub listed_value : Bool → Node → Option (List ℕ)
 listed_value with_values node = if with_values && not node.interior then Some node.value.bytes else None
 
 abbrev pub listed : Nodes → Bool → Path → Found
-listed m with_values p = found_at (printed_path p) (node_at m p) (listed_value with_values (node_at m p))
+listed m with_values p = found_node (printed_path p) (node_at m p) (listed_value with_values (node_at m p))
 
 -- ---- by the query
 
 abbrev pub found_by : Setting → Nodes → Uri → Query → List Found
-found_by s m uri query.Plain = found_at (printed uri) (node_at m uri.path) (Some (node_value m uri.path)) ∷ []
+found_by s m uri query.Plain = found_node (printed uri) (node_at m uri.path) (Some (node_value m uri.path)) ∷ []
 found_by s m uri (query.Prop q) = prop_found (printed uri) uri.path (node_at m uri.path) q ∷ []
 found_by s m uri query.Struct = map (listed m false) (shown_below s m uri.path)
 found_by s m uri query.StructData = map (listed m true) (shown_below s m uri.path)

@@ -30,8 +30,8 @@ refused m code = record { tree = m; code = code; found = []; started = false }
 abbrev pub changed_to : Nodes → Done
 changed_to m = record { tree = m; code = 200; found = []; started = false }
 
-abbrev pub found_in : Nodes → List Found → Done
-found_in m found = record { tree = m; code = 200; found = found; started = false }
+abbrev pub done_finding : Nodes → List Found → Done
+done_finding m found = record { tree = m; code = 200; found = found; started = false }
 
 -- ---- the rows of the table, each a test with the code where it holds
 
@@ -45,13 +45,13 @@ abbrev pub unless : Option ℕ → Nodes → Done → Done
 unless None m effect = effect
 unless (Some code) m effect = refused m code
 
-abbrev pub first_of : List (Bool × ℕ) → Nodes → Done → Done
-first_of rs m effect = unless (first_refusal rs) m effect
+abbrev pub refused_or : List (Bool × ℕ) → Nodes → Done → Done
+refused_or rs m effect = unless (first_refusal rs) m effect
 
 -- an answer is the code of the first refusal, or comes where none holds
-abbrev pub Judges : {T : Type 0} → List (Bool × ℕ) → Result T ℕ → Type 0
-Judges rs (Ok passed) = first_refusal rs ≡ None
-Judges rs (Err code) = first_refusal rs ≡ Some code
+abbrev pub RefusesFirst : {T : Type 0} → List (Bool × ℕ) → Result T ℕ → Type 0
+RefusesFirst rs (Ok passed) = first_refusal rs ≡ None
+RefusesFirst rs (Err code) = first_refusal rs ≡ Some code
 
 -- ---- what the tests speak of
 

@@ -7,12 +7,12 @@ use Rattle.dm_tree.specs.Nodes.{Path, IsReadAgain}
 use Rattle.dm_tree.specs.Rows.{nodes, ids, node_of, path_of, IsLive}
 use Rattle.dm_tree.specs.declared.nodes.Role.TheVariants as role
 use Rattle.dm_tree.specs.Devices.{state_node}
-use Rattle.dm_tree.specs.Edits.{fits}
-use Rattle.dm_commands.specs.declared.adds.Place.{Place}
+use Rattle.dm_tree.specs.Edits.{paths_fit}
+use Rattle.dm_commands.specs.declared.adds.Destination.{Destination}
 use Rattle.dm_commands.specs.declared.names.Renaming.{Renaming}
-use Rattle.dm_commands.specs.declared.props.Given.{Given}
+use Rattle.dm_commands.specs.declared.props.AclChange.{AclChange}
 use Rattle.dm_commands.specs.declared.updates.State.{State}
-use Rattle.dm_commands.specs.Updates.{state_of}
+use Rattle.dm_commands.specs.Updates.{state_in_tree}
 use Rattle.dm_commands.specs.Table.{acl_given, beside}
 
 -- a node is there under this number
@@ -21,7 +21,7 @@ pub record IsAt (rows : List Row) (p : Path) (id : ℕ) : Type 0 where
   pub path : path_of rows id ≡ p
 
 -- a node may come there: below an interior one, under a name that is free
-pub record IsPlace (rows : List Row) (p : Path) (place : Place) : Type 0 where
+pub record IsDestination (rows : List Row) (p : Path) (place : Destination) : Type 0 where
   pub live : IsLive rows place.parent
   pub path : path_of rows place.parent ++ place.name ∷ [] ≡ p
   pub interior : (node_of rows place.parent).interior ≡ true
@@ -33,7 +33,7 @@ pub record IsStateAt (rows : List Row) (found : State) : Type 0 where
   pub path : state_node (nodes rows) ≡ Some (path_of rows found.id)
   pub leaf : (node_of rows found.id).interior ≡ false
   pub role : (node_of rows found.id).role ≡ role.State
-  pub state : found.state ≡ state_of (nodes rows)
+  pub state : found.state ≡ state_in_tree (nodes rows)
   pub text : (node_of rows found.id).value.bytes ≡ decimal found.state
 
 abbrev pub IsState : List Row → Option State → Type 0
@@ -41,7 +41,7 @@ IsState rows None = state_node (nodes rows) ≡ None
 IsState rows (Some state) = IsStateAt rows state
 
 -- a node, and the access list that a text gives it
-pub record IsGiven (rows : List Row) (p : Path) (text : List ℕ) (given : Given) : Type 0 where
+pub record IsAclChange (rows : List Row) (p : Path) (text : List ℕ) (given : AclChange) : Type 0 where
   pub at : IsAt rows p given.id
   pub node : get (nodes rows) p ≡ Some (node_of rows given.id)
   pub acl : given.acl ≡ acl_given text
@@ -55,4 +55,4 @@ pub record IsRenaming (rows : List Row) (p : Path) (text : List ℕ) (renaming :
   pub name : renaming.name ≡ text
   pub removable : (node_of rows renaming.id).permanent ≡ false
   pub free : IfSome (get (ids rows) (beside p text)) (λ other. other ≡ renaming.id)
-  pub fits : fits (nodes rows) p text ≡ true
+  pub fits : paths_fit (nodes rows) p text ≡ true

@@ -55,7 +55,7 @@ abbrev pub KeepsIds : Step → Ids → Ids → Type 0
 KeepsIds step old new = KeepIdsBut (is_moved step) old new
 
 -- a step came to what the table says; its edits were noted, and the clock stays
-pub record Ends (done : Done) (moved : Path → Bool) (old : Journal) (before : Tree) (new : Journal) (now : Tree)
+pub record CarriesOut (done : Done) (moved : Path → Bool) (old : Journal) (before : Tree) (new : Journal) (now : Tree)
     (outcome : Outcome) : Type 0 where
   pub does : Does done outcome (nodes now.rows)
   pub ids : KeepIdsBut moved (ids before.rows) (ids now.rows)

@@ -30,11 +30,12 @@ use Rattle.dm_tree.specs.declared.nodes.Value.{Value}
 use Rattle.dm_tree.specs.Nodes.{Path, Nodes, is_format, is_node_format, changed, with_value, with_acl, with_title}
 use Rattle.dm_tree.specs.Nodes.{above, last_name}
 use Rattle.dm_tree.specs.Rights.{allows}
-use Rattle.dm_tree.specs.Edits.{pruned, renamed, fits}
+use Rattle.dm_tree.specs.Edits.{pruned, renamed, paths_fit}
 use Rattle.dm_tree.specs.Devices.{is_role}
-use Rattle.dm_commands.specs.Outcomes.{Setting, Done, refused, changed_to, found_in, first_refusal, first_of, no_node}
+use Rattle.dm_commands.specs.Outcomes.{Setting, Done, refused, changed_to, done_finding, first_refusal, refused_or}
+use Rattle.dm_commands.specs.Outcomes.{no_node}
 use Rattle.dm_commands.specs.Outcomes.{node_at}
-use Rattle.dm_commands.specs.Updates.{state_of, state_after_write, with_state}
+use Rattle.dm_commands.specs.Updates.{state_in_tree, state_after_write, with_state}
 use Rattle.dm_commands.specs.Finding.{found_by}
 
 abbrev pub has_query : Query → Bool
@@ -43,8 +44,8 @@ has_query (query.Prop p) = true
 has_query query.Struct = true
 has_query query.StructData = true
 
-abbrev pub is_root : Path → Bool
-is_root p = length p == 0
+abbrev pub is_root_path : Path → Bool
+is_root_path p = length p == 0
 
 -- a Format that isn't one of the eight, or a Type of more than 255 bytes
 abbrev pub has_bad_meta : List ℕ → List ℕ → Bool
@@ -59,7 +60,7 @@ exec_refusals s m step uri =
     ∷ (no_node m uri.path, 404)
     ∷ (not (allows m uri.path s.caller right.Exec), 425)
     ∷ (not (is_role (node_at m uri.path).role role.UpdateNode), 406)
-    ∷ (not (may_exec (state_of m)), 405)
+    ∷ (not (may_exec (state_in_tree m)), 405)
     ∷ (option_map_or (λ text. nat_lt 255 (length text)) step.correlator false, 400)
     ∷ []
 
@@ -68,7 +69,7 @@ abbrev pub started : Setting → Nodes → Done
 started s m = record { tree = with_state s m m progressing; code = 202; found = []; started = true }
 
 abbrev pub exec : Setting → Nodes → Step → Uri → Done
-exec s m step uri = first_of (exec_refusals s m step uri) m (started s m)
+exec s m step uri = refused_or (exec_refusals s m step uri) m (started s m)
 
 -- ---- Get
 
@@ -84,7 +85,7 @@ get_refusals s m uri =
     ∷ []
 
 abbrev pub get_ : Setting → Nodes → Uri → Done
-get_ s m uri = first_of (get_refusals s m uri) m (found_in m (found_by s m uri uri.query))
+get_ s m uri = refused_or (get_refusals s m uri) m (done_finding m (found_by s m uri uri.query))
 
 -- ---- Add
 
@@ -119,7 +120,7 @@ node_refusals m step =
 abbrev pub add_refusals : Setting → Nodes → Step → Uri → List (Bool × ℕ)
 add_refusals s m step uri =
     (has_query uri.query, 405)
-    ∷ (is_root uri.path, 418)
+    ∷ (is_root_path uri.path, 418)
     ∷ (no_node m (above uri.path), 404)
     ∷ (not (node_at m (above uri.path)).interior, 405)
     ∷ (not (allows m (above uri.path) s.caller right.Add), 425)
@@ -127,7 +128,7 @@ add_refusals s m step uri =
     ∷ node_refusals m step
 
 abbrev pub add : Setting → Nodes → Step → Uri → Done
-add s m step uri = first_of (add_refusals s m step uri) m (changed_to (insert m uri.path (added_node s.clock step)))
+add s m step uri = refused_or (add_refusals s m step uri) m (changed_to (insert m uri.path (added_node s.clock step)))
 
 -- ---- Replace of a value
 
@@ -145,7 +146,7 @@ replaced_value node step = record { format = kept_format node step; media = kept
 abbrev pub is_kept_from : Nodes → Node → Bool
 is_kept_from m node =
     (is_role node.role role.ReadOnly || is_role node.role role.State)
-    || (is_role node.role role.PkgData && (state_of m == progressing))
+    || (is_role node.role role.PkgData && (state_in_tree m == progressing))
 
 abbrev pub value_refusals : Setting → Nodes → Step → Uri → List (Bool × ℕ)
 value_refusals s m step uri =
@@ -168,7 +169,7 @@ after_value s m step p =
     else valued s m step p
 
 abbrev pub replace_value : Setting → Nodes → Step → Uri → Done
-replace_value s m step uri = first_of (value_refusals s m step uri) m (changed_to (after_value s m step uri.path))
+replace_value s m step uri = refused_or (value_refusals s m step uri) m (changed_to (after_value s m step uri.path))
 
 -- ---- Replace of an access list
 
@@ -187,7 +188,7 @@ abbrev pub acl_refusals : Setting → Nodes → Step → Uri → List (Bool × �
 acl_refusals s m step uri =
     (no_node m uri.path, 404)
     ∷ (not (allows m (acl_decider m uri.path) s.caller right.Replace), 425)
-    ∷ acl_text_refusals step.value (is_root uri.path)
+    ∷ acl_text_refusals step.value (is_root_path uri.path)
 
 abbrev pub entries_read : Result Entries AclError → Option Entries
 entries_read (Ok acl) = Some acl
@@ -199,7 +200,7 @@ acl_given text = if length text == 0 then None else entries_read (read_acl text)
 
 abbrev pub replace_acl : Setting → Nodes → Step → Uri → Done
 replace_acl s m step uri =
-    first_of (acl_refusals s m step uri) m
+    refused_or (acl_refusals s m step uri) m
     (changed_to (insert m uri.path (changed s.clock (with_acl (node_at m uri.path) (acl_given step.value)))))
 
 -- ---- Replace of a name
@@ -232,7 +233,7 @@ name_refusals s m step uri =
     rename_refusals s m uri
     ++ name_text_refusals step.value
     ++ (is_taken_beside m uri.path step.value, 418)
-    ∷ (not (fits m uri.path step.value), 414)
+    ∷ (not (paths_fit m uri.path step.value), 414)
     ∷ []
 
 -- all that stands below the node goes with it
@@ -240,7 +241,7 @@ abbrev pub renamed_at : Setting → Nodes → Path → List ℕ → Nodes
 renamed_at s m p name = insert (renamed m p name) (beside p name) (changed s.clock (node_at m p))
 
 abbrev pub replace_name : Setting → Nodes → Step → Uri → Done
-replace_name s m step uri = first_of (name_refusals s m step uri) m (changed_to (renamed_at s m uri.path step.value))
+replace_name s m step uri = refused_or (name_refusals s m step uri) m (changed_to (renamed_at s m uri.path step.value))
 
 -- ---- Replace of a title, and of what no command writes
 
@@ -253,11 +254,11 @@ title_refusals s m step uri =
 
 abbrev pub replace_title : Setting → Nodes → Step → Uri → Done
 replace_title s m step uri =
-    first_of (title_refusals s m step uri) m
+    refused_or (title_refusals s m step uri) m
     (changed_to (insert m uri.path (changed s.clock (with_title (node_at m uri.path) step.value))))
 
 abbrev pub replace_other : Nodes → Uri → Done
-replace_other m uri = first_of ((no_node m uri.path, 404) ∷ []) m (refused m 405)
+replace_other m uri = refused_or ((no_node m uri.path, 404) ∷ []) m (refused m 405)
 
 abbrev pub replace_prop : Setting → Nodes → Step → Uri → Prop → Done
 replace_prop s m step uri prop.Acl = replace_acl s m step uri
@@ -286,7 +287,7 @@ delete_refusals s m uri =
     ∷ []
 
 abbrev pub delete : Setting → Nodes → Uri → Done
-delete s m uri = first_of (delete_refusals s m uri) m (changed_to (pruned m uri.path))
+delete s m uri = refused_or (delete_refusals s m uri) m (changed_to (pruned m uri.path))
 
 -- ---- the whole table
 

@@ -12,25 +12,25 @@ use Rattle.dm_tree.specs.Devices.{pkg_data, state_node, value_at}
 use Rattle.dm_commands.specs.Outcomes.{Setting, asked_by, node_at}
 
 -- the state of the update, which State has as a decimal number
-abbrev pub state_of : Nodes → ℕ
-state_of m = digits_value 10 (option_map_or (value_at m) (state_node m) [])
+abbrev pub state_in_tree : Nodes → ℕ
+state_in_tree m = digits_value 10 (option_map_or (value_at m) (state_node m) [])
 
 -- the state after the package is written, by whether the new value is empty; a write during an update is refused
 abbrev pub state_after_write : Nodes → Bool → ℕ
-state_after_write m empty = unwrap_or (after_write (state_of m) empty) (state_of m)
+state_after_write m empty = unwrap_or (after_write (state_in_tree m) empty) (state_in_tree m)
 
 -- a node with other bytes, which the clock stamps
 abbrev pub rewritten : Setting → Node → List ℕ → Node
 rewritten s node bytes = changed s.clock (with_value node (record node.value { bytes = bytes }))
 
-abbrev pub with_text : Setting → Nodes → Nodes → Path → List ℕ → Nodes
-with_text s before after q text =
+abbrev pub rewritten_at : Setting → Nodes → Nodes → Path → List ℕ → Nodes
+rewritten_at s before after q text =
     if bytes_eq (value_at before q) text then after else insert after q (rewritten s (node_at before q) text)
 
 -- the tree after a step on the tree `before`, with the state that it leads to: State is written only where it changes
 abbrev pub with_state : Setting → Nodes → Nodes → ℕ → Nodes
 with_state s before after state =
-    option_map_or (λ q. with_text s before after q (decimal state)) (state_node before) after
+    option_map_or (λ q. rewritten_at s before after q (decimal state)) (state_node before) after
 
 -- ---- the end of an update
 

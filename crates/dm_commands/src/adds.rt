@@ -7,11 +7,11 @@ ghost use Rattle.dm_uri.specs.Names.{is_within_limits};
 ghost use Rattle.dm_tree.specs.declared.nodes.Stamp.{Stamp as Time};
 ghost use Rattle.dm_tree.specs.Nodes.{above, made, tree_order};
 ghost use Rattle.dm_tree.specs.Rows.{nodes, node_of, path_of, IsLive};
-ghost use Rattle.dm_commands.specs.Outcomes.{asked_by, changed_to, first_refusal, Judges};
-ghost use Rattle.dm_commands.specs.Table.{add as added, is_root, add_refusals, node_refusals};
+ghost use Rattle.dm_commands.specs.Outcomes.{asked_by, changed_to, first_refusal, RefusesFirst};
+ghost use Rattle.dm_commands.specs.Table.{add as added, is_root_path, add_refusals, node_refusals};
 ghost use Rattle.dm_commands.specs.Table.{added_format as format_of, added_media as media_of, added_node as node_for};
-ghost use Rattle.dm_commands.specs.Promises.{Ends, none_moved, StaysAsBefore};
-ghost use Rattle.dm_commands.specs.Places.{IsPlace};
+ghost use Rattle.dm_commands.specs.Promises.{CarriesOut, none_moved, StaysAsBefore};
+ghost use Rattle.dm_commands.specs.Places.{IsDestination};
 
 use crate::noting::put_in;
 use crate::outcome::{Outcome, refuse};
@@ -28,7 +28,7 @@ use syncml_types::Step;
 
 /// Where a new node comes.
 #[derive(Drop)]
-pub(crate) struct Place {
+pub(crate) struct Destination {
     pub parent: NodeId,
     pub name: Name,
 }
@@ -75,7 +75,7 @@ fn added_node(alloc: Global, step: &mut Step) -> Result<NewNode, Memory>
 
 // What is refused of a new node, whatever its place.
 fn node_refusal(tree: &Tree, step: &Step) -> Result<(), u32>
-    ensures { Judges (node_refusals (nodes tree.now.rows) step.now) result }
+    ensures { RefusesFirst (node_refusals (nodes tree.now.rows) step.now) result }
 {
     if has_bad_meta(added_format(step), added_media(step)) {
         return Err(415);
@@ -91,8 +91,8 @@ fn node_refusal(tree: &Tree, step: &Step) -> Result<(), u32>
 
 // The path above, and the last name. None comes exactly at the root.
 fn split(path: Path) -> Option<(Path, Name)>
-    ensures { MatchOption result (is_root path ≡ true)
-        (λ r. (is_root path ≡ false) × (above path ≡ r.0) × (path ≡ r.0 ++ r.1 ∷ [])) }
+    ensures { MatchOption result (is_root_path path ≡ true)
+        (λ r. (is_root_path path ≡ false) × (above path ≡ r.0) × (path ≡ r.0 ++ r.1 ∷ [])) }
 {
     let mut above = path;
     let name = above.pop()?;
@@ -100,10 +100,10 @@ fn split(path: Path) -> Option<(Path, Name)>
 }
 
 // The place of a new node, or the code of the first refusal.
-fn add_place(tree: &Tree, caller: &[u8], step: &Step, uri: Uri) -> Result<Place, u32>
-    ensures judged { Judges
+fn add_place(tree: &Tree, caller: &[u8], step: &Step, uri: Uri) -> Result<Destination, u32>
+    ensures judged { RefusesFirst
         (add_refusals (asked_by caller.now tree.now.clock) (nodes tree.now.rows) step.now uri) result }
-    ensures place { IfOk result (λ place. IsPlace tree.now.rows uri.path place) }
+    ensures place { IfOk result (λ place. IsDestination tree.now.rows uri.path place) }
 {
     if has_query(uri.query) {
         return Err(405);
@@ -124,7 +124,7 @@ fn add_place(tree: &Tree, caller: &[u8], step: &Step, uri: Uri) -> Result<Place,
         return Err(418);
     }
     match node_refusal(tree, step) {
-        Ok(()) => Ok(Place { parent, name }),
+        Ok(()) => Ok(Destination { parent, name }),
         Err(code) => Err(code),
     }
 }
@@ -134,14 +134,14 @@ fn add_at(
     alloc: Global,
     tree: &mut Tree,
     journal: &mut Journal,
-    place: Place,
+    place: Destination,
     step: &mut Step,
 ) -> Result<Outcome, Memory>
-    requires place { IsPlace tree.old.rows (path_of tree.old.rows place.parent ++ place.name ∷ []) place }
+    requires place { IsDestination tree.old.rows (path_of tree.old.rows place.parent ++ place.name ∷ []) place }
     requires within { IsTrue (is_within_limits (path_of tree.old.rows place.parent ++ place.name ∷ [])) }
     requires passed { first_refusal (node_refusals (nodes tree.old.rows) step.old) ≡ None }
     requires short { length step.old.value ≤ object_limit }
-    ensures ok { IfOk result (λ outcome. Ends (changed_to (map.insert (nodes tree.old.rows)
+    ensures ok { IfOk result (λ outcome. CarriesOut (changed_to (map.insert (nodes tree.old.rows)
         (path_of tree.old.rows place.parent ++ place.name ∷ []) (node_for tree.old.clock step.old))) none_moved
         journal.old tree.old journal.new tree.new outcome) }
     ensures step { step.new ≡ record step.old { value = step.new.value } }
@@ -163,7 +163,7 @@ pub(crate) fn add(
 ) -> Result<Outcome, Memory>
     requires within { IsTrue (is_within_limits uri.path) }
     requires short { length step.old.value ≤ object_limit }
-    ensures ok { IfOk result (λ outcome. Ends
+    ensures ok { IfOk result (λ outcome. CarriesOut
         (added (asked_by caller.now tree.old.clock) (nodes tree.old.rows) step.old uri) none_moved
         journal.old tree.old journal.new tree.new outcome) }
     ensures step { step.new ≡ record step.old { value = step.new.value } }

@@ -2,10 +2,10 @@
 ghost use Rattle.std.specs.Prelude.{◌≡◌, false, IfOk, OnErr};
 ghost use Rattle.dm_tree.specs.Nodes.{is_below};
 ghost use Rattle.dm_tree.specs.Rows.{nodes, node_of};
-ghost use Rattle.dm_commands.specs.Outcomes.{asked_by, Judges};
+ghost use Rattle.dm_commands.specs.Outcomes.{asked_by, RefusesFirst};
 ghost use Rattle.dm_commands.specs.Table.{delete as deleted, delete_refusals};
 ghost use Rattle.dm_commands.specs.Places.{IsAt};
-ghost use Rattle.dm_commands.specs.Promises.{Ends, StaysAsBefore};
+ghost use Rattle.dm_commands.specs.Promises.{CarriesOut, StaysAsBefore};
 
 use crate::noting::take_out;
 use crate::outcome::{Outcome, refuse};
@@ -18,7 +18,7 @@ use dm_uri::Uri;
 use std::alloc::Global;
 
 fn delete_place(tree: &Tree, caller: &[u8], uri: &Uri) -> Result<NodeId, u32>
-    ensures judged { Judges
+    ensures judged { RefusesFirst
         (delete_refusals (asked_by caller.now tree.now.clock) (nodes tree.now.rows) uri.now) result }
     ensures place { IfOk result (λ id. IsAt tree.now.rows uri.now.path id
         × ((node_of tree.now.rows id).permanent ≡ false)) }
@@ -46,7 +46,7 @@ pub(crate) fn delete(
     caller: &[u8],
     uri: &Uri,
 ) -> Result<Outcome, Memory>
-    ensures ok { IfOk result (λ outcome. Ends
+    ensures ok { IfOk result (λ outcome. CarriesOut
         (deleted (asked_by caller.now tree.old.clock) (nodes tree.old.rows) uri.now) (is_below uri.now.path)
         journal.old tree.old journal.new tree.new outcome) }
     ensures err { OnErr result (StaysAsBefore journal.old tree.old journal.new tree.new) }

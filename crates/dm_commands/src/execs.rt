@@ -5,10 +5,10 @@ ghost use Rattle.std.specs.Fmt.{decimal};
 ghost use Rattle.dm_tree.specs.Nodes.{IsValue};
 ghost use Rattle.dm_tree.specs.Rows.{nodes, node_of, IsLive};
 ghost use Rattle.dm_tree.specs.Devices.{IsUpdateInOrder};
-ghost use Rattle.dm_commands.specs.Outcomes.{asked_by, Judges};
+ghost use Rattle.dm_commands.specs.Outcomes.{asked_by, RefusesFirst};
 ghost use Rattle.dm_commands.specs.Table.{exec as executed, exec_refusals};
 ghost use Rattle.dm_commands.specs.Places.{IsState};
-ghost use Rattle.dm_commands.specs.Promises.{Ends, none_moved, StaysAsBefore};
+ghost use Rattle.dm_commands.specs.Promises.{CarriesOut, none_moved, StaysAsBefore};
 
 use crate::noting::put_value;
 use crate::outcome::{Outcome, refuse};
@@ -38,7 +38,7 @@ fn is_long(step: &Step) -> bool
 // The State of the update that may start, or the code of the first refusal.
 fn exec_place(tree: &Tree, caller: &[u8], step: &Step, uri: &Uri) -> Result<State, u32>
     requires update { IsUpdateInOrder (nodes tree.now.rows) }
-    ensures judged { Judges
+    ensures judged { RefusesFirst
         (exec_refusals (asked_by caller.now tree.now.clock) (nodes tree.now.rows) step.now uri.now) result }
     ensures state { IfOk result (λ state. IsState tree.now.rows (Some state)) }
 {
@@ -92,7 +92,7 @@ pub(crate) fn exec(
     uri: &Uri,
 ) -> Result<Outcome, Memory>
     requires update { IsUpdateInOrder (nodes tree.old.rows) }
-    ensures ok { IfOk result (λ outcome. Ends
+    ensures ok { IfOk result (λ outcome. CarriesOut
         (executed (asked_by caller.now tree.old.clock) (nodes tree.old.rows) step.now uri.now) none_moved
         journal.old tree.old journal.new tree.new outcome) }
     ensures err { OnErr result (StaysAsBefore journal.old tree.old journal.new tree.new) }

@@ -4,12 +4,12 @@ ghost use Rattle.std.specs.FinMap.{get};
 ghost use Rattle.dm_uri.specs.Grammar.{printed};
 ghost use Rattle.dm_tree.specs.Views.{shown};
 ghost use Rattle.dm_tree.specs.Rows.{nodes, path_of, IsLive};
-ghost use Rattle.dm_commands.specs.Outcomes.{asked_by, node_at, Judges};
+ghost use Rattle.dm_commands.specs.Outcomes.{asked_by, node_at, RefusesFirst};
 ghost use Rattle.dm_commands.specs.Table.{get_ as got, get_refusals, asks_size as is_size};
-ghost use Rattle.dm_commands.specs.Finding.{found_at as found_of, found_by, node_value as value_of_node};
+ghost use Rattle.dm_commands.specs.Finding.{found_node as found_of, found_by, node_value as value_of_node};
 ghost use Rattle.dm_commands.specs.Finding.{prop_format as format_of, prop_found as prop_of};
 ghost use Rattle.dm_commands.specs.Places.{IsAt};
-ghost use Rattle.dm_commands.specs.Promises.{Ends, none_moved};
+ghost use Rattle.dm_commands.specs.Promises.{CarriesOut, none_moved};
 
 use crate::lists::list_below;
 use crate::outcome::{Found, Outcome, refuse};
@@ -31,7 +31,7 @@ fn asks_size(query: Query) -> bool
 }
 
 fn get_place(tree: &Tree, caller: &[u8], uri: &Uri) -> Result<NodeId, u32>
-    ensures judged { Judges (get_refusals (asked_by caller.now tree.now.clock) (nodes tree.now.rows) uri.now) result }
+    ensures judged { RefusesFirst (get_refusals (asked_by caller.now tree.now.clock) (nodes tree.now.rows) uri.now) result }
     ensures place { IfOk result (λ id. IsAt tree.now.rows uri.now.path id) }
     ensures there { IfOk result (λ _. IsSome (get (nodes tree.now.rows) uri.now.path)) }
 {
@@ -165,7 +165,7 @@ pub(crate) fn get(
     caller: &[u8],
     uri: &Uri,
 ) -> Result<Outcome, Memory>
-    ensures { IfOk result (λ outcome. Ends
+    ensures { IfOk result (λ outcome. CarriesOut
         (got (asked_by caller.now tree.now.clock) (nodes tree.now.rows) uri.now) none_moved
         journal.now tree.now journal.now tree.now outcome) }
 {

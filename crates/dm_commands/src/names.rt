@@ -3,11 +3,11 @@ ghost use Rattle.std.specs.Prelude.{◌≡◌, false, Some, IfOk, IfSome, OnErr}
 ghost use Rattle.std.specs.FinMap as map;
 ghost use Rattle.dm_tree.specs.Nodes.{is_below, tree_order};
 ghost use Rattle.dm_tree.specs.Rows.{nodes, ids, node_of, path_of, IsLive};
-ghost use Rattle.dm_commands.specs.Outcomes.{asked_by, Judges};
+ghost use Rattle.dm_commands.specs.Outcomes.{asked_by, RefusesFirst};
 ghost use Rattle.dm_commands.specs.Table.{replace_name as name_replaced, name_refusals, name_text_refusals};
 ghost use Rattle.dm_commands.specs.Table.{rename_refusals, beside, is_taken_beside};
 ghost use Rattle.dm_commands.specs.Places.{IsAt, IsRenaming};
-ghost use Rattle.dm_commands.specs.Promises.{Ends, StaysAsBefore};
+ghost use Rattle.dm_commands.specs.Promises.{CarriesOut, StaysAsBefore};
 
 use crate::noting::put_name;
 use crate::outcome::{Outcome, refuse};
@@ -43,7 +43,7 @@ fn is_taken(tree: &Tree, id: NodeId, name: &Name) -> bool
 // The name that a text gives, or the code of a text that is none.
 #[tactic(auto, unfolding(dm_uri::specs::Reading::parse_name_of))]
 fn given_name(alloc: Global, text: &[u8]) -> Result<Result<Name, u32>, Memory>
-    ensures judged { IfOk result (λ name. Judges (name_text_refusals text.now) name) }
+    ensures judged { IfOk result (λ name. RefusesFirst (name_text_refusals text.now) name) }
     ensures name { IfOk result (λ judged. IfOk judged (λ name. name ≡ text.now)) }
 {
     match parse_name(alloc, text) {
@@ -57,7 +57,7 @@ fn given_name(alloc: Global, text: &[u8]) -> Result<Result<Name, u32>, Memory>
 
 // The target, where the caller may give it another name, or the code of the first refusal before the name is looked at.
 fn name_place(tree: &Tree, caller: &[u8], uri: &Uri) -> Result<NodeId, u32>
-    ensures judged { Judges
+    ensures judged { RefusesFirst
         (rename_refusals (asked_by caller.now tree.now.clock) (nodes tree.now.rows) uri.now) result }
     ensures place { IfOk result (λ id. IsAt tree.now.rows uri.now.path id
         × (map.get (nodes tree.now.rows) uri.now.path ≡ Some (node_of tree.now.rows id))
@@ -83,7 +83,7 @@ fn given_renaming(
     step: &Step,
     uri: &Uri,
 ) -> Result<Result<Renaming, u32>, Memory>
-    ensures judged { IfOk result (λ renaming. Judges
+    ensures judged { IfOk result (λ renaming. RefusesFirst
         (name_refusals (asked_by caller.now tree.now.clock) (nodes tree.now.rows) step.now uri.now) renaming) }
     ensures place { IfOk result (λ judged. IfOk judged (IsRenaming tree.now.rows uri.now.path step.now.value)) }
 {
@@ -114,7 +114,7 @@ pub(crate) fn replace_name(
     step: &Step,
     uri: &Uri,
 ) -> Result<Outcome, Memory>
-    ensures ok { IfOk result (λ outcome. Ends
+    ensures ok { IfOk result (λ outcome. CarriesOut
         (name_replaced (asked_by caller.now tree.old.clock) (nodes tree.old.rows) step.now uri.now)
         (is_below uri.now.path) journal.old tree.old journal.new tree.new outcome) }
     ensures err { OnErr result (StaysAsBefore journal.old tree.old journal.new tree.new) }

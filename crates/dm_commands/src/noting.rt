@@ -7,7 +7,7 @@ ghost use Rattle.dm_uri.specs.Names.{is_within_limits};
 ghost use Rattle.dm_tree.specs.Nodes.{above, changed, made, with_value, with_bytes, with_acl, with_title, tree_order};
 ghost use Rattle.dm_tree.specs.Nodes.{is_below, IsValue, IsReadAgain, IsNewNode};
 ghost use Rattle.dm_tree.specs.Rows.{nodes, ids, node_of, path_of, IsLive};
-ghost use Rattle.dm_tree.specs.Edits.{pruned, renamed, fits};
+ghost use Rattle.dm_tree.specs.Edits.{pruned, renamed, paths_fit};
 ghost use Rattle.dm_undo.specs.Notes.{Notes};
 ghost use Rattle.dm_commands.specs.Promises.{KeepIdsBut, none_moved, StaysAsBefore};
 
@@ -126,7 +126,7 @@ pub(crate) fn put_name(
     requires removable { (node_of tree.old.rows id).permanent ≡ false }
     requires free { IfSome (map.get (ids tree.old.rows) (above (path_of tree.old.rows id) ++ name ∷ []))
         (λ other. other ≡ id) }
-    requires fits { IsTrue (fits (nodes tree.old.rows) (path_of tree.old.rows id) name) }
+    requires fits { IsTrue (paths_fit (nodes tree.old.rows) (path_of tree.old.rows id) name) }
     ensures nodes { OnOk result (nodes tree.new.rows
         ≡ map.insert (renamed (nodes tree.old.rows) (path_of tree.old.rows id) name)
         (above (path_of tree.old.rows id) ++ name ∷ []) (changed tree.old.clock (node_of tree.old.rows id))) }

@@ -2,7 +2,7 @@
 ghost use Rattle.std.specs.Prelude.{◌≡◌, [], Bool, false};
 ghost use Rattle.dm_tree.specs.Rows.{nodes};
 ghost use Rattle.dm_commands.specs.Outcomes.{refused};
-ghost use Rattle.dm_commands.specs.Promises.{Ends};
+ghost use Rattle.dm_commands.specs.Promises.{CarriesOut};
 ghost use Rattle.dm_tree.specs.Nodes.{Path as Names};
 
 use dm_base::{Bytes, List};
@@ -44,7 +44,7 @@ impl Outcome {
 
 /// A refusal: the code alone, with tree and journal as they are.
 pub(crate) fn refuse(alloc: Global, tree: &Tree, journal: &Journal, code: u32) -> Outcome
-    ensures { (moved : Names → Bool) → Ends (refused (nodes tree.now.rows) code) moved
+    ensures { (moved : Names → Bool) → CarriesOut (refused (nodes tree.now.rows) code) moved
         journal.now tree.now journal.now tree.now result }
 {
     let _ = tree;

@@ -3,12 +3,12 @@ ghost use Rattle.std.specs.FinMap as map;
 ghost use Rattle.std.specs.Prelude.{◌≡◌, ◌≤◌, true, Some, IfOk, IfSome, IsSome, OnErr, length};
 ghost use Rattle.dm_tree.specs.Nodes.{tree_order, IsReadAgain};
 ghost use Rattle.dm_tree.specs.Rows.{nodes, node_of, path_of, IsLive};
-ghost use Rattle.dm_commands.specs.Outcomes.{asked_by, Judges};
+ghost use Rattle.dm_commands.specs.Outcomes.{asked_by, RefusesFirst};
 ghost use Rattle.dm_commands.specs.Table.{replace_acl as acl_replaced, acl_refusals, acl_text_refusals, acl_given};
 ghost use Rattle.dm_commands.specs.Table.{acl_decider as decider, replace_title as title_replaced, title_refusals};
 ghost use Rattle.dm_commands.specs.Table.{replace_other as other_replaced};
-ghost use Rattle.dm_commands.specs.Places.{IsAt, IsGiven};
-ghost use Rattle.dm_commands.specs.Promises.{Ends, none_moved, StaysAsBefore};
+ghost use Rattle.dm_commands.specs.Places.{IsAt, IsAclChange};
+ghost use Rattle.dm_commands.specs.Promises.{CarriesOut, none_moved, StaysAsBefore};
 
 use crate::noting::{put_acl, put_title};
 use crate::outcome::{Outcome, refuse};
@@ -26,7 +26,7 @@ const TITLE_LIMIT: usize = 255;
 
 /// A node, and the access list that it is to have, or none.
 #[derive(Drop)]
-pub(crate) struct Given {
+pub(crate) struct AclChange {
     pub id: NodeId,
     pub acl: Option<Acl>,
 }
@@ -49,8 +49,8 @@ fn given_acl(
     id: NodeId,
     text: &[u8],
     at_root: bool,
-) -> Result<Result<Given, u32>, Memory>
-    ensures judged { IfOk result (λ given. Judges (acl_text_refusals text.now at_root) given) }
+) -> Result<Result<AclChange, u32>, Memory>
+    ensures judged { IfOk result (λ given. RefusesFirst (acl_text_refusals text.now at_root) given) }
     ensures given { IfOk result (λ judged. IfOk judged (λ given. (given.id ≡ id) × (given.acl ≡ acl_given text.now)
         × IfSome given.acl IsReadAgain × (at_root ≡ true → IsSome given.acl))) }
 {
@@ -58,10 +58,10 @@ fn given_acl(
         if at_root {
             return Ok(Err(405));
         }
-        return Ok(Ok(Given { id, acl: None }));
+        return Ok(Ok(AclChange { id, acl: None }));
     }
     match Acl::parse(alloc, text) {
-        Ok(acl) => Ok(Ok(Given { id, acl: Some(acl) })),
+        Ok(acl) => Ok(Ok(AclChange { id, acl: Some(acl) })),
         Err(AclError::Malformed(_)) => Ok(Err(400)),
         Err(AclError::Memory) => Err(Memory),
     }
@@ -74,10 +74,10 @@ fn acl_place(
     caller: &[u8],
     step: &Step,
     uri: &Uri,
-) -> Result<Result<Given, u32>, Memory>
-    ensures judged { IfOk result (λ given. Judges
+) -> Result<Result<AclChange, u32>, Memory>
+    ensures judged { IfOk result (λ given. RefusesFirst
         (acl_refusals (asked_by caller.now tree.now.clock) (nodes tree.now.rows) step.now uri.now) given) }
-    ensures place { IfOk result (λ judged. IfOk judged (IsGiven tree.now.rows uri.now.path step.now.value)) }
+    ensures place { IfOk result (λ judged. IfOk judged (IsAclChange tree.now.rows uri.now.path step.now.value)) }
 {
     let Some(id) = tree.find(&uri.path) else {
         return Ok(Err(404));
@@ -102,7 +102,7 @@ pub(crate) fn replace_acl(
     step: &Step,
     uri: &Uri,
 ) -> Result<Outcome, Memory>
-    ensures ok { IfOk result (λ outcome. Ends
+    ensures ok { IfOk result (λ outcome. CarriesOut
         (acl_replaced (asked_by caller.now tree.old.clock) (nodes tree.old.rows) step.now uri.now) none_moved
         journal.old tree.old journal.new tree.new outcome) }
     ensures err { OnErr result (StaysAsBefore journal.old tree.old journal.new tree.new) }
@@ -117,7 +117,7 @@ pub(crate) fn replace_acl(
 }
 
 fn title_place(tree: &Tree, caller: &[u8], step: &Step, uri: &Uri) -> Result<NodeId, u32>
-    ensures judged { Judges
+    ensures judged { RefusesFirst
         (title_refusals (asked_by caller.now tree.now.clock) (nodes tree.now.rows) step.now uri.now) result }
     ensures place { IfOk result (λ id. IsAt tree.now.rows uri.now.path id
         × (map.get (nodes tree.now.rows) uri.now.path ≡ Some (node_of tree.now.rows id))
@@ -144,7 +144,7 @@ pub(crate) fn replace_title(
     step: &Step,
     uri: &Uri,
 ) -> Result<Outcome, Memory>
-    ensures ok { IfOk result (λ outcome. Ends
+    ensures ok { IfOk result (λ outcome. CarriesOut
         (title_replaced (asked_by caller.now tree.old.clock) (nodes tree.old.rows) step.now uri.now) none_moved
         journal.old tree.old journal.new tree.new outcome) }
     ensures err { OnErr result (StaysAsBefore journal.old tree.old journal.new tree.new) }
@@ -160,7 +160,7 @@ pub(crate) fn replace_title(
 
 /// What no command writes is refused.
 pub(crate) fn replace_other(alloc: Global, tree: &Tree, journal: &Journal, uri: &Uri) -> Outcome
-    ensures { Ends (other_replaced (nodes tree.now.rows) uri.now) none_moved
+    ensures { CarriesOut (other_replaced (nodes tree.now.rows) uri.now) none_moved
         journal.now tree.now journal.now tree.now result }
 {
     match tree.find(&uri.path) {

@@ -9,12 +9,12 @@ ghost use Rattle.dm_tree.specs.Nodes.{is_node_format as is_node, changed, with_v
 ghost use Rattle.dm_tree.specs.Rows.{nodes, ids, node_of, path_of, IsLive};
 ghost use Rattle.dm_tree.specs.Devices.{IsUpdateInOrder};
 ghost use Rattle.dm_undo.specs.Notes.{Notes};
-ghost use Rattle.dm_commands.specs.Outcomes.{asked_by, Judges};
-ghost use Rattle.dm_commands.specs.Updates.{state_of, state_after_write, with_state};
+ghost use Rattle.dm_commands.specs.Outcomes.{asked_by, RefusesFirst};
+ghost use Rattle.dm_commands.specs.Updates.{state_in_tree, state_after_write, with_state};
 ghost use Rattle.dm_commands.specs.Table.{replace_value as value_replaced, value_refusals, is_kept_from};
 ghost use Rattle.dm_commands.specs.Table.{replaced_value as value_with};
 ghost use Rattle.dm_commands.specs.Places.{IsAt};
-ghost use Rattle.dm_commands.specs.Promises.{Ends, none_moved, StaysAsBefore};
+ghost use Rattle.dm_commands.specs.Promises.{CarriesOut, none_moved, StaysAsBefore};
 
 use crate::execs::restated;
 use crate::noting::{put_bytes, put_value, put_values};
@@ -44,7 +44,7 @@ fn is_progressing(tree: &Tree, pkg_data: NodeId) -> bool
     requires place { IsLive tree.now.rows pkg_data }
     requires role { (node_of tree.now.rows pkg_data).role ≡ role.PkgData }
     requires update { IsUpdateInOrder (nodes tree.now.rows) }
-    ensures { result ≡ (state_of (nodes tree.now.rows) == progressing) }
+    ensures { result ≡ (state_in_tree (nodes tree.now.rows) == progressing) }
 {
     match state_above(tree, pkg_data) {
         Some(state) => state.state == PROGRESSING,
@@ -66,7 +66,7 @@ fn is_kept(tree: &Tree, id: NodeId) -> bool
 
 fn value_place(tree: &Tree, caller: &[u8], step: &Step, uri: &Uri) -> Result<NodeId, u32>
     requires update { IsUpdateInOrder (nodes tree.now.rows) }
-    ensures judged { Judges
+    ensures judged { RefusesFirst
         (value_refusals (asked_by caller.now tree.now.clock) (nodes tree.now.rows) step.now uri.now) result }
     ensures place { IfOk result (λ id. IsAt tree.now.rows uri.now.path id) }
 {
@@ -186,7 +186,7 @@ pub(crate) fn replace_value(
 ) -> Result<Outcome, Memory>
     requires update { IsUpdateInOrder (nodes tree.old.rows) }
     requires short { length step.old.value ≤ object_limit }
-    ensures ok { IfOk result (λ outcome. Ends
+    ensures ok { IfOk result (λ outcome. CarriesOut
         (value_replaced (asked_by caller.now tree.old.clock) (nodes tree.old.rows) step.old uri.now) none_moved
         journal.old tree.old journal.new tree.new outcome) }
     ensures step { step.new ≡ record step.old { value = step.new.value } }

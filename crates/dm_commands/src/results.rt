@@ -5,7 +5,7 @@ ghost use Rattle.dm_tree.specs.Nodes.{IsValue};
 ghost use Rattle.dm_tree.specs.Rows.{nodes, ids, node_of, IsLive};
 ghost use Rattle.dm_tree.specs.Devices.{IsUpdateInOrder};
 ghost use Rattle.dm_undo.specs.Notes.{Notes};
-ghost use Rattle.dm_commands.specs.Updates.{state_of, update_ended};
+ghost use Rattle.dm_commands.specs.Updates.{state_in_tree, update_ended};
 ghost use Rattle.dm_commands.specs.Promises.{StaysAsBefore};
 
 use crate::execs::restated;
@@ -40,7 +40,7 @@ pub fn end_update(
     ok: bool,
 ) -> Result<(), Memory>
     requires update { IsUpdateInOrder (nodes tree.old.rows) }
-    requires running { state_of (nodes tree.old.rows) ≡ progressing }
+    requires running { state_in_tree (nodes tree.old.rows) ≡ progressing }
     ensures nodes { OnOk result (nodes tree.new.rows ≡ update_ended tree.old.clock (nodes tree.old.rows) ok) }
     ensures ids { OnOk result (ids tree.new.rows ≡ ids tree.old.rows) }
     ensures notes { OnOk result (Notes journal.old tree.old.rows journal.new tree.new.rows) }

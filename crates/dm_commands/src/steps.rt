@@ -11,7 +11,8 @@ ghost use Rattle.dm_undo.specs.Notes.{Notes};
 ghost use Rattle.dm_commands.specs.Outcomes.{asked_by, Does};
 ghost use Rattle.dm_commands.specs.Table.{act as act_of, by_verb as verb_of, replace as replaced};
 ghost use Rattle.dm_commands.specs.Table.{replace_prop as prop_replaced};
-ghost use Rattle.dm_commands.specs.Promises.{IsShortStep, KeepsIds, Ends, is_name_query, is_moved_at, StaysAsBefore};
+ghost use Rattle.dm_commands.specs.Promises.{IsShortStep, KeepsIds, CarriesOut, is_name_query, is_moved_at};
+ghost use Rattle.dm_commands.specs.Promises.{StaysAsBefore};
 
 use crate::adds::add;
 use crate::deletes::delete;
@@ -38,7 +39,7 @@ fn replace_prop(
     uri: &Uri,
     prop: Prop,
 ) -> Result<Outcome, Memory>
-    ensures ok { IfOk result (λ outcome. Ends
+    ensures ok { IfOk result (λ outcome. CarriesOut
         (prop_replaced (asked_by caller.now tree.old.clock) (nodes tree.old.rows) step.now uri.now prop)
         (λ p. is_name_query (query.Prop prop) && is_below uri.now.path p)
         journal.old tree.old journal.new tree.new outcome) }
@@ -64,7 +65,7 @@ fn replace(
 ) -> Result<Outcome, Memory>
     requires update { IsUpdateInOrder (nodes tree.old.rows) }
     requires short { length step.old.value ≤ object_limit }
-    ensures ok { IfOk result (λ outcome. Ends
+    ensures ok { IfOk result (λ outcome. CarriesOut
         (replaced (asked_by caller.now tree.old.clock) (nodes tree.old.rows) step.old uri.now uri.now.query)
         (is_moved_at verb.Replace (Ok uri.now)) journal.old tree.old journal.new tree.new outcome) }
     ensures err { OnErr result (StaysAsBefore journal.old tree.old journal.new tree.new) }
@@ -88,7 +89,7 @@ fn by_verb(
     requires update { IsUpdateInOrder (nodes tree.old.rows) }
     requires within { IsTrue (is_within_limits uri.path) }
     requires short { IsShortStep step.old }
-    ensures ok { IfOk result (λ outcome. Ends
+    ensures ok { IfOk result (λ outcome. CarriesOut
         (verb_of (asked_by caller.now tree.old.clock) (nodes tree.old.rows) step.old uri step.old.verb)
         (is_moved_at step.old.verb (Ok uri)) journal.old tree.old journal.new tree.new outcome) }
     ensures err { OnErr result (StaysAsBefore journal.old tree.old journal.new tree.new) }

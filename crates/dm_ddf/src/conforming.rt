@@ -5,7 +5,7 @@ ghost use Rattle.dm_tree.specs.Nodes.{last_name};
 ghost use Rattle.dm_tree.specs.Rows.{nodes, node_of, path_of, IsLive};
 ghost use Rattle.dm_tree.specs.Views.{shown};
 ghost use Rattle.dm_ddf.specs.Breaches as Spec;
-ghost use Rattle.dm_ddf.specs.Rules as Rules;
+ghost use Rattle.dm_ddf.specs.Rules;
 ghost use Rattle.dm_ddf.specs.Conforming.{TellsFirst};
 
 use crate::members::has_format;

@@ -10,7 +10,7 @@ use Rattle.std.proofs.lemmas.Fmt.{digits_decimal, digits_value-decimal, decimal_
 use Rattle.std.proofs.lemmas.Fmt.{decimal-digits_value}
 use Rattle.std.proofs.lemmas.Str.Parse.{IsNumeralModel, numerals_by_value, tells_all_ascii_digits}
 use Rattle.dm_base.specs.Fields.{is_numeral, num_of}
-use Rattle.dm_decimals.specs.Decimals.{WrittenIsRead, ReadIsWritten}
+use Rattle.dm_decimals.specs.Decimals.{DecimalIsRead, ReadIsWritten}
 
 own : IsNumeralModel (λ ds. all_ascii_digits ds ≡ true) (digits_value 10)
 own = numerals_by_value _ tells_all_ascii_digits
@@ -30,7 +30,7 @@ first_of (suc n) small =
     or_right (length (decimal (suc n)) == 1) (not (slice_index (decimal (suc n)) 0 == 48))
     (ap not (ne_eqb (slice_index (decimal (suc n)) 0) 48 (λ is. omega (arith, above, is))))
 
-pub written_is_read : WrittenIsRead
+pub written_is_read : DecimalIsRead
 written_is_read n small =
     num_from (decimal n) n (decimal_nonempty n small) (digits_decimal own n small) (first_of n small)
     (digits_value-decimal own n small) small

@@ -4,8 +4,8 @@ use Rattle.std.specs.Fmt.{decimal}
 use Rattle.dm_base.specs.Fields.{num_of}
 
 -- what is written of a number is read as that number
-abbrev pub WrittenIsRead : Type 0
-WrittenIsRead = (n : ℕ) → n < 2 ^ 64 → num_of (decimal n) ≡ Some n
+abbrev pub DecimalIsRead : Type 0
+DecimalIsRead = (n : ℕ) → n < 2 ^ 64 → num_of (decimal n) ≡ Some n
 
 -- what is read as a number is written of it
 abbrev pub ReadIsWritten : Type 0

@@ -1,7 +1,7 @@
 -- A session that isn't begun leaves the machine.
 use Rattle.std.proofs.Common.{◌≡◌, ℕ, Bool, true, false, refl, Some, None, if◌then◌else◌}
 use Rattle.std.specs.Prelude.{Option}
-use Rattle.dm_machine.specs.declared.kinds.Kind.{Kind}
+use Rattle.dm_machine.specs.declared.kinds.Initiator.{Initiator}
 use Rattle.dm_machine.specs.Machine.{Machine, Session}
 use Rattle.dm_machine.specs.Events.{Event, opened, Answer, exhausted, takes, after, taken_answer, refusal, sent_in}
 use Rattle.dm_machine.specs.Messages.{begins}
@@ -17,7 +17,7 @@ by_taken : (c : Machine) (e : Event) (b : Bool) (last : ℕ) (a : Answer)
 by_taken c e true last a never is = absurd (never refl is)
 by_taken c e false last a never is = refl
 
-pub none_begins : (c : Machine) (account : ℕ) (kind : Kind) (number last : ℕ)
+pub none_begins : (c : Machine) (account : ℕ) (kind : Initiator) (number last : ℕ)
     → answer_now c (opened account kind number) ≡ exhausted last → next c (opened account kind number) ≡ c
 unfolding answer_now next taken_answer
 none_begins c account kind number last is =

@@ -4,7 +4,7 @@ use Rattle.std.proofs.Common.{inl, inr, append-nil, ap, Some}
 use Rattle.std.specs.Io.KnownBytes.{Keeps}
 use Rattle.std.specs.Prelude.{Option}
 use Rattle.dm_base.specs.declared.bytes.Memory.{Memory}
-use Rattle.dm_machine.specs.declared.kinds.Kind.{Kind}
+use Rattle.dm_machine.specs.declared.kinds.Initiator.{Initiator}
 use Rattle.dm_machine.specs.Machine.{Machine}
 use Rattle.dm_machine.specs.Events.{opened}
 use Rattle.dm_machine.specs.History.{next}
@@ -14,7 +14,7 @@ use Rattle.dm_exit.specs.declared.exit.Exit.{Exit}
 use Rattle.dm_exit.specs.declared.exit.Exit.TheVariants as exit
 use Rattle.dm_device.specs.declared.tally.Word.{Word}
 use Rattle.dm_device.specs.Outsides.{Outside, outside_of, OfTold, IsPostedInPart}
-use Rattle.dm_device.specs.Runs.{Route, begun, follow_up, leaves_update}
+use Rattle.dm_device.specs.Runs.{Route, begun_session, follow_up, leaves_update}
 use Rattle.dm_device.specs.Ending.{IsCutShort, HoldDoes, CloseDoes, MayHaveGiven, TellDoes, FollowDoes, RunDoes}
 use Rattle.dm_exit.proofs.Parts.{prefix_none}
 use Rattle.dm_device.proofs.Putting.{empty_prefix}
@@ -115,10 +115,10 @@ follows_for_memory told u0 u1 n r account number c d m old tells =
 -- ---- the whole run
 
 -- nothing was done at all
-pub run_untouched : (r : Route) (account : ℕ) (kind : Kind) (number : ℕ) (c : Machine) (old new : Option (List ℕ))
+pub run_untouched : (r : Route) (account : ℕ) (kind : Initiator) (number : ℕ) (c : Machine) (old new : Option (List ℕ))
     (s : Outside) → Keeps old new → RunDoes r account kind number c old new exit.NoMemory s s
 run_untouched r account kind number c old new s kept =
-    run_cut r account number (begun c account kind number s.nonces) [] exit.NoMemory s s old new tt
+    run_cut r account number (begun_session c account kind number s.nonces) [] exit.NoMemory s s old new tt
     (record {
       posts = nothing_asked r.address [] s.calls s.calls refl;
       given = 0;
@@ -134,22 +134,22 @@ keeps_itself None = tt
 keeps_itself (Some bytes) = refl
 
 pub run_for_memory : (told : Option Calls) (us : Option (List Update)) (n : Option (List (List ℕ))) (r : Route)
-    (account : ℕ) (kind : Kind) (number : ℕ) (c : Machine) (old : Option (List ℕ))
+    (account : ℕ) (kind : Initiator) (number : ℕ) (c : Machine) (old : Option (List ℕ))
     → OfTold (outside_of told us n) (outside_of told us n) (RunDoes r account kind number c old old exit.NoMemory)
 run_for_memory told us n r account kind number c old =
     told_same (outside_of told us n) _ (λ s. run_untouched r account kind number c old old s (keeps_itself old))
 
 pub run_short : (d0 d1 : Option Calls) (us : Option (List Update)) (n0 n1 : Option (List (List ℕ))) (r : Route)
-    (account : ℕ) (kind : Kind) (number : ℕ) (c e : Machine) (x : Exit) (old new : Option (List ℕ)) → IsCutShort x
+    (account : ℕ) (kind : Initiator) (number : ℕ) (c e : Machine) (x : Exit) (old new : Option (List ℕ)) → IsCutShort x
     → OfTold (outside_of d0 us n0) (outside_of d1 us n1)
     (HoldDoes r.address r.path number (next c (opened account kind number)) e old new (Err x))
     → OfTold (outside_of d0 us n0) (outside_of d1 us n1) (RunDoes r account kind number c old new x)
 run_short d0 d1 us n0 n1 r account kind number c e x old new short holds =
     told_as (outside_of d0 us n0) (outside_of d1 us n1) _ _
-    (λ s t p. run_cut r account number (begun c account kind number s.nonces) p.0 x s t old new short p.1) holds
+    (λ s t p. run_cut r account number (begun_session c account kind number s.nonces) p.0 x s t old new short p.1) holds
 
 pub run_closed : (d0 d1 d2 : Option Calls) (us : Option (List Update)) (n0 n1 : Option (List (List ℕ))) (r : Route)
-    (account : ℕ) (kind : Kind) (number : ℕ) (c d : Machine) (w : Word) (x : Exit) (old mid new : Option (List ℕ))
+    (account : ℕ) (kind : Initiator) (number : ℕ) (c d : Machine) (w : Word) (x : Exit) (old mid new : Option (List ℕ))
     → OfTold (outside_of d0 us n0) (outside_of d1 us n1)
     (HoldDoes r.address r.path number (next c (opened account kind number)) d old mid (Ok w))
     → leaves_update w d ≡ false
@@ -157,12 +157,12 @@ pub run_closed : (d0 d1 d2 : Option Calls) (us : Option (List Update)) (n0 n1 : 
     → OfTold (outside_of d0 us n0) (outside_of d2 us n1) (RunDoes r account kind number c old new x)
 run_closed d0 d1 d2 us n0 n1 r account kind number c d w x old mid new holds leaves closes =
     told_then (outside_of d0 us n0) (outside_of d1 us n1) (outside_of d2 us n1) _ _ _
-    (λ s t u p q. run_closes r account number (begun c account kind number s.nonces) p.0 d w x s t u old mid new p.1 p.2
+    (λ s t u p q. run_closes r account number (begun_session c account kind number s.nonces) p.0 d w x s t u old mid new p.1 p.2
     p.3 leaves q)
     holds closes
 
 pub run_followed : (d0 d1 d2 : Option Calls) (u0 u1 : Option (List Update)) (n0 n1 n2 : Option (List (List ℕ)))
-    (r : Route) (account : ℕ) (kind : Kind) (number : ℕ) (c d : Machine) (w : Word) (x : Exit)
+    (r : Route) (account : ℕ) (kind : Initiator) (number : ℕ) (c d : Machine) (w : Word) (x : Exit)
     (old mid new : Option (List ℕ))
     → OfTold (outside_of d0 u0 n0) (outside_of d1 u0 n1)
     (HoldDoes r.address r.path number (next c (opened account kind number)) d old mid (Ok w))
@@ -171,7 +171,7 @@ pub run_followed : (d0 d1 d2 : Option Calls) (u0 u1 : Option (List Update)) (n0 
     → OfTold (outside_of d0 u0 n0) (outside_of d2 u1 n2) (RunDoes r account kind number c old new x)
 run_followed d0 d1 d2 u0 u1 n0 n1 n2 r account kind number c d w x old mid new holds leaves follows =
     told_then (outside_of d0 u0 n0) (outside_of d1 u0 n1) (outside_of d2 u1 n2) _ _ _
-    (λ s t u p q. run_follows r account number (begun c account kind number s.nonces) p.0 d w x s t u old mid new
+    (λ s t u p q. run_follows r account number (begun_session c account kind number s.nonces) p.0 d w x s t u old mid new
     p.1 p.2
     p.3 leaves q)
     holds follows

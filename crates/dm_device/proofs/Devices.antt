@@ -15,10 +15,10 @@ use Rattle.dm_exit.specs.Puts.{PutsEnd, PutsPart}
 use Rattle.dm_exit.proofs.Parts.{ends_put, prefix_none, kept_appends}
 use Rattle.dm_replay.specs.declared.reading.Halt.{Halt}
 use Rattle.dm_replay.specs.declared.reading.Halt.TheVariants as halt
-use Rattle.dm_replay.specs.Events.{place_of}
+use Rattle.dm_replay.specs.Events.{account_place}
 use Rattle.dm_replay.specs.From.{PutsHalt, HaltCounts}
 use Rattle.dm_replay.specs.Output.{client_of, stop_text}
-use Rattle.dm_replay.specs.Trace.{Stop, bad, ids_of}
+use Rattle.dm_replay.specs.Trace.{Stop, bad, servers_of}
 use Rattle.dm_replay.proofs.Ended.{halt_of_text, halt_not_done}
 use Rattle.dm_replay.proofs.Faults.{end_is_no_fault}
 use Rattle.dm_words.specs.declared.forms.DeviceWords.{DeviceWords}
@@ -97,7 +97,7 @@ nothing_appended (Some xs) = sym (append-nil xs)
 
 -- no account has the name
 pub nobody : (w : DeviceWords) (told : Setup) (o : Option Outside) (old new : Option (List ℕ)) (e : Exit)
-    → place_of (ids_of told.accounts) w.server ≡ None → PutsEnd usage_line exit.Usage old new e
+    → account_place (servers_of told.accounts) w.server ≡ None → PutsEnd usage_line exit.Usage old new e
     → OfTold o o (RunsWith w told old new e)
 nobody w told o old new e is put =
     told_same o _ (λ s. subst (λ at. RunsAs w told at old new e s s) (sym is) (refl, put))
@@ -161,7 +161,7 @@ wanting_as w told (Some account) old new s kept = wanting_run w told account old
 wanting_by : (w : DeviceWords) (r : Result Setup Stop) (old new : Option (List ℕ)) (s : Outside) → Keeps old new
     → RunsBy w r old new exit.NoMemory s s
 wanting_by w (Err stop) old new s kept = (refl, prefix_none old new (stop_text stop) kept)
-wanting_by w (Ok told) old new s kept = wanting_as w told (place_of (ids_of told.accounts) w.server) old new s kept
+wanting_by w (Ok told) old new s kept = wanting_as w told (account_place (servers_of told.accounts) w.server) old new s kept
 
 -- ---- an input that is whole
 
@@ -173,11 +173,11 @@ pub wanting : (w : DeviceWords) (told : Setup) (o : Option Outside) (got : Optio
     → OfTold o o (RunsWith w told got got exit.NoMemory)
 wanting w told o got =
     told_same o _
-    (λ s. wanting_as w told (place_of (ids_of told.accounts) w.server) got got s (keeps_same got))
+    (λ s. wanting_as w told (account_place (servers_of told.accounts) w.server) got got s (keeps_same got))
 
 -- the run over an account
 pub account_runs : (w : DeviceWords) (told : Setup) (account : ℕ) (c : Machine) (before after : Option Outside)
-    (old new : Option (List ℕ)) (e : Exit) → Some account ≡ place_of (ids_of told.accounts) w.server
+    (old new : Option (List ℕ)) (e : Exit) → Some account ≡ account_place (servers_of told.accounts) w.server
     → c ≡ client_of told
     → OfTold before after (RunDoes (route_of w told.version) account w.kind w.session c old new e)
     → OfTold before after (RunsWith w told old new e)

@@ -10,7 +10,7 @@ use Rattle.dm_outside.specs.Calls.{Dial, Calls}
 use Rattle.dm_exit.specs.declared.exit.Exit.{Exit}
 use Rattle.dm_exit.specs.declared.exit.Exit.TheVariants as exit
 use Rattle.dm_exit.proofs.Parts.{prefix_of_front, prefix_behind}
-use Rattle.dm_device.specs.declared.exchanging.Heard.{Heard}
+use Rattle.dm_device.specs.declared.exchanging.ReplyHeard.{ReplyHeard}
 use Rattle.dm_device.specs.Exchanges.{Matches}
 use Rattle.dm_device.specs.Outsides.{Outside, IsPosted, IsPostedInPart}
 use Rattle.dm_device.specs.Runs.{Run, both_parts, IsDone, IsCut, EndsPart, EndsInOrder}
@@ -18,7 +18,7 @@ use Rattle.dm_device.specs.Ending.{IsCutShort}
 
 -- ---- requests
 
-matches_both : (address : List ℕ) (ds es : List Dial) (hs gs : List Heard) (rs qs : List (List ℕ))
+matches_both : (address : List ℕ) (ds es : List Dial) (hs gs : List ReplyHeard) (rs qs : List (List ℕ))
     → Matches address ds hs rs → Matches address es gs qs → Matches address (ds ++ es) (hs ++ gs) (rs ++ qs)
 matches_both address [] es [] gs [] qs m n = n
 matches_both address (d ∷ ds) es (h ∷ hs) gs (r ∷ rs) qs m n = (m.0, matches_both address ds es hs gs rs qs m.1 n)
@@ -27,7 +27,7 @@ matches_both address [] es (h ∷ hs) gs rs qs m n = absurd m
 matches_both address (d ∷ ds) es [] gs rs qs m n = absurd m
 matches_both address (d ∷ ds) es (h ∷ hs) gs [] qs m n = absurd m
 
-posted_both : (address : List ℕ) (rs qs : List (List ℕ)) (hs gs : List Heard) (s t u : Calls)
+posted_both : (address : List ℕ) (rs qs : List (List ℕ)) (hs gs : List ReplyHeard) (s t u : Calls)
     → IsPosted address rs hs s t → IsPosted address qs gs t u → IsPosted address (rs ++ qs) (hs ++ gs) s u
 posted_both address rs qs hs gs s t u p q = record {
   dials = p.dials ++ q.dials;
@@ -43,7 +43,7 @@ take_front n front rest =
       | inr less ↦ (n, sym (take-append-le n front rest less))
     ]
 
-part_of_both : (address : List ℕ) (rs qs : List (List ℕ)) (hs : List Heard) (s t : Calls)
+part_of_both : (address : List ℕ) (rs qs : List (List ℕ)) (hs : List ReplyHeard) (s t : Calls)
     → IsPostedInPart address rs hs s t → IsPostedInPart address (rs ++ qs) hs s t
 part_of_both address rs qs hs s t p =
     let n = take_front p.posted rs qs in record {
@@ -57,7 +57,7 @@ part_of_both address rs qs hs s t p =
       matched = subst (Matches address p.dials hs) n.1 p.matched;
     }
 
-posted_then_part : (address : List ℕ) (rs qs : List (List ℕ)) (hs gs : List Heard) (s t u : Calls)
+posted_then_part : (address : List ℕ) (rs qs : List (List ℕ)) (hs gs : List ReplyHeard) (s t u : Calls)
     → IsPosted address rs hs s t → IsPostedInPart address qs gs t u → IsPostedInPart address (rs ++ qs) (hs ++ gs) s u
 posted_then_part address rs qs hs gs s t u p q = record {
   dials = p.dials ++ q.dials;
@@ -73,7 +73,7 @@ posted_then_part address rs qs hs gs s t u p q = record {
 }
 
 -- all of them are a part
-pub all_in_part : (address : List ℕ) (rs : List (List ℕ)) (hs : List Heard) (s t : Calls) → IsPosted address rs hs s t
+pub all_in_part : (address : List ℕ) (rs : List (List ℕ)) (hs : List ReplyHeard) (s t : Calls) → IsPosted address rs hs s t
     → IsPostedInPart address rs hs s t
 all_in_part address rs hs s t p = record {
   dials = p.dials;
@@ -88,7 +88,7 @@ all_in_part address rs hs s t p = record {
 
 -- ---- parts
 
-pub done_both : (address : List ℕ) (a b : Run) (hs gs : List Heard) (s t u : Outside) (old mid new : Option (List ℕ))
+pub done_both : (address : List ℕ) (a b : Run) (hs gs : List ReplyHeard) (s t u : Outside) (old mid new : Option (List ℕ))
     → IsDone address a hs s t old mid → IsDone address b gs t u mid new
     → IsDone address (both_parts a b) (hs ++ gs) s u old new
 done_both address a b hs gs s t u old mid new p q = record {
@@ -99,7 +99,7 @@ done_both address a b hs gs s t u old mid new p q = record {
 }
 
 -- the first part is cut, and of the second nothing was done
-pub cut_first : (address : List ℕ) (a b : Run) (hs : List Heard) (s t : Outside) (old new : Option (List ℕ))
+pub cut_first : (address : List ℕ) (a b : Run) (hs : List ReplyHeard) (s t : Outside) (old new : Option (List ℕ))
     → b.nonces ≡ a.nonces → IsCut address a hs s t old new → IsCut address (both_parts a b) hs s t old new
 cut_first address a b hs s t old new same p =
     let n = take_front p.given a.updates b.updates in record {
@@ -112,7 +112,7 @@ cut_first address a b hs s t old new same p =
       text = prefix_of_front old new a.text b.text p.text;
     }
 
-pub cut_second : (address : List ℕ) (a b : Run) (hs gs : List Heard) (s t u : Outside) (old mid new : Option (List ℕ))
+pub cut_second : (address : List ℕ) (a b : Run) (hs gs : List ReplyHeard) (s t u : Outside) (old mid new : Option (List ℕ))
     → IsDone address a hs s t old mid → IsCut address b gs t u mid new
     → IsCut address (both_parts a b) (hs ++ gs) s u old new
 cut_second address a b hs gs s t u old mid new p q = record {
@@ -128,7 +128,7 @@ cut_second address a b hs gs s t u old mid new p q = record {
 }
 
 -- by the answer of the second
-pub ends_both : (address : List ℕ) (a b : Run) (hs gs : List Heard) (e : Exit) (s t u : Outside)
+pub ends_both : (address : List ℕ) (a b : Run) (hs gs : List ReplyHeard) (e : Exit) (s t u : Outside)
     (old mid new : Option (List ℕ)) → IsDone address a hs s t old mid → EndsPart address b gs e t u mid new
     → EndsPart address (both_parts a b) (hs ++ gs) e s u old new
 ends_both address a b hs gs exit.WriteFault s t u old mid new p q = cut_second address a b hs gs s t u old mid new p q
@@ -157,7 +157,7 @@ ends_both address a b hs gs exit.BadStore s t u old mid new p q =
     (done_both address a b hs gs s t u old mid new p q.0, q.1)
 
 -- the second is done behind the first
-pub in_order : (address : List ℕ) (a b : Run) (hs gs : List Heard) (e : Exit) (s t u : Outside)
+pub in_order : (address : List ℕ) (a b : Run) (hs gs : List ReplyHeard) (e : Exit) (s t u : Outside)
     (old mid new : Option (List ℕ)) → IsDone address a hs s t old mid → EndsPart address b gs e t u mid new
     → EndsInOrder address a b hs gs e s u old new
 in_order address a b hs gs exit.WriteFault s t u old mid new p q = inr (t, mid, p, q)
@@ -165,7 +165,7 @@ in_order address a b hs gs exit.NoMemory s t u old mid new p q = inr (t, mid, p,
 in_order address a b hs gs other s t u old mid new p q = tt
 
 -- or nothing of it
-pub first_alone : (address : List ℕ) (a b : Run) (hs gs : List Heard) (e : Exit) (s t : Outside)
+pub first_alone : (address : List ℕ) (a b : Run) (hs gs : List ReplyHeard) (e : Exit) (s t : Outside)
     (old new : Option (List ℕ)) → IsCutShort e → IsCut address a hs s t old new
     → EndsInOrder address a b hs gs e s t old new
 first_alone address a b hs gs exit.WriteFault s t old new short cut = inl cut

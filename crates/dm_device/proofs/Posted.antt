@@ -16,8 +16,8 @@ use Rattle.dm_heads.specs.Receiving.{ReceivesBody, TakesWhole}
 use Rattle.dm_http.specs.Posts.{PutsRequest, TakesReply, StreamCounts}
 use Rattle.dm_outside.specs.Calls.{Closed, Dial, failed, talked, Calls, Dials, DialerCloses, closed_conn, handed_out}
 use Rattle.dm_outside.specs.Calls.{given_back, HasOut, CloseCounts, IsIdle}
-use Rattle.dm_device.specs.declared.exchanging.Heard.{Heard}
-use Rattle.dm_device.specs.declared.exchanging.Heard.TheVariants as heard
+use Rattle.dm_device.specs.declared.exchanging.ReplyHeard.{ReplyHeard}
+use Rattle.dm_device.specs.declared.exchanging.ReplyHeard.TheVariants as heard
 use Rattle.dm_device.specs.Exchanges.{heard_of, IsExchange, IsCutDial, ExchangeDoes, Exchanges}
 use Rattle.dm_device.specs.Exchanges.{ExchangeCounts}
 
@@ -46,18 +46,18 @@ round s t u address held c idle dialled closed =
     ∙ ap (λ o. given_back (handed_out s address held) (o ++ (record { address = address; held = held }) ∷ []) c) idle
 
 -- what a dial brought, or what was done of it for want of memory
-abbrev Brought : List ℕ → List ℕ → Dial → Result Heard Memory → Type 0
+abbrev Brought : List ℕ → List ℕ → Dial → Result ReplyHeard Memory → Type 0
 Brought address request d (Ok h) = IsExchange address d h request
 Brought address request d (Err e) = IsCutDial address request (d ∷ [])
 
 -- by what was heard: one dial was made, and this is it
-does : (s u : Calls) (address request : List ℕ) (d : Dial) (r : Result Heard Memory) → u.out ≡ []
+does : (s u : Calls) (address request : List ℕ) (d : Dial) (r : Result ReplyHeard Memory) → u.out ≡ []
     → u.log ≡ s.log ++ d ∷ [] → Brought address request d r → ExchangeDoes address request r s u
 does s u address request d (Ok h) out log is = (out, d, log, is)
 does s u address request d (Err e) out log is = (out, (d ∷ [], log, is))
 
 pub exchanged : {C : Type 0} (left got : C → Option (List ℕ)) (takes puts : C → ℕ) (c0 c1 : C)
-    (told0 told1 told2 : Option Calls) (address request : List ℕ) (r : Result Heard Memory)
+    (told0 told1 told2 : Option Calls) (address request : List ℕ) (r : Result ReplyHeard Memory)
     → IsIdle told0 → Dials told0 told1 address left got (Ok c0)
     → DialerCloses told1 told2 (closed_conn left got takes puts c1)
     → ((held : List ℕ) → left c0 ≡ Some held → got c0 ≡ Some []

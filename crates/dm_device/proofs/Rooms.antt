@@ -6,7 +6,7 @@ use Rattle.wbxml_ints.specs.Multibyte.{AreBytes}
 use Rattle.syncml_types.specs.Message.{Parts}
 use Rattle.syncml_codec.specs.Decoding.{read_of}
 use Rattle.wbxml_tokens.specs.declared.reason.Refusal.{Refusal}
-use Rattle.dm_machine.specs.declared.kinds.Kind.TheVariants.{ByClient}
+use Rattle.dm_machine.specs.declared.kinds.Initiator.TheVariants.{ByClient}
 use Rattle.dm_machine.specs.Events.{Event, Answer, clocked, sent, kept, again, stale, stranger, no_session, refused}
 use Rattle.dm_machine.specs.Events.{exhausted, ended, acted, not_now, opened, act}
 use Rattle.dm_machine.specs.History.{answer_now, next}
@@ -17,11 +17,11 @@ use Rattle.dm_machine.proofs.Accounts.{accounts_stay}
 use Rattle.dm_machine.proofs.StaysReady.{stays_ready, sends_within_room}
 use Rattle.dm_outside.specs.Updates.{first_nonce}
 use Rattle.dm_replay.proofs.ReadFit.{read_is_held}
-use Rattle.dm_device.specs.declared.exchanging.Heard.{Heard}
-use Rattle.dm_device.specs.declared.exchanging.Heard.TheVariants as heard
+use Rattle.dm_device.specs.declared.exchanging.ReplyHeard.{ReplyHeard}
+use Rattle.dm_device.specs.declared.exchanging.ReplyHeard.TheVariants as heard
 use Rattle.dm_device.specs.declared.tally.Word.{Word}
 use Rattle.dm_device.specs.declared.tally.Word.TheVariants as word
-use Rattle.dm_device.specs.Sessions.{Going, Session, answers, arrives, delivered, turn, session}
+use Rattle.dm_device.specs.Sessions.{Going, SessionRun, turn_answering, arrives, delivered, turn, session}
 use Rattle.dm_device.specs.Sessions.{unless_over}
 use Rattle.dm_device.specs.Runs.{Route, Heards, Run, farewells, closing, closing_by, last_session, telling, follow_up}
 use Rattle.dm_device.specs.Runs.{leaves_update, behind_first, device_run, ended_well}
@@ -73,7 +73,7 @@ record Stands (account : ℕ) (g : Going) : Type 0 where
   at : IsAt account g.machine
   nonces : NoncesOfBytes g.nonces
 
-answers_stand : (account : ℕ) (g : Going) (a : Answer) → Stands account g → Stands account (answers g a).going
+answers_stand : (account : ℕ) (g : Going) (a : Answer) → Stands account g → Stands account (turn_answering g a).going
 answers_stand account g (sent m) s = record { at = s.at; nonces = s.nonces }
 answers_stand account g (ended end farewell) s = s
 answers_stand account g clocked s = record { at = s.at; nonces = s.nonces }
@@ -87,7 +87,7 @@ answers_stand account g (exhausted last) s = record { at = s.at; nonces = s.nonc
 answers_stand account g acted s = record { at = s.at; nonces = s.nonces }
 answers_stand account g not_now s = record { at = s.at; nonces = s.nonces }
 
-turn_stands : (account : ℕ) (g : Going) (h : Heard) → Stands account g → HeardBytes (h ∷ [])
+turn_stands : (account : ℕ) (g : Going) (h : ReplyHeard) → Stands account g → HeardBytes (h ∷ [])
     → Stands account (turn g h).going
 unfolding turn
 turn_stands account g heard.Fault s are = record { at = s.at; nonces = s.nonces }
@@ -99,26 +99,26 @@ turn_stands account g (heard.Body bytes) s are =
       nonces = rest_of_bytes g.nonces s.nonces;
     })
 
-front_heard : (h : Heard) (hs : List Heard) → HeardBytes (h ∷ hs) → HeardBytes (h ∷ [])
+front_heard : (h : ReplyHeard) (hs : List ReplyHeard) → HeardBytes (h ∷ hs) → HeardBytes (h ∷ [])
 front_heard heard.Fault hs are = tt
 front_heard heard.Refused hs are = tt
 front_heard (heard.Body bytes) hs are = (are.0, tt)
 
-rest_heard : (h : Heard) (hs : List Heard) → HeardBytes (h ∷ hs) → HeardBytes hs
+rest_heard : (h : ReplyHeard) (hs : List ReplyHeard) → HeardBytes (h ∷ hs) → HeardBytes hs
 rest_heard heard.Fault hs are = are
 rest_heard heard.Refused hs are = are
 rest_heard (heard.Body bytes) hs are = are.1
 
-record Held (account : ℕ) (address path : List ℕ) (s : Session) : Type 0 where
+record Held (account : ℕ) (address path : List ℕ) (s : SessionRun) : Type 0 where
   keep : AllAskedWithinRoom address path s.requests
   stands : Stands account s.going
 
-unless_held : (account : ℕ) (address path : List ℕ) (w : Option Word) (g : Going) (s : Session)
+unless_held : (account : ℕ) (address path : List ℕ) (w : Option Word) (g : Going) (s : SessionRun)
     → Stands account g → Held account address path s → Held account address path (unless_over w g s)
 unless_held account address path None g s stands rest = rest
 unless_held account address path (Some w) g s stands rest = record { keep = tt; stands = stands }
 
-session_held : (account : ℕ) (address path : List ℕ) (g : Going) (hs : List Heard) → Stands account g → HeardBytes hs
+session_held : (account : ℕ) (address path : List ℕ) (g : Going) (hs : List ReplyHeard) → Stands account g → HeardBytes hs
     → Held account address path (session address path g hs)
 session_held account address path g [] s are = record { keep = tt; stands = s }
 session_held account address path g (h ∷ hs) s are =
@@ -150,7 +150,7 @@ closing_keeps : (r : Route) (c : Machine) (ns : List (List ℕ)) (w : Option Wor
 closing_keeps r c ns None short = tt
 closing_keeps r c ns (Some w) short = farewells_keep r.address r.path c w short
 
-last_keeps : (account : ℕ) (r : Route) (number : ℕ) (s : Session) → Held account r.address r.path s
+last_keeps : (account : ℕ) (r : Route) (number : ℕ) (s : SessionRun) → Held account r.address r.path s
     → AllAskedWithinRoom r.address r.path (last_session r number s).requests
 last_keeps account r number s held =
     keep_both r.address r.path s.requests (closing_by r s.going.machine s.going.nonces s.word).requests held.keep

@@ -5,7 +5,7 @@ use Rattle.std.proofs.Common.{Ok, Err, Some, None, append-nil}
 use Rattle.std.specs.Prelude.{Option, Result}
 use Rattle.std.specs.Io.KnownBytes.{Appends}
 use Rattle.dm_base.specs.declared.bytes.Memory.{Memory}
-use Rattle.dm_machine.specs.declared.kinds.Kind.TheVariants.{ByClient}
+use Rattle.dm_machine.specs.declared.kinds.Initiator.TheVariants.{ByClient}
 use Rattle.dm_machine.specs.Machine.{Machine}
 use Rattle.dm_machine.specs.Events.{act, opened}
 use Rattle.dm_machine.specs.History.{next}
@@ -17,14 +17,14 @@ use Rattle.dm_session.specs.View.{package_started}
 use Rattle.dm_exit.specs.declared.exit.Exit.{Exit}
 use Rattle.dm_exit.specs.declared.exit.Exit.TheVariants as exit
 use Rattle.dm_exit.specs.Puts.{PutsPrefix, PutsPart}
-use Rattle.dm_device.specs.declared.exchanging.Heard.{Heard}
+use Rattle.dm_device.specs.declared.exchanging.ReplyHeard.{ReplyHeard}
 use Rattle.dm_device.specs.declared.tally.Word.{Word}
 use Rattle.dm_device.specs.declared.tally.Word.TheVariants as word
 use Rattle.dm_http.specs.Texts.{request_text}
 use Rattle.dm_device.specs.Exchanges.{Exchanges}
 use Rattle.dm_device.specs.Outsides.{Outside, outside_of, OfTold}
-use Rattle.dm_device.specs.Sessions.{Going, Session, session, bytes_or_none}
-use Rattle.dm_device.specs.Holding.{session_at, SessionDoes, Holds}
+use Rattle.dm_device.specs.Sessions.{Going, SessionRun, session, bytes_or_none}
+use Rattle.dm_device.specs.Holding.{session_at, SessionDoes, SessionHolds}
 use Rattle.dm_device.specs.Runs.{Route, Heards, heard_in, Run, line_by, session_line, session_part, closing}
 use Rattle.dm_device.specs.Runs.{closing_by, last_session, given_part, follow_up}
 use Rattle.dm_device.specs.Runs.{leaves_update, behind_first, device_run, exit_of_word, ended_well, IsDone, IsCut}
@@ -96,27 +96,27 @@ unfinished address path number c d m e old before after does =
 
 pub held_told : (told0 told1 : Option Calls) (us : Option (List Update)) (left0 left1 : Option (List (List ℕ)))
     (address path : List ℕ) (number : ℕ) (c d : Machine) (w : Word) (old new : Option (List ℕ))
-    → Holds told0 told1 left0 left1 c d address path (Ok w) → Appends old new (session_line number w)
+    → SessionHolds told0 told1 left0 left1 c d address path (Ok w) → Appends old new (session_line number w)
     → OfTold (outside_of told0 us left0) (outside_of told1 us left1) (HoldDoes address path number c d old new (Ok w))
-unfolding Holds
+unfolding SessionHolds
 held_told told0 told1 us left0 left1 address path number c d w old new holds put =
     told_as (outside_of told0 us left0) (outside_of told1 us left1) _ _
     (λ s t does. held address path number c d w old new s t does put) (holds us)
 
 pub held_in_part_told : (told0 told1 : Option Calls) (us : Option (List Update)) (left0 left1 : Option (List (List ℕ)))
     (address path : List ℕ) (number : ℕ) (c d : Machine) (w : Word) (e : Exit) (old new : Option (List ℕ))
-    → Holds told0 told1 left0 left1 c d address path (Ok w) → PutsPart old new (session_line number w) e
+    → SessionHolds told0 told1 left0 left1 c d address path (Ok w) → PutsPart old new (session_line number w) e
     → OfTold (outside_of told0 us left0) (outside_of told1 us left1) (HoldDoes address path number c d old new (Err e))
-unfolding Holds
+unfolding SessionHolds
 held_in_part_told told0 told1 us left0 left1 address path number c d w e old new holds put =
     told_as (outside_of told0 us left0) (outside_of told1 us left1) _ _
     (λ s t does. held_in_part address path number c d w e old new s t does put) (holds us)
 
 pub unfinished_told : (told0 told1 : Option Calls) (us : Option (List Update)) (left0 left1 : Option (List (List ℕ)))
     (address path : List ℕ) (number : ℕ) (c d : Machine) (m : Memory) (e : Exit) (old : Option (List ℕ))
-    → Holds told0 told1 left0 left1 c d address path (Err m)
+    → SessionHolds told0 told1 left0 left1 c d address path (Err m)
     → OfTold (outside_of told0 us left0) (outside_of told1 us left1) (HoldDoes address path number c d old old (Err e))
-unfolding Holds
+unfolding SessionHolds
 unfinished_told told0 told1 us left0 left1 address path number c d m e old holds =
     told_as (outside_of told0 us left0) (outside_of told1 us left1) _ _
     (λ s t does. unfinished address path number c d m e old s t does) (holds us)
@@ -145,13 +145,13 @@ updates_told (Some s) (Some us) (Some vs) (Some ns) P p = (p, refl, refl)
 
 -- ---- the end
 
-cut_ends : (address : List ℕ) (r : Run) (hs : List Heard) (e : Exit) (s t : Outside) (old new : Option (List ℕ))
+cut_ends : (address : List ℕ) (r : Run) (hs : List ReplyHeard) (e : Exit) (s t : Outside) (old new : Option (List ℕ))
     → IsCutShort e → IsCut address r hs s t old new → EndsPart address r hs e s t old new
 cut_ends address r hs exit.WriteFault s t old new is p = p
 cut_ends address r hs exit.NoMemory s t old new is p = p
 cut_ends address r hs other s t old new is p = absurd is
 
-ends_as : (address : List ℕ) (r : Run) (hs : List Heard) (w : Word) (s t : Outside) (old new : Option (List ℕ))
+ends_as : (address : List ℕ) (r : Run) (hs : List ReplyHeard) (w : Word) (s t : Outside) (old new : Option (List ℕ))
     → IsDone address r hs s t old new → r.exit ≡ Some (exit_of_word w)
     → EndsPart address r hs (exit_of_word w) s t old new
 ends_as address r hs word.Finished s t old new p is = (p, is)
@@ -239,11 +239,11 @@ closing_nonces : (r : Route) (c : Machine) (n : List (List ℕ)) (o : Option Wor
 closing_nonces r c n None = refl
 closing_nonces r c n (Some w) = refl
 
-last_ends : (r : Route) (number : ℕ) (x : Session) (hs : List Heard) (d : Machine) (w : Word) (e : Exit)
+last_ends : (r : Route) (number : ℕ) (x : SessionRun) (hs : List ReplyHeard) (d : Machine) (w : Word) (e : Exit)
     (s t u : Outside)
     (old mid new : Option (List ℕ)) → IsDone r.address (session_part number x) hs s t old mid → x.word ≡ Some w
     → x.going.machine ≡ d → CloseDoes r d w mid new e t u
-    → (parting : List Heard) × EndsPart r.address (last_session r number x) (hs ++ parting) e s u old new
+    → (parting : List ReplyHeard) × EndsPart r.address (last_session r number x) (hs ++ parting) e s u old new
 last_ends r number x hs d w e s t u old mid new done over is closes =
     let same : closing_by r x.going.machine x.going.nonces x.word ≡ closing r d t.nonces w =
     ap (closing_by r x.going.machine x.going.nonces) over ∙ ap (λ c. closing r c x.going.nonces w) is
@@ -254,7 +254,7 @@ last_ends r number x hs d w e s t u old mid new done over is closes =
           old mid new done (subst (λ z. EndsPart r.address z closes.0 e t u mid new) (sym same) closes.1),
     )
 
-last_cut : (r : Route) (number : ℕ) (x : Session) (hs : List Heard) (s t : Outside) (old new : Option (List ℕ))
+last_cut : (r : Route) (number : ℕ) (x : SessionRun) (hs : List ReplyHeard) (s t : Outside) (old new : Option (List ℕ))
     → IsCut r.address (session_part number x) hs s t old new → IsCut r.address (last_session r number x) hs s t old new
 last_cut r number x hs s t old new cut =
     cut_first r.address (session_part number x) (closing_by r x.going.machine x.going.nonces x.word) hs s t old new
@@ -332,16 +332,16 @@ either_nonces : (b : Bool) (x y : Run) (n : List (List ℕ)) → x.nonces ≡ n 
 either_nonces true x y n p q = p
 either_nonces false x y n p q = q
 
-abbrev pub heard_first : List Heard → List Heard → Heards
+abbrev pub heard_first : List ReplyHeard → List ReplyHeard → Heards
 heard_first hs parting = record { first = hs; updated = None; second = []; parting = parting }
 
-behind_nonces : (r : Route) (account number : ℕ) (c : Machine) (n : List (List ℕ)) (hs parting : List Heard)
+behind_nonces : (r : Route) (account number : ℕ) (c : Machine) (n : List (List ℕ)) (hs parting : List ReplyHeard)
     (o : Option Word) → (behind_first r account number c n (heard_first hs parting) o).nonces ≡ n
 behind_nonces r account number c n hs parting None = refl
 behind_nonces r account number c n hs parting (Some w) =
     either_nonces (leaves_update w c) (follow_up r account (number + 1) c n None []) (closing r c n w) n refl refl
 
-pub run_cut : (r : Route) (account number : ℕ) (g : Going) (hs : List Heard) (e : Exit) (s t : Outside)
+pub run_cut : (r : Route) (account number : ℕ) (g : Going) (hs : List ReplyHeard) (e : Exit) (s t : Outside)
     (old new : Option (List ℕ)) → IsCutShort e
     → IsCut r.address (session_part number (session r.address r.path g hs)) hs s t old new
     → IsRun r account number g s t old new e
@@ -358,7 +358,7 @@ run_cut r account number g hs e s t old new short cut =
       first_alone r.address (session_part number x) (behind_session r account number x h) hs [] e s t old new short cut,
     )
 
-pub run_closes : (r : Route) (account number : ℕ) (g : Going) (hs : List Heard) (d : Machine) (w : Word) (e : Exit)
+pub run_closes : (r : Route) (account number : ℕ) (g : Going) (hs : List ReplyHeard) (d : Machine) (w : Word) (e : Exit)
     (s t u : Outside) (old mid new : Option (List ℕ))
     → IsDone r.address (session_part number (session r.address r.path g hs)) hs s t old mid
     → (session r.address r.path g hs).word ≡ Some w → (session r.address r.path g hs).going.machine ≡ d
@@ -382,7 +382,7 @@ run_closes r account number g hs d w e s t u old mid new done over is leaves clo
           done (subst (λ z. EndsPart r.address z closes.0 e t u mid new) (sym same) closes.1),
     )
 
-pub run_follows : (r : Route) (account number : ℕ) (g : Going) (hs : List Heard) (d : Machine) (w : Word) (e : Exit)
+pub run_follows : (r : Route) (account number : ℕ) (g : Going) (hs : List ReplyHeard) (d : Machine) (w : Word) (e : Exit)
     (s t u : Outside) (old mid new : Option (List ℕ))
     → IsDone r.address (session_part number (session r.address r.path g hs)) hs s t old mid
     → (session r.address r.path g hs).word ≡ Some w → (session r.address r.path g hs).going.machine ≡ d
@@ -428,7 +428,7 @@ updater_failed told0 told1 c m is gives =
     (λ us vs g. g ∙ ap (λ o. us ++ (record { bytes = bytes_or_none o; answer = None }) ∷ []) is)
     (if_told told0 told1 _ gives)
 
-pub posted_one : (told0 told1 : Option Calls) (address path message : List ℕ) (r : Result Heard Memory)
+pub posted_one : (told0 told1 : Option Calls) (address path message : List ℕ) (r : Result ReplyHeard Memory)
     → Exchanges told0 told1 address (request_text address path message) r
     → OfTold told0 told1 (PartDoes address (request_text address path message ∷ []) (unheard r))
 unfolding Exchanges

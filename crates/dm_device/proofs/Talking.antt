@@ -16,46 +16,47 @@ use Rattle.dm_outside.specs.Updates.{first_nonce, GivesNonce}
 use Rattle.dm_session.specs.declared.answers.Answer.{Answer}
 use Rattle.dm_session.specs.declared.answers.Answer.TheVariants as told
 use Rattle.dm_session.specs.View.{Tells, sent_last}
-use Rattle.dm_device.specs.declared.exchanging.Heard.{Heard}
-use Rattle.dm_device.specs.declared.exchanging.Heard.TheVariants as heard
+use Rattle.dm_device.specs.declared.exchanging.ReplyHeard.{ReplyHeard}
+use Rattle.dm_device.specs.declared.exchanging.ReplyHeard.TheVariants as heard
 use Rattle.dm_device.specs.declared.tally.Word.{Word}
 use Rattle.dm_device.specs.declared.tally.Word.TheVariants as word
 use Rattle.dm_device.specs.declared.tally.Tally.{Tally}
 use Rattle.dm_http.specs.Texts.{request_text}
-use Rattle.dm_device.specs.Paths.{path_of}
+use Rattle.dm_device.specs.Paths.{request_path}
 use Rattle.dm_device.specs.Exchanges.{IsExchange, ExchangeDoes, ExchangeCounts, Exchanges, Matches, GotWhole, GotPart}
 use Rattle.dm_device.specs.Exchanges.{IsCutDial}
 use Rattle.dm_device.specs.Outsides.{Outside, outside_of, OfTold, IsPosted}
-use Rattle.dm_device.specs.Sessions.{Going, Turn, Session, at_first, turn, answers, accepts, loses, session, asks}
+use Rattle.dm_device.specs.Sessions.{Going, Turn, SessionRun, at_first, turn, turn_answering, turn_accepting, loses}
+use Rattle.dm_device.specs.Sessions.{session, asks}
 use Rattle.dm_device.specs.Sessions.{asks_all}
 use Rattle.dm_device.specs.Sessions.{word_of_loss, after_loss}
 use Rattle.dm_device.specs.Sessions.{stopped, unless_over, request_of, bytes_or_none}
 use Rattle.dm_device.specs.Holding.{going_at, turned_by, UsesOne, TurnDoes, GivesUpAt, session_at}
-use Rattle.dm_device.specs.Holding.{SessionDoes, Holds, SessionCounts}
+use Rattle.dm_device.specs.Holding.{SessionDoes, SessionHolds, SessionCounts}
 use Rattle.dm_device.proofs.Told.{told_then, told_as, told_same, if_told, StepDoes, step_told}
 
 -- ---- a body
 
 as_sent : (o : Option Open) (g : Going) (a : Answered) → IsSomeAnd o (λ (s : Open). a ≡ sent s.sent)
-    → answers g a ≡ accepts g
+    → turn_answering g a ≡ turn_accepting g
 as_sent None g a h = absurd h
-as_sent (Some s) g a h = ap (answers g) h
+as_sent (Some s) g a h = ap (turn_answering g) h
 
 as_kept : (o : Option Open) (g : Going) (a : Answered) → IsSomeAnd o (λ (s : Open). a ≡ kept s.sent)
-    → answers g a ≡ loses g true
+    → turn_answering g a ≡ loses g true
 as_kept None g a h = absurd h
-as_kept (Some s) g a h = ap (answers g) h
+as_kept (Some s) g a h = ap (turn_answering g) h
 
 -- what is answered does what the client's word for it does
 by_word : (g : Going) (c : Machine) (answer : Answer) (a : Answered) → Tells answer c a
-    → answers g a ≡ turned_by g answer
+    → turn_answering g a ≡ turned_by g answer
 by_word g c told.Sent a h = as_sent c.session g a h
 by_word g c told.Kept a h = as_kept c.session g a h
-by_word g c (told.Stale last) a h = ap (answers g) h
-by_word g c told.Stranger a h = ap (answers g) h
-by_word g c told.NoSession a h = ap (answers g) h
-by_word g c (told.Refused refusal) a h = ap (answers g) h
-by_word g c (told.Ended end) a h = ap (answers g) h
+by_word g c (told.Stale last) a h = ap (turn_answering g) h
+by_word g c told.Stranger a h = ap (turn_answering g) h
+by_word g c told.NoSession a h = ap (turn_answering g) h
+by_word g c (told.Refused refusal) a h = ap (turn_answering g) h
+by_word g c (told.Ended end) a h = ap (turn_answering g) h
 
 body_turns : (c d : Machine) (t u : Tally) (bytes nonce : List ℕ) (ns ms : List (List ℕ)) (answer : Answer)
     (w : Option Word) → Tells answer d (answer_now c (message (read_of bytes) nonce))
@@ -65,11 +66,11 @@ body_turns : (c d : Machine) (t u : Tally) (bytes nonce : List ℕ) (ns ms : Lis
     → turn (going_at c t ns) (heard.Body bytes) ≡ record { going = going_at d u ms; word = w }
 unfolding turn
 body_turns c d t u bytes nonce ns ms answer w tells is turned used =
-    ap (λ n. answers (going_at (next c (message (read_of bytes) n)) t (drop 1 ns))
+    ap (λ n. turn_answering (going_at (next c (message (read_of bytes) n)) t (drop 1 ns))
     (answer_now c (message (read_of bytes) n))) (sym used.0)
-    ∙ ap (λ l. answers (going_at (next c (message (read_of bytes) nonce)) t l)
+    ∙ ap (λ l. turn_answering (going_at (next c (message (read_of bytes) nonce)) t l)
     (answer_now c (message (read_of bytes) nonce))) (sym used.1)
-    ∙ ap (λ m. answers (going_at m t ms) (answer_now c (message (read_of bytes) nonce))) (sym is)
+    ∙ ap (λ m. turn_answering (going_at m t ms) (answer_now c (message (read_of bytes) nonce))) (sym is)
     ∙ by_word (going_at d t ms) d answer (answer_now c (message (read_of bytes) nonce)) tells
     ∙ turned
 
@@ -113,9 +114,9 @@ refusal_heard left c t u w word tally = told_same left _ (λ ns. lost c t u true
 
 -- the requests so far were posted, and the session goes on behind them, whatever more is heard
 abbrev pub KnownSoFar : List ℕ → List ℕ → Machine → Machine → Tally → Outside → Outside → Type 0
-KnownSoFar address path c d t before after = (hs : List Heard) × (rs : List (List ℕ))
+KnownSoFar address path c d t before after = (hs : List ReplyHeard) × (rs : List (List ℕ))
     × IsPosted address rs hs before.calls after.calls
-    × ((more : List Heard) → session_at address path c before.nonces (hs ++ more)
+    × ((more : List ReplyHeard) → session_at address path c before.nonces (hs ++ more)
     ≡ asks_all rs (session address path (going_at d t after.nonces) more))
     × (after.updates ≡ before.updates)
 
@@ -132,7 +133,7 @@ pub so_far_first : (told : Option Calls) (left : Option (List (List ℕ))) (c : 
 so_far_first told left c address path us =
     told_same (outside_of told us left) _ (λ s. ([], [], nothing_posted address s.calls, (λ more. refl), refl))
 
-matches_more : (address : List ℕ) (ds : List Dial) (hs : List Heard) (rs : List (List ℕ)) (d : Dial) (h : Heard)
+matches_more : (address : List ℕ) (ds : List Dial) (hs : List ReplyHeard) (rs : List (List ℕ)) (d : Dial) (h : ReplyHeard)
     (r : List ℕ) → Matches address ds hs rs → IsExchange address d h r
     → Matches address (ds ++ d ∷ []) (hs ++ h ∷ []) (rs ++ r ∷ [])
 matches_more address [] [] [] d h r m x = (x, tt)
@@ -142,7 +143,7 @@ matches_more address [] (g ∷ hs) rs d h r m x = absurd m
 matches_more address (e ∷ ds) [] rs d h r m x = absurd m
 matches_more address (e ∷ ds) (g ∷ hs) [] d h r m x = absurd m
 
-posted_more : (address : List ℕ) (rs : List (List ℕ)) (hs : List Heard) (s t u : Calls) (h : Heard) (r : List ℕ)
+posted_more : (address : List ℕ) (rs : List (List ℕ)) (hs : List ReplyHeard) (s t u : Calls) (h : ReplyHeard) (r : List ℕ)
     → IsPosted address rs hs s t → ExchangeDoes address r (Ok h) t u
     → IsPosted address (rs ++ r ∷ []) (hs ++ h ∷ []) s u
 posted_more address rs hs s t u h r p x = record {
@@ -151,26 +152,26 @@ posted_more address rs hs s t u h r p x = record {
   matched = matches_more address p.dials hs rs x.1 h r p.matched x.3;
 }
 
-asks_then : (rs qs : List (List ℕ)) (s : Session) → asks_all rs (asks_all qs s) ≡ asks_all (rs ++ qs) s
+asks_then : (rs qs : List (List ℕ)) (s : SessionRun) → asks_all rs (asks_all qs s) ≡ asks_all (rs ++ qs) s
 asks_then rs qs s =
     ap (λ l. record { requests = l; word = s.word; going = s.going }) (sym (append_assoc rs qs s.requests))
 
 -- an exchange behind which the session goes on
-goes_on : (address path : List ℕ) (g k : Going) (h : Heard) (more : List Heard)
+goes_on : (address path : List ℕ) (g k : Going) (h : ReplyHeard) (more : List ReplyHeard)
     → turn g h ≡ record { going = k; word = None }
     → session address path g (h ∷ more) ≡ asks_all (asks address path g.machine ∷ []) (session address path k more)
 goes_on address path g k h more e =
     ap (λ (t : Turn). asks_all (asks address path g.machine ∷ [])
     (unless_over t.word t.going (session address path t.going more))) e
 
-is_over : (address path : List ℕ) (g k : Going) (h : Heard) (w : Word)
+is_over : (address path : List ℕ) (g k : Going) (h : ReplyHeard) (w : Word)
     → turn g h ≡ record { going = k; word = Some w }
     → session address path g (h ∷ []) ≡ asks_all (asks address path g.machine ∷ []) (stopped k (Some w))
 is_over address path g k h w e =
     ap (λ (t : Turn). asks_all (asks address path g.machine ∷ [])
     (unless_over t.word t.going (session address path t.going []))) e
 
-known_goes : (address path : List ℕ) (c d e : Machine) (t w : Tally) (h : Heard) (x y z : Outside)
+known_goes : (address path : List ℕ) (c d e : Machine) (t w : Tally) (h : ReplyHeard) (x y z : Outside)
     → KnownSoFar address path c d t x y
     → StepDoes address (asks address path d) (Ok h) (TurnDoes d e t w h (Ok None)) y z
     → KnownSoFar address path c e w x z
@@ -189,7 +190,7 @@ known_goes address path c d e t w h x y z far step =
     )
 
 pub so_far_goes : (told0 told1 told2 : Option Calls) (left0 left1 left2 : Option (List (List ℕ))) (c d e : Machine)
-    (t w : Tally) (address path : List ℕ) (h : Heard)
+    (t w : Tally) (address path : List ℕ) (h : ReplyHeard)
     → SoFar told0 told1 left0 left1 c d t address path → Exchanges told1 told2 address (asks address path d) (Ok h)
     → OfTold left1 left2 (TurnDoes d e t w h (Ok None)) → SoFar told0 told2 left0 left2 c e w address path
 so_far_goes told0 told1 told2 left0 left1 left2 c d e t w address path h far x turned us =
@@ -200,7 +201,7 @@ so_far_goes told0 told1 told2 left0 left1 left2 c d e t w address path h far x t
 
 -- ---- the session is over
 
-known_ends : (address path : List ℕ) (c d e : Machine) (t w : Tally) (h : Heard) (v : Word) (x y z : Outside)
+known_ends : (address path : List ℕ) (c d e : Machine) (t w : Tally) (h : ReplyHeard) (v : Word) (x y z : Outside)
     → KnownSoFar address path c d t x y
     → StepDoes address (asks address path d) (Ok h) (TurnDoes d e t w h (Ok (Some v))) y z
     → SessionDoes address path c e (Ok v) x z
@@ -214,24 +215,24 @@ known_ends address path c d e t w h v x y z far step =
     ∙ ap (asks_all rs) (is_over address path (going_at d t y.nonces) (going_at e w z.nonces) h v step.1)
     ∙ asks_then rs (r ∷ []) (stopped (going_at e w z.nonces) (Some v)) in
     let asked : (session_at address path c x.nonces (hs ++ h ∷ [])).requests ≡ rs ++ r ∷ [] =
-    ap (λ (s : Session). s.requests) all ∙ append-nil (rs ++ r ∷ []) in (
+    ap (λ (s : SessionRun). s.requests) all ∙ append-nil (rs ++ r ∷ []) in (
       hs ++ h ∷ [],
       record {
         posts = subst (λ l. IsPosted address l (hs ++ h ∷ []) x.calls z.calls) (sym asked)
             (posted_more address rs hs x.calls y.calls z.calls h r far.2 step.0);
-        word = ap (λ (s : Session). s.word) all;
-        machine = ap (λ (s : Session). s.going.machine) all;
-        nonces = sym (ap (λ (s : Session). s.going.nonces) all);
+        word = ap (λ (s : SessionRun). s.word) all;
+        machine = ap (λ (s : SessionRun). s.going.machine) all;
+        nonces = sym (ap (λ (s : SessionRun). s.going.nonces) all);
         updates = step.2 ∙ far.4;
       },
     )
 
 pub so_far_ends : (told0 told1 told2 : Option Calls) (left0 left1 left2 : Option (List (List ℕ))) (c d e : Machine)
-    (t w : Tally) (address path : List ℕ) (h : Heard) (v : Word)
+    (t w : Tally) (address path : List ℕ) (h : ReplyHeard) (v : Word)
     → SoFar told0 told1 left0 left1 c d t address path → Exchanges told1 told2 address (asks address path d) (Ok h)
     → OfTold left1 left2 (TurnDoes d e t w h (Ok (Some v)))
-    → Holds told0 told2 left0 left2 c e address path (Ok v)
-unfolding Holds
+    → SessionHolds told0 told2 left0 left2 c e address path (Ok v)
+unfolding SessionHolds
 so_far_ends told0 told1 told2 left0 left1 left2 c d e t w address path h v far x turned us =
     told_then (outside_of told0 us left0) (outside_of told1 us left1) (outside_of told2 us left2) _ _ _
     (λ s y z. known_ends address path c d e t w h v s y z)
@@ -247,12 +248,12 @@ whole_part c request got =
 
 -- the request that was cut goes to a path, with a message
 asked_part : (address path : List ℕ) (c : Machine) (more : List Dial) → IsCutDial address (asks address path c) more
-    → IsCutDial address (request_text address (path_of c.resp_uri path) (bytes_or_none (sent_last c))) more
+    → IsCutDial address (request_text address (request_path c.resp_uri path) (bytes_or_none (sent_last c))) more
 unfolding asks
 asked_part address path c more cut = cut
 
 -- an exchange that brought something got its request, or a part of it
-cut_of : (address : List ℕ) (d : Dial) (h : Heard) (request : List ℕ) → IsExchange address d h request
+cut_of : (address : List ℕ) (d : Dial) (h : ReplyHeard) (request : List ℕ) → IsExchange address d h request
     → IsCutDial address request (d ∷ [])
 cut_of address (failed a) heard.Fault request x = x
 cut_of address (failed a) heard.Refused request x = absurd x
@@ -271,22 +272,22 @@ known_wants address path c d e t m x y z more far grown cut used same =
     let all : session_at address path c x.nonces hs ≡ asks_all rs (stopped (going_at d t y.nonces) None) =
     ap (session_at address path c x.nonces) (sym (append-nil hs)) ∙ far.3 [] in
     let asked : (session_at address path c x.nonces hs).requests ≡ rs =
-    ap (λ (s : Session). s.requests) all ∙ append-nil rs in (
+    ap (λ (s : SessionRun). s.requests) all ∙ append-nil rs in (
       hs,
       record {
         posts = record {
           dials = p.dials;
           more = more;
           made = grown ∙ ap (λ l. l ++ more) p.made ∙ append_assoc x.calls.log p.dials more;
-          path = path_of d.resp_uri path;
+          path = request_path d.resp_uri path;
           message = bytes_or_none (sent_last d);
           cut = asked_part address path d more cut;
           posted = length rs;
           matched = subst (Matches address p.dials hs)
               (sym (ap (take (length rs)) asked ∙ take_all (length rs) rs (omega arith))) p.matched;
         };
-        word = ap (λ (s : Session). s.word) all;
-        nonces = subst (λ l. UsesOne l z.nonces) (sym (ap (λ (s : Session). s.going.nonces) all)) used;
+        word = ap (λ (s : SessionRun). s.word) all;
+        nonces = subst (λ l. UsesOne l z.nonces) (sym (ap (λ (s : SessionRun). s.going.nonces) all)) used;
         updates = same ∙ far.4;
       },
     )
@@ -294,8 +295,8 @@ known_wants address path c d e t m x y z more far grown cut used same =
 pub wants_in_exchange : (told0 told1 told2 : Option Calls) (left0 left1 : Option (List (List ℕ))) (c d : Machine)
     (t : Tally) (address path : List ℕ) (m : Memory)
     → SoFar told0 told1 left0 left1 c d t address path → Exchanges told1 told2 address (asks address path d) (Err m)
-    → Holds told0 told2 left0 left1 c d address path (Err m)
-unfolding Holds
+    → SessionHolds told0 told2 left0 left1 c d address path (Err m)
+unfolding SessionHolds
 wants_in_exchange told0 told1 told2 left0 left1 c d t address path m far x us =
     told_then (outside_of told0 us left0) (outside_of told1 us left1) (outside_of told2 us left1) _ _ _
     (λ s y z now step. known_wants address path c d d t m s y z step.0.1.0 now step.0.1.1 step.0.1.2
@@ -305,10 +306,10 @@ wants_in_exchange told0 told1 told2 left0 left1 c d t address path m far x us =
     (told_same left1 _ (λ ns. refl)))
 
 pub wants_in_turn : (told0 told1 told2 : Option Calls) (left0 left1 left2 : Option (List (List ℕ))) (c d e : Machine)
-    (t w : Tally) (address path : List ℕ) (h : Heard) (m : Memory)
+    (t w : Tally) (address path : List ℕ) (h : ReplyHeard) (m : Memory)
     → SoFar told0 told1 left0 left1 c d t address path → Exchanges told1 told2 address (asks address path d) (Ok h)
-    → OfTold left1 left2 (TurnDoes d e t w h (Err m)) → Holds told0 told2 left0 left2 c e address path (Err m)
-unfolding Holds
+    → OfTold left1 left2 (TurnDoes d e t w h (Err m)) → SessionHolds told0 told2 left0 left2 c e address path (Err m)
+unfolding SessionHolds
 wants_in_turn told0 told1 told2 left0 left1 left2 c d e t w address path h m far x turned us =
     told_then (outside_of told0 us left0) (outside_of told1 us left1) (outside_of told2 us left2) _ _ _
     (λ s y z now step. known_wants address path c d e t m s y z (step.0.1 ∷ []) now step.0.2
@@ -318,20 +319,20 @@ wants_in_turn told0 told1 told2 left0 left1 left2 c d e t w address path h m far
 
 -- ---- the dialer's count
 
-not_fallen : (before now : ℕ) (r : Result Heard Memory) → ExchangeCounts before now r → before ≤ now
+not_fallen : (before now : ℕ) (r : Result ReplyHeard Memory) → ExchangeCounts before now r → before ≤ now
 not_fallen before now (Ok heard.Fault) h = h.0
 not_fallen before now (Ok heard.Refused) h = omega (arith, h)
 not_fallen before now (Ok (heard.Body bytes)) h = omega (arith, h)
 not_fallen before now (Err m) h = omega (arith, h)
 
-pub count_up : (a b c : ℕ) (r : Result Heard Memory) → a ≤ b → ExchangeCounts b c r → a ≤ c
+pub count_up : (a b c : ℕ) (r : Result ReplyHeard Memory) → a ≤ b → ExchangeCounts b c r → a ≤ c
 count_up a b c r low count = let same = not_fallen b c r count in omega (arith, low, same)
 
 rose_later : (a b c : ℕ) → a ≤ b → Rose b c → Rose a c
 rose_later a b c low rose = let p = rose.0 in let q = rose.1 in (omega (arith, low, p), omega (arith, low, q))
 
 -- it rose where the session was given up
-pub given_up : (a b c : ℕ) (h : Heard) (w : Word) → a ≤ b → ExchangeCounts b c (Ok h) → GivesUpAt h (Ok (Some w))
+pub given_up : (a b c : ℕ) (h : ReplyHeard) (w : Word) → a ≤ b → ExchangeCounts b c (Ok h) → GivesUpAt h (Ok (Some w))
     → SessionCounts a c (Ok w)
 given_up a b c h word.Finished low count is = let p = not_fallen b c (Ok h) count in omega (arith, low, p)
 given_up a b c h word.Aborted low count is = let p = not_fallen b c (Ok h) count in omega (arith, low, p)
@@ -344,7 +345,7 @@ given_up a b c (heard.Body bytes) word.GaveUp low count is = absurd is
 -- ---- the message sent last is posted
 
 pub asked_last : (told0 told1 : Option Calls) (address path : List ℕ) (c : Machine) (m : Option (List ℕ))
-    (r : Result Heard Memory) → m ≡ sent_last c → Exchanges told0 told1 address (request_of address path c m) r
+    (r : Result ReplyHeard Memory) → m ≡ sent_last c → Exchanges told0 told1 address (request_of address path c m) r
     → Exchanges told0 told1 address (asks address path c) r
 unfolding asks
 asked_last told0 told1 address path c m r is x =

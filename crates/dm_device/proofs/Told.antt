@@ -5,7 +5,7 @@ use Rattle.dm_base.specs.declared.bytes.Memory.{Memory}
 use Rattle.dm_outside.specs.declared.told.Update.{Update}
 use Rattle.dm_outside.specs.Told.{IfTold}
 use Rattle.dm_outside.specs.Calls.{Calls, IsIdle}
-use Rattle.dm_device.specs.declared.exchanging.Heard.{Heard}
+use Rattle.dm_device.specs.declared.exchanging.ReplyHeard.{ReplyHeard}
 use Rattle.dm_device.specs.Exchanges.{Exchanges, ExchangeDoes}
 use Rattle.dm_device.specs.Outsides.{Outside, outside_of, OfTold}
 
@@ -33,13 +33,13 @@ if_told (Some s) (Some t) P p = p
 
 -- ---- an exchange and the nonces behind it
 
-abbrev pub StepDoes : List ℕ → List ℕ → Result Heard Memory → (List (List ℕ) → List (List ℕ) → Type 0) → Outside
+abbrev pub StepDoes : List ℕ → List ℕ → Result ReplyHeard Memory → (List (List ℕ) → List (List ℕ) → Type 0) → Outside
     → Outside → Type 0
 StepDoes address request r P t u =
     ExchangeDoes address request r t.calls u.calls × P t.nonces u.nonces × (u.updates ≡ t.updates)
 
 pub step_told : (d0 d1 : Option Calls) (us : Option (List Update)) (n0 n1 : Option (List (List ℕ)))
-    (address request : List ℕ) (r : Result Heard Memory) (P : List (List ℕ) → List (List ℕ) → Type 0)
+    (address request : List ℕ) (r : Result ReplyHeard Memory) (P : List (List ℕ) → List (List ℕ) → Type 0)
     → Exchanges d0 d1 address request r → OfTold n0 n1 P
     → OfTold (outside_of d0 us n0) (outside_of d1 us n1) (StepDoes address request r P)
 unfolding Exchanges
@@ -50,7 +50,7 @@ step_told (Some s) None (Some us) (Some ns) n1 address request r P x p = absurd 
 step_told (Some s) (Some t) (Some us) (Some ns) None address request r P x p = absurd p
 step_told (Some s) (Some t) (Some us) (Some ns) (Some ms) address request r P x p = (x, p, refl)
 
-pub idle_after : (d0 d1 : Option Calls) (address request : List ℕ) (r : Result Heard Memory)
+pub idle_after : (d0 d1 : Option Calls) (address request : List ℕ) (r : Result ReplyHeard Memory)
     → Exchanges d0 d1 address request r → IsIdle d1
 unfolding Exchanges
 idle_after None None address request r x = tt

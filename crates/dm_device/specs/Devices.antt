@@ -7,13 +7,13 @@ use Rattle.dm_start.specs.Start.{Setup}
 use Rattle.dm_exit.specs.declared.exit.Exit.{Exit}
 use Rattle.dm_exit.specs.declared.exit.Exit.TheVariants as exit
 use Rattle.dm_exit.specs.Puts.{Ends, PutsEnd}
-use Rattle.dm_replay.specs.Events.{place_of}
-use Rattle.dm_replay.specs.Trace.{Stop, ids_of}
+use Rattle.dm_replay.specs.Events.{account_place}
+use Rattle.dm_replay.specs.Trace.{Stop, servers_of}
 use Rattle.dm_replay.specs.Output.{client_of, stop_text, stop_exit}
 use Rattle.dm_words.specs.declared.forms.DeviceWords.{DeviceWords}
 use Rattle.dm_device.specs.Inputs.{setup_of}
 use Rattle.dm_device.specs.Outsides.{Outside, OfTold}
-use Rattle.dm_device.specs.Runs.{route_of, begun, IsRun}
+use Rattle.dm_device.specs.Runs.{route_of, begun_session, IsRun}
 
 -- answers that are given before anything but the source was asked
 abbrev pub IsEarly : Exit → Type 0
@@ -59,11 +59,11 @@ abbrev pub RunsAs : DeviceWords → Setup → Option ℕ → Option (List ℕ) �
 RunsAs w told None old new e before after = (after ≡ before) × NamesNobody old new e
 RunsAs w told (Some account) old new e before after =
     IsRun (route_of w told.version) account w.session
-    (begun (client_of told) account w.kind w.session before.nonces) before after old new e
+    (begun_session (client_of told) account w.kind w.session before.nonces) before after old new e
 
 -- the account is the first that has the server's name
 abbrev pub RunsWith : DeviceWords → Setup → Option (List ℕ) → Option (List ℕ) → Exit → Outside → Outside → Type 0
-RunsWith w told old new e before after = RunsAs w told (place_of (ids_of told.accounts) w.server) old new e before after
+RunsWith w told old new e before after = RunsAs w told (account_place (servers_of told.accounts) w.server) old new e before after
 
 -- an input that is refused is told, and nothing else is asked
 abbrev pub RunsBy : DeviceWords → Result Setup Stop → Option (List ℕ) → Option (List ℕ) → Exit → Outside → Outside

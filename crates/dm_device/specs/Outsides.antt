@@ -2,7 +2,7 @@
 use Rattle.std.specs.Prelude.{◌≡◌, ◌++◌, ℕ, List, take, Option, Some, None, ⊤}
 use Rattle.dm_outside.specs.declared.told.Update.{Update}
 use Rattle.dm_outside.specs.Calls.{Dial, Calls}
-use Rattle.dm_device.specs.declared.exchanging.Heard.{Heard}
+use Rattle.dm_device.specs.declared.exchanging.ReplyHeard.{ReplyHeard}
 use Rattle.dm_http.specs.Texts.{request_text}
 use Rattle.dm_device.specs.Exchanges.{IsCutDial, Matches}
 
@@ -25,7 +25,7 @@ OfTold (Some before) None P = ⊥
 OfTold (Some before) (Some after) P = P before after
 
 -- these requests were posted, and this was heard, one by one
-pub record IsPosted (address : List ℕ) (requests : List (List ℕ)) (hs : List Heard) (before after : Calls)
+pub record IsPosted (address : List ℕ) (requests : List (List ℕ)) (hs : List ReplyHeard) (before after : Calls)
     : Type 0
   where
     pub dials : List Dial
@@ -34,7 +34,7 @@ pub record IsPosted (address : List ℕ) (requests : List (List ℕ)) (hs : List
 
 -- the first of them were posted, and at most one dial more was made, to the address: its connection got a prefix of a
 -- request there
-pub record IsPostedInPart (address : List ℕ) (requests : List (List ℕ)) (hs : List Heard) (before after : Calls)
+pub record IsPostedInPart (address : List ℕ) (requests : List (List ℕ)) (hs : List ReplyHeard) (before after : Calls)
     : Type 0
   where
     pub dials : List Dial

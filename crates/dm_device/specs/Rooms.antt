@@ -4,8 +4,8 @@ use Rattle.wbxml_ints.specs.Multibyte.{AreBytes}
 use Rattle.dm_machine.specs.Laws.{IsShort}
 use Rattle.dm_machine.specs.Machine.{Machine}
 use Rattle.dm_machine.specs.Ready.{IsReadyMachine}
-use Rattle.dm_device.specs.declared.exchanging.Heard.{Heard}
-use Rattle.dm_device.specs.declared.exchanging.Heard.TheVariants as heard
+use Rattle.dm_device.specs.declared.exchanging.ReplyHeard.{ReplyHeard}
+use Rattle.dm_device.specs.declared.exchanging.ReplyHeard.TheVariants as heard
 use Rattle.dm_device.specs.Sessions.{Going, request_of, asks}
 use Rattle.dm_device.specs.Runs.{Route, Heards, farewell_bytes, device_run}
 
@@ -20,7 +20,7 @@ AllAskedWithinRoom address path [] = ⊤
 AllAskedWithinRoom address path (r ∷ rs) = IsAskedWithinRoom address path r × AllAskedWithinRoom address path rs
 
 -- bodies are bytes
-abbrev pub HeardBytes : List Heard → Type 0
+abbrev pub HeardBytes : List ReplyHeard → Type 0
 HeardBytes [] = ⊤
 HeardBytes (heard.Body bytes ∷ hs) = AreBytes bytes × HeardBytes hs
 HeardBytes (other ∷ hs) = HeardBytes hs

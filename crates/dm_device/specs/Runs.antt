@@ -1,5 +1,6 @@
 -- A whole run: a session, and behind it a farewell, or an update and one more session.
-use Rattle.std.specs.Prelude.{◌≡◌, ◌≤◌, ◌+◌, ◌++◌, ◌⊎◌, ⊤, ℕ, Bool, true, false, if◌then◌else◌, List, [], ◌∷◌, drop, take}
+use Rattle.std.specs.Prelude.{◌≡◌, ◌≤◌, ◌+◌, ◌++◌, ◌⊎◌, ⊤, ℕ, Bool, true, false, if◌then◌else◌, List, [], ◌∷◌, drop}
+use Rattle.std.specs.Prelude.{take}
 use Rattle.std.specs.Prelude.{codes}
 use Rattle.std.specs.Prelude.{Option, Some, None, option_map}
 use Rattle.std.specs.Fmt.{decimal}
@@ -8,8 +9,8 @@ use Rattle.dm_base.specs.Lines.{line_feed}
 use Rattle.syncml_types.specs.Message.{Parts}
 use Rattle.syncml_types.specs.Canonical.{canonical}
 use Rattle.dm_atomic.specs.Updates.{is_updating}
-use Rattle.dm_machine.specs.declared.kinds.Kind.{Kind}
-use Rattle.dm_machine.specs.declared.kinds.Kind.TheVariants.{ByClient}
+use Rattle.dm_machine.specs.declared.kinds.Initiator.{Initiator}
+use Rattle.dm_machine.specs.declared.kinds.Initiator.TheVariants.{ByClient}
 use Rattle.dm_machine.specs.Machine.{Machine}
 use Rattle.dm_machine.specs.Events.{opened, act}
 use Rattle.dm_machine.specs.History.{next}
@@ -20,11 +21,11 @@ use Rattle.dm_exit.specs.declared.exit.Exit.TheVariants as exit
 use Rattle.dm_exit.specs.Puts.{PutsPrefix}
 use Rattle.dm_replay.specs.Output.{tree_and_done}
 use Rattle.dm_words.specs.declared.forms.DeviceWords.{DeviceWords}
-use Rattle.dm_device.specs.declared.exchanging.Heard.{Heard}
+use Rattle.dm_device.specs.declared.exchanging.ReplyHeard.{ReplyHeard}
 use Rattle.dm_device.specs.declared.tally.Word.{Word}
 use Rattle.dm_device.specs.declared.tally.Word.TheVariants as word
 use Rattle.dm_device.specs.Outsides.{Outside, IsPosted, IsPostedInPart}
-use Rattle.dm_device.specs.Sessions.{Going, Session, at_first, session, request_of, bytes_or_none}
+use Rattle.dm_device.specs.Sessions.{Going, SessionRun, at_first, session, request_of, bytes_or_none}
 
 -- where a run's requests go, and by which version its tree is put
 pub record Route : Type 0 where
@@ -38,12 +39,12 @@ route_of w version = record { address = w.address; path = w.path; version = vers
 -- what a run heard: in its first session; how the updater answered, none where it failed; in its second session; and
 -- to its farewell, which nothing looks at
 pub record Heards : Type 0 where
-  pub first : List Heard
+  pub first : List ReplyHeard
   pub updated : Option Bool
-  pub second : List Heard
-  pub parting : List Heard
+  pub second : List ReplyHeard
+  pub parting : List ReplyHeard
 
-abbrev pub heard_in : Heards → List Heard
+abbrev pub heard_in : Heards → List ReplyHeard
 heard_in h = h.first ++ (h.second ++ h.parting)
 
 -- of a run or a part of it: its requests; the packages that the updater was given, with its answers; the nonces that
@@ -83,7 +84,7 @@ abbrev pub line_by : ℕ → Option Word → List ℕ
 line_by number None = []
 line_by number (Some w) = session_line number w
 
-abbrev pub session_part : ℕ → Session → Run
+abbrev pub session_part : ℕ → SessionRun → Run
 session_part number s = record {
   requests = s.requests;
   updates = [];
@@ -126,7 +127,7 @@ closing_by r c nonces None = nothing_more nonces
 closing_by r c nonces (Some w) = closing r c nonces w
 
 -- a session that no other follows
-abbrev pub last_session : Route → ℕ → Session → Run
+abbrev pub last_session : Route → ℕ → SessionRun → Run
 last_session r number s = both_parts (session_part number s) (closing_by r s.going.machine s.going.nonces s.word)
 
 -- the package that was started is given to the updater
@@ -142,8 +143,8 @@ given_part c nonces answer = record {
 -- ---- the whole
 
 -- a session that begins, with nothing lost
-abbrev pub begun : Machine → ℕ → Kind → ℕ → List (List ℕ) → Going
-begun c account kind number nonces =
+abbrev pub begun_session : Machine → ℕ → Initiator → ℕ → List (List ℕ) → Going
+begun_session c account kind number nonces =
     record { machine = next c (opened account kind number); tally = at_first; nonces = nonces }
 
 -- an update ended well only where the updater said so
@@ -153,10 +154,10 @@ ended_well other = false
 
 -- the session that tells the result of an update
 abbrev pub telling : ℕ → ℕ → Machine → List (List ℕ) → Option Bool → Going
-telling account number c nonces answer = begun (next c (act (ended_well answer))) account ByClient number nonces
+telling account number c nonces answer = begun_session (next c (act (ended_well answer))) account ByClient number nonces
 
 -- an update, and the session with this number that tells its result
-abbrev pub follow_up : Route → ℕ → ℕ → Machine → List (List ℕ) → Option Bool → List Heard → Run
+abbrev pub follow_up : Route → ℕ → ℕ → Machine → List (List ℕ) → Option Bool → List ReplyHeard → Run
 follow_up r account number c nonces answer hs =
     both_parts (given_part c nonces answer)
     (last_session r number (session r.address r.path (telling account number c nonces answer) hs))
@@ -181,7 +182,7 @@ device_run r account number g h =
 -- ---- what is told of it
 
 -- all of it was done: its requests were posted and this was heard, its packages given, its nonces used, its text put
-pub record IsDone (address : List ℕ) (r : Run) (hs : List Heard) (before after : Outside) (old new : Option (List ℕ))
+pub record IsDone (address : List ℕ) (r : Run) (hs : List ReplyHeard) (before after : Outside) (old new : Option (List ℕ))
     : Type 0
   where
     pub posts : IsPosted address r.requests hs before.calls after.calls
@@ -191,7 +192,7 @@ pub record IsDone (address : List ℕ) (r : Run) (hs : List Heard) (before after
 
 -- it ended before: the first of its requests were posted and at most one dial more was made, the first of its packages
 -- given, at most one nonce more used, and a prefix of its text put
-pub record IsCut (address : List ℕ) (r : Run) (hs : List Heard) (before after : Outside) (old new : Option (List ℕ))
+pub record IsCut (address : List ℕ) (r : Run) (hs : List ReplyHeard) (before after : Outside) (old new : Option (List ℕ))
     : Type 0
   where
     pub posts : IsPostedInPart address r.requests hs before.calls after.calls
@@ -203,26 +204,26 @@ pub record IsCut (address : List ℕ) (r : Run) (hs : List Heard) (before after 
     pub text : PutsPrefix old new r.text
 
 -- a run or a part of it, by its answer: a fault of the sink or want of memory ended it, or it is over
-abbrev pub EndsPart : List ℕ → Run → List Heard → Exit → Outside → Outside → Option (List ℕ) → Option (List ℕ) → Type 0
+abbrev pub EndsPart : List ℕ → Run → List ReplyHeard → Exit → Outside → Outside → Option (List ℕ) → Option (List ℕ) → Type 0
 EndsPart address r hs exit.WriteFault before after old new = IsCut address r hs before after old new
 EndsPart address r hs exit.NoMemory before after old new = IsCut address r hs before after old new
 EndsPart address r hs e before after old new = IsDone address r hs before after old new × (r.exit ≡ Some e)
 
 -- of two parts, one behind the other: nothing of the second was done, or all of the first
-abbrev pub IsCutInOrder : List ℕ → Run → Run → List Heard → List Heard → Outside → Outside → Option (List ℕ)
+abbrev pub IsCutInOrder : List ℕ → Run → Run → List ReplyHeard → List ReplyHeard → Outside → Outside → Option (List ℕ)
     → Option (List ℕ) → Type 0
 IsCutInOrder address a b hs gs before after old new = IsCut address a hs before after old new
     ⊎ ((between : Outside) × (mid : Option (List ℕ)) × IsDone address a hs before between old mid
     × IsCut address b gs between after mid new)
 
-abbrev pub EndsInOrder : List ℕ → Run → Run → List Heard → List Heard → Exit → Outside → Outside → Option (List ℕ)
+abbrev pub EndsInOrder : List ℕ → Run → Run → List ReplyHeard → List ReplyHeard → Exit → Outside → Outside → Option (List ℕ)
     → Option (List ℕ) → Type 0
 EndsInOrder address a b hs gs exit.WriteFault before after old new = IsCutInOrder address a b hs gs before after old new
 EndsInOrder address a b hs gs exit.NoMemory before after old new = IsCutInOrder address a b hs gs before after old new
 EndsInOrder address a b hs gs e before after old new = ⊤
 
 -- what is behind a first session
-abbrev pub behind_session : Route → ℕ → ℕ → Session → Heards → Run
+abbrev pub behind_session : Route → ℕ → ℕ → SessionRun → Heards → Run
 behind_session r account number s h = behind_first r account number s.going.machine s.going.nonces h s.word
 
 -- by what was heard; nothing behind the first session is done before that is over and its line was put

@@ -5,10 +5,10 @@ ghost use Rattle.dm_outside.specs.Calls.{IsIdle};
 ghost use Rattle.dm_exit.specs.Causes.{DialerCause, SinkCause, SourceCause};
 ghost use Rattle.dm_exit.specs.Puts.{PutsEnd};
 ghost use Rattle.dm_exit.specs.declared.exit.Exit.TheVariants as exit;
-ghost use Rattle.dm_replay.specs.Events.{place_of as place_in};
+ghost use Rattle.dm_replay.specs.Events.{account_place as place_in};
 ghost use Rattle.dm_replay.specs.From.{CanBegin};
 ghost use Rattle.dm_replay.specs.Input.{TakesOnePast};
-ghost use Rattle.dm_replay.specs.Trace.{ids_of};
+ghost use Rattle.dm_replay.specs.Trace.{servers_of};
 ghost use Rattle.dm_start.specs.Start.{told_of};
 ghost use Rattle.dm_device.specs.Devices.{Devices, EndsBehindInput, IsEarly, IsOfDevice, RunsWith, usage_line};
 ghost use Rattle.dm_device.specs.Managing.{IsManaged};
@@ -28,7 +28,7 @@ use std::alloc::Global;
 
 // Where a server stands among the accounts.
 fn place_of(accounts: &List<Account>, server: &[u8]) -> Option<usize>
-    ensures place { result ≡ place_in (ids_of accounts.now) server.now }
+    ensures place { result ≡ place_in (servers_of accounts.now) server.now }
     ensures among { IfSome result (λ at. at < length accounts.now) }
 {
     for at in 0..accounts.len() {

@@ -12,7 +12,7 @@ use std::alloc::Global;
 
 /// What an exchange brought.
 #[derive(Drop)]
-pub enum Heard {
+pub enum ReplyHeard {
     /// The body of a reply.
     Body(Bytes),
     /// A fault, which the dialer counted.
@@ -21,17 +21,17 @@ pub enum Heard {
     Refused,
 }
 
-fn heard_of(reply: Result<Bytes, HttpError>) -> Result<Heard, Memory>
+fn heard_of(reply: Result<Bytes, HttpError>) -> Result<ReplyHeard, Memory>
     ensures { result ≡ Spec.heard_of reply }
 {
     match reply {
-        Ok(body) => Ok(Heard::Body(body)),
-        Err(HttpError::Failed) => Ok(Heard::Fault),
+        Ok(body) => Ok(ReplyHeard::Body(body)),
+        Err(HttpError::Failed) => Ok(ReplyHeard::Fault),
         Err(HttpError::Memory) => Err(Memory),
-        Err(HttpError::BadHead) => Ok(Heard::Refused),
-        Err(HttpError::NotOk(_)) => Ok(Heard::Refused),
-        Err(HttpError::TooLong) => Ok(Heard::Refused),
-        Err(HttpError::Cut) => Ok(Heard::Refused),
+        Err(HttpError::BadHead) => Ok(ReplyHeard::Refused),
+        Err(HttpError::NotOk(_)) => Ok(ReplyHeard::Refused),
+        Err(HttpError::TooLong) => Ok(ReplyHeard::Refused),
+        Err(HttpError::Cut) => Ok(ReplyHeard::Refused),
     }
 }
 
@@ -43,7 +43,7 @@ pub fn exchange<D: Dialer>(
     address: &[u8],
     path: &[u8],
     message: &[u8],
-) -> Result<Heard, Memory>
+) -> Result<ReplyHeard, Memory>
     requires idle { IsIdle (D.told dialer.old) }
     ensures told { Exchanges (D.told dialer.old) (D.told dialer.new) address.now
         (request_text address.now path.now message.now) result }
@@ -51,7 +51,7 @@ pub fn exchange<D: Dialer>(
 {
     let mut conn = match dialer.dial(address) {
         Ok(conn) => conn,
-        Err(Fault::Failed) => return Ok(Heard::Fault),
+        Err(Fault::Failed) => return Ok(ReplyHeard::Fault),
         Err(Fault::Memory) => return Err(Memory),
     };
     let reply = post(alloc, &mut conn, address, path, message);

@@ -3,7 +3,7 @@ ghost use Rattle.std.specs.Prelude.{◌<◌, ◌≤◌, ◌^◌, IfOk, OnOk};
 ghost use Rattle.dm_base.specs.Outside.{OfKnown};
 ghost use Rattle.dm_base.specs.Lines.{CountsTaken};
 ghost use Rattle.std.specs.Io.KnownBytes.{IsAtEnd};
-ghost use Rattle.dm_replay.specs.From.{seen, OfInput, HaltCounts, CanBegin};
+ghost use Rattle.dm_replay.specs.From.{input_to_come, OfInput, HaltCounts, CanBegin};
 ghost use Rattle.dm_replay.specs.Input.{TakesOnePast};
 ghost use Rattle.dm_device.specs.Reading.{EndsAlone, ReadsSetup};
 
@@ -16,7 +16,7 @@ use std::alloc::Global;
 // Behind `begin` only `end` may stand.
 fn read_last<S: Source>(lines: &mut Lines, src: &mut S, number: u64) -> Result<(), Halt>
     requires { number < 2 ^ 60 }
-    ensures ending { EndsAlone (seen lines.old (S.left src.old)) number result }
+    ensures ending { EndsAlone (input_to_come lines.old (S.left src.old)) number result }
     ensures ended { OnOk result (OfKnown (S.left src.old) (λ _. IsAtEnd (S.left src.new))) }
     ensures taken { CountsTaken (S.left src.old) (S.left src.new) lines.old.taken lines.new.taken }
     ensures limit { lines.new.taken ≤ 67108865 }

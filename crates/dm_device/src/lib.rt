@@ -12,6 +12,6 @@ mod sessions;
 pub mod tally;
 
 pub use command::device;
-pub use exchanging::{Heard, exchange};
+pub use exchanging::{ReplyHeard, exchange};
 pub use laws::{requests_keep_to_the_room, runs_are_bounded, sessions_are_bounded};
 pub use tally::{Tally, Word};

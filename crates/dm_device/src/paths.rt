@@ -40,7 +40,7 @@ fn from_slash(bytes: &[u8]) -> Option<&[u8]>
 
 // The path in a RespURI: itself where it begins with a slash, else what stands behind the authority.
 fn path_in(uri: &[u8]) -> Option<&[u8]>
-    ensures { option_map (λ path. path.now) result ≡ Spec.path_in uri.now }
+    ensures { option_map (λ path. path.now) result ≡ Spec.path_in_uri uri.now }
 {
     if uri.starts_with(b"/") {
         Some(uri)
@@ -65,7 +65,7 @@ fn path_told(uri: &[u8]) -> Option<&[u8]>
 
 /// The path that a RespURI gives, or else the one of the run.
 pub(crate) fn path_of<'a>(uri: Option<&'a [u8]>, path: &'a [u8]) -> &'a [u8]
-    ensures { result.now ≡ Spec.path_of (option_map (λ uri. uri.now) uri.entry) path.now }
+    ensures { result.now ≡ Spec.request_path (option_map (λ uri. uri.now) uri.entry) path.now }
 {
     match uri {
         None => path,

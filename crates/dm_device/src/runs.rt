@@ -11,13 +11,13 @@ ghost use Rattle.dm_device.specs.Runs.{route_of};
 ghost use Rattle.dm_device.specs.Ending.{CloseDoes, ClosesAs, FollowDoes, HoldCounts, HoldDoes, InstallDoes, IsAnswer};
 ghost use Rattle.dm_device.specs.Ending.{IsCutShort, PartDoes, RunDoes, TellDoes, ActDoes, unheard as unheard_of};
 
-use crate::exchanging::Heard;
+use crate::exchanging::ReplyHeard;
 use crate::lines::{put_last, put_session};
 use crate::sessions::{ask, session};
 use crate::tally::Word;
 use dm_base::{Fault, Memory, Sink};
 use dm_exit::Exit;
-use dm_machine::Kind;
+use dm_machine::Initiator;
 use dm_outside::{Dialer, Nonces, Updater};
 use dm_session::{BeginError, Client};
 use dm_words::DeviceWords;
@@ -35,7 +35,7 @@ pub(crate) struct Device {
 
 // The numbers of a run's sessions rise, so that none is exhausted.
 #[tactic(auto, using(crate::proofs::Beginning::none_begins))]
-fn begin(device: &mut Device, kind: Kind, number: u32) -> Result<(), Memory>
+fn begin(device: &mut Device, kind: Initiator, number: u32) -> Result<(), Memory>
     requires { device.old.account < length device.old.client.machine.accounts }
     ensures machine { OnOk result (device.new.client.machine
         ≡ next device.old.client.machine (opened device.old.account kind number)) }
@@ -146,7 +146,7 @@ fn tell<U: Updater>(device: &mut Device, updater: &mut U, number: u32) -> Result
     ensures accounts { length device.new.client.machine.accounts ≡ length device.old.client.machine.accounts }
 {
     update(&mut device.client, updater)?;
-    begin(device, Kind::ByClient, number)
+    begin(device, Initiator::ByClient, number)
 }
 
 fn exit_of(word: Word) -> Exit
@@ -162,7 +162,7 @@ fn exit_of(word: Word) -> Exit
     }
 }
 
-fn unheard(heard: Result<Heard, Memory>) -> Result<(), Memory>
+fn unheard(heard: Result<ReplyHeard, Memory>) -> Result<(), Memory>
     ensures { result ≡ unheard_of heard }
 {
     match heard {

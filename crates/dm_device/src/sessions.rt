@@ -4,12 +4,13 @@ ghost use Rattle.dm_machine.specs.Machine.{Machine};
 ghost use Rattle.dm_outside.specs.Calls.{IsIdle};
 ghost use Rattle.dm_device.specs.Exchanges.{Exchanges, ExchangeCounts};
 ghost use Rattle.dm_device.specs.Outsides.{OfTold};
-ghost use Rattle.dm_device.specs.Sessions.{IsGoing, asks, request_of};
+ghost use Rattle.dm_device.specs.Sessions.{IsWithinLimits, asks, request_of};
 ghost use Rattle.dm_device.specs.Sessions as Spec;
-ghost use Rattle.dm_device.specs.Holding.{going_at, turned_by, GoesOn, TurnGoes, TurnDoes, IsBlamed, GivesUpAt, Holds};
+ghost use Rattle.dm_device.specs.Holding.{going_at, turned_by, SpendsMore, TurnGoes, TurnDoes, IsBlamed, GivesUpAt};
+ghost use Rattle.dm_device.specs.Holding.{SessionHolds};
 ghost use Rattle.dm_device.specs.Holding.{SessionCounts};
 
-use crate::exchanging::{Heard, exchange};
+use crate::exchanging::{ReplyHeard, exchange};
 use crate::paths::path_of;
 use crate::tally::{Tally, Word};
 use dm_base::{Bytes, Memory};
@@ -24,10 +25,10 @@ const MOST_ACCEPTED: u32 = 100_000;
 
 // An exchange was lost.
 fn lose(tally: &mut Tally, blamed: bool) -> Option<Word>
-    requires { IsGoing tally.old }
+    requires { IsWithinLimits tally.old }
     ensures word { result ≡ Spec.word_of_loss tally.old blamed }
     ensures tally { tally.new ≡ Spec.after_loss tally.old blamed }
-    ensures goes { GoesOn tally.old tally.new result }
+    ensures goes { SpendsMore tally.old tally.new result }
     ensures blames { blamed ≡ true → IsBlamed result }
 {
     tally.lost += 1;
@@ -43,10 +44,10 @@ fn lose(tally: &mut Tally, blamed: bool) -> Option<Word>
 
 // A message was accepted, and the session goes on.
 fn accept(tally: &mut Tally) -> Option<Word>
-    requires { IsGoing tally.old }
+    requires { IsWithinLimits tally.old }
     ensures word { result ≡ Spec.word_of_accept tally.old }
     ensures tally { tally.new ≡ Spec.after_accept tally.old }
-    ensures goes { GoesOn tally.old tally.new result }
+    ensures goes { SpendsMore tally.old tally.new result }
     ensures blames { IsBlamed result }
 {
     tally.lost = 0;
@@ -72,8 +73,8 @@ fn word_of_end(end: End) -> Word
 
 // A body was answered so.
 fn weigh(tally: &mut Tally, answer: Answer) -> Option<Word>
-    requires { IsGoing tally.old }
-    ensures goes { GoesOn tally.old tally.new result }
+    requires { IsWithinLimits tally.old }
+    ensures goes { SpendsMore tally.old tally.new result }
     ensures turns { (c : Machine) (ns : List (List ℕ))
         → turned_by (going_at c tally.old ns) answer ≡ record { going = going_at c tally.new ns; word = result } }
     ensures blames { IsBlamed result }
@@ -96,7 +97,7 @@ fn hear<N: Nonces>(
     tally: &mut Tally,
     bytes: &[u8],
 ) -> Result<Option<Word>, Memory>
-    requires { IsGoing tally.old }
+    requires { IsWithinLimits tally.old }
     ensures goes { TurnGoes tally.old tally.new result }
     ensures turns { OfTold (N.left nonces.old) (N.left nonces.new)
         (TurnDoes client.old.machine client.new.machine tally.old tally.new (Heard.Body bytes.now) result) }
@@ -115,9 +116,9 @@ fn turn<N: Nonces>(
     client: &mut Client,
     nonces: &mut N,
     tally: &mut Tally,
-    heard: &Heard,
+    heard: &ReplyHeard,
 ) -> Result<Option<Word>, Memory>
-    requires { IsGoing tally.old }
+    requires { IsWithinLimits tally.old }
     ensures goes { TurnGoes tally.old tally.new result }
     ensures turns { OfTold (N.left nonces.old) (N.left nonces.new)
         (TurnDoes client.old.machine client.new.machine tally.old tally.new heard.now result) }
@@ -125,9 +126,9 @@ fn turn<N: Nonces>(
     ensures accounts { length client.new.machine.accounts ≡ length client.old.machine.accounts }
 {
     match heard {
-        Heard::Fault => Ok(lose(tally, false)),
-        Heard::Refused => Ok(lose(tally, true)),
-        Heard::Body(bytes) => hear(client, nonces, tally, bytes.as_slice()),
+        ReplyHeard::Fault => Ok(lose(tally, false)),
+        ReplyHeard::Refused => Ok(lose(tally, true)),
+        ReplyHeard::Body(bytes) => hear(client, nonces, tally, bytes.as_slice()),
     }
 }
 
@@ -139,7 +140,7 @@ pub(crate) fn ask<D: Dialer>(
     address: &[u8],
     path: &[u8],
     message: Option<&[u8]>,
-) -> Result<Heard, Memory>
+) -> Result<ReplyHeard, Memory>
     requires idle { IsIdle (D.told dialer.old) }
     ensures told { Exchanges (D.told dialer.old) (D.told dialer.new) address.now
         (request_of address.now path.now client.now.machine (option_map (λ bytes. bytes.now) message.entry)) result }
@@ -160,7 +161,7 @@ pub(crate) fn session<D: Dialer, N: Nonces>(
 ) -> Result<Word, Memory>
     requires idle { IsIdle (D.told dialer.old) }
     ensures idle { IsIdle (D.told dialer.new) }
-    ensures holds { Holds (D.told dialer.old) (D.told dialer.new) (N.left nonces.old) (N.left nonces.new)
+    ensures holds { SessionHolds (D.told dialer.old) (D.told dialer.new) (N.left nonces.old) (N.left nonces.new)
         client.old.machine client.new.machine address.now path.now result }
     ensures accounts { length client.new.machine.accounts ≡ length client.old.machine.accounts }
     ensures count { SessionCounts (D.faults dialer.old) (D.faults dialer.new) result }

@@ -2,7 +2,7 @@
 use Rattle.std.specs.Prelude.{◌≡◌, ◌≤◌, ◌⊎◌, ◌+◌, ◌++◌, ⊤, ℕ, zero, suc, true, List, [], ◌∷◌, length, Some, Result}
 use Rattle.std.specs.Prelude.{Ok, Err}
 use Rattle.std.proofs.Common.{inr, refl}
-use Rattle.dm_base.specs.Memory.{after}
+use Rattle.dm_base.specs.Memory.{one_more}
 use Rattle.dm_base.specs.declared.outside.Failed.{Failed}
 use Rattle.dm_base.specs.declared.outside.Fault.{Fault}
 use Rattle.dm_base.specs.declared.outside.Fault.TheVariants as fault
@@ -65,17 +65,17 @@ disk_of bytes fails = record { first = bytes; bytes = bytes; done = []; fails = 
 
 -- a call that fails is one call and one fault more, and leaves what a read gives
 abbrev pub after_fault : MemState → MemState
-after_fault m = record m { calls = after m.calls; faults = after m.faults }
+after_fault m = record m { calls = one_more m.calls; faults = one_more m.faults }
 
 -- a read is one call more
 abbrev pub MemReads : MemState → MemState → Result (Unit {0}) Failed → Type 0
-MemReads old new (Ok u) = new ≡ record old { calls = after old.calls }
+MemReads old new (Ok u) = new ≡ record old { calls = one_more old.calls }
 MemReads old new (Err e) = new ≡ after_fault old
 
 -- a write or a sync is one call more, and is noted where it succeeds; for want of memory it is no call at all
 abbrev pub MemDoes : Call → List ℕ → MemState → MemState → Result (Unit {0}) Fault → Type 0
 MemDoes call bytes old new (Ok u) =
-    new ≡ record old { bytes = bytes; done = old.done ++ call ∷ []; calls = after old.calls }
+    new ≡ record old { bytes = bytes; done = old.done ++ call ∷ []; calls = one_more old.calls }
 MemDoes call bytes old new (Err fault.Failed) = new ≡ after_fault old
 MemDoes call bytes old new (Err fault.Memory) = new ≡ old
 

@@ -1,6 +1,6 @@
 // A disk in memory, which keeps what was written and synced on it.
 ghost use Rattle.std.specs.Prelude.{◌≡◌, ◌≤◌, ◌+◌, ◌↔◌, length, replicate, Contains, IfOk, IsErr, IsErrOf, IsTrue};
-ghost use Rattle.dm_base.specs.Memory.{after};
+ghost use Rattle.dm_base.specs.Memory.{one_more};
 ghost use Rattle.dm_disk.specs.declared.memory.Call.TheVariants as call;
 ghost use Rattle.dm_disk.specs.Disk.{DiskReads, DiskWrites, DiskSyncs, patched};
 ghost use Rattle.dm_disk.specs.Memory.{disk_of, disk_state, mem_disk, MemReads, MemDoes};
@@ -111,7 +111,7 @@ impl MemDisk {
 
     // Whether the call that comes is one of those that fail.
     fn fails_now(&self) -> bool
-        ensures { IsTrue result ↔ Contains self.now.fails (after self.now.calls) }
+        ensures { IsTrue result ↔ Contains self.now.fails (one_more self.now.calls) }
     {
         self.fails
             .as_slice()
@@ -132,7 +132,7 @@ impl Disk for MemDisk {
         requires { at + length buf.old ≤ (disk_state self.old).size }
         ensures told { DiskReads at (disk_state self.old) (disk_state self.new) result buf.new }
         ensures long { length buf.new ≡ length buf.old }
-        ensures fails { IsErr result ↔ Contains self.old.fails (after self.old.calls) }
+        ensures fails { IsErr result ↔ Contains self.old.fails (one_more self.old.calls) }
         ensures state { MemReads self.old self.new result }
     {
         let fails = self.fails_now();
@@ -149,7 +149,7 @@ impl Disk for MemDisk {
     fn write(&mut self, at: u64, bytes: &[u8]) -> Result<(), Fault>
         requires { at + length bytes.now ≤ (disk_state self.old).size }
         ensures told { DiskWrites at bytes.now (disk_state self.old) (disk_state self.new) result }
-        ensures fails { IsErrOf result Fault.Failed ↔ Contains self.old.fails (after self.old.calls) }
+        ensures fails { IsErrOf result Fault.Failed ↔ Contains self.old.fails (one_more self.old.calls) }
         ensures state { MemDoes (call.Write at bytes.now) (patched at bytes.now self.old.bytes)
             self.old self.new result }
     {
@@ -172,7 +172,7 @@ impl Disk for MemDisk {
 
     fn sync(&mut self) -> Result<(), Fault>
         ensures told { DiskSyncs (disk_state self.old) (disk_state self.new) result }
-        ensures fails { IsErrOf result Fault.Failed ↔ Contains self.old.fails (after self.old.calls) }
+        ensures fails { IsErrOf result Fault.Failed ↔ Contains self.old.fails (one_more self.old.calls) }
         ensures state { MemDoes call.Sync self.old.bytes self.old self.new result }
     {
         if self.fails_now() {

@@ -13,7 +13,7 @@ use Rattle.dm_auth.specs.Digests.{base64_of, challenge}
 use Rattle.dm_headers.specs.Checks.{is_challenged}
 use Rattle.dm_headers.specs.Headers.{is_withheld, status_of, header_answer}
 use Rattle.dm_pack.specs.Entries.{IsReady, whole_entry}
-use Rattle.dm_pack.specs.Laws.{IsShort}
+use Rattle.dm_pack.specs.Laws.{IsShortStatus}
 use Rattle.dm_pack.proofs.Most.{Most, none, most_append, most_parent, most_element, most_text, most_number}
 use Rattle.dm_pack.proofs.Ready.{IsChal, status_ready}
 use Rattle.dm_ends.proofs.Texts.{AreBytes, base64_text, literal}
@@ -98,12 +98,12 @@ unfolding header_answer
 answer_ready h code nonce some msg low is = ready_unless (is_withheld h code) h code nonce some msg low is
 
 short_unless : (withheld : Bool) (h : Header) (code : ℕ) (nonce : List ℕ) → h.msg < 2 ^ 32 → code < 2 ^ 32
-    → IsNonce nonce → AllByRecursion IsShort (map whole_entry (if withheld then [] else status_of h code nonce ∷ []))
+    → IsNonce nonce → AllByRecursion IsShortStatus (map whole_entry (if withheld then [] else status_of h code nonce ∷ []))
 short_unless true h code nonce msg low is = tt
 short_unless false h code nonce msg low is = ((status_most h code nonce msg low is).at 0, tt)
 
 -- at most 250 bytes
 pub answer_short : (h : Header) (code : ℕ) (nonce : List ℕ) → h.msg < 2 ^ 32 → code < 2 ^ 32 → IsNonce nonce
-    → AllByRecursion IsShort (map whole_entry (header_answer h code nonce))
+    → AllByRecursion IsShortStatus (map whole_entry (header_answer h code nonce))
 unfolding header_answer
 answer_short h code nonce msg low is = short_unless (is_withheld h code) h code nonce msg low is

@@ -18,7 +18,7 @@ use Rattle.syncml_types.specs.Canonical.{loc_tokens, meta_tokens, cred_tokens, h
 use Rattle.syncml_types.specs.Fitness.{all_of, is_in_limit, header_texts, header_data, loc_texts}
 use Rattle.syncml_types.specs.Fitness.{meta_texts, cred_texts}
 use Rattle.dm_auth.specs.Digests.{md5_meta}
-use Rattle.dm_headers.specs.Headers.{shown, limits_meta, next_header}
+use Rattle.dm_headers.specs.Headers.{credential_shown, limits_meta, next_header}
 use Rattle.dm_pack.specs.Filling.{IsReadyHeader}
 use Rattle.dm_pack.proofs.Within.{tag_most, one_more}
 use Rattle.dm_pack.proofs.Most.{Most, none, most_append, most_parent, most_element, most_text, most_number}
@@ -54,13 +54,13 @@ abbrev pub IsOwnCred : Option Cred → Type 0
 IsOwnCred None = ⊤
 IsOwnCred (Some c) = IsCredOf c
 
-shown_own : (name password : Option (List ℕ)) (nonce : List ℕ) → IsOwnCred (shown name password nonce)
+shown_own : (name password : Option (List ℕ)) (nonce : List ℕ) → IsOwnCred (credential_shown name password nonce)
 shown_own None password nonce = tt
 shown_own (Some name) None nonce = tt
 shown_own (Some name) (Some password) nonce = record { meta = refl; value = digest_text name password nonce }
 
 pub cred_own : (welcomed : Bool) (name password : Option (List ℕ)) (nonce : List ℕ)
-    → IsOwnCred (if welcomed then None else shown name password nonce)
+    → IsOwnCred (if welcomed then None else credential_shown name password nonce)
 cred_own true name password nonce = tt
 cred_own false name password nonce = shown_own name password nonce
 

@@ -24,7 +24,7 @@ use Rattle.dm_atomic.specs.declared.tasks.Post.{Post}
 use Rattle.dm_atomic.specs.declared.tasks.Task.{Task}
 use Rattle.dm_atomic.specs.Tasks.{named_text, item_tasks, plain_tasks, alert_task, member_tasks, members_tasks}
 use Rattle.dm_atomic.specs.Tasks.{container_post}
-use Rattle.dm_atomic.specs.Made.{Made, Status, entry_of, is_withheld, told, uri_in}
+use Rattle.dm_atomic.specs.Made.{Made, Status, command_told, is_suppressed, told, uri_in}
 use Rattle.dm_atomic.specs.Posts.{task_posts, atomic_posts, member_posts, members_posts, asked_posts, all_asked}
 use Rattle.dm_pack.specs.Entries.{IsReady, whole_entry}
 use Rattle.dm_pack.proofs.Ready.{IsText, status_ready}
@@ -53,7 +53,7 @@ named_word named.Atomic = word _ (visible_text _ refl) (omega arith)
 named_word named.Sequence = word _ (visible_text _ refl) (omega arith)
 
 pub status_is_ready : (p : Post) → IsReadyPost p → (code : ℕ) → code < 2 ^ 32
-    → IsReady (whole_entry (entry_of (Status p code)))
+    → IsReady (whole_entry (command_told (Status p code)))
 status_is_ready p is code low =
     status_ready p.msg p.command (named_text p.name) (uri_in p.target) None code is.some is.msg is.command
     (named_word p.name) (uri_in_text p.target) tt low
@@ -135,14 +135,14 @@ posts_ready o (command.Results c) is range = tt
 -- ---- what is told
 
 abbrev pub AreReadyMade : List Made → Type 0
-AreReadyMade = AllByRecursion (λ made. IsReady (whole_entry (entry_of made)))
+AreReadyMade = AllByRecursion (λ made. IsReady (whole_entry (command_told made)))
 
-told_step : (m : Made) (b : Bool) (entries : List Command) → IsReady (whole_entry (entry_of m))
+told_step : (m : Made) (b : Bool) (entries : List Command) → IsReady (whole_entry (command_told m))
     → AllByRecursion IsReady (map whole_entry entries)
-    → AllByRecursion IsReady (map whole_entry (cond b entries (entry_of m ∷ entries)))
+    → AllByRecursion IsReady (map whole_entry (cond b entries (command_told m ∷ entries)))
 told_step m true entries first rest = rest
 told_step m false entries first rest = (first, rest)
 
 pub told_ready : (ms : List Made) → AreReadyMade ms → AllByRecursion IsReady (map whole_entry (told ms))
 told_ready [] all = tt
-told_ready (m ∷ ms) all = told_step m (is_withheld m) (told ms) all.0 (told_ready ms all.1)
+told_ready (m ∷ ms) all = told_step m (is_suppressed m) (told ms) all.0 (told_ready ms all.1)

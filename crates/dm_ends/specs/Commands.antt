@@ -29,6 +29,6 @@ is_report other = false
 abbrev pub session_of : Parts → Option ℕ
 session_of m = num_of m.header.session
 
-abbrev pub is_number : Option ℕ → ℕ → Bool
-is_number None n = false
-is_number (Some k) n = k == n
+abbrev pub is_same_number : Option ℕ → ℕ → Bool
+is_same_number None n = false
+is_same_number (Some k) n = k == n

@@ -5,7 +5,7 @@ use Rattle.dm_base.specs.Fields.{is_short, is_id, num_of}
 use Rattle.dm_base.specs.declared.values.Limits.{Limits}
 use Rattle.dm_base.specs.declared.lines.LineReason.{LineReason}
 use Rattle.dm_auth.specs.declared.accounts.Account.{Account}
-use Rattle.dm_fields.specs.Fields.{opt_of, key_of, are_limits, limits_of, limits_in, account_of, account_in, IsAccount}
+use Rattle.dm_fields.specs.Fields.{opt_of, key_in, are_limits, limits_of, limits_in, account_of, account_in, IsAccount}
 use Rattle.dm_fields.specs.Refusing.{or_refused}
 
 -- ---- what an answer tells of the tests before it
@@ -83,9 +83,9 @@ is_account (w ∷ s ∷ p ∷ n ∷ []) a e = absurd (cc)
 is_account (w ∷ s ∷ p ∷ n ∷ u ∷ []) a e = absurd (cc)
 is_account (w ∷ s ∷ p ∷ n ∷ u ∷ q ∷ []) a e = absurd (cc)
 is_account (w ∷ s ∷ p ∷ n ∷ u ∷ q ∷ m ∷ []) a e =
-    let told = some_if _ (account_of s p (key_of n) u q (key_of m)) a e in
+    let told = some_if _ (account_of s p (key_in n) u q (key_in m)) a e in
     let all = four (is_id s) (is_short p) (is_short u) (is_short q) told.0 in
-    by_keys all.0 all.1 all.2 all.3 (key_of n) (key_of m) told.1
+    by_keys all.0 all.1 all.2 all.3 (key_in n) (key_in m) told.1
   where
     some_account : (x y : Account) → Some x ≡ Some y → x ≡ y
     some_account x y h = cc

@@ -6,11 +6,11 @@ use Rattle.dm_base.specs.Fields.{field_of, is_short, is_id, is_key, hex_of, num_
 use Rattle.dm_base.specs.declared.values.Limits.{Limits}
 use Rattle.dm_auth.specs.declared.accounts.Account.{Account}
 
-abbrev pub word_of : List ℕ → List ℕ
-word_of line = unwrap_or (field_of line 0) []
+abbrev pub first_word : List ℕ → List ℕ
+first_word line = unwrap_or (field_of line 0) []
 
 abbrev pub begins_with : List ℕ → List ℕ → Bool
-begins_with word line = bytes_eq (word_of line) word
+begins_with word line = bytes_eq (first_word line) word
 
 -- ---- one field
 
@@ -19,8 +19,8 @@ abbrev pub opt_of : List ℕ → Option (List ℕ)
 opt_of text = if bytes_eq text (codes "-") then None else Some text
 
 -- KEY: the bytes that it stands for
-abbrev pub key_of : List ℕ → Option (List ℕ)
-key_of text = if is_key text then hex_of text else None
+abbrev pub key_in : List ℕ → Option (List ℕ)
+key_in text = if is_key text then hex_of text else None
 
 -- ---- the fields of a line, its word first
 
@@ -55,7 +55,7 @@ account_of server password (Some nonce) user user_password (Some user_nonce) = S
 abbrev pub account_in : List (List ℕ) → Option Account
 account_in (word ∷ server ∷ password ∷ nonce ∷ user ∷ user_password ∷ user_nonce ∷ []) =
     if is_id server && is_short password && is_short user && is_short user_password
-    then account_of server password (key_of nonce) user user_password (key_of user_nonce)
+    then account_of server password (key_in nonce) user user_password (key_in user_nonce)
     else None
 account_in other = None
 

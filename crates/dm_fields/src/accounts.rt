@@ -6,17 +6,17 @@ ghost use Rattle.dm_fields.specs.Fields as Spec;
 use crate::fields::seven_fields;
 use crate::forms::{key_of, opt_of};
 use dm_auth::Account;
-use dm_base::{Bytes, Form, Memory, is_field};
+use dm_base::{Bytes, FieldForm, Memory, is_field};
 use std::alloc::Global;
 
 fn are_names(server: &[u8], password: &[u8], user: &[u8], user_password: &[u8]) -> bool
     ensures { result
         ≡ (is_id server.now && is_short password.now && is_short user.now && is_short user_password.now) }
 {
-    is_field(Form::Id, server)
-        && is_field(Form::Short, password)
-        && is_field(Form::Short, user)
-        && is_field(Form::Short, user_password)
+    is_field(FieldForm::Id, server)
+        && is_field(FieldForm::Short, password)
+        && is_field(FieldForm::Short, user)
+        && is_field(FieldForm::Short, user_password)
 }
 
 /// What the fields of an `account` line say.

@@ -1,7 +1,7 @@
 // The fields of a line that has a known number of them. None comes exactly where the line has another number.
 ghost use Rattle.std.specs.Prelude.{◌≡◌, ◌≢◌, ◌∷◌, [], length, MatchOption};
 ghost use Rattle.dm_base.specs.Fields.{parts};
-ghost use Rattle.dm_fields.specs.Fields.{word_of as first_word, begins_with as has_first_word};
+ghost use Rattle.dm_fields.specs.Fields.{first_word, begins_with as has_first_word};
 
 use dm_base::field;
 use memchr::memchr;

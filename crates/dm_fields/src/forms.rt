@@ -5,7 +5,8 @@ ghost use Rattle.dm_fields.specs.Fields as Spec;
 
 use crate::fields::three_fields;
 use dm_base::{
-    Bytes, Form, LEAST_ROOM, Limits, MESSAGE_LIMIT, Memory, OBJECT_LIMIT, hex_bytes, is_field, num,
+    Bytes, FieldForm, LEAST_ROOM, Limits, MESSAGE_LIMIT, Memory, OBJECT_LIMIT, hex_bytes, is_field,
+    num,
 };
 use std::alloc::Global;
 
@@ -21,9 +22,9 @@ pub fn opt_of(alloc: Global, text: &[u8]) -> Result<Option<Bytes>, Memory>
 
 /// The bytes of a key. None comes exactly where the text isn't one.
 pub fn key_of(alloc: Global, text: &[u8]) -> Result<Option<Bytes>, Memory>
-    ensures { IfOk result (λ key. key ≡ Spec.key_of text.now) }
+    ensures { IfOk result (λ key. key ≡ Spec.key_in text.now) }
 {
-    if !is_field(Form::Key, text) {
+    if !is_field(FieldForm::Key, text) {
         return Ok(None);
     }
     hex_bytes(alloc, text)

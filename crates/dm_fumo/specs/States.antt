@@ -21,8 +21,8 @@ failed = 70
 abbrev pub successful : ℕ
 successful = 100
 
-abbrev pub IsState : ℕ → Type 0
-IsState state = (state ≡ idle) ⊎ ((state ≡ ready) ⊎ ((state ≡ progressing) ⊎ ((state ≡ failed) ⊎ (state ≡ successful))))
+abbrev pub IsUpdateState : ℕ → Type 0
+IsUpdateState state = (state ≡ idle) ⊎ ((state ≡ ready) ⊎ ((state ≡ progressing) ⊎ ((state ≡ failed) ⊎ (state ≡ successful))))
 
 -- what a write of the package leads to, by whether the new value is empty; none while the update runs
 abbrev pub after_write : ℕ → Bool → Option ℕ
@@ -42,7 +42,7 @@ result_code ok = if ok then 200 else 410
 
 -- each state leads to one of the five, and an update that may be started isn't one that runs
 pub record StatesStay : Type 0 where
-  pub write : (state : ℕ) (empty : Bool) → IfSome (after_write state empty) IsState
-  pub exec : IsState progressing
-  pub result : (ok : Bool) → IsState (after_result ok)
+  pub write : (state : ℕ) (empty : Bool) → IfSome (after_write state empty) IsUpdateState
+  pub exec : IsUpdateState progressing
+  pub result : (ok : Bool) → IsUpdateState (after_result ok)
   pub once : (state : ℕ) → may_exec state ≡ true → state ≡ progressing → ⊥

@@ -11,7 +11,7 @@ use Rattle.syncml_types.specs.Message.{Parts}
 use Rattle.dm_auth.specs.declared.accounts.Account.{Account}
 use Rattle.dm_auth.specs.declared.credentials.Verdict.{Verdict}
 use Rattle.dm_auth.specs.declared.credentials.Verdict.TheVariants.{Missing, Accepted, Wrong}
-use Rattle.dm_auth.specs.Digests.{verdict, nonce_of}
+use Rattle.dm_auth.specs.Digests.{verdict, decoded_nonce}
 use Rattle.dm_headers.specs.declared.checks.Side.{Side}
 use Rattle.dm_headers.specs.declared.checks.Side.TheVariants.{Server, User}
 use Rattle.dm_headers.specs.CmdIds.{body_ids, has_twins}
@@ -108,7 +108,7 @@ code_read None = 0
 code_read (Some c) = c.code
 
 abbrev pub told_nonce : Option Meta → Option (List ℕ)
-told_nonce chal = option_and_then nonce_of (option_and_then (λ (m : Meta). m.next_nonce) chal)
+told_nonce chal = option_and_then decoded_nonce (option_and_then (λ (m : Meta). m.next_nonce) chal)
 
 -- the nonce that it tells this end to use next: what a challenge tells, where it is strict base64
 abbrev pub nonce_in : Option StatusCmd → Option (List ℕ)

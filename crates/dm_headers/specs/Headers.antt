@@ -39,14 +39,14 @@ header_answer h code nonce = if is_withheld h code then [] else status_of h code
 -- ---- a header of one's own
 
 -- a side without a password shows no credential
-abbrev pub shown : Option (List ℕ) → Option (List ℕ) → List ℕ → Option Cred
-shown (Some name) (Some password) nonce = Some (credential name password nonce)
-shown (Some name) None nonce = None
-shown None password nonce = None
+abbrev pub credential_shown : Option (List ℕ) → Option (List ℕ) → List ℕ → Option Cred
+credential_shown (Some name) (Some password) nonce = Some (credential name password nonce)
+credential_shown (Some name) None nonce = None
+credential_shown None password nonce = None
 
 -- it stands in each message until the other end accepted one
 abbrev pub cred_of : Login → Bool → Option Cred
-cred_of login welcomed = if welcomed then None else shown login.name login.password login.nonce
+cred_of login welcomed = if welcomed then None else credential_shown login.name login.password login.nonce
 
 abbrev pub limits_meta : Limits → Meta
 limits_meta limits = record no_meta { max_msg = Some limits.max_msg; max_obj = Some limits.max_obj }

@@ -5,7 +5,7 @@ use Rattle.dm_headers.specs.declared.hearing.Heard.{Heard}
 use Rattle.dm_headers.specs.Standings as standings
 
 -- where no account is told, it is as it was
-pub record Tells (heard : Heard) (account : Account) (wanted : standings.Heard) : Type 0 where
+pub record TellsHeard (heard : Heard) (account : Account) (wanted : standings.Heard) : Type 0 where
   pub code : heard.code ≡ wanted.code
   pub status : heard.status ≡ wanted.status
   pub standing : heard.standing ≡ wanted.standing

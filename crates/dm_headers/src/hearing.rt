@@ -3,7 +3,7 @@ ghost use Rattle.std.specs.Prelude.{◌≡◌, false, None, IfOk, unwrap_or, opt
 ghost use Rattle.dm_headers.specs.Checks.{with_nonce, with_both, other as other_side};
 ghost use Rattle.dm_headers.specs.Checks.{status_read, nonce_in as nonce_told_in, is_challenged as challenged};
 ghost use Rattle.dm_headers.specs.Standings.{hears};
-ghost use Rattle.dm_headers.specs.Views.{Tells};
+ghost use Rattle.dm_headers.specs.Views.{TellsHeard};
 
 use crate::checks::{Side, fault, header_code};
 use crate::standings::Standing;
@@ -86,7 +86,7 @@ pub fn hear(
     nonce: &Nonce,
 ) -> Result<Heard, Memory>
     ensures tells { IfOk result (λ heard.
-        Tells heard account.now (hears theirs account.now standing.now message.now nonce.now.bytes)) }
+        TellsHeard heard account.now (hears theirs account.now standing.now message.now nonce.now.bytes)) }
     // Where no nonce is new, no account is told.
     ensures kept { IfOk result (λ heard. nonce_told_in (status_read standing.now.own message.now) ≡ None
         → challenged heard.code ≡ false → heard.account ≡ None) }

@@ -3,7 +3,8 @@ ghost use Rattle.std.specs.Prelude.{◌≡◌, ◌+◌, ◌<◌, ◌^◌, Some, 
 ghost use Rattle.std.specs.Fmt.{decimal as decimal_of};
 ghost use Rattle.dm_auth.specs.Digests.{challenge as challenge_of};
 ghost use Rattle.dm_headers.specs.Checks.{login_of, is_challenged as is_challenged_code};
-ghost use Rattle.dm_headers.specs.Headers.{status_of as status_told, header_answer, shown, cred_of as cred_then};
+ghost use Rattle.dm_headers.specs.Headers.{status_of as status_told, header_answer, credential_shown};
+ghost use Rattle.dm_headers.specs.Headers.{cred_of as cred_then};
 ghost use Rattle.dm_headers.specs.Headers.{limits_meta as limits_told, next_header as header_then};
 
 use crate::checks::Side;
@@ -65,7 +66,7 @@ fn shown_by(
     password: &Option<Bytes>,
     nonce: &Bytes,
 ) -> Result<Option<Cred>, Memory>
-    ensures { IfOk result (λ cred. cred ≡ shown (Some name.now) password.now nonce.now) }
+    ensures { IfOk result (λ cred. cred ≡ credential_shown (Some name.now) password.now nonce.now) }
 {
     match password {
         Some(password) => {

@@ -1,5 +1,6 @@
 -- What the fields of a name say of a body.
-use Rattle.std.proofs.Common.{◌≡◌, ◌≤◌, ℕ, Bool, true, false, cond, List, [], ◌∷◌, refl, sym, ap, ◌∙◌, map, length, leb, leb-true, le-leb, arith}
+use Rattle.std.proofs.Common.{◌≡◌, ◌≤◌, ℕ, Bool, true, false, cond, List, [], ◌∷◌, refl, sym, ap, ◌∙◌, map, length, leb}
+use Rattle.std.proofs.Common.{leb-true, le-leb, arith}
 use Rattle.std.specs.Prelude.{◌&&◌, ◌||◌, not, codes, filter, IsTrue}
 use Rattle.std.specs.List.{list_any}
 use Rattle.std.specs.Str.Parse.{digits_value}

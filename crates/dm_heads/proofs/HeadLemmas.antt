@@ -9,7 +9,8 @@ use Rattle.httparse.specs.declared.spans.RequestSpans.{RequestSpans}
 use Rattle.httparse.specs.Grammar.{Field, print_request, print_response}
 use Rattle.httparse.specs.Grammar.{HasNoRequest, HasNoResponse, status_code}
 use Rattle.httparse.specs.Spans.{name_and_value, header_bytes, IsHeaderWithin, AreFieldsAt}
-use Rattle.httparse.specs.Spans.{IsRequestWithin, IsRequestOf, RequestOverflows, IsResponseWithin, IsResponseOf, ResponseOverflows}
+use Rattle.httparse.specs.Spans.{IsRequestWithin, IsRequestOf, RequestOverflows, IsResponseWithin, IsResponseOf}
+use Rattle.httparse.specs.Spans.{ResponseOverflows}
 use Rattle.httparse.proofs.GrammarLemmas.{ReadsRequest-append, ReadsResponse-append}
 use Rattle.dm_heads.specs.declared.extents.HeadVerdict.{HeadVerdict}
 use Rattle.dm_heads.specs.declared.heads.HeadKind.{HeadKind}
@@ -17,7 +18,8 @@ use Rattle.dm_heads.specs.declared.heads.HeadKind.TheVariants as kind
 use Rattle.dm_heads.specs.declared.heads.HeadSoFar.{HeadSoFar}
 use Rattle.dm_heads.specs.declared.heads.HeadSoFar.TheVariants as so_far
 use Rattle.dm_heads.specs.Extents.{reply_verdict, request_verdict}
-use Rattle.dm_heads.specs.Messages.{HasReplyHead, HasRequestHead, HasHead, HasNoHead, NeverHasHead, MayBecomeHead, IsReplySoFar, IsRequestSoFar, IsHeadSoFar}
+use Rattle.dm_heads.specs.Messages.{HasReplyHead, HasRequestHead, HasHead, HasNoHead, NeverHasHead, MayBecomeHead}
+use Rattle.dm_heads.specs.Messages.{IsReplySoFar, IsRequestSoFar, IsHeadSoFar}
 
 -- headers within a part of the bytes are within the bytes
 pub within_all : (n m : ℕ) (hs : List HeaderSpan) → n ≤ m → All (IsHeaderWithin n) hs → All (IsHeaderWithin m) hs

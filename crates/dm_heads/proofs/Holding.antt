@@ -1,5 +1,6 @@
 -- What a head that is read holds.
-use Rattle.std.proofs.Common.{◌≡◌, ◌≤◌, ◌≢◌, ℕ, Bool, true, false, cond, leb, leb-true, eqb, eqb-true, eq-eqb, le-leb, List, inl, inr, refl, sym, ap}
+use Rattle.std.proofs.Common.{◌≡◌, ◌≤◌, ◌≢◌, ℕ, Bool, true, false, cond, leb, leb-true, eqb, eqb-true, eq-eqb, le-leb}
+use Rattle.std.proofs.Common.{List, inl, inr, refl, sym, ap}
 use Rattle.std.proofs.Common.{◌∙◌, length, take, map, Result, Ok, Err}
 use Rattle.std.proofs.lemmas.Bool.{eqb-false}
 use Rattle.std.specs.Prelude.{◌⊎◌, bytes_eq, codes}
@@ -15,7 +16,8 @@ use Rattle.dm_heads.specs.declared.extents.HeadVerdict.TheVariants as verdict
 use Rattle.dm_heads.specs.declared.heads.HeadKind.TheVariants as kind
 use Rattle.dm_heads.specs.Extents.{body_extent, status_verdict, reply_verdict, sized_verdict, request_verdict}
 use Rattle.dm_heads.specs.Messages.{HasHead, Brings, body_of}
-use Rattle.dm_heads.specs.Laws.{IsSizedBody, IsWholeBody, IsPost, IsOkReply, RequestHolds, ReplyHolds, PostsBring, OkRepliesBring}
+use Rattle.dm_heads.specs.Laws.{IsSizedBody, IsWholeBody, IsPost, IsOkReply, RequestHolds, ReplyHolds, PostsBring}
+use Rattle.dm_heads.specs.Laws.{OkRepliesBring}
 use Rattle.dm_heads.specs.Laws.{ReplyStatusHolds, NoRequestStatus}
 use Rattle.dm_heads.proofs.FieldValues.{sized_fields, unsized_fields, fields_sized, fields_unsized}
 use Rattle.dm_heads.proofs.MoreBytes.{given, refused, taken_if}

@@ -1,6 +1,8 @@
 -- What a whole head and the bytes behind it bring, whatever follows.
-use Rattle.std.proofs.Common.{◌≡◌, ◌<◌, ◌≤◌, ◌+◌, ◌++◌, ℕ, Bool, true, false, cond, leb, List, inl, refl, sym, ap, subst}
-use Rattle.std.proofs.Common.{◌∙◌, arith, length, take, drop, Result, Ok, Err, length-append, length-drop, take-append-drop}
+use Rattle.std.proofs.Common.{◌≡◌, ◌<◌, ◌≤◌, ◌+◌, ◌++◌, ℕ, Bool, true, false, cond, leb, List, inl, refl, sym, ap}
+use Rattle.std.proofs.Common.{subst}
+use Rattle.std.proofs.Common.{◌∙◌, arith, length, take, drop, Result, Ok, Err, length-append, length-drop}
+use Rattle.std.proofs.Common.{take-append-drop}
 use Rattle.std.proofs.Common.{le-leb, leb-true, take_at}
 use Rattle.std.proofs.lemmas.List.{take-append-le, drop-append-le}
 use Rattle.httparse.specs.Grammar.{print_request, print_response}

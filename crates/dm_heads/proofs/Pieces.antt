@@ -1,5 +1,6 @@
 -- Pieces that are taken one behind the other.
-use Rattle.std.proofs.Common.{Bool, true, false, Ok, ◌≡◌, ◌<◌, ◌≤◌, ◌++◌, ◌∙◌, ℕ, List, [], sym, ap, length, append-nil, append_assoc}
+use Rattle.std.proofs.Common.{Bool, true, false, Ok, ◌≡◌, ◌<◌, ◌≤◌, ◌++◌, ◌∙◌, ℕ, List, [], sym, ap, length, append-nil}
+use Rattle.std.proofs.Common.{append_assoc}
 use Rattle.std.specs.declared.option.Option.{Option}
 use Rattle.std.specs.Io.KnownBytes.{Consumes, IsAtEnd}
 use Rattle.std.proofs.KnownBytes.{Consumes-nil, Consumes-trans}

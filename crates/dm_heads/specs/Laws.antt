@@ -1,8 +1,10 @@
 -- What a head that is read holds, in the words of the field, and what more bytes do to an answer.
-use Rattle.std.specs.Prelude.{◌≡◌, ◌≢◌, ◌≤◌, ◌⊎◌, ◌++◌, ℕ, IsTrue, List, [], ◌∷◌, length, take, map, filter, codes, Result, Ok, Err}
+use Rattle.std.specs.Prelude.{◌≡◌, ◌≢◌, ◌≤◌, ◌⊎◌, ◌++◌, ℕ, IsTrue, List, [], ◌∷◌, length, take, map, filter, codes}
+use Rattle.std.specs.Prelude.{Result, Ok, Err}
 use Rattle.std.specs.Str.Parse.{digits_value}
 use Rattle.dm_base.specs.Fields.{is_numeral}
-use Rattle.httparse.specs.Grammar.{RequestHead, print_request, ReadsRequest, ResponseHead, print_response, ReadsResponse}
+use Rattle.httparse.specs.Grammar.{RequestHead, print_request, ReadsRequest, ResponseHead, print_response}
+use Rattle.httparse.specs.Grammar.{ReadsResponse}
 use Rattle.httparse.specs.Grammar.{status_code}
 use Rattle.httparse.specs.Spans.{name_and_value}
 use Rattle.dm_heads.specs.declared.errors.HttpError.{HttpError}

@@ -1,7 +1,9 @@
 -- What the bytes of a connection bring: a head of the grammar of httparse with at most 32 fields in at most 8,192
 -- bytes, and the body behind it.
-use Rattle.std.specs.Prelude.{◌≡◌, ◌<◌, ◌≤◌, ◌⊎◌, ◌++◌, ℕ, List, length, take, map, drop, nat_le, if◌then◌else◌, Result, Ok, Err}
-use Rattle.httparse.specs.Grammar.{RequestHead, print_request, ReadsRequest, ResponseHead, print_response, ReadsResponse}
+use Rattle.std.specs.Prelude.{◌≡◌, ◌<◌, ◌≤◌, ◌⊎◌, ◌++◌, ℕ, List, length, take, map, drop, nat_le, if◌then◌else◌, Result}
+use Rattle.std.specs.Prelude.{Ok, Err}
+use Rattle.httparse.specs.Grammar.{RequestHead, print_request, ReadsRequest, ResponseHead, print_response}
+use Rattle.httparse.specs.Grammar.{ReadsResponse}
 use Rattle.httparse.specs.Grammar.{status_code, MayBecomeRequest, MayBecomeResponse}
 use Rattle.httparse.specs.Spans.{name_and_value}
 use Rattle.dm_heads.specs.declared.errors.HttpError.{HttpError}

@@ -1,5 +1,6 @@
 // What a head that is read holds, and what more bytes do to an answer.
-ghost use Rattle.dm_heads.specs.Laws.{RequestHolds, ReplyHolds, PostsBring, OkRepliesBring, ReplyStatusHolds, NoRequestStatus};
+ghost use Rattle.dm_heads.specs.Laws.{RequestHolds, ReplyHolds, PostsBring, OkRepliesBring, ReplyStatusHolds};
+ghost use Rattle.dm_heads.specs.Laws.{NoRequestStatus};
 ghost use Rattle.dm_heads.specs.Laws.{LengthEndsBody, WantedIsUnsettled, OneAnswerEach, SettledStays};
 
 /// Law: a request brings a message exactly where it is a POST with no Transfer-Encoding and one Content-Length, and the

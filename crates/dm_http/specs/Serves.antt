@@ -58,17 +58,17 @@ abbrev pub StopsBefore : {S : Type 0} → ExchangeState S → ExchangeState S �
 StopsBefore old new = TakesPart old.left new.left × Keeps old.got new.got × KeepsCore old new
 
 -- by the answer: what was taken, what was put, and what was delivered
-unfoldable pub Serves : {S : Type 0} → CoreMachine S → List ℕ → ExchangeState S → ExchangeState S
+unfoldable pub ServesOne : {S : Type 0} → CoreMachine S → List ℕ → ExchangeState S → ExchangeState S
     → Result (Unit {0}) HttpError → Type 0
-Serves m nonce old new (Ok u) = AnswersRequest m nonce old new
-Serves m nonce old new (Err error.Failed) =
+ServesOne m nonce old new (Ok u) = AnswersRequest m nonce old new
+ServesOne m nonce old new (Err error.Failed) =
     StopsTaking old new ⊎ (StopsReplying m nonce old new ⊎ StopsRefusing old new)
-Serves m nonce old new (Err error.Memory) =
+ServesOne m nonce old new (Err error.Memory) =
     StopsBefore old new ⊎ (StopsReplying m nonce old new ⊎ StopsRefusing old new)
-Serves m nonce old new (Err error.BadHead) = RefusesRequest old new error.BadHead
-Serves m nonce old new (Err error.TooLong) = RefusesRequest old new error.TooLong
-Serves m nonce old new (Err error.Cut) = RefusesRequest old new error.Cut
-Serves m nonce old new (Err (error.NotOk code)) = ⊥
+ServesOne m nonce old new (Err error.BadHead) = RefusesRequest old new error.BadHead
+ServesOne m nonce old new (Err error.TooLong) = RefusesRequest old new error.TooLong
+ServesOne m nonce old new (Err error.Cut) = RefusesRequest old new error.Cut
+ServesOne m nonce old new (Err (error.NotOk code)) = ⊥
 
 -- a text was put, or a beginning of it
 abbrev pub PutsText : Option (List ℕ) → Option (List ℕ) → List ℕ → Result (Unit {0}) HttpError → Type 0

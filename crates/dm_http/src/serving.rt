@@ -6,7 +6,7 @@ ghost use Rattle.dm_heads.specs.Receiving.{HttpCounts};
 ghost use Rattle.dm_heads.specs.declared.heads.HeadKind.TheVariants.{Request as ARequest};
 ghost use Rattle.dm_http.specs.Posts.{StreamCounts};
 ghost use Rattle.dm_http.specs.Replies.{reply_bytes};
-ghost use Rattle.dm_http.specs.Serves.{AnswersMessage, IsUnread, PutsRefusal, PutsText, Serves};
+ghost use Rattle.dm_http.specs.Serves.{AnswersMessage, IsUnread, PutsRefusal, PutsText, ServesOne};
 
 use crate::texts::message_text;
 use dm_base::{Fault, Memory, Nonce, Sink, Stream, put_all};
@@ -97,14 +97,14 @@ fn refuse<K: Sink>(conn: &mut K, why: HttpError) -> Result<(), HttpError>
 /// `BadHead`, `TooLong` or `Cut`; `NotOk` never comes. Where the reply to a message fails, or finds no memory, the core
 /// has taken the message. `Failed` comes only where a count of the stream rose, and every other answer leaves both. No
 /// byte is asked for once those taken settle the answer.
-#[tactic(auto, unfolding(crate::specs::Serves::Serves, crate::specs::Posts::StreamCounts))]
+#[tactic(auto, unfolding(crate::specs::Serves::ServesOne, crate::specs::Posts::StreamCounts))]
 pub fn serve_one<C: Stream, X: Core>(
     alloc: Global,
     conn: &mut C,
     core: &mut X,
     nonce: Nonce,
 ) -> Result<(), HttpError>
-    ensures serves { Serves X.machine nonce.bytes
+    ensures serves { ServesOne X.machine nonce.bytes
         (record { left = C.Source.left conn.old; got = C.Sink.got conn.old; core = core.old })
         (record { left = C.Source.left conn.new; got = C.Sink.got conn.new; core = core.new }) result }
     ensures asked { Asked ARequest (C.Source.left conn.old) (C.Source.left conn.new) }

@@ -9,7 +9,7 @@ use Rattle.dm_base.specs.declared.lines.LineReason.TheVariants as reason
 use Rattle.dm_job.specs.declared.job.Job.{Job}
 use Rattle.dm_job.specs.declared.draft.Reading.{Reading}
 use Rattle.dm_job.specs.declared.draft.Reading.TheVariants as reading
-use Rattle.dm_job.specs.Reading.{after_line, behind_line, lines_after}
+use Rattle.dm_job.specs.Reading.{reading_after, reading_behind, reading_after_all}
 use Rattle.dm_job.specs.Texts.{segments, is_long, job_in, end_at, end_or, job_from, job_of}
 use Rattle.dm_job.proofs.Turns.{some_segments}
 
@@ -25,7 +25,7 @@ pub record Accepted (n : ℕ) (r : Reading) (segs : List (List ℕ)) (job : Job)
   pub are : segs ≡ lines ++ [] ∷ []
   pub short : list_all (λ l. not (is_long l)) lines ≡ true
   pub reached : Reading
-  pub taken : lines_after n r lines ≡ Ok reached
+  pub taken : reading_after_all n r lines ≡ Ok reached
   pub ends : job_in reached ≡ Some job
 
 same_job : (a b : Job) → As a ≡ As b → a ≡ b
@@ -44,30 +44,30 @@ Later n next others job =
     → Accepted (n + 1) read (next ∷ others) job
 
 one_more : (n : ℕ) (r read : Reading) (line : List ℕ) (segs : List (List ℕ)) (job : Job)
-    → is_long line ≡ false → after_line r line ≡ Ok read → Accepted (n + 1) read segs job
+    → is_long line ≡ false → reading_after r line ≡ Ok read → Accepted (n + 1) read segs job
     → Accepted n r (line ∷ segs) job
 one_more n r read line segs job short took rest = record {
   lines = line ∷ rest.lines;
   are = ap (λ s. line ∷ s) rest.are;
   short = and_from _ _ (ap not short) rest.short;
   reached = rest.reached;
-  taken = ap (λ x. behind_line n x (λ next. lines_after (n + 1) next rest.lines)) took ∙ rest.taken;
+  taken = ap (λ x. reading_behind n x (λ next. reading_after_all (n + 1) next rest.lines)) took ∙ rest.taken;
   ends = rest.ends;
 }
 
 last_one : (n : ℕ) (r read : Reading) (line : List ℕ) (segs : List (List ℕ)) (job : Job) → is_long line ≡ false
-    → after_line r line ≡ Ok read → segs ≡ [] ∷ [] → job_in read ≡ Some job → Accepted n r (line ∷ segs) job
+    → reading_after r line ≡ Ok read → segs ≡ [] ∷ [] → job_in read ≡ Some job → Accepted n r (line ∷ segs) job
 last_one n r read line segs job short took is ends = record {
   lines = line ∷ [];
   are = ap (λ s. line ∷ s) is;
   short = and_from _ true (ap not short) refl;
   reached = read;
-  taken = ap (λ x. behind_line n x (λ next. lines_after (n + 1) next [])) took;
+  taken = ap (λ x. reading_behind n x (λ next. reading_after_all (n + 1) next [])) took;
   ends = ends;
 }
 
 taken_line : (n : ℕ) (r read : Reading) (line next : List ℕ) (others : List (List ℕ)) (job : Job)
-    → Later n next others job → after_line r line ≡ Ok read → is_long line ≡ false
+    → Later n next others job → reading_after r line ≡ Ok read → is_long line ≡ false
     → end_or n (job_in read) (next ∷ others) (job_from (n + 1) read (next ∷ others)) ≡ As job
     → Accepted n r (line ∷ next ∷ others) job
 taken_line n r read line next others job rest took short e = by_job (job_in read) refl e
@@ -84,19 +84,19 @@ any_line : (n : ℕ) (r : Reading) (line next : List ℕ) (others : List (List �
     → Later n next others job → job_from n r (line ∷ next ∷ others) ≡ As job → Accepted n r (line ∷ next ∷ others) job
 any_line n r line next others job rest e = by_length (is_long line) refl e
   where
-    by_read : (x : Result Reading LineReason) → after_line r line ≡ x → is_long line ≡ false
-        → behind_line n x (λ read. end_or n (job_in read) (next ∷ others) (job_from (n + 1) read (next ∷ others)))
+    by_read : (x : Result Reading LineReason) → reading_after r line ≡ x → is_long line ≡ false
+        → reading_behind n x (λ read. end_or n (job_in read) (next ∷ others) (job_from (n + 1) read (next ∷ others)))
         ≡ As job
         → Accepted n r (line ∷ next ∷ others) job
     by_read (Ok read) took short h = taken_line n r read line next others job rest took short h
     by_read (Err why) took short h = absurd (cc)
 
     by_length : (b : Bool) → is_long line ≡ b
-        → cond b (Err (n, reason.Long)) (behind_line n (after_line r line)
+        → cond b (Err (n, reason.Long)) (reading_behind n (reading_after r line)
         (λ read. end_or n (job_in read) (next ∷ others) (job_from (n + 1) read (next ∷ others)))) ≡ As job
         → Accepted n r (line ∷ next ∷ others) job
     by_length true long h = absurd (cc)
-    by_length false short h = by_read (after_line r line) refl short h
+    by_length false short h = by_read (reading_after r line) refl short h
 
 accepted_from : (n : ℕ) (r : Reading) (line : List ℕ) (others : List (List ℕ)) (job : Job)
     → job_from n r (line ∷ others) ≡ As job → Accepted n r (line ∷ others) job

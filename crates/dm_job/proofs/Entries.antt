@@ -5,13 +5,13 @@ use Rattle.std.proofs.Common.{◌∙◌, arith, append_assoc, append-nil, length
 use Rattle.std.specs.Prelude.{⊤}
 use Rattle.std.specs.List.{AllByRecursion}
 use Rattle.syncml_parts.specs.Numbering.{ids_in}
-use Rattle.syncml_parts.specs.Packing.{last_of, last_changed}
+use Rattle.syncml_parts.specs.Packing.{list_last, last_changed}
 use Rattle.syncml_parts.proofs.Last.{last_next}
 use Rattle.dm_pack.proofs.Numbers.{length_last}
 use Rattle.dm_job.specs.declared.job.JobEntry.{JobEntry}
-use Rattle.dm_job.specs.declared.draft.Place.{Place}
-use Rattle.dm_job.specs.declared.draft.Place.TheVariants as place
-use Rattle.dm_job.specs.Reading.{with_entry, last_entry}
+use Rattle.dm_job.specs.declared.draft.LinePlace.{LinePlace}
+use Rattle.dm_job.specs.declared.draft.LinePlace.TheVariants as place
+use Rattle.dm_job.specs.Reading.{entry_put, last_entry}
 use Rattle.dm_job.specs.Sound.{all_entries, AreNumbered}
 use Rattle.dm_job.proofs.Containers.{all_more}
 
@@ -22,7 +22,7 @@ abbrev pub AreFilled : List (List JobEntry) → Type 0
 AreFilled ps = AllByRecursion IsFilled ps
 
 -- a package that the next command stands in is there
-abbrev pub IsBehind : Place → List (List JobEntry) → Type 0
+abbrev pub IsBehind : LinePlace → List (List JobEntry) → Type 0
 IsBehind place.Between ps = ⊤
 IsBehind place.Package ps = 0 < length ps
 IsBehind place.Container ps = 0 < length ps
@@ -42,14 +42,14 @@ added_last (x ∷ y ∷ ys) e h =
     ap (λ l. x ++ l) (added_last (y ∷ ys) e (omega arith)) ∙ sym (append_assoc x (all_entries (y ∷ ys)) (e ∷ []))
 
 -- where the next command may stand
-abbrev pub Goes : Place → Type 0
+abbrev pub Goes : LinePlace → Type 0
 Goes place.Between = ⊤
 Goes place.Package = ⊤
 Goes place.Container = ⊥
 Goes place.End = ⊥
 
-pub all_added : (at : Place) (ps : List (List JobEntry)) (e : JobEntry) → Goes at → IsBehind at ps
-    → all_entries (with_entry at ps e) ≡ all_entries ps ++ e ∷ []
+pub all_added : (at : LinePlace) (ps : List (List JobEntry)) (e : JobEntry) → Goes at → IsBehind at ps
+    → all_entries (entry_put at ps e) ≡ all_entries ps ++ e ∷ []
 all_added place.Between ps e goes h = added_first ps e
 all_added place.Package ps e goes h = added_last ps e h
 all_added place.Container ps e goes h = absurd goes
@@ -65,15 +65,15 @@ filled_last f (x ∷ y ∷ ys) keeps h = (h.0, filled_last f (y ∷ ys) keeps h.
 more_filled : (es : List JobEntry) (e : JobEntry) → IsFilled (es ++ e ∷ [])
 more_filled es e = let long = length-append es (e ∷ []) in omega (arith, long)
 
-pub added_filled : (at : Place) (ps : List (List JobEntry)) (e : JobEntry) → AreFilled ps
-    → AreFilled (with_entry at ps e)
+pub added_filled : (at : LinePlace) (ps : List (List JobEntry)) (e : JobEntry) → AreFilled ps
+    → AreFilled (entry_put at ps e)
 added_filled place.Between ps e h = all_more IsFilled ps (e ∷ []) h (omega arith)
 added_filled place.Package ps e h = filled_last (λ es. es ++ e ∷ []) ps (λ es k. more_filled es e) h
 added_filled place.Container ps e h = filled_last (λ es. es ++ e ∷ []) ps (λ es k. more_filled es e) h
 added_filled place.End ps e h = filled_last (λ es. es ++ e ∷ []) ps (λ es k. more_filled es e) h
 
-pub added_some : (at : Place) (ps : List (List JobEntry)) (e : JobEntry) → Goes at → IsBehind at ps
-    → 0 < length (with_entry at ps e)
+pub added_some : (at : LinePlace) (ps : List (List JobEntry)) (e : JobEntry) → Goes at → IsBehind at ps
+    → 0 < length (entry_put at ps e)
 added_some place.Between ps e goes h = let long = length-append ps ((e ∷ []) ∷ []) in omega (arith, long)
 added_some place.Package ps e goes h = let long = length_last (λ es. es ++ e ∷ []) ps in omega (arith, long, h)
 added_some place.Container ps e goes h = absurd goes
@@ -106,20 +106,20 @@ changed_filled f ps h =
 
 -- ---- the last one
 
-last_append : {A : Type 0} (xs : List A) (y : A) (ys : List A) → last_of (xs ++ y ∷ ys) ≡ last_of (y ∷ ys)
+last_append : {A : Type 0} (xs : List A) (y : A) (ys : List A) → list_last (xs ++ y ∷ ys) ≡ list_last (y ∷ ys)
 last_append [] y ys = refl
 last_append (x ∷ []) y ys = last_next x y ys
 last_append (x ∷ z ∷ zs) y ys = last_next x z (zs ++ y ∷ ys) ∙ last_append (z ∷ zs) y ys
 
-last_behind : {A : Type 0} (xs ys : List A) → 0 < length ys → last_of (xs ++ ys) ≡ last_of ys
+last_behind : {A : Type 0} (xs ys : List A) → 0 < length ys → list_last (xs ++ ys) ≡ list_last ys
 last_behind xs [] h = absurd (omega (arith, h))
 last_behind xs (y ∷ ys) h = last_append xs y ys
 
-pub last_is_of_all : (ps : List (List JobEntry)) → AreFilled ps → last_entry ps ≡ last_of (all_entries ps)
+pub last_is_of_all : (ps : List (List JobEntry)) → AreFilled ps → last_entry ps ≡ list_last (all_entries ps)
 last_is_of_all [] h = refl
-last_is_of_all (x ∷ []) h = ap last_of (sym (append-nil x))
+last_is_of_all (x ∷ []) h = ap list_last (sym (append-nil x))
 last_is_of_all (x ∷ y ∷ ys) h =
-    ap (option_and_then last_of) (last_next x y ys) ∙ last_is_of_all (y ∷ ys) h.1
+    ap (option_and_then list_last) (last_next x y ys) ∙ last_is_of_all (y ∷ ys) h.1
     ∙ sym (last_behind x (all_entries (y ∷ ys)) (some_entries y ys h.1.0))
 
 -- ---- numbers

@@ -20,14 +20,15 @@ use Rattle.syncml_types.specs.Fitness.{is_in_limit, item_data, member_data, seq_
 use Rattle.syncml_parts.specs.Numbering.{ids_in, ids_in_seq_members}
 use Rattle.dm_fields.specs.Fields.{begins_with, account_in, limits_in}
 use Rattle.dm_fields.proofs.Told.{said, allowed, same_ok}
-use Rattle.dm_job.specs.declared.draft.Draft.{Draft}
-use Rattle.dm_job.specs.declared.draft.Place.{Place}
-use Rattle.dm_job.specs.declared.draft.Place.TheVariants as place
+use Rattle.dm_job.specs.declared.draft.JobDraft.{JobDraft}
+use Rattle.dm_job.specs.declared.draft.LinePlace.{LinePlace}
+use Rattle.dm_job.specs.declared.draft.LinePlace.TheVariants as place
 use Rattle.dm_job.specs.declared.draft.Reading.{Reading}
 use Rattle.dm_job.specs.declared.draft.Reading.TheVariants as reading
 use Rattle.dm_job.specs.Commands.{verb_in, plain_in}
 use Rattle.dm_job.specs.Commands.{new_atomic, new_sequence, with_member}
-use Rattle.dm_job.specs.Reading.{empty_draft, adds, joins, joined, inside, outside, draft_after, with_draft, after_line}
+use Rattle.dm_job.specs.Reading.{empty_draft, adds, draft_joined, entry_joined, inside, outside, draft_after}
+use Rattle.dm_job.specs.Reading.{with_draft, reading_after}
 use Rattle.dm_job.specs.Reading.{last_may_close, close_line}
 use Rattle.dm_job.specs.Measures.{CanBeMeasured, CanClose, CanGoOn}
 use Rattle.dm_job.proofs.Ends.{entry_added, entry_changed}
@@ -90,31 +91,31 @@ member_measured (command.Results r) p h c = c
 
 -- ---- lines among commands
 
-abbrev Measured : Draft → Type 0
+abbrev Measured : JobDraft → Type 0
 Measured d = CanClose d.job.packages
 
-adds_measured : (d : Draft) (next : Place) (c : Command) → CanBeMeasured c → Measured (adds d next c)
+adds_measured : (d : JobDraft) (next : LinePlace) (c : Command) → CanBeMeasured c → Measured (adds d next c)
 adds_measured d next c h = entry_added (λ e. CanBeMeasured e.command) d.place d.job.packages _ h
 
-joins_measured : (d : Draft) (p : Plain) → HasShortValue p → Measured d → Measured (joins d p)
+joins_measured : (d : JobDraft) (p : Plain) → HasShortValue p → Measured d → Measured (draft_joined d p)
 joins_measured d p h m =
-    entry_changed (λ e. CanBeMeasured e.command) (joined p) d.job.packages (λ e k. member_measured e.command p h k) m
+    entry_changed (λ e. CanBeMeasured e.command) (entry_joined p) d.job.packages (λ e k. member_measured e.command p h k) m
 
-close_measured : (d next : Draft) (line : List ℕ) → close_line d line ≡ Ok next → Measured d → Measured next
+close_measured : (d next : JobDraft) (line : List ℕ) → close_line d line ≡ Ok next → Measured d → Measured next
 close_measured d next line e m =
     subst Measured (when_is (bytes_eq line (codes "close") && last_may_close d.job.packages)
     (record d { place = place.Package }) next e).1 m
 
-inside_measured : (d next : Draft) (line : List ℕ) (o : Option Verb) → inside d line o ≡ Ok next → Measured d
+inside_measured : (d next : JobDraft) (line : List ℕ) (o : Option Verb) → inside d line o ≡ Ok next → Measured d
     → Measured next
 inside_measured d next line (Some v) e m =
-    let s = said reason.Fields (plain_in v (parts line)) (λ p. Ok (joins d p)) next e in
+    let s = said reason.Fields (plain_in v (parts line)) (λ p. Ok (draft_joined d p)) next e in
     subst Measured (same_ok _ next s.rest) (joins_measured d s.value (plain_short v (parts line) s.value s.is) m)
 inside_measured d next line None e m =
     let told = allowed (begins_with (codes "close") line) (close_line d line) reason.Word next e in
     close_measured d next line told.1 m
 
-between_measured : (d next : Draft) (line : List ℕ) → Move d next line → Measured d → Measured next
+between_measured : (d next : JobDraft) (line : List ℕ) → Move d next line → Measured d → Measured next
 between_measured d next line (opens_atomic w is) m =
     subst Measured is (adds_measured d place.Container new_atomic atomic_measured)
 between_measured d next line (opens_sequence w is) m =
@@ -122,7 +123,7 @@ between_measured d next line (opens_sequence w is) m =
 between_measured d next line (parts_ w is) m = subst Measured is m
 between_measured d next line (ends w is) m = subst Measured is m
 
-outside_measured : (d next : Draft) (line : List ℕ) (o : Option Verb) → outside d line o ≡ Ok next → Measured d
+outside_measured : (d next : JobDraft) (line : List ℕ) (o : Option Verb) → outside d line o ≡ Ok next → Measured d
     → Measured next
 outside_measured d next line (Some v) e m =
     let s = said reason.Fields (plain_in v (parts line)) (λ p. Ok (adds d place.Package (command.Plain p))) next e in
@@ -131,7 +132,7 @@ outside_measured d next line (Some v) e m =
     (plain_measured s.value (plain_short v (parts line) s.value s.is)))
 outside_measured d next line None e m = between_measured d next line (moves d next line e) m
 
-draft_measured : (at : Place) (d next : Draft) (line : List ℕ) → draft_after at d line ≡ Ok next → Measured d
+draft_measured : (at : LinePlace) (d next : JobDraft) (line : List ℕ) → draft_after at d line ≡ Ok next → Measured d
     → Measured next
 draft_measured place.Between d next line e m = outside_measured d next line (verb_in line) e m
 draft_measured place.Package d next line e m = outside_measured d next line (verb_in line) e m
@@ -143,8 +144,8 @@ draft_measured place.End d next line e m = absurd (cc)
 same_reading : (x y : Reading) → ◌≡◌ {A = Result Reading LineReason} (Ok x) (Ok y) → x ≡ y
 same_reading x y e = cc
 
-pub can_go_on : (r next : Reading) (line : List ℕ) → after_line r line ≡ Ok next → CanGoOn r → CanGoOn next
-unfolding after_line
+pub can_go_on : (r next : Reading) (line : List ℕ) → reading_after r line ≡ Ok next → CanGoOn r → CanGoOn next
+unfolding reading_after
 can_go_on reading.First next line e h =
     let told = allowed _ (Ok reading.Server) reason.Word next e in subst CanGoOn (same_reading _ next told.1) tt
 can_go_on reading.Server next line e h =
@@ -158,6 +159,6 @@ can_go_on (reading.Limits account) next line e h =
     subst CanGoOn (same_reading _ next s.rest) tt
 can_go_on (reading.Commands d) next line e h = by_draft (draft_after d.place d line) refl e
   where
-    by_draft : (x : Result Draft LineReason) → draft_after d.place d line ≡ x → with_draft x ≡ Ok next → CanGoOn next
+    by_draft : (x : Result JobDraft LineReason) → draft_after d.place d line ≡ x → with_draft x ≡ Ok next → CanGoOn next
     by_draft (Ok n) is k = subst CanGoOn (same_reading _ next k) (draft_measured d.place d n line is h)
     by_draft (Err why) is k = absurd (cc)

@@ -33,7 +33,8 @@ use Rattle.dm_pack.proofs.Ready.{IsText, IsOptional, Passes, texts_pass, short_p
 use Rattle.dm_fields.specs.Fields.{opt_of}
 use Rattle.dm_fields.proofs.Told.{some_if}
 use Rattle.dm_fields.proofs.Words.{word_is_text}
-use Rattle.dm_job.specs.Commands.{meta_of, item_of, plain_of, bare_in, exec_in, within_object, data_in, written}
+use Rattle.dm_job.specs.Commands.{meta_of, item_of, plain_of, bare_in, exec_in, within_object, hex_data_in}
+use Rattle.dm_job.specs.Commands.{plain_written}
 use Rattle.dm_job.specs.Commands.{write_in, plain_in}
 use Rattle.dm_job.specs.Sound.{IsStep}
 
@@ -269,7 +270,7 @@ exec_good (w ∷ uri ∷ t ∷ x ∷ xs) p e = absurd (cc)
 few_bytes : (n : ℕ) → nat_le n 4194304 ≡ true → nat_le n 2147483648 ≡ true
 few_bytes n h = let low = leb-true n 4194304 h in le-leb n 2147483648 (omega (arith, low))
 
-data_few : (text bytes : List ℕ) → data_in text ≡ Some bytes → nat_le (length bytes) 4194304 ≡ true
+data_few : (text bytes : List ℕ) → hex_data_in text ≡ Some bytes → nat_le (length bytes) 4194304 ≡ true
 data_few text bytes e = by_hex (hex_of text) e
   where
     by_hex : (o : Option (List ℕ)) → option_and_then within_object o ≡ Some bytes → nat_le (length bytes) 4194304 ≡ true
@@ -287,13 +288,13 @@ write_good v (w ∷ uri ∷ f ∷ []) p may e = absurd (cc)
 write_good v (w ∷ uri ∷ f ∷ m ∷ []) p may e = absurd (cc)
 write_good v (w ∷ uri ∷ f ∷ m ∷ t ∷ []) p may e =
     let told =
-    some_if (is_word uri && is_short f && is_word m) (option_map (written v uri f m) (data_in t)) p e in
+    some_if (is_word uri && is_short f && is_word m) (option_map (plain_written v uri f m) (hex_data_in t)) p e in
     let all = and_parts (is_word uri && is_short f) (is_word m) told.0 in
     let both = and_parts (is_word uri) (is_short f) all.0 in
-    by_data both.0 both.1 all.1 (data_in t) refl told.1
+    by_data both.0 both.1 all.1 (hex_data_in t) refl told.1
   where
     by_data : is_word uri ≡ true → is_short f ≡ true → is_word m ≡ true
-        → (o : Option (List ℕ)) → data_in t ≡ o → option_map (written v uri f m) o ≡ Some p → IsGood p
+        → (o : Option (List ℕ)) → hex_data_in t ≡ o → option_map (plain_written v uri f m) o ≡ Some p → IsGood p
     by_data u s k None is h = absurd (cc)
     by_data u s k (Some bytes) is h =
         subst IsGood (same_some _ p h)

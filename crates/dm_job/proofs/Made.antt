@@ -8,10 +8,11 @@ use Rattle.syncml_types.specs.declared.command.Command.{Command}
 use Rattle.syncml_parts.specs.Numbering.{ids_in}
 use Rattle.syncml_parts.specs.Packing.{last_changed}
 use Rattle.dm_job.specs.declared.job.JobEntry.{JobEntry}
-use Rattle.dm_job.specs.declared.draft.Place.{Place}
-use Rattle.dm_job.specs.declared.draft.Place.TheVariants as place
-use Rattle.dm_job.specs.Reading.{with_entry}
-use Rattle.dm_job.specs.Grammar.{Stanza, lines_of, command_of, package_lines, entries_of, ids_of, numbered, has_some}
+use Rattle.dm_job.specs.declared.draft.LinePlace.{LinePlace}
+use Rattle.dm_job.specs.declared.draft.LinePlace.TheVariants as place
+use Rattle.dm_job.specs.Reading.{entry_put}
+use Rattle.dm_job.specs.Grammar.{Stanza, lines_of, command_of, package_lines, numbered_entries, ids_of_stanzas}
+use Rattle.dm_job.specs.Grammar.{numbered_packages, has_some}
 use Rattle.dm_job.specs.Grammar.{packages_of}
 use Rattle.dm_job.proofs.Entries.{changed_append}
 
@@ -51,13 +52,13 @@ lines_parted (q ∷ rest) p = parted q (rest ++ p ∷ [])
 
 abbrev pub total : List (List Stanza) → ℕ
 total [] = 0
-total (p ∷ ps) = ids_of p + total ps
+total (p ∷ ps) = ids_of_stanzas p + total ps
 
-pub ids_more : (p : List Stanza) (s : Stanza) → ids_of (p ++ s ∷ []) ≡ ids_of p + ids_in (command_of s)
+pub ids_more : (p : List Stanza) (s : Stanza) → ids_of_stanzas (p ++ s ∷ []) ≡ ids_of_stanzas p + ids_in (command_of s)
 ids_more [] s = omega arith
 ids_more (x ∷ xs) s = let rest = ids_more xs s in omega (arith, rest)
 
-pub total_more : (whole : List (List Stanza)) (p : List Stanza) → total (whole ++ p ∷ []) ≡ total whole + ids_of p
+pub total_more : (whole : List (List Stanza)) (p : List Stanza) → total (whole ++ p ∷ []) ≡ total whole + ids_of_stanzas p
 total_more [] p = omega arith
 total_more (q ∷ qs) p = let rest = total_more qs p in omega (arith, rest)
 
@@ -66,21 +67,21 @@ total_more (q ∷ qs) p = let rest = total_more qs p in omega (arith, rest)
 abbrev pub entry_of : ℕ → Command → JobEntry
 entry_of n c = record { number = n; command = c }
 
-pub entries_more : (n m : ℕ) (p : List Stanza) (s : Stanza) → m ≡ n + ids_of p
-    → entries_of n (p ++ s ∷ []) ≡ entries_of n p ++ entry_of m (command_of s) ∷ []
+pub entries_more : (n m : ℕ) (p : List Stanza) (s : Stanza) → m ≡ n + ids_of_stanzas p
+    → numbered_entries n (p ++ s ∷ []) ≡ numbered_entries n p ++ entry_of m (command_of s) ∷ []
 entries_more n m [] s is = ap (λ k. entry_of k (command_of s) ∷ []) (sym (is ∙ add-zero n))
 entries_more n m (x ∷ xs) s is =
     ap (λ l. entry_of n (command_of x) ∷ l) (entries_more (n + ids_in (command_of x)) m xs s (omega (arith, is)))
 
-pub entries_long : (n : ℕ) (p : List Stanza) → length (entries_of n p) ≡ length p
+pub entries_long : (n : ℕ) (p : List Stanza) → length (numbered_entries n p) ≡ length p
 entries_long n [] = refl
 entries_long n (s ∷ rest) = let more = entries_long (n + ids_in (command_of s)) rest in omega (arith, more)
 
 numbered_more : (n m : ℕ) (whole : List (List Stanza)) (p : List Stanza) → m ≡ n + total whole
-    → numbered n (whole ++ p ∷ []) ≡ numbered n whole ++ entries_of m p ∷ []
-numbered_more n m [] p is = ap (λ k. entries_of k p ∷ []) (sym (is ∙ add-zero n))
+    → numbered_packages n (whole ++ p ∷ []) ≡ numbered_packages n whole ++ numbered_entries m p ∷ []
+numbered_more n m [] p is = ap (λ k. numbered_entries k p ∷ []) (sym (is ∙ add-zero n))
 numbered_more n m (q ∷ qs) p is =
-    ap (λ l. entries_of n q ∷ l) (numbered_more (n + ids_of q) m qs p (omega (arith, is)))
+    ap (λ l. numbered_entries n q ∷ l) (numbered_more (n + ids_of_stanzas q) m qs p (omega (arith, is)))
 
 -- ---- packages
 
@@ -99,14 +100,14 @@ last_kept ps (e ∷ es) = refl
 
 -- the packages, and the last of them apart
 pub packages_more : (m : ℕ) (whole : List (List Stanza)) (p : List Stanza) → m ≡ 1 + total whole
-    → packages_of (whole ++ p ∷ []) ≡ with_last (packages_of whole) (entries_of m p)
+    → packages_of (whole ++ p ∷ []) ≡ with_last (packages_of whole) (numbered_entries m p)
 packages_more m whole p is =
     ap (filter has_some) (numbered_more 1 m whole p is)
-    ∙ filter-append has_some (numbered 1 whole) (entries_of m p ∷ [])
-    ∙ last_kept (packages_of whole) (entries_of m p)
+    ∙ filter-append has_some (numbered_packages 1 whole) (numbered_entries m p ∷ [])
+    ∙ last_kept (packages_of whole) (numbered_entries m p)
 
 -- where the next command of a package stands
-abbrev pub Stands : Place → List JobEntry → Type 0
+abbrev pub Stands : LinePlace → List JobEntry → Type 0
 Stands place.Between es = es ≡ []
 Stands place.Package es = 0 < length es
 Stands place.Container es = ⊥
@@ -117,10 +118,10 @@ some_more : (ps : List (List JobEntry)) (es : List JobEntry) (e : JobEntry)
 some_more ps [] e = refl
 some_more ps (x ∷ xs) e = refl
 
-pub entry_comes : (at : Place) (ps : List (List JobEntry)) (es : List JobEntry) (e : JobEntry) → Stands at es
-    → with_entry at (with_last ps es) e ≡ with_last ps (es ++ e ∷ [])
+pub entry_comes : (at : LinePlace) (ps : List (List JobEntry)) (es : List JobEntry) (e : JobEntry) → Stands at es
+    → entry_put at (with_last ps es) e ≡ with_last ps (es ++ e ∷ [])
 entry_comes place.Between ps es e h =
-    subst (λ x. with_entry place.Between (with_last ps x) e ≡ with_last ps (x ++ e ∷ [])) (sym h) refl
+    subst (λ x. entry_put place.Between (with_last ps x) e ≡ with_last ps (x ++ e ∷ [])) (sym h) refl
 entry_comes place.Package ps es e h =
     ap (last_changed (λ x. x ++ e ∷ [])) (with_some ps es h)
     ∙ changed_append (λ x. x ++ e ∷ []) ps (es ∷ []) (omega arith) ∙ sym (some_more ps es e)

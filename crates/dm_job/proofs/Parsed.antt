@@ -15,25 +15,27 @@ use Rattle.dm_base.specs.declared.lines.LineReason.TheVariants as reason
 use Rattle.syncml_types.specs.declared.command.Verb.{Verb}
 use Rattle.syncml_types.specs.declared.command.Command.TheVariants as command
 use Rattle.syncml_parts.specs.Numbering.{ids_in, ids_in_seq_members}
-use Rattle.syncml_parts.specs.Packing.{last_of, last_changed}
+use Rattle.syncml_parts.specs.Packing.{list_last, last_changed}
 use Rattle.dm_auth.specs.declared.accounts.Account.{Account}
 use Rattle.dm_fields.specs.Fields.{begins_with, account_in, limits_in}
 use Rattle.dm_fields.proofs.Told.{said, allowed, same_ok}
 use Rattle.dm_job.specs.declared.job.Job.{Job}
 use Rattle.dm_job.specs.declared.job.JobEntry.{JobEntry}
-use Rattle.dm_job.specs.declared.draft.Draft.{Draft}
-use Rattle.dm_job.specs.declared.draft.Place.{Place}
-use Rattle.dm_job.specs.declared.draft.Place.TheVariants as place
+use Rattle.dm_job.specs.declared.draft.JobDraft.{JobDraft}
+use Rattle.dm_job.specs.declared.draft.LinePlace.{LinePlace}
+use Rattle.dm_job.specs.declared.draft.LinePlace.TheVariants as place
 use Rattle.dm_job.specs.declared.draft.Reading.{Reading}
 use Rattle.dm_job.specs.declared.draft.Reading.TheVariants as reading
 use Rattle.dm_job.specs.Commands.{verb_in, plain_in, new_atomic, new_sequence, may_close}
-use Rattle.dm_job.specs.Reading.{with_entry, adds, joins, joined, inside, outside, draft_after, with_draft, after_line}
-use Rattle.dm_job.specs.Reading.{behind_line, lines_after, last_may_close, last_entry, close_line, empty_draft}
+use Rattle.dm_job.specs.Reading.{entry_put, adds, draft_joined, entry_joined, inside, outside, draft_after, with_draft}
+use Rattle.dm_job.specs.Reading.{reading_after}
+use Rattle.dm_job.specs.Reading.{reading_behind, reading_after_all, last_may_close, last_entry, close_line, empty_draft}
 use Rattle.dm_job.specs.Texts.{job_in, ended_at}
-use Rattle.dm_job.specs.Grammar.{Said, IsSaid, Kind, atomic, sequence, kind_word, container, Stanza, one, block}
+use Rattle.dm_job.specs.Grammar.{Said, IsSaid, Kind, atomic, sequence, kind_word, container_command, Stanza, one, block}
 use Rattle.dm_job.specs.Grammar.{said_line}
-use Rattle.dm_job.specs.Grammar.{said_plain, lines_of, command_of, IsStanza, AreStanzas, package_lines, entries_of}
-use Rattle.dm_job.specs.Grammar.{ids_of}
+use Rattle.dm_job.specs.Grammar.{said_plain, lines_of, command_of, IsStanza, AreStanzas, package_lines}
+use Rattle.dm_job.specs.Grammar.{numbered_entries}
+use Rattle.dm_job.specs.Grammar.{ids_of_stanzas}
 use Rattle.dm_job.specs.Grammar.{packages_of, IsJob}
 use Rattle.dm_job.specs.Laws.{OnlyJobsAreRead}
 use Rattle.dm_job.proofs.Accepting.{accepted}
@@ -50,7 +52,7 @@ use Rattle.dm_job.proofs.Moves.{Move, opens_atomic, opens_sequence, parts_, ends
 -- ---- what the lines so far are
 
 abbrev pub es_of : List (List Stanza) → List Stanza → List JobEntry
-es_of whole current = entries_of (1 + total whole) current
+es_of whole current = numbered_entries (1 + total whole) current
 
 record IsRead (bs : List (List ℕ)) (ps : List (List JobEntry)) (count : ℕ) : Type 0 where
   whole : List (List Stanza)
@@ -59,10 +61,10 @@ record IsRead (bs : List (List ℕ)) (ps : List (List JobEntry)) (count : ℕ) :
   right : AllByRecursion AreStanzas whole
   stanzas : AreStanzas current
   made : ps ≡ with_last (packages_of whole) (es_of whole current)
-  counted : count ≡ total whole + ids_of current
+  counted : count ≡ total whole + ids_of_stanzas current
 
 abbrev block_at : List (List Stanza) → List Stanza → Kind → List Said → JobEntry
-block_at whole current k ss = entry_of (1 + total whole + ids_of current) (container k (map said_plain ss))
+block_at whole current k ss = entry_of (1 + total whole + ids_of_stanzas current) (container_command k (map said_plain ss))
 
 -- a container is open
 record IsBegun (bs : List (List ℕ)) (ps : List (List JobEntry)) (count : ℕ) : Type 0 where
@@ -75,7 +77,7 @@ record IsBegun (bs : List (List ℕ)) (ps : List (List JobEntry)) (count : ℕ) 
   stanzas : AreStanzas current
   said_all : AllByRecursion IsSaid saids
   made : ps ≡ with_last (packages_of whole) (es_of whole current ++ block_at whole current kind saids ∷ [])
-  counted : count ≡ total whole + ids_of current + ids_in (container kind (map said_plain saids))
+  counted : count ≡ total whole + ids_of_stanzas current + ids_in (container_command kind (map said_plain saids))
 
 -- with the last line
 record IsWhole (bs : List (List ℕ)) (ps : List (List JobEntry)) (count : ℕ) : Type 0 where
@@ -83,19 +85,19 @@ record IsWhole (bs : List (List ℕ)) (ps : List (List JobEntry)) (count : ℕ) 
   lines : bs ≡ before ++ codes "end" ∷ []
   read : IsRead before ps count
 
-abbrev IsReadAt : Place → List (List ℕ) → List (List JobEntry) → ℕ → Type 0
+abbrev IsReadAt : LinePlace → List (List ℕ) → List (List JobEntry) → ℕ → Type 0
 IsReadAt place.Between bs ps n = (x : IsRead bs ps n) × (x.current ≡ [])
 IsReadAt place.Package bs ps n = (x : IsRead bs ps n) × (0 < length x.current)
 IsReadAt place.Container bs ps n = IsBegun bs ps n
 IsReadAt place.End bs ps n = IsWhole bs ps n
 
-record IsBody (account : Account) (limits : Limits) (bs : List (List ℕ)) (d : Draft) : Type 0 where
+record IsBody (account : Account) (limits : Limits) (bs : List (List ℕ)) (d : JobDraft) : Type 0 where
   account_is : d.job.account ≡ account
   limits_are : d.job.limits ≡ limits
   read : IsReadAt d.place bs d.job.packages d.count
 
 -- where a command or a container may come
-record Comes (at : Place) (bs : List (List ℕ)) (ps : List (List JobEntry)) (n : ℕ) : Type 0 where
+record Comes (at : LinePlace) (bs : List (List ℕ)) (ps : List (List JobEntry)) (n : ℕ) : Type 0 where
   read : IsRead bs ps n
   stands : Stands at (es_of read.whole read.current)
 
@@ -104,7 +106,7 @@ same_text a b e = (bytes_eq-Decides a b).0 e
 
 -- ---- one stanza more
 
-comes : (at : Place) (bs : List (List ℕ)) (ps : List (List JobEntry)) (n : ℕ) → Goes at → IsReadAt at bs ps n
+comes : (at : LinePlace) (bs : List (List ℕ)) (ps : List (List JobEntry)) (n : ℕ) → Goes at → IsReadAt at bs ps n
     → Comes at bs ps n
 comes place.Between bs ps n goes h =
     record { read = h.0; stands = ap (λ p. es_of h.0.whole p) h.1 }
@@ -115,13 +117,13 @@ comes place.Package bs ps n goes h =
 comes place.Container bs ps n goes h = absurd goes
 comes place.End bs ps n goes h = absurd goes
 
-stanza_read : (at : Place) (bs : List (List ℕ)) (ps : List (List JobEntry)) (n : ℕ) (s : Stanza) → Comes at bs ps n
+stanza_read : (at : LinePlace) (bs : List (List ℕ)) (ps : List (List JobEntry)) (n : ℕ) (s : Stanza) → Comes at bs ps n
     → IsStanza s → ids_in (command_of s) ≡ 1
-    → IsReadAt place.Package (bs ++ lines_of s) (with_entry at ps (entry_of (n + 1) (command_of s))) (n + 1)
+    → IsReadAt place.Package (bs ++ lines_of s) (entry_put at ps (entry_of (n + 1) (command_of s))) (n + 1)
 stanza_read at bs ps n s c is one_id =
     let x = c.read in
     let counted = x.counted in
-    let number : n + 1 ≡ 1 + total x.whole + ids_of x.current = omega (arith, counted) in
+    let number : n + 1 ≡ 1 + total x.whole + ids_of_stanzas x.current = omega (arith, counted) in
     let e = entry_of (n + 1) (command_of s) in
     let more = ids_more x.current s in
     let long = length-append x.current (s ∷ []) in (
@@ -131,7 +133,7 @@ stanza_read at bs ps n s c is one_id =
         lines = ap (λ l. l ++ lines_of s) x.lines ∙ sym (lines_more x.whole x.current s);
         right = x.right;
         stanzas = all_more IsStanza x.current s x.stanzas is;
-        made = ap (λ q. with_entry at q e) x.made
+        made = ap (λ q. entry_put at q e) x.made
             ∙ entry_comes at (packages_of x.whole) (es_of x.whole x.current) e c.stands
             ∙ ap (with_last (packages_of x.whole)) (sym (entries_more (1 + total x.whole) (n + 1) x.current s number));
         counted = omega (arith, counted, more, one_id);
@@ -139,14 +141,14 @@ stanza_read at bs ps n s c is one_id =
       omega (arith, long),
     )
 
-begun_read : (at : Place) (bs : List (List ℕ)) (ps : List (List JobEntry)) (n : ℕ) (k : Kind) → Comes at bs ps n
-    → ids_in (container k []) ≡ 1
-    → IsBegun (bs ++ kind_word k ∷ []) (with_entry at ps (entry_of (n + 1) (container k []))) (n + 1)
+begun_read : (at : LinePlace) (bs : List (List ℕ)) (ps : List (List JobEntry)) (n : ℕ) (k : Kind) → Comes at bs ps n
+    → ids_in (container_command k []) ≡ 1
+    → IsBegun (bs ++ kind_word k ∷ []) (entry_put at ps (entry_of (n + 1) (container_command k []))) (n + 1)
 begun_read at bs ps n k c one_id =
     let x = c.read in
     let counted = x.counted in
-    let number : n + 1 ≡ 1 + total x.whole + ids_of x.current = omega (arith, counted) in
-    let e = entry_of (n + 1) (container k []) in
+    let number : n + 1 ≡ 1 + total x.whole + ids_of_stanzas x.current = omega (arith, counted) in
+    let e = entry_of (n + 1) (container_command k []) in
     record {
       whole = x.whole;
       current = x.current;
@@ -156,20 +158,20 @@ begun_read at bs ps n k c one_id =
       right = x.right;
       stanzas = x.stanzas;
       said_all = tt;
-      made = ap (λ q. with_entry at q e) x.made
+      made = ap (λ q. entry_put at q e) x.made
           ∙ entry_comes at (packages_of x.whole) (es_of x.whole x.current) e c.stands
-          ∙ ap (λ m. with_last (packages_of x.whole) (es_of x.whole x.current ++ entry_of m (container k []) ∷ []))
+          ∙ ap (λ m. with_last (packages_of x.whole) (es_of x.whole x.current ++ entry_of m (container_command k []) ∷ []))
           number;
       counted = omega (arith, counted, one_id);
     }
 
 joined_read : (bs : List (List ℕ)) (ps : List (List JobEntry)) (n : ℕ) (s : Said) → IsSaid s → IsBegun bs ps n
-    → IsBegun (bs ++ s.line ∷ []) (last_changed (last_changed (joined s.says)) ps) (n + 1)
+    → IsBegun (bs ++ s.line ∷ []) (last_changed (last_changed (entry_joined s.says)) ps) (n + 1)
 joined_read bs ps n s is x =
     let before = package_lines (x.whole ++ x.current ∷ []) in
     let longer = one_member x.kind (map said_plain x.saids) s.says
-    ∙ ap (container x.kind) (sym (map_more said_plain x.saids s)) in
-    let m = 1 + total x.whole + ids_of x.current in
+    ∙ ap (container_command x.kind) (sym (map_more said_plain x.saids s)) in
+    let m = 1 + total x.whole + ids_of_stanzas x.current in
     let counted = x.counted in
     let ids = longer_ids x.kind (map said_plain x.saids) s.says in
     let now = ap ids_in longer in
@@ -184,8 +186,8 @@ joined_read bs ps n s is x =
       right = x.right;
       stanzas = x.stanzas;
       said_all = all_more IsSaid x.saids s x.said_all is;
-      made = ap (last_changed (last_changed (joined s.says))) x.made
-          ∙ last_entry_changes (joined s.says) (packages_of x.whole) (es_of x.whole x.current)
+      made = ap (last_changed (last_changed (entry_joined s.says))) x.made
+          ∙ last_entry_changes (entry_joined s.says) (packages_of x.whole) (es_of x.whole x.current)
           (block_at x.whole x.current x.kind x.saids)
           ∙ ap (λ c. with_last (packages_of x.whole) (es_of x.whole x.current ++ entry_of m c ∷ [])) longer;
       counted = omega (arith, counted, ids, now);
@@ -198,7 +200,7 @@ last_block bs ps n x =
     let es = es_of x.whole x.current in
     let long = length-append es (e ∷ []) in
     ap last_entry (x.made ∙ with_some (packages_of x.whole) (es ++ e ∷ []) (omega (arith, long)))
-    ∙ ap (option_and_then last_of) (last_added (packages_of x.whole) (es ++ e ∷ [])) ∙ last_added es e
+    ∙ ap (option_and_then list_last) (last_added (packages_of x.whole) (es ++ e ∷ [])) ∙ last_added es e
 
 closed_read : (bs : List (List ℕ)) (ps : List (List JobEntry)) (n : ℕ) → last_may_close ps ≡ true → IsBegun bs ps n
     → IsReadAt place.Package (bs ++ codes "close" ∷ []) ps n
@@ -219,7 +221,7 @@ closed_read bs ps n h x =
         right = x.right;
         stanzas = all_more IsStanza x.current s x.stanzas (x.said_all, may);
         made = x.made ∙ ap (with_last (packages_of x.whole))
-            (sym (entries_more (1 + total x.whole) (1 + total x.whole + ids_of x.current) x.current s refl));
+            (sym (entries_more (1 + total x.whole) (1 + total x.whole + ids_of_stanzas x.current) x.current s refl));
         counted = omega (arith, counted, more);
       },
       omega (arith, long),
@@ -248,12 +250,12 @@ pub one_id : (s : Said) → ids_in (command_of (one s)) ≡ 1
 unfolding ids_in
 one_id s = refl
 
-pub new_id : (k : Kind) → ids_in (container k []) ≡ 1
+pub new_id : (k : Kind) → ids_in (container_command k []) ≡ 1
 unfolding ids_in ids_in_seq_members
 new_id atomic = refl
 new_id sequence = refl
 
-move_read : (account : Account) (limits : Limits) (bs : List (List ℕ)) (d next : Draft) (line : List ℕ)
+move_read : (account : Account) (limits : Limits) (bs : List (List ℕ)) (d next : JobDraft) (line : List ℕ)
     → Comes d.place bs d.job.packages d.count → Move d next line → IsBody account limits bs d
     → IsBody account limits (bs ++ line ∷ []) next
 move_read account limits bs d next line c (opens_atomic w is) b =
@@ -296,7 +298,7 @@ move_read account limits bs d next line c (ends w is) b =
       };
     })
 
-outside_read : (account : Account) (limits : Limits) (bs : List (List ℕ)) (d next : Draft) (line : List ℕ)
+outside_read : (account : Account) (limits : Limits) (bs : List (List ℕ)) (d next : JobDraft) (line : List ℕ)
     (o : Option Verb)
     → verb_in line ≡ o → Goes d.place → outside d line o ≡ Ok next → IsBody account limits bs d
     → IsBody account limits (bs ++ line ∷ []) next
@@ -315,19 +317,19 @@ outside_read account limits bs d next line None named goes e b =
     move_read account limits bs d next line (comes d.place bs d.job.packages d.count goes b.read) (moves d next line e)
     b
 
-inside_read : (account : Account) (limits : Limits) (bs : List (List ℕ)) (d next : Draft) (line : List ℕ)
+inside_read : (account : Account) (limits : Limits) (bs : List (List ℕ)) (d next : JobDraft) (line : List ℕ)
     (o : Option Verb)
     → verb_in line ≡ o → d.place ≡ place.Container → inside d line o ≡ Ok next → IsBody account limits bs d
     → IsBody account limits (bs ++ line ∷ []) next
 inside_read account limits bs d next line (Some v) named here e b =
-    let s = said reason.Fields (plain_in v (parts line)) (λ p. Ok (joins d p)) next e in
+    let s = said reason.Fields (plain_in v (parts line)) (λ p. Ok (draft_joined d p)) next e in
     let t : Said = record { line = line; says = s.value } in
     let x = subst (λ at. IsReadAt at bs d.job.packages d.count) here b.read in
     subst (IsBody account limits (bs ++ line ∷ [])) (same_ok _ next s.rest)
     (record {
       account_is = b.account_is;
       limits_are = b.limits_are;
-      read = subst (λ at. IsReadAt at (bs ++ line ∷ []) (joins d s.value).job.packages (d.count + 1)) (sym here)
+      read = subst (λ at. IsReadAt at (bs ++ line ∷ []) (draft_joined d s.value).job.packages (d.count + 1)) (sym here)
           (joined_read bs d.job.packages d.count t (record { verb = v; named = named; fields = s.is }) x);
     })
 inside_read account limits bs d next line None named here e b =
@@ -344,7 +346,7 @@ inside_read account limits bs d next line None named here e b =
           (sym (same_text line (codes "close") both.0)) (closed_read bs d.job.packages d.count both.1 x);
     })
 
-draft_read : (account : Account) (limits : Limits) (bs : List (List ℕ)) (at : Place) (d next : Draft) (line : List ℕ)
+draft_read : (account : Account) (limits : Limits) (bs : List (List ℕ)) (at : LinePlace) (d next : JobDraft) (line : List ℕ)
     → d.place ≡ at → draft_after at d line ≡ Ok next → IsBody account limits bs d
     → IsBody account limits (bs ++ line ∷ []) next
 draft_read account limits bs place.Between d next line here e b =
@@ -359,15 +361,15 @@ draft_read account limits bs place.End d next line here e b = absurd (cc)
 
 record Step (n : ℕ) (r : Reading) (line : List ℕ) (lines : List (List ℕ)) (reached : Reading) : Type 0 where
   read : Reading
-  took : after_line r line ≡ Ok read
-  rest : lines_after (n + 1) read lines ≡ Ok reached
+  took : reading_after r line ≡ Ok read
+  rest : reading_after_all (n + 1) read lines ≡ Ok reached
 
 step : (n : ℕ) (r : Reading) (line : List ℕ) (lines : List (List ℕ)) (reached : Reading)
-    → lines_after n r (line ∷ lines) ≡ Ok reached → Step n r line lines reached
-step n r line lines reached e = by_line (after_line r line) refl e
+    → reading_after_all n r (line ∷ lines) ≡ Ok reached → Step n r line lines reached
+step n r line lines reached e = by_line (reading_after r line) refl e
   where
-    by_line : (x : Result Reading LineReason) → after_line r line ≡ x
-        → behind_line n x (λ next. lines_after (n + 1) next lines) ≡ Ok reached → Step n r line lines reached
+    by_line : (x : Result Reading LineReason) → reading_after r line ≡ x
+        → reading_behind n x (λ next. reading_after_all (n + 1) next lines) ≡ Ok reached → Step n r line lines reached
     by_line (Ok read) is k = record { read = read; took = is; rest = k }
     by_line (Err why) is k = absurd (cc)
 
@@ -377,29 +379,29 @@ same_reading x y e = cc
 same_end : (x y : Reading) → ◌≡◌ {A = Result Reading (ℕ × LineReason)} (Ok x) (Ok y) → x ≡ y
 same_end x y e = cc
 
-record Drafted (d : Draft) (line : List ℕ) (read : Reading) : Type 0 where
-  next : Draft
+record Drafted (d : JobDraft) (line : List ℕ) (read : Reading) : Type 0 where
+  next : JobDraft
   is : draft_after d.place d line ≡ Ok next
   same : reading.Commands next ≡ read
 
-drafted : (d : Draft) (line : List ℕ) (read : Reading) → after_line (reading.Commands d) line ≡ Ok read
+drafted : (d : JobDraft) (line : List ℕ) (read : Reading) → reading_after (reading.Commands d) line ≡ Ok read
     → Drafted d line read
-unfolding after_line
+unfolding reading_after
 drafted d line read e = by_draft (draft_after d.place d line) refl e
   where
-    by_draft : (x : Result Draft LineReason) → draft_after d.place d line ≡ x → with_draft x ≡ Ok read
+    by_draft : (x : Result JobDraft LineReason) → draft_after d.place d line ≡ x → with_draft x ≡ Ok read
         → Drafted d line read
     by_draft (Ok next) is k = record { next = next; is = is; same = same_reading _ read k }
     by_draft (Err why) is k = absurd (cc)
 
 record Ended (account : Account) (limits : Limits) (bs : List (List ℕ)) (reached : Reading) : Type 0 where
-  last : Draft
+  last : JobDraft
   is : reached ≡ reading.Commands last
   body : IsBody account limits bs last
 
-lines_read : (account : Account) (limits : Limits) (n : ℕ) (bs : List (List ℕ)) (d : Draft) (lines : List (List ℕ))
+lines_read : (account : Account) (limits : Limits) (n : ℕ) (bs : List (List ℕ)) (d : JobDraft) (lines : List (List ℕ))
     (reached : Reading)
-    → lines_after n (reading.Commands d) lines ≡ Ok reached → IsBody account limits bs d
+    → reading_after_all n (reading.Commands d) lines ≡ Ok reached → IsBody account limits bs d
     → Ended account limits (bs ++ lines) reached
 lines_read account limits n bs d [] reached e b =
     record {
@@ -410,7 +412,7 @@ lines_read account limits n bs d [] reached e b =
 lines_read account limits n bs d (line ∷ lines) reached e b =
     let s = step n (reading.Commands d) line lines reached e in
     let x = drafted d line s.read s.took in
-    let rest = subst (λ r. lines_after (n + 1) r lines ≡ Ok reached) (sym x.same) s.rest in
+    let rest = subst (λ r. reading_after_all (n + 1) r lines ≡ Ok reached) (sym x.same) s.rest in
     subst (λ y. Ended account limits y reached) (append_assoc bs (line ∷ []) lines)
     (lines_read account limits (n + 1) (bs ++ line ∷ []) x.next lines reached rest
     (draft_read account limits bs d.place d x.next line refl x.is b))
@@ -427,11 +429,11 @@ record Tail (account : Account) (limits : Limits) (body : List (List ℕ)) (job 
 same_job : (x y : Job) → Some x ≡ Some y → x ≡ y
 same_job x y e = cc
 
-last_tail : (account : Account) (limits : Limits) (body : List (List ℕ)) (d : Draft) (job : Job)
+last_tail : (account : Account) (limits : Limits) (body : List (List ℕ)) (d : JobDraft) (job : Job)
     → ended_at d.place d.job ≡ Some job → IsBody account limits body d → Tail account limits body job
 last_tail account limits body d job e b = by_place d.place b.read e
   where
-    by_place : (at : Place) → IsReadAt at body d.job.packages d.count → ended_at at d.job ≡ Some job
+    by_place : (at : LinePlace) → IsReadAt at body d.job.packages d.count → ended_at at d.job ≡ Some job
         → Tail account limits body job
     by_place place.Between r k = absurd (cc)
     by_place place.Package r k = absurd (cc)
@@ -468,7 +470,7 @@ empty_body account limits =
     }
 
 tail_read : (account : Account) (limits : Limits) (n : ℕ) (body : List (List ℕ)) (reached : Reading) (job : Job)
-    → lines_after n (reading.Commands (empty_draft account limits)) body ≡ Ok reached → job_in reached ≡ Some job
+    → reading_after_all n (reading.Commands (empty_draft account limits)) body ≡ Ok reached → job_in reached ≡ Some job
     → Tail account limits body job
 tail_read account limits n body reached job e ends_ =
     let x = lines_read account limits n [] (empty_draft account limits) body reached e (empty_body account limits) in
@@ -476,9 +478,9 @@ tail_read account limits n body reached job e ends_ =
 
 limits_read : (account : Account) (lines : List (List ℕ)) (reached : Reading) (job : Job) (first server : List ℕ)
     → first ≡ codes "dm-job 1" → begins_with (codes "server") server ≡ true → account_in (parts server) ≡ Some account
-    → lines_after 3 (reading.Limits account) lines ≡ Ok reached → job_in reached ≡ Some job
+    → reading_after_all 3 (reading.Limits account) lines ≡ Ok reached → job_in reached ≡ Some job
     → IsJob (first ∷ server ∷ lines) job
-unfolding after_line
+unfolding reading_after
 limits_read account [] reached job first server f named a e ends_ =
     absurd (never (ap job_in (same_end _ reached e) ∙ ends_))
   where
@@ -489,7 +491,7 @@ limits_read account (line ∷ body) reached job first server f named a e ends_ =
     let told = allowed (begins_with (codes "limits") line) _ reason.Word s.read s.took in
     let l =
     said reason.Fields (limits_in (parts line)) (λ l. Ok (reading.Commands (empty_draft account l))) s.read told.1 in
-    let rest = subst (λ r. lines_after 4 r body ≡ Ok reached) (sym (same_reading _ s.read l.rest)) s.rest in
+    let rest = subst (λ r. reading_after_all 4 r body ≡ Ok reached) (sym (same_reading _ s.read l.rest)) s.rest in
     let t = tail_read account l.value 4 body reached job rest ends_ in
     record {
       server = server;
@@ -506,8 +508,8 @@ limits_read account (line ∷ body) reached job first server f named a e ends_ =
 
 server_read : (lines : List (List ℕ)) (reached : Reading) (job : Job) (first : List ℕ)
     → first ≡ codes "dm-job 1"
-    → lines_after 2 reading.Server lines ≡ Ok reached → job_in reached ≡ Some job → IsJob (first ∷ lines) job
-unfolding after_line
+    → reading_after_all 2 reading.Server lines ≡ Ok reached → job_in reached ≡ Some job → IsJob (first ∷ lines) job
+unfolding reading_after
 server_read [] reached job first f e ends_ = absurd (never (ap job_in (same_end _ reached e) ∙ ends_))
   where
     never : None ≡ Some job → ⊥
@@ -516,12 +518,12 @@ server_read (line ∷ lines) reached job first f e ends_ =
     let s = step 2 reading.Server line lines reached e in
     let told = allowed (begins_with (codes "server") line) _ reason.Word s.read s.took in
     let a = said reason.Fields (account_in (parts line)) (λ account. Ok (reading.Limits account)) s.read told.1 in
-    let rest = subst (λ r. lines_after 3 r lines ≡ Ok reached) (sym (same_reading _ s.read a.rest)) s.rest in
+    let rest = subst (λ r. reading_after_all 3 r lines ≡ Ok reached) (sym (same_reading _ s.read a.rest)) s.rest in
     limits_read a.value lines reached job first line f told.0 a.is rest ends_
 
 first_read : (lines : List (List ℕ)) (reached : Reading) (job : Job)
-    → lines_after 1 reading.First lines ≡ Ok reached → job_in reached ≡ Some job → IsJob lines job
-unfolding after_line
+    → reading_after_all 1 reading.First lines ≡ Ok reached → job_in reached ≡ Some job → IsJob lines job
+unfolding reading_after
 first_read [] reached job e ends_ = absurd (never (ap job_in (same_end _ reached e) ∙ ends_))
   where
     never : None ≡ Some job → ⊥
@@ -529,7 +531,7 @@ first_read [] reached job e ends_ = absurd (never (ap job_in (same_end _ reached
 first_read (line ∷ lines) reached job e ends_ =
     let s = step 1 reading.First line lines reached e in
     let told = allowed (bytes_eq line (codes "dm-job 1")) (Ok reading.Server) reason.Word s.read s.took in
-    let rest = subst (λ r. lines_after 2 r lines ≡ Ok reached) (sym (same_reading _ s.read told.1)) s.rest in
+    let rest = subst (λ r. reading_after_all 2 r lines ≡ Ok reached) (sym (same_reading _ s.read told.1)) s.rest in
     server_read lines reached job line (same_text line (codes "dm-job 1") told.0) rest ends_
 
 pub only_jobs_are_read : OnlyJobsAreRead

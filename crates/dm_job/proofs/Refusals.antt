@@ -10,9 +10,9 @@ use Rattle.dm_base.specs.declared.lines.LineReason.TheVariants as reason
 use Rattle.dm_job.specs.declared.job.Job.{Job}
 use Rattle.dm_job.specs.declared.draft.Reading.{Reading}
 use Rattle.dm_job.specs.declared.draft.Reading.TheVariants as reading
-use Rattle.dm_job.specs.Reading.{after_line, behind_line, lines_after}
+use Rattle.dm_job.specs.Reading.{reading_after, reading_behind, reading_after_all}
 use Rattle.dm_job.specs.Texts.{segments, is_long, job_in, end_at, end_or, job_from, job_of}
-use Rattle.dm_job.specs.Laws.{IsRefusedHere, IsRefusedFor, IsRefused, RefusalsAreFirst}
+use Rattle.dm_job.specs.Laws.{IsRefusedHere, IsRefusedFor, IsRefusedJob, RefusalsAreFirst}
 use Rattle.dm_job.proofs.Turns.{some_segments}
 
 abbrev Read : Type 0
@@ -30,7 +30,7 @@ record Refused (n : ℕ) (r : Reading) (lines : List (List ℕ)) (m : ℕ) (why 
   number : m ≡ n + length before
   short : list_all (λ l. not (is_long l)) before ≡ true
   reached : Reading
-  taken : lines_after n r before ≡ Ok reached
+  taken : reading_after_all n r before ≡ Ok reached
   refused : IsRefusedFor why (job_in reached) reached line behind
 
 at_once : (n : ℕ) (r : Reading) (line : List ℕ) (behind : List (List ℕ)) (why : LineReason)
@@ -53,7 +53,7 @@ going : (r : Reading) (line : List ℕ) (behind : List (List ℕ)) (why : LineRe
 going r line behind why none h = subst (λ o. IsRefusedFor why o r line behind) (sym none) h
 
 later : (n : ℕ) (r read : Reading) (line : List ℕ) (lines : List (List ℕ)) (m : ℕ) (why : LineReason)
-    → is_long line ≡ false → after_line r line ≡ Ok read → Refused (n + 1) read lines m why
+    → is_long line ≡ false → reading_after r line ≡ Ok read → Refused (n + 1) read lines m why
     → Refused n r (line ∷ lines) m why
 later n r read line lines m why short took rest =
     let number = rest.number in
@@ -65,7 +65,7 @@ later n r read line lines m why short took rest =
       number = omega (arith, number);
       short = and_from _ _ (ap not short) rest.short;
       reached = rest.reached;
-      taken = ap (λ x. behind_line n x (λ next. lines_after (n + 1) next rest.before)) took ∙ rest.taken;
+      taken = ap (λ x. reading_behind n x (λ next. reading_after_all (n + 1) next rest.before)) took ∙ rest.taken;
       refused = rest.refused;
     }
 
@@ -97,7 +97,7 @@ Later n next others m why =
     → Refused (n + 1) read (next ∷ others) m why
 
 taken_line : (n : ℕ) (r read : Reading) (line next : List ℕ) (others : List (List ℕ)) (m : ℕ) (why : LineReason)
-    → Later n next others m why → after_line r line ≡ Ok read → is_long line ≡ false
+    → Later n next others m why → reading_after r line ≡ Ok read → is_long line ≡ false
     → end_or n (job_in read) (next ∷ others) (job_from (n + 1) read (next ∷ others)) ≡ At m why
     → Refused n r (line ∷ next ∷ others) m why
 taken_line n r read line next others m why rest took short e = by_job (job_in read) refl e
@@ -115,8 +115,8 @@ taken_line n r read line next others m why rest took short e = by_job (job_in re
 
 short_line : (n : ℕ) (r : Reading) (line next : List ℕ) (others : List (List ℕ)) (m : ℕ) (why : LineReason)
     → Later n next others m why → job_in r ≡ None → is_long line ≡ false
-    → (x : Result Reading LineReason) → after_line r line ≡ x
-    → behind_line n x (λ read. end_or n (job_in read) (next ∷ others) (job_from (n + 1) read (next ∷ others)))
+    → (x : Result Reading LineReason) → reading_after r line ≡ x
+    → reading_behind n x (λ read. end_or n (job_in read) (next ∷ others) (job_from (n + 1) read (next ∷ others)))
     ≡ At m why
     → Refused n r (line ∷ next ∷ others) m why
 short_line n r line next others m why rest none short (Ok read) took e =
@@ -131,7 +131,7 @@ any_line : (n : ℕ) (r : Reading) (line next : List ℕ) (others : List (List �
 any_line n r line next others m why rest none e = by_length (is_long line) refl e
   where
     by_length : (b : Bool) → is_long line ≡ b
-        → cond b (At n reason.Long) (behind_line n (after_line r line)
+        → cond b (At n reason.Long) (reading_behind n (reading_after r line)
         (λ read. end_or n (job_in read) (next ∷ others) (job_from (n + 1) read (next ∷ others)))) ≡ At m why
         → Refused n r (line ∷ next ∷ others) m why
     by_length true long h =
@@ -139,7 +139,7 @@ any_line n r line next others m why rest none e = by_length (is_long line) refl 
         (at_once n r line (next ∷ others) reason.Long
         (going r line (next ∷ others) reason.Long none (inl (long, refl))))
     by_length false short h =
-        short_line n r line next others m why rest none short (after_line r line) refl h
+        short_line n r line next others m why rest none short (reading_after r line) refl h
 
 tail_line : (n : ℕ) (r : Reading) (tail : List ℕ) (m : ℕ) (why : LineReason) → job_in r ≡ None
     → job_from n r (tail ∷ []) ≡ At m why → Refused n r (tail ∷ []) m why
@@ -165,7 +165,7 @@ pub refusals_are_first : RefusalsAreFirst
 unfolding job_of
 refusals_are_first text m why e = by_segments (segments text) refl e
   where
-    by_segments : (s : List (List ℕ)) → segments text ≡ s → job_from 1 reading.First s ≡ At m why → IsRefused text m why
+    by_segments : (s : List (List ℕ)) → segments text ≡ s → job_from 1 reading.First s ≡ At m why → IsRefusedJob text m why
     by_segments [] is h = absurd (some_segments text is)
     by_segments (line ∷ others) is h =
         let x = refused_from 1 reading.First line others m why refl h in

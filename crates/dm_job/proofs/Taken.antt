@@ -12,24 +12,25 @@ use Rattle.dm_base.specs.declared.lines.LineReason.TheVariants as reason
 use Rattle.syncml_types.specs.declared.command.Plain.{Plain}
 use Rattle.syncml_types.specs.declared.command.Command.TheVariants as command
 use Rattle.syncml_parts.specs.Numbering.{ids_in}
-use Rattle.syncml_parts.specs.Packing.{last_of}
+use Rattle.syncml_parts.specs.Packing.{list_last}
 use Rattle.dm_auth.specs.declared.accounts.Account.{Account}
 use Rattle.dm_fields.specs.Fields.{begins_with, account_in, limits_in}
 use Rattle.dm_fields.specs.Refusing.{or_refused}
 use Rattle.dm_job.specs.declared.job.Job.{Job}
 use Rattle.dm_job.specs.declared.job.JobEntry.{JobEntry}
-use Rattle.dm_job.specs.declared.draft.Draft.{Draft}
-use Rattle.dm_job.specs.declared.draft.Place.{Place}
-use Rattle.dm_job.specs.declared.draft.Place.TheVariants as place
+use Rattle.dm_job.specs.declared.draft.JobDraft.{JobDraft}
+use Rattle.dm_job.specs.declared.draft.LinePlace.{LinePlace}
+use Rattle.dm_job.specs.declared.draft.LinePlace.TheVariants as place
 use Rattle.dm_job.specs.declared.draft.Reading.{Reading}
 use Rattle.dm_job.specs.declared.draft.Reading.TheVariants as reading
 use Rattle.dm_job.specs.Commands.{may_close}
-use Rattle.dm_job.specs.Reading.{with_entry, adds, joins, joined, when, inside, outside, with_draft, after_line}
-use Rattle.dm_job.specs.Reading.{behind_line, lines_after, last_entry, empty_draft}
+use Rattle.dm_job.specs.Reading.{entry_put, adds, draft_joined, entry_joined, when, inside, outside, with_draft}
+use Rattle.dm_job.specs.Reading.{reading_after}
+use Rattle.dm_job.specs.Reading.{reading_behind, reading_after_all, last_entry, empty_draft}
 use Rattle.dm_job.specs.Texts.{job_in}
-use Rattle.dm_job.specs.Grammar.{Said, IsSaid, Kind, atomic, sequence, kind_word, container, Stanza, one, block}
+use Rattle.dm_job.specs.Grammar.{Said, IsSaid, Kind, atomic, sequence, kind_word, container_command, Stanza, one, block}
 use Rattle.dm_job.specs.Grammar.{said_line}
-use Rattle.dm_job.specs.Grammar.{said_plain, lines_of, IsStanza, AreStanzas, package_lines, ids_of}
+use Rattle.dm_job.specs.Grammar.{said_plain, lines_of, IsStanza, AreStanzas, package_lines, ids_of_stanzas}
 use Rattle.dm_job.specs.Grammar.{packages_of, IsJob}
 use Rattle.dm_job.proofs.Containers.{one_member, longer_ids}
 use Rattle.dm_job.proofs.Ends.{last_added}
@@ -40,90 +41,90 @@ use Rattle.dm_job.proofs.Parsed.{es_of, one_id, new_id}
 -- ---- drafts
 
 -- a draft by its parts
-abbrev draft : Account → Limits → Place → List (List JobEntry) → ℕ → Draft
+abbrev draft : Account → Limits → LinePlace → List (List JobEntry) → ℕ → JobDraft
 draft account limits at ps n =
     record { job = record { account = account; limits = limits; packages = ps }; place = at; count = n }
 
 -- whose lines lead from one to another
-record Leads (from : Draft) (lines : List (List ℕ)) (to : Draft) : Type 0 where
+record Leads (from : JobDraft) (lines : List (List ℕ)) (to : JobDraft) : Type 0 where
   leads : (n : ℕ) (rest : List (List ℕ))
-      → lines_after n (reading.Commands from) (lines ++ rest)
-      ≡ lines_after (n + length lines) (reading.Commands to) rest
+      → reading_after_all n (reading.Commands from) (lines ++ rest)
+      ≡ reading_after_all (n + length lines) (reading.Commands to) rest
 
-number_is : (n m : ℕ) (r : Reading) (rest : List (List ℕ)) → n ≡ m → lines_after n r rest ≡ lines_after m r rest
-number_is n m r rest is = ap (λ k. lines_after k r rest) is
+number_is : (n m : ℕ) (r : Reading) (rest : List (List ℕ)) → n ≡ m → reading_after_all n r rest ≡ reading_after_all m r rest
+number_is n m r rest is = ap (λ k. reading_after_all k r rest) is
 
-same_lead : (d : Draft) → Leads d [] d
+same_lead : (d : JobDraft) → Leads d [] d
 same_lead d =
     record { leads = λ n rest. (let is : n ≡ n + 0 = omega arith in number_is n (n + 0) (reading.Commands d) rest is) }
 
-line_leads : (from to : Draft) (line : List ℕ) → after_line (reading.Commands from) line ≡ Ok (reading.Commands to)
+line_leads : (from to : JobDraft) (line : List ℕ) → reading_after (reading.Commands from) line ≡ Ok (reading.Commands to)
     → Leads from (line ∷ []) to
 line_leads from to line h =
-    record { leads = λ n rest. ap (λ x. behind_line n x (λ next. lines_after (n + 1) next rest)) h }
+    record { leads = λ n rest. ap (λ x. reading_behind n x (λ next. reading_after_all (n + 1) next rest)) h }
 
-then_leads : (a b c : Draft) (xs ys : List (List ℕ)) → Leads a xs b → Leads b ys c → Leads a (xs ++ ys) c
+then_leads : (a b c : JobDraft) (xs ys : List (List ℕ)) → Leads a xs b → Leads b ys c → Leads a (xs ++ ys) c
 then_leads a b c xs ys h k =
     record {
       leads = λ n rest. (let long = length-append xs ys in
           let is : n + length xs + length ys ≡ n + length (xs ++ ys) = omega (arith, long) in
-          ap (lines_after n (reading.Commands a)) (append_assoc xs ys rest) ∙ h.leads n (ys ++ rest)
+          ap (reading_after_all n (reading.Commands a)) (append_assoc xs ys rest) ∙ h.leads n (ys ++ rest)
           ∙ k.leads (n + length xs) rest ∙ number_is _ _ (reading.Commands c) rest is);
     }
 
 -- ---- one line
 
 -- so many commands, and these packages
-abbrev told_so : Account → Limits → Place → List (List Stanza) → List Stanza → Draft
+abbrev told_so : Account → Limits → LinePlace → List (List Stanza) → List Stanza → JobDraft
 told_so account limits at whole current =
-    draft account limits at (with_last (packages_of whole) (es_of whole current)) (total whole + ids_of current)
+    draft account limits at (with_last (packages_of whole) (es_of whole current)) (total whole + ids_of_stanzas current)
 
 abbrev block_entry : List (List Stanza) → List Stanza → Kind → List Plain → JobEntry
-block_entry whole current k ps = entry_of (1 + total whole + ids_of current) (container k ps)
+block_entry whole current k ps = entry_of (1 + total whole + ids_of_stanzas current) (container_command k ps)
 
 -- with a container that is open, or has just ended
-abbrev held_so : Account → Limits → Place → List (List Stanza) → List Stanza → Kind → List Plain → Draft
+abbrev held_so : Account → Limits → LinePlace → List (List Stanza) → List Stanza → Kind → List Plain → JobDraft
 held_so account limits at whole current k ps =
     draft account limits at
     (with_last (packages_of whole) (es_of whole current ++ block_entry whole current k ps ∷ []))
-    (total whole + ids_of current + ids_in (container k ps))
+    (total whole + ids_of_stanzas current + ids_in (container_command k ps))
 
-same_draft : (account : Account) (limits : Limits) (at : Place) (ps qs : List (List JobEntry)) (n m : ℕ) → ps ≡ qs
+same_draft : (account : Account) (limits : Limits) (at : LinePlace) (ps qs : List (List JobEntry)) (n m : ℕ) → ps ≡ qs
     → n ≡ m
     → draft account limits at ps n ≡ draft account limits at qs m
 same_draft account limits at ps qs n m p k =
     ap (λ x. draft account limits at x n) p ∙ ap (λ i. draft account limits at qs i) k
 
-same_next : (x y : Draft) → x ≡ y
+same_next : (x y : JobDraft) → x ≡ y
     → ◌≡◌ {A = Result Reading LineReason} (Ok (reading.Commands x)) (Ok (reading.Commands y))
 same_next x y h = ap (λ d. Ok (reading.Commands d)) h
 
 -- ---- a command
 
-plain_made : (account : Account) (limits : Limits) (at : Place) (whole : List (List Stanza)) (current : List Stanza)
+plain_made : (account : Account) (limits : Limits) (at : LinePlace) (whole : List (List Stanza)) (current : List Stanza)
     (s : Said)
     → Stands at (es_of whole current)
     → draft account limits place.Package
-    (with_entry at (with_last (packages_of whole) (es_of whole current))
-    (entry_of (total whole + ids_of current + 1) (command.Plain s.says))) (total whole + ids_of current + 1)
+    (entry_put at (with_last (packages_of whole) (es_of whole current))
+    (entry_of (total whole + ids_of_stanzas current + 1) (command.Plain s.says))) (total whole + ids_of_stanzas current + 1)
     ≡ told_so account limits place.Package whole (current ++ one s ∷ [])
 plain_made account limits at whole current s stands =
-    let n = total whole + ids_of current in
-    let number : n + 1 ≡ 1 + total whole + ids_of current = omega arith in
+    let n = total whole + ids_of_stanzas current in
+    let number : n + 1 ≡ 1 + total whole + ids_of_stanzas current = omega arith in
     let more = ids_more current (one s) in
     let one_ = one_id s in
-    let count : n + 1 ≡ total whole + ids_of (current ++ one s ∷ []) = omega (arith, more, one_) in
+    let count : n + 1 ≡ total whole + ids_of_stanzas (current ++ one s ∷ []) = omega (arith, more, one_) in
     same_draft account limits place.Package _ _ (n + 1) _
     (entry_comes at (packages_of whole) (es_of whole current) (entry_of (n + 1) (command.Plain s.says)) stands
     ∙ ap (with_last (packages_of whole)) (sym (entries_more (1 + total whole) (n + 1) current (one s) number)))
     count
 
-plain_line : (account : Account) (limits : Limits) (at : Place) (whole : List (List Stanza)) (current : List Stanza)
+plain_line : (account : Account) (limits : Limits) (at : LinePlace) (whole : List (List Stanza)) (current : List Stanza)
     (s : Said)
     → Stands at (es_of whole current) → IsSaid s
-    → after_line (reading.Commands (told_so account limits at whole current)) s.line
+    → reading_after (reading.Commands (told_so account limits at whole current)) s.line
     ≡ Ok (reading.Commands (told_so account limits place.Package whole (current ++ one s ∷ [])))
-unfolding after_line
+unfolding reading_after
 plain_line account limits place.Between whole current s stands is =
     let d = told_so account limits place.Between whole current in
     ap (λ o. with_draft (outside d s.line o)) is.named
@@ -139,29 +140,29 @@ plain_line account limits place.End whole current s stands is = absurd stands
 
 -- ---- a container
 
-opened_made : (account : Account) (limits : Limits) (at : Place) (whole : List (List Stanza)) (current : List Stanza)
+opened_made : (account : Account) (limits : Limits) (at : LinePlace) (whole : List (List Stanza)) (current : List Stanza)
     (k : Kind)
     → Stands at (es_of whole current)
     → draft account limits place.Container
-    (with_entry at (with_last (packages_of whole) (es_of whole current))
-    (entry_of (total whole + ids_of current + 1) (container k []))) (total whole + ids_of current + 1)
+    (entry_put at (with_last (packages_of whole) (es_of whole current))
+    (entry_of (total whole + ids_of_stanzas current + 1) (container_command k []))) (total whole + ids_of_stanzas current + 1)
     ≡ held_so account limits place.Container whole current k []
 opened_made account limits at whole current k stands =
-    let n = total whole + ids_of current in
-    let number : n + 1 ≡ 1 + total whole + ids_of current = omega arith in
+    let n = total whole + ids_of_stanzas current in
+    let number : n + 1 ≡ 1 + total whole + ids_of_stanzas current = omega arith in
     let new = new_id k in
-    let count : n + 1 ≡ total whole + ids_of current + ids_in (container k []) = omega (arith, new) in
+    let count : n + 1 ≡ total whole + ids_of_stanzas current + ids_in (container_command k []) = omega (arith, new) in
     same_draft account limits place.Container _ _ (n + 1) _
-    (entry_comes at (packages_of whole) (es_of whole current) (entry_of (n + 1) (container k [])) stands
-    ∙ ap (λ i. with_last (packages_of whole) (es_of whole current ++ entry_of i (container k []) ∷ [])) number)
+    (entry_comes at (packages_of whole) (es_of whole current) (entry_of (n + 1) (container_command k [])) stands
+    ∙ ap (λ i. with_last (packages_of whole) (es_of whole current ++ entry_of i (container_command k []) ∷ [])) number)
     count
 
-open_line : (account : Account) (limits : Limits) (at : Place) (whole : List (List Stanza)) (current : List Stanza)
+open_line : (account : Account) (limits : Limits) (at : LinePlace) (whole : List (List Stanza)) (current : List Stanza)
     (k : Kind)
     → Stands at (es_of whole current)
-    → after_line (reading.Commands (told_so account limits at whole current)) (kind_word k)
+    → reading_after (reading.Commands (told_so account limits at whole current)) (kind_word k)
     ≡ Ok (reading.Commands (held_so account limits place.Container whole current k []))
-unfolding after_line
+unfolding reading_after
 open_line account limits place.Between whole current atomic stands =
     same_next _ _ (opened_made account limits place.Between whole current atomic stands)
 open_line account limits place.Between whole current sequence stands =
@@ -175,30 +176,30 @@ open_line account limits place.End whole current k stands = absurd stands
 
 joined_made : (account : Account) (limits : Limits) (whole : List (List Stanza)) (current : List Stanza) (k : Kind)
     (ps : List Plain) (p : Plain)
-    → joins (held_so account limits place.Container whole current k ps) p
+    → draft_joined (held_so account limits place.Container whole current k ps) p
     ≡ held_so account limits place.Container whole current k (ps ++ p ∷ [])
 joined_made account limits whole current k ps p =
     let longer = longer_ids k ps p in
     let same = ap ids_in (one_member k ps p) in
-    let count : total whole + ids_of current + ids_in (container k ps) + 1
-    ≡ total whole + ids_of current + ids_in (container k (ps ++ p ∷ [])) = omega (arith, longer, same) in
+    let count : total whole + ids_of_stanzas current + ids_in (container_command k ps) + 1
+    ≡ total whole + ids_of_stanzas current + ids_in (container_command k (ps ++ p ∷ [])) = omega (arith, longer, same) in
     same_draft account limits place.Container _ _ _ _
-    (last_entry_changes (joined p) (packages_of whole) (es_of whole current) (block_entry whole current k ps)
+    (last_entry_changes (entry_joined p) (packages_of whole) (es_of whole current) (block_entry whole current k ps)
     ∙ ap (λ c. with_last (packages_of whole)
-    (es_of whole current ++ entry_of (1 + total whole + ids_of current) c ∷ []))
+    (es_of whole current ++ entry_of (1 + total whole + ids_of_stanzas current) c ∷ []))
     (one_member k ps p))
     count
 
 join_line : (account : Account) (limits : Limits) (whole : List (List Stanza)) (current : List Stanza) (k : Kind)
     (ps : List Plain) (s : Said)
     → IsSaid s
-    → after_line (reading.Commands (held_so account limits place.Container whole current k ps)) s.line
+    → reading_after (reading.Commands (held_so account limits place.Container whole current k ps)) s.line
     ≡ Ok (reading.Commands (held_so account limits place.Container whole current k (ps ++ s.says ∷ [])))
-unfolding after_line
+unfolding reading_after
 join_line account limits whole current k ps s is =
     let d = held_so account limits place.Container whole current k ps in
     ap (λ o. with_draft (inside d s.line o)) is.named
-    ∙ ap (λ o. with_draft (or_refused reason.Fields o (λ p. Ok (joins d p)))) is.fields
+    ∙ ap (λ o. with_draft (or_refused reason.Fields o (λ p. Ok (draft_joined d p)))) is.fields
     ∙ same_next _ _ (joined_made account limits whole current k ps s.says)
 
 members_lead : (account : Account) (limits : Limits) (whole : List (List Stanza)) (current : List Stanza) (k : Kind)
@@ -225,14 +226,14 @@ last_block whole current k ps =
     let es = es_of whole current in
     let long = length-append es (e ∷ []) in
     ap last_entry (with_some (packages_of whole) (es ++ e ∷ []) (omega (arith, long)))
-    ∙ ap (option_and_then last_of) (last_added (packages_of whole) (es ++ e ∷ [])) ∙ last_added es e
+    ∙ ap (option_and_then list_last) (last_added (packages_of whole) (es ++ e ∷ [])) ∙ last_added es e
 
 end_line : (account : Account) (limits : Limits) (whole : List (List Stanza)) (current : List Stanza) (k : Kind)
     (ps : List Plain)
-    → may_close (container k ps) ≡ true
-    → after_line (reading.Commands (held_so account limits place.Container whole current k ps)) (codes "close")
+    → may_close (container_command k ps) ≡ true
+    → reading_after (reading.Commands (held_so account limits place.Container whole current k ps)) (codes "close")
     ≡ Ok (reading.Commands (held_so account limits place.Package whole current k ps))
-unfolding after_line
+unfolding reading_after
 end_line account limits whole current k ps may =
     let d = held_so account limits place.Container whole current k ps in
     ap (λ b. with_draft (when b (record d { place = place.Package })))
@@ -244,16 +245,16 @@ closed_made : (account : Account) (limits : Limits) (whole : List (List Stanza))
     ≡ told_so account limits place.Package whole (current ++ block k ss ∷ [])
 closed_made account limits whole current k ss =
     let more = ids_more current (block k ss) in
-    let count : total whole + ids_of current + ids_in (container k (map said_plain ss))
-    ≡ total whole + ids_of (current ++ block k ss ∷ []) = omega (arith, more) in
+    let count : total whole + ids_of_stanzas current + ids_in (container_command k (map said_plain ss))
+    ≡ total whole + ids_of_stanzas (current ++ block k ss ∷ []) = omega (arith, more) in
     same_draft account limits place.Package _ _ _ _
     (ap (with_last (packages_of whole))
-    (sym (entries_more (1 + total whole) (1 + total whole + ids_of current) current (block k ss) refl)))
+    (sym (entries_more (1 + total whole) (1 + total whole + ids_of_stanzas current) current (block k ss) refl)))
     count
 
 -- ---- stanzas
 
-stanza_leads : (account : Account) (limits : Limits) (at : Place) (whole : List (List Stanza)) (current : List Stanza)
+stanza_leads : (account : Account) (limits : Limits) (at : LinePlace) (whole : List (List Stanza)) (current : List Stanza)
     (s : Stanza)
     → Stands at (es_of whole current) → IsStanza s
     → Leads (told_so account limits at whole current) (lines_of s)
@@ -271,9 +272,9 @@ stanza_leads account limits at whole current (block k ss) stands is =
     (line_leads _ _ (codes "close") (end_line account limits whole current k (map said_plain ss) is.1))))
 
 -- where a package has come so far
-record Led (account : Account) (limits : Limits) (from : Draft) (lines : List (List ℕ)) (whole : List (List Stanza))
+record Led (account : Account) (limits : Limits) (from : JobDraft) (lines : List (List ℕ)) (whole : List (List Stanza))
     (current : List Stanza) : Type 0 where
-  at : Place
+  at : LinePlace
   stands : Stands at (es_of whole current)
   leads_to : Leads from lines (told_so account limits at whole current)
 
@@ -284,7 +285,7 @@ some_stand whole current s =
     let more = length-append current (s ∷ []) in
     omega (arith, long, more)
 
-package_leads : (account : Account) (limits : Limits) (at : Place) (whole : List (List Stanza))
+package_leads : (account : Account) (limits : Limits) (at : LinePlace) (whole : List (List Stanza))
     (current ss : List Stanza)
     → Stands at (es_of whole current) → AreStanzas ss
     → Led account limits (told_so account limits at whole current) (flat_map lines_of ss) whole (current ++ ss)
@@ -306,25 +307,25 @@ package_leads account limits at whole current (s ∷ ss) stands h =
 -- ---- packages
 
 parted_made : (account : Account) (limits : Limits) (whole : List (List Stanza)) (p : List Stanza)
-    → draft account limits place.Between (with_last (packages_of whole) (es_of whole p)) (total whole + ids_of p)
+    → draft account limits place.Between (with_last (packages_of whole) (es_of whole p)) (total whole + ids_of_stanzas p)
     ≡ told_so account limits place.Between (whole ++ p ∷ []) []
 parted_made account limits whole p =
     let all = total_more whole p in
-    let count : total whole + ids_of p ≡ total (whole ++ p ∷ []) + 0 = omega (arith, all) in
+    let count : total whole + ids_of_stanzas p ≡ total (whole ++ p ∷ []) + 0 = omega (arith, all) in
     same_draft account limits place.Between _ _ _ _ (sym (packages_more (1 + total whole) whole p refl)) count
 
-parting_line : (account : Account) (limits : Limits) (at : Place) (whole : List (List Stanza)) (p : List Stanza)
+parting_line : (account : Account) (limits : Limits) (at : LinePlace) (whole : List (List Stanza)) (p : List Stanza)
     → Stands at (es_of whole p)
-    → after_line (reading.Commands (told_so account limits at whole p)) package_word
+    → reading_after (reading.Commands (told_so account limits at whole p)) package_word
     ≡ Ok (reading.Commands (told_so account limits place.Between (whole ++ p ∷ []) []))
-unfolding after_line
+unfolding reading_after
 parting_line account limits place.Between whole p stands = same_next _ _ (parted_made account limits whole p)
 parting_line account limits place.Package whole p stands = same_next _ _ (parted_made account limits whole p)
 parting_line account limits place.Container whole p stands = absurd stands
 parting_line account limits place.End whole p stands = absurd stands
 
 -- where all packages have been taken
-record All (account : Account) (limits : Limits) (from : Draft) (lines : List (List ℕ)) (packages : List (List Stanza))
+record All (account : Account) (limits : Limits) (from : JobDraft) (lines : List (List ℕ)) (packages : List (List Stanza))
     : Type 0 where
   whole : List (List Stanza)
   current : List Stanza
@@ -363,11 +364,11 @@ packages_lead account limits whole p (q ∷ rest) h =
 
 -- ---- the whole
 
-finish_line : (account : Account) (limits : Limits) (at : Place) (whole : List (List Stanza)) (current : List Stanza)
+finish_line : (account : Account) (limits : Limits) (at : LinePlace) (whole : List (List Stanza)) (current : List Stanza)
     → Stands at (es_of whole current)
-    → after_line (reading.Commands (told_so account limits at whole current)) (codes "end")
+    → reading_after (reading.Commands (told_so account limits at whole current)) (codes "end")
     ≡ Ok (reading.Commands (told_so account limits place.End whole current))
-unfolding after_line
+unfolding reading_after
 finish_line account limits place.Between whole current stands = refl
 finish_line account limits place.Package whole current stands = refl
 finish_line account limits place.Container whole current stands = absurd stands
@@ -382,7 +383,7 @@ all_taken account limits (p ∷ rest) h = inl (packages_lead account limits [] p
 -- what the lines come to
 pub record Comes (n : ℕ) (r : Reading) (lines : List (List ℕ)) (job : Job) : Type 0 where
   pub reached : Reading
-  pub taken : lines_after n r lines ≡ Ok reached
+  pub taken : reading_after_all n r lines ≡ Ok reached
   pub ends : job_in reached ≡ Some job
 
 made_job : (job : Job) (whole : List (List Stanza)) (current : List Stanza) (packages : List (List Stanza))
@@ -402,7 +403,7 @@ body_taken n job packages right made = elim (all_taken job.account job.limits pa
   | inl a ↦ record {
     reached = reading.Commands (told_so job.account job.limits place.End a.whole a.current);
     taken = a.led.leads_to.leads n (codes "end" ∷ [])
-        ∙ ap (λ x. behind_line (n + length (package_lines packages)) x (λ next. Ok next))
+        ∙ ap (λ x. reading_behind (n + length (package_lines packages)) x (λ next. Ok next))
         (finish_line job.account job.limits a.led.at a.whole a.current a.led.stands);
     ends = some_job job _ (made_job job a.whole a.current packages a.are made);
   }
@@ -413,14 +414,14 @@ body_taken n job packages right made = elim (all_taken job.account job.limits pa
       (record {
         reached = reading.Commands (told_so job.account job.limits place.End [] []);
         taken =
-            ap (λ x. behind_line n x (λ next. Ok next)) (finish_line job.account job.limits place.Between [] [] refl);
+            ap (λ x. reading_behind n x (λ next. Ok next)) (finish_line job.account job.limits place.Between [] [] refl);
         ends = some_job job [] (sym (made ∙ ap packages_of none));
       })
 ]
 
 server_line_is : (server : List ℕ) (account : Account) → begins_with (codes "server") server ≡ true
-    → account_in (parts server) ≡ Some account → after_line reading.Server server ≡ Ok (reading.Limits account)
-unfolding after_line
+    → account_in (parts server) ≡ Some account → reading_after reading.Server server ≡ Ok (reading.Limits account)
+unfolding reading_after
 server_line_is server account named a =
     ap (λ b. cond b (or_refused reason.Fields (account_in (parts server)) (λ x. Ok (reading.Limits x)))
     (Err reason.Word)) named
@@ -428,23 +429,23 @@ server_line_is server account named a =
 
 limits_line_is : (line : List ℕ) (account : Account) (limits : Limits) → begins_with (codes "limits") line ≡ true
     → limits_in (parts line) ≡ Some limits
-    → after_line (reading.Limits account) line ≡ Ok (reading.Commands (empty_draft account limits))
-unfolding after_line
+    → reading_after (reading.Limits account) line ≡ Ok (reading.Commands (empty_draft account limits))
+unfolding reading_after
 limits_line_is line account limits named l =
     ap (λ b.
     cond b (or_refused reason.Fields (limits_in (parts line)) (λ x. Ok (reading.Commands (empty_draft account x))))
     (Err reason.Word)) named
     ∙ ap (λ o. or_refused reason.Fields o (λ x. Ok (reading.Commands (empty_draft account x)))) l
 
-first_line_is : after_line reading.First (codes "dm-job 1") ≡ Ok reading.Server
-unfolding after_line
+first_line_is : reading_after reading.First (codes "dm-job 1") ≡ Ok reading.Server
+unfolding reading_after
 first_line_is = refl
 
-one_more : (n : ℕ) (r next : Reading) (line : List ℕ) (lines : List (List ℕ)) (job : Job) → after_line r line ≡ Ok next
+one_more : (n : ℕ) (r next : Reading) (line : List ℕ) (lines : List (List ℕ)) (job : Job) → reading_after r line ≡ Ok next
     → Comes (n + 1) next lines job → Comes n r (line ∷ lines) job
 one_more n r next line lines job h c = record {
   reached = c.reached;
-  taken = ap (λ x. behind_line n x (λ read. lines_after (n + 1) read lines)) h ∙ c.taken;
+  taken = ap (λ x. reading_behind n x (λ read. reading_after_all (n + 1) read lines)) h ∙ c.taken;
   ends = c.ends;
 }
 

@@ -5,17 +5,17 @@ use Rattle.std.specs.List.{AllByRecursion, list_all, onto_first, join_with_byte}
 use Rattle.std.proofs.lemmas.Bool.{and_parts, and_from}
 use Rattle.std.proofs.lemmas.List.Folds.{list_all-append}
 use Rattle.std.proofs.lemmas.List.Splits.{join_with_byte-slice_split}
-use Rattle.dm_job.specs.Grammar.{IsLine, ended}
+use Rattle.dm_job.specs.Grammar.{IsLine, with_feed}
 use Rattle.dm_job.specs.Texts.{segments, is_long}
 
-joined : (lines : List (List ℕ)) → join_with_byte 10 (lines ++ [] ∷ []) ≡ flat_map ended lines
+joined : (lines : List (List ℕ)) → join_with_byte 10 (lines ++ [] ∷ []) ≡ flat_map with_feed lines
 joined [] = refl
 joined (l ∷ []) = sym (append-nil (l ++ 10 ∷ []))
 joined (l ∷ m ∷ ms) =
-    ap (λ rest. l ++ 10 ∷ rest) (joined (m ∷ ms)) ∙ sym (append_assoc l (10 ∷ []) (flat_map ended (m ∷ ms)))
+    ap (λ rest. l ++ 10 ∷ rest) (joined (m ∷ ms)) ∙ sym (append_assoc l (10 ∷ []) (flat_map with_feed (m ∷ ms)))
 
 -- lines that nothing stands behind are the text
-pub text_is : (text : List ℕ) (lines : List (List ℕ)) → segments text ≡ lines ++ [] ∷ [] → text ≡ flat_map ended lines
+pub text_is : (text : List ℕ) (lines : List (List ℕ)) → segments text ≡ lines ++ [] ∷ [] → text ≡ flat_map with_feed lines
 text_is text lines h = sym (join_with_byte-slice_split 10 text) ∙ ap (join_with_byte 10) h ∙ joined lines
 
 abbrev is_feedless : List ℕ → Bool

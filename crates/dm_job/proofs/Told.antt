@@ -7,11 +7,11 @@ use Rattle.std.proofs.lemmas.Bool.{and_parts}
 use Rattle.dm_base.specs.declared.lines.LineReason.{LineReason}
 use Rattle.dm_base.specs.declared.lines.LineReason.TheVariants as reason
 use Rattle.dm_job.specs.declared.job.Job.{Job}
-use Rattle.dm_job.specs.declared.draft.Place.{Place}
-use Rattle.dm_job.specs.declared.draft.Place.TheVariants as place
+use Rattle.dm_job.specs.declared.draft.LinePlace.{LinePlace}
+use Rattle.dm_job.specs.declared.draft.LinePlace.TheVariants as place
 use Rattle.dm_job.specs.declared.draft.Reading.{Reading}
 use Rattle.dm_job.specs.declared.draft.Reading.TheVariants as reading
-use Rattle.dm_job.specs.Reading.{after_line, behind_line, draft_after, lines_after, with_draft}
+use Rattle.dm_job.specs.Reading.{reading_after, reading_behind, draft_after, reading_after_all, with_draft}
 use Rattle.dm_job.specs.Texts.{is_long, job_in, ended_at, end_at, end_or, job_from, job_of}
 use Rattle.dm_job.specs.Laws.{IsRefusedFor, RefusalsAreTold}
 use Rattle.dm_job.proofs.Turns.{Read, one_turn}
@@ -21,14 +21,14 @@ At n why = Err (n, why)
 
 -- nothing is taken behind the last line
 pub no_line_behind : (r : Reading) (line : List ℕ) (job : Job) → job_in r ≡ Some job
-    → after_line r line ≡ Err reason.Word
-unfolding after_line
+    → reading_after r line ≡ Err reason.Word
+unfolding reading_after
 no_line_behind reading.First line job e = absurd (cc)
 no_line_behind reading.Server line job e = absurd (cc)
 no_line_behind (reading.Limits account) line job e = absurd (cc)
 no_line_behind (reading.Commands d) line job e = by_place d.place e
   where
-    by_place : (at : Place) → ended_at at d.job ≡ Some job → with_draft (draft_after at d line) ≡ Err reason.Word
+    by_place : (at : LinePlace) → ended_at at d.job ≡ Some job → with_draft (draft_after at d line) ≡ Err reason.Word
     by_place place.Between h = absurd (cc)
     by_place place.Package h = absurd (cc)
     by_place place.Container h = absurd (cc)
@@ -44,16 +44,16 @@ told_tail n r line why h = elim h [
 
 -- what a line within its limit comes to
 abbrev behind_read : ℕ → List (List ℕ) → Result Reading LineReason → Read
-behind_read n rest x = behind_line n x (λ read. end_or n (job_in read) rest (job_from (n + 1) read rest))
+behind_read n rest x = reading_behind n x (λ read. end_or n (job_in read) rest (job_from (n + 1) read rest))
 
 told_line : (n : ℕ) (r : Reading) (line next : List ℕ) (others : List (List ℕ)) (why : LineReason)
-    → ((is_long line ≡ true) × (why ≡ reason.Long)) ⊎ ((is_long line ≡ false) × (after_line r line ≡ Err why))
+    → ((is_long line ≡ true) × (why ≡ reason.Long)) ⊎ ((is_long line ≡ false) × (reading_after r line ≡ Err why))
     → job_from n r (line ∷ next ∷ others) ≡ At n why
 told_line n r line next others why h = elim h [
   | inl x ↦
-      ap (λ b. cond b (At n reason.Long) (behind_read n (next ∷ others) (after_line r line))) x.0 ∙ ap (At n) (sym x.1)
+      ap (λ b. cond b (At n reason.Long) (behind_read n (next ∷ others) (reading_after r line))) x.0 ∙ ap (At n) (sym x.1)
   | inr x ↦
-      ap (λ b. cond b (At n reason.Long) (behind_read n (next ∷ others) (after_line r line))) x.0
+      ap (λ b. cond b (At n reason.Long) (behind_read n (next ∷ others) (reading_after r line))) x.0
       ∙ ap (behind_read n (next ∷ others)) x.1
 ]
 
@@ -82,7 +82,7 @@ not_long false h = refl
 -- the last line came, and something stands behind it
 told_extra : (n : ℕ) (read reached : Reading) (job : Job) (bs : List (List ℕ)) (line : List ℕ) (behind : List (List ℕ))
     (why : LineReason)
-    → job_in read ≡ Some job → lines_after (n + 1) read bs ≡ Ok reached
+    → job_in read ≡ Some job → reading_after_all (n + 1) read bs ≡ Ok reached
     → IsRefusedFor why (job_in reached) reached line behind
     → end_at (n + 1) job (bs ++ line ∷ behind) ≡ At (n + 1 + length bs) why
 told_extra n read reached job [] line behind why ends taken refused =
@@ -93,7 +93,7 @@ told_extra n read reached job [] line behind why ends taken refused =
     ∙ ap (At (n + 1)) (sym extra.0) ∙ ap (λ m. At m why) (sym (add-zero (n + 1)))
 told_extra n read reached job (c ∷ cs) line behind why ends taken refused =
     let none =
-    ap (λ x. behind_line (n + 1) x (λ next. lines_after (n + 1 + 1) next cs)) (no_line_behind read c job ends) in
+    ap (λ x. reading_behind (n + 1) x (λ next. reading_after_all (n + 1 + 1) next cs)) (no_line_behind read c job ends) in
     absurd (never (sym none ∙ taken))
   where
     never : ◌≡◌ {A = Result Reading (ℕ × LineReason)} (Err (n + 1, reason.Word)) (Ok reached) → ⊥
@@ -101,32 +101,32 @@ told_extra n read reached job (c ∷ cs) line behind why ends taken refused =
 
 abbrev Later : ℕ → List (List ℕ) → List ℕ → List (List ℕ) → LineReason → Reading → Type 0
 Later n bs line behind why reached =
-    (read : Reading) → job_in read ≡ None → lines_after (n + 1) read bs ≡ Ok reached
+    (read : Reading) → job_in read ≡ None → reading_after_all (n + 1) read bs ≡ Ok reached
     → job_from (n + 1) read (bs ++ line ∷ behind) ≡ At (n + 1 + length bs) why
 
 told_behind : (n : ℕ) (r reached : Reading) (b : List ℕ) (bs : List (List ℕ)) (line : List ℕ) (behind : List (List ℕ))
     (why : LineReason)
-    → Later n bs line behind why reached → is_long b ≡ false → lines_after n r (b ∷ bs) ≡ Ok reached
+    → Later n bs line behind why reached → is_long b ≡ false → reading_after_all n r (b ∷ bs) ≡ Ok reached
     → IsRefusedFor why (job_in reached) reached line behind
     → job_from n r (b ∷ (bs ++ line ∷ behind)) ≡ At (n + 1 + length bs) why
 told_behind n r reached b bs line behind why later short taken refused =
     one_turn n r b (bs ++ line ∷ behind) (some_behind bs line behind)
-    ∙ ap (λ c. cond c (At n reason.Long) (behind_read n (bs ++ line ∷ behind) (after_line r b))) short
-    ∙ by_line (after_line r b) taken
+    ∙ ap (λ c. cond c (At n reason.Long) (behind_read n (bs ++ line ∷ behind) (reading_after r b))) short
+    ∙ by_line (reading_after r b) taken
   where
-    by_job : (read : Reading) (o : Option Job) → job_in read ≡ o → lines_after (n + 1) read bs ≡ Ok reached
+    by_job : (read : Reading) (o : Option Job) → job_in read ≡ o → reading_after_all (n + 1) read bs ≡ Ok reached
         → end_or n o (bs ++ line ∷ behind) (job_from (n + 1) read (bs ++ line ∷ behind)) ≡ At (n + 1 + length bs) why
     by_job read None is k = later read is k
     by_job read (Some job) is k = told_extra n read reached job bs line behind why is k refused
 
-    by_line : (x : Result Reading LineReason) → behind_line n x (λ next. lines_after (n + 1) next bs) ≡ Ok reached
+    by_line : (x : Result Reading LineReason) → reading_behind n x (λ next. reading_after_all (n + 1) next bs) ≡ Ok reached
         → behind_read n (bs ++ line ∷ behind) x ≡ At (n + 1 + length bs) why
     by_line (Ok read) k = by_job read (job_in read) refl k
     by_line (Err w) k = absurd (cc)
 
 told_from : (n : ℕ) (r reached : Reading) (before : List (List ℕ)) (line : List ℕ) (behind : List (List ℕ))
     (why : LineReason)
-    → job_in r ≡ None → list_all (λ l. not (is_long l)) before ≡ true → lines_after n r before ≡ Ok reached
+    → job_in r ≡ None → list_all (λ l. not (is_long l)) before ≡ true → reading_after_all n r before ≡ Ok reached
     → IsRefusedFor why (job_in reached) reached line behind
     → job_from n r (before ++ line ∷ behind) ≡ At (n + length before) why
 told_from n r reached [] line behind why none short taken refused =

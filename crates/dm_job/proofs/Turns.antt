@@ -16,8 +16,8 @@ use Rattle.dm_job.specs.declared.errors.JobError.{JobError}
 use Rattle.dm_job.specs.declared.errors.JobError.TheVariants as job_error
 use Rattle.dm_job.specs.declared.job.Job.{Job}
 use Rattle.dm_job.specs.declared.draft.Reading.{Reading}
-use Rattle.dm_job.specs.Reading.{after_line, behind_line}
-use Rattle.dm_job.specs.Texts.{segments, is_long, job_in, is_ended, end_at, end_or, job_from, bad_line, ReadsAll}
+use Rattle.dm_job.specs.Reading.{reading_after, reading_behind}
+use Rattle.dm_job.specs.Texts.{segments, is_long, job_in, is_ended, end_at, end_or, job_from, line_fault, ReadsAll}
 use Rattle.dm_job.specs.Texts.{ReadsEnd}
 
 -- ---- there is a last segment
@@ -36,15 +36,15 @@ Read = Result Job (ℕ × LineReason)
 abbrev pub turn : ℕ → Reading → List ℕ → List (List ℕ) → Result Reading LineReason → Read
 turn n r line behind x =
     if is_long line then Err (n, reason.Long)
-    else behind_line n x (λ read. end_or n (job_in read) behind (job_from (n + 1) read behind))
+    else reading_behind n x (λ read. end_or n (job_in read) behind (job_from (n + 1) read behind))
 
 pub one_turn : (n : ℕ) (r : Reading) (line : List ℕ) (behind : List (List ℕ)) → (behind ≡ [] → ⊥)
-    → job_from n r (line ∷ behind) ≡ turn n r line behind (after_line r line)
+    → job_from n r (line ∷ behind) ≡ turn n r line behind (reading_after r line)
 one_turn n r line [] some = absurd (some refl)
 one_turn n r line (x ∷ xs) some = refl
 
 first_turn : (n : ℕ) (r : Reading) (text line behind : List ℕ) → segments text ≡ line ∷ segments behind
-    → job_from n r (segments text) ≡ turn n r line (segments behind) (after_line r line)
+    → job_from n r (segments text) ≡ turn n r line (segments behind) (reading_after r line)
 first_turn n r text line behind is =
     ap (job_from n r) is ∙ one_turn n r line (segments behind) (some_segments behind)
 
@@ -53,35 +53,35 @@ pub long_line : (n : ℕ) (r : Reading) (text line behind : List ℕ) → segmen
 long_line n r text line behind is long =
     first_turn n r text line behind is
     ∙ ap (λ b. cond b (Err (n, reason.Long))
-    (behind_line n (after_line r line) (λ read. end_or n (job_in read) (segments behind)
+    (reading_behind n (reading_after r line) (λ read. end_or n (job_in read) (segments behind)
     (job_from (n + 1) read (segments behind))))) long
 
 short_turn : (n : ℕ) (r : Reading) (text line behind : List ℕ) (x : Result Reading LineReason)
-    → segments text ≡ line ∷ segments behind → is_long line ≡ false → after_line r line ≡ x
+    → segments text ≡ line ∷ segments behind → is_long line ≡ false → reading_after r line ≡ x
     → job_from n r (segments text)
-    ≡ behind_line n x (λ read. end_or n (job_in read) (segments behind) (job_from (n + 1) read (segments behind)))
+    ≡ reading_behind n x (λ read. end_or n (job_in read) (segments behind) (job_from (n + 1) read (segments behind)))
 short_turn n r text line behind x is short after =
     first_turn n r text line behind is
     ∙ ap (λ b. cond b (Err (n, reason.Long))
-    (behind_line n (after_line r line) (λ read. end_or n (job_in read) (segments behind)
+    (reading_behind n (reading_after r line) (λ read. end_or n (job_in read) (segments behind)
     (job_from (n + 1) read (segments behind))))) short
-    ∙ ap (λ y. behind_line n y
+    ∙ ap (λ y. reading_behind n y
     (λ read. end_or n (job_in read) (segments behind) (job_from (n + 1) read (segments behind)))) after
 
 pub refused_line : (n : ℕ) (r : Reading) (text line behind : List ℕ) (why : LineReason)
-    → segments text ≡ line ∷ segments behind → is_long line ≡ false → after_line r line ≡ Err why
+    → segments text ≡ line ∷ segments behind → is_long line ≡ false → reading_after r line ≡ Err why
     → job_from n r (segments text) ≡ Err (n, why)
 refused_line n r text line behind why is short after = short_turn n r text line behind (Err why) is short after
 
 pub read_line : (n : ℕ) (r read : Reading) (text line behind : List ℕ)
-    → segments text ≡ line ∷ segments behind → is_long line ≡ false → after_line r line ≡ Ok read → job_in read ≡ None
+    → segments text ≡ line ∷ segments behind → is_long line ≡ false → reading_after r line ≡ Ok read → job_in read ≡ None
     → job_from n r (segments text) ≡ job_from (n + 1) read (segments behind)
 read_line n r read text line behind is short after going =
     short_turn n r text line behind (Ok read) is short after
     ∙ ap (λ o. end_or n o (segments behind) (job_from (n + 1) read (segments behind))) going
 
 pub last_line : (n : ℕ) (r read : Reading) (job : Job) (text line behind : List ℕ)
-    → segments text ≡ line ∷ segments behind → is_long line ≡ false → after_line r line ≡ Ok read
+    → segments text ≡ line ∷ segments behind → is_long line ≡ false → reading_after r line ≡ Ok read
     → job_in read ≡ Some job
     → job_from n r (segments text) ≡ end_at (n + 1) job (segments behind)
 last_line n r read job text line behind is short after ends =
@@ -132,7 +132,7 @@ ends_all wanted r job n behind (Err (job_error.Bad m why)) is ends h = is ∙ h 
 ends_all wanted r job n behind (Err job_error.Memory) is ends h = absurd h
 
 pub bad_all : (T : Type 0) (wanted : Read) (r : Reading) (n : ℕ) (error : LineError) (e : JobError)
-    → e ≡ bad_line n error
+    → e ≡ line_fault n error
     → ((why : LineReason) → error ≡ line_error.Bad why → wanted ≡ Err (n, why)) → ReadsAll {T = T} wanted r (Err e)
 bad_all T wanted r n (line_error.Bad why) e is h = subst (λ x. ReadsAll {T = T} wanted r (Err x)) (sym is) (h why refl)
 bad_all T wanted r n line_error.Memory e is h = subst (λ x. ReadsAll {T = T} wanted r (Err x)) (sym is) tt

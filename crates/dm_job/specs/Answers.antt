@@ -6,14 +6,14 @@ use Rattle.dm_fields.specs.declared.errors.LineError.{LineError}
 use Rattle.dm_fields.specs.Refusing.{Refuses}
 
 -- the state is the wanted one
-abbrev pub Does : {S : Type 0} {T : Type 0} → Result S LineReason → S → S → Result T LineError → Type 0
-Does wanted old new (Ok x) = wanted ≡ Ok new
-Does wanted old new (Err e) = Refuses wanted e × (new ≡ old)
+abbrev pub MovesOn : {S : Type 0} {T : Type 0} → Result S LineReason → S → S → Result T LineError → Type 0
+MovesOn wanted old new (Ok x) = wanted ≡ Ok new
+MovesOn wanted old new (Err e) = Refuses wanted e × (new ≡ old)
 
 -- the same, where nothing is refused
-abbrev pub Takes : {S : Type 0} {T : Type 0} → S → S → S → Result T Memory → Type 0
-Takes wanted old new (Ok x) = new ≡ wanted
-Takes wanted old new (Err e) = new ≡ old
+abbrev pub AlwaysMovesOn : {S : Type 0} {T : Type 0} → S → S → S → Result T Memory → Type 0
+AlwaysMovesOn wanted old new (Ok x) = new ≡ wanted
+AlwaysMovesOn wanted old new (Err e) = new ≡ old
 
 -- what is said is the wanted thing
 abbrev pub Says : {S : Type 0} → Result S LineReason → Result S LineError → Type 0

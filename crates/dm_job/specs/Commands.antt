@@ -54,17 +54,17 @@ abbrev pub within_object : List ℕ → Option (List ℕ)
 within_object bytes = if nat_le (length bytes) object_limit then Some bytes else None
 
 -- Data: at most 4,194,304 bytes, as HEX
-abbrev pub data_in : List ℕ → Option (List ℕ)
-data_in text = option_and_then within_object (hex_of text)
+abbrev pub hex_data_in : List ℕ → Option (List ℕ)
+hex_data_in text = option_and_then within_object (hex_of text)
 
-abbrev pub written : Verb → List ℕ → List ℕ → List ℕ → List ℕ → Plain
-written v uri format media bytes = plain_of v None (item_of uri (meta_of (opt_of format) (opt_of media)) (Some bytes))
+abbrev pub plain_written : Verb → List ℕ → List ℕ → List ℕ → List ℕ → Plain
+plain_written v uri format media bytes = plain_of v None (item_of uri (meta_of (opt_of format) (opt_of media)) (Some bytes))
 
 -- `add WORD FORMAT TYPE HEX` and `replace WORD FORMAT TYPE HEX`; FORMAT is an OPT, and TYPE a WORD, where `-` stands
 -- for none
 abbrev pub write_in : Verb → List (List ℕ) → Option Plain
 write_in v (word ∷ uri ∷ format ∷ media ∷ bytes ∷ []) =
-    if is_word uri && is_short format && is_word media then option_map (written v uri format media) (data_in bytes)
+    if is_word uri && is_short format && is_word media then option_map (plain_written v uri format media) (hex_data_in bytes)
     else None
 write_in v other = None
 

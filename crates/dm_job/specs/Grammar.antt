@@ -38,12 +38,12 @@ abbrev pub kind_word : Kind → List ℕ
 kind_word atomic = codes "atomic"
 kind_word sequence = codes "sequence"
 
-abbrev pub single : Plain → SeqMember
-single p = seq_member.Single (member.One p)
+abbrev pub single_member : Plain → SeqMember
+single_member p = seq_member.Single (member.One p)
 
-abbrev pub container : Kind → List Plain → Command
-container atomic ps = command.Atomic (record { id = 0; no_resp = false; meta = None; members = map member.One ps })
-container sequence ps = command.Sequence (record { id = 0; no_resp = false; meta = None; members = map single ps })
+abbrev pub container_command : Kind → List Plain → Command
+container_command atomic ps = command.Atomic (record { id = 0; no_resp = false; meta = None; members = map member.One ps })
+container_command sequence ps = command.Sequence (record { id = 0; no_resp = false; meta = None; members = map single_member ps })
 
 -- a command, or a container with its members
 pub data Stanza : Type 0 where
@@ -62,7 +62,7 @@ lines_of (block k ss) = kind_word k ∷ map said_line ss ++ codes "close" ∷ []
 
 abbrev pub command_of : Stanza → Command
 command_of (one s) = command.Plain s.says
-command_of (block k ss) = container k (map said_plain ss)
+command_of (block k ss) = container_command k (map said_plain ss)
 
 abbrev pub IsStanza : Stanza → Type 0
 IsStanza (one s) = IsSaid s
@@ -80,18 +80,18 @@ package_lines (p ∷ []) = flat_map lines_of p
 package_lines (p ∷ q ∷ rest) = flat_map lines_of p ++ codes "package" ∷ package_lines (q ∷ rest)
 
 -- commands are numbered from one on, a container before its members
-abbrev pub entries_of : ℕ → List Stanza → List JobEntry
-entries_of n [] = []
-entries_of n (s ∷ rest) = record { number = n; command = command_of s } ∷ entries_of (n + ids_in (command_of s)) rest
+abbrev pub numbered_entries : ℕ → List Stanza → List JobEntry
+numbered_entries n [] = []
+numbered_entries n (s ∷ rest) = record { number = n; command = command_of s } ∷ numbered_entries (n + ids_in (command_of s)) rest
 
 -- how many numbers they have
-abbrev pub ids_of : List Stanza → ℕ
-ids_of [] = 0
-ids_of (s ∷ rest) = ids_in (command_of s) + ids_of rest
+abbrev pub ids_of_stanzas : List Stanza → ℕ
+ids_of_stanzas [] = 0
+ids_of_stanzas (s ∷ rest) = ids_in (command_of s) + ids_of_stanzas rest
 
-abbrev pub numbered : ℕ → List (List Stanza) → List (List JobEntry)
-numbered n [] = []
-numbered n (p ∷ ps) = entries_of n p ∷ numbered (n + ids_of p) ps
+abbrev pub numbered_packages : ℕ → List (List Stanza) → List (List JobEntry)
+numbered_packages n [] = []
+numbered_packages n (p ∷ ps) = numbered_entries n p ∷ numbered_packages (n + ids_of_stanzas p) ps
 
 abbrev pub has_some : {A : Type 0} → List A → Bool
 has_some [] = false
@@ -99,7 +99,7 @@ has_some (x ∷ xs) = true
 
 -- empty packages are passed over
 abbrev pub packages_of : List (List Stanza) → List (List JobEntry)
-packages_of ps = filter has_some (numbered 1 ps)
+packages_of ps = filter has_some (numbered_packages 1 ps)
 
 -- ---- the whole
 
@@ -121,12 +121,12 @@ pub record IsLine (line : List ℕ) : Type 0 where
   pub short : length line ≤ line_limit
   pub feedless : list_all (λ b. not (b == 10)) line ≡ true
 
-abbrev pub ended : List ℕ → List ℕ
-ended line = line ++ line_feed
+abbrev pub with_feed : List ℕ → List ℕ
+with_feed line = line ++ line_feed
 
 -- the text of a job
 pub record IsJobText (text : List ℕ) (job : Job) : Type 0 where
   pub lines : List (List ℕ)
-  pub is : text ≡ flat_map ended lines
+  pub is : text ≡ flat_map with_feed lines
   pub right : AllByRecursion IsLine lines
   pub job_is : IsJob lines job

@@ -7,10 +7,10 @@ use Rattle.dm_base.specs.declared.lines.LineReason.TheVariants as reason
 use Rattle.dm_job.specs.declared.job.Job.{Job}
 use Rattle.dm_job.specs.declared.draft.Reading.{Reading}
 use Rattle.dm_job.specs.declared.draft.Reading.TheVariants as reading
-use Rattle.dm_job.specs.Reading.{after_line, lines_after}
+use Rattle.dm_job.specs.Reading.{reading_after, reading_after_all}
 use Rattle.dm_job.specs.Texts.{segments, is_long, job_in, job_of}
 use Rattle.dm_job.specs.Grammar.{IsJobText}
-use Rattle.dm_job.specs.Sound.{IsSound}
+use Rattle.dm_job.specs.Sound.{IsSoundJob}
 
 -- ---- both ways
 
@@ -25,7 +25,7 @@ OnlyJobsAreRead = (text : List ℕ) (job : Job) → job_of text ≡ Ok job → I
 -- a line within its limit is refused for what it says where it stands, or because no line feed ends it
 abbrev pub IsRefusedHere : LineReason → Reading → List ℕ → List (List ℕ) → Type 0
 IsRefusedHere why r line [] = why ≡ reason.Cut
-IsRefusedHere why r line (next ∷ others) = after_line r line ≡ Err why
+IsRefusedHere why r line (next ∷ others) = reading_after r line ≡ Err why
 
 -- where the lines before have come so far, and these segments stand behind it: nothing may stand behind `end`
 abbrev pub IsRefusedFor : LineReason → Option Job → Reading → List ℕ → List (List ℕ) → Type 0
@@ -34,7 +34,7 @@ IsRefusedFor why None r line behind =
     ((is_long line ≡ true) × (why ≡ reason.Long)) ⊎ ((is_long line ≡ false) × IsRefusedHere why r line behind)
 
 -- the first line that is refused: those before it are taken, each within its limit
-pub record IsRefused (text : List ℕ) (n : ℕ) (why : LineReason) : Type 0 where
+pub record IsRefusedJob (text : List ℕ) (n : ℕ) (why : LineReason) : Type 0 where
   pub before : List (List ℕ)
   pub line : List ℕ
   pub behind : List (List ℕ)
@@ -42,15 +42,15 @@ pub record IsRefused (text : List ℕ) (n : ℕ) (why : LineReason) : Type 0 whe
   pub number : n ≡ 1 + length before
   pub short : list_all (λ l. not (is_long l)) before ≡ true
   pub reached : Reading
-  pub taken : lines_after 1 reading.First before ≡ Ok reached
+  pub taken : reading_after_all 1 reading.First before ≡ Ok reached
   pub refused : IsRefusedFor why (job_in reached) reached line behind
 
 abbrev pub RefusalsAreFirst : Type 0
-RefusalsAreFirst = (text : List ℕ) (n : ℕ) (why : LineReason) → job_of text ≡ Err (n, why) → IsRefused text n why
+RefusalsAreFirst = (text : List ℕ) (n : ℕ) (why : LineReason) → job_of text ≡ Err (n, why) → IsRefusedJob text n why
 
 abbrev pub RefusalsAreTold : Type 0
-RefusalsAreTold = (text : List ℕ) (n : ℕ) (why : LineReason) → IsRefused text n why → job_of text ≡ Err (n, why)
+RefusalsAreTold = (text : List ℕ) (n : ℕ) (why : LineReason) → IsRefusedJob text n why → job_of text ≡ Err (n, why)
 
 -- every job that is read can be sent
 abbrev pub JobsAreSound : Type 0
-JobsAreSound = (text : List ℕ) (job : Job) → job_of text ≡ Ok job → IsSound job
+JobsAreSound = (text : List ℕ) (job : Job) → job_of text ≡ Ok job → IsSoundJob job

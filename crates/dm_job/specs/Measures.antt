@@ -8,7 +8,7 @@ use Rattle.dm_job.specs.Commands.{member_count}
 use Rattle.dm_job.specs.declared.job.JobEntry.{JobEntry}
 use Rattle.dm_job.specs.declared.draft.Reading.{Reading}
 use Rattle.dm_job.specs.declared.draft.Reading.TheVariants as reading
-use Rattle.dm_job.specs.Reading.{last_entry, lines_after}
+use Rattle.dm_job.specs.Reading.{last_entry, reading_after_all}
 
 abbrev pub item_value : Item → Option (List ℕ)
 item_value i = i.value
@@ -36,11 +36,11 @@ CanGoOn (reading.Limits account) = ⊤
 CanGoOn (reading.Commands d) = CanClose d.job.packages
 
 -- some lines lead here from the first on
-pub record IsReached (r : Reading) : Type 0 where
+pub record LinesLeadTo (r : Reading) : Type 0 where
   pub lines : List (List ℕ)
-  pub taken : lines_after 1 reading.First lines ≡ Ok r
+  pub taken : reading_after_all 1 reading.First lines ≡ Ok r
 
 -- what holds of a reader, wherever it has come to
-pub record IsGoing (r : Reading) : Type 0 where
+pub record IsUnderWay (r : Reading) : Type 0 where
   pub can_go_on : CanGoOn r
-  pub reached : IsReached r
+  pub reached : LinesLeadTo r

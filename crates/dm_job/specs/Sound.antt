@@ -39,25 +39,25 @@ IsJobCommand (command.Sequence b) = (b.no_resp ≡ false) × AllByRecursion IsSt
 IsJobCommand other = ⊥
 
 -- it can be sent
-pub record IsEntry (e : JobEntry) : Type 0 where
+pub record CanBeSent (e : JobEntry) : Type 0 where
   pub steps : IsJobCommand e.command
   pub ready : IsReady (whole_entry e.command)
 
-abbrev pub same : {A : Type 0} → A → A
-same x = x
+abbrev pub the_same : {A : Type 0} → A → A
+the_same x = x
 
 -- those of all packages, in order
 abbrev pub all_entries : List (List JobEntry) → List JobEntry
-all_entries packages = flat_map same packages
+all_entries packages = flat_map the_same packages
 
 -- numbered from one on, a container before its members
 abbrev pub AreNumbered : ℕ → List JobEntry → Type 0
 AreNumbered n [] = ⊤
 AreNumbered n (e ∷ es) = (e.number ≡ n) × AreNumbered (n + ids_in e.command) es
 
-pub record IsSound (job : Job) : Type 0 where
+pub record IsSoundJob (job : Job) : Type 0 where
   pub account : IsAccount job.account
   pub limits : IsTrue (are_limits job.limits.max_msg job.limits.max_obj)
   pub filled : AllByRecursion (λ (es : List JobEntry). 0 < length es) job.packages
-  pub entries : AllByRecursion IsEntry (all_entries job.packages)
+  pub entries : AllByRecursion CanBeSent (all_entries job.packages)
   pub numbered : AreNumbered 1 (all_entries job.packages)

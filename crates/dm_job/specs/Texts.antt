@@ -10,11 +10,11 @@ use Rattle.dm_fields.specs.declared.errors.LineError.TheVariants as line_error
 use Rattle.dm_job.specs.declared.errors.JobError.{JobError}
 use Rattle.dm_job.specs.declared.errors.JobError.TheVariants as job_error
 use Rattle.dm_job.specs.declared.job.Job.{Job}
-use Rattle.dm_job.specs.declared.draft.Place.{Place}
-use Rattle.dm_job.specs.declared.draft.Place.TheVariants as place
+use Rattle.dm_job.specs.declared.draft.LinePlace.{LinePlace}
+use Rattle.dm_job.specs.declared.draft.LinePlace.TheVariants as place
 use Rattle.dm_job.specs.declared.draft.Reading.{Reading}
 use Rattle.dm_job.specs.declared.draft.Reading.TheVariants as reading
-use Rattle.dm_job.specs.Reading.{after_line, behind_line}
+use Rattle.dm_job.specs.Reading.{reading_after, reading_behind}
 
 -- what stands between line feeds: the lines, and behind them what no line feed ends
 abbrev pub segments : List ℕ → List (List ℕ)
@@ -24,7 +24,7 @@ segments text = slice_split (λ b. b == 10) text
 abbrev pub is_long : List ℕ → Bool
 is_long line = nat_lt line_limit (length line)
 
-abbrev pub ended_at : Place → Job → Option Job
+abbrev pub ended_at : LinePlace → Job → Option Job
 ended_at place.End job = Some job
 ended_at other job = None
 
@@ -64,7 +64,7 @@ job_from n r [] = Err (n, reason.Cut)
 job_from n r (tail ∷ []) = Err (unended n tail)
 job_from n r (line ∷ next ∷ others) =
     if is_long line then Err (n, reason.Long)
-    else behind_line n (after_line r line)
+    else reading_behind n (reading_after r line)
     (λ read. end_or n (job_in read) (next ∷ others) (job_from (n + 1) read (next ∷ others)))
 
 unfoldable pub job_of : List ℕ → Result Job (ℕ × LineReason)
@@ -75,15 +75,15 @@ job_of text = job_from 1 reading.First (segments text)
 abbrev pub bad_at : ℕ × LineReason → JobError
 bad_at refused = job_error.Bad refused.0 refused.1
 
-abbrev pub bad_line : ℕ → LineError → JobError
-bad_line n (line_error.Bad why) = job_error.Bad n why
-bad_line n line_error.Memory = job_error.Memory
+abbrev pub line_fault : ℕ → LineError → JobError
+line_fault n (line_error.Bad why) = job_error.Bad n why
+line_fault n line_error.Memory = job_error.Memory
 
 -- want of memory may come in the place of each answer
-abbrev pub Reads : Result Job (ℕ × LineReason) → Result Job JobError → Type 0
-Reads wanted (Ok job) = wanted ≡ Ok job
-Reads wanted (Err (job_error.Bad n why)) = wanted ≡ Err (n, why)
-Reads wanted (Err job_error.Memory) = ⊤
+abbrev pub ReadsJob : Result Job (ℕ × LineReason) → Result Job JobError → Type 0
+ReadsJob wanted (Ok job) = wanted ≡ Ok job
+ReadsJob wanted (Err (job_error.Bad n why)) = wanted ≡ Err (n, why)
+ReadsJob wanted (Err job_error.Memory) = ⊤
 
 -- a whole text leaves its job
 abbrev pub ReadsAll : {T : Type 0} → Result Job (ℕ × LineReason) → Reading → Result T JobError → Type 0

@@ -4,7 +4,7 @@ ghost use Rattle.std.specs.Option.{option_map_or};
 ghost use Rattle.syncml_types.specs.Fitness.{is_in_limit, command_data};
 ghost use Rattle.syncml_types.specs.Lengths.{up_to_most};
 ghost use Rattle.syncml_parts.specs.Numbering.{ids_in};
-ghost use Rattle.syncml_parts.specs.Packing.{cut_changed, cut_item, last_of};
+ghost use Rattle.syncml_parts.specs.Packing.{cut_changed, cut_item, list_last};
 ghost use Rattle.dm_pack.specs.Entries.{without_value, bare_length as length_of};
 ghost use Rattle.dm_job.specs.Commands as Spec;
 ghost use Rattle.dm_job.specs.Measures.{value_in, with_data, CanBeMeasured, CanClose};
@@ -96,8 +96,8 @@ fn may_close(command: &mut Command) -> bool
 
 #[tactic(auto, using(crate::proofs::Lasts::kept_last, crate::proofs::Lasts::none_last))]
 fn last_of_package(entries: &mut List<JobEntry>) -> bool
-    requires { IfSome (last_of entries.old) (λ e. CanBeMeasured e.command) }
-    ensures result { result ≡ option_map_or (λ (e : JobEntry). Spec.may_close e.command) (last_of entries.old) false }
+    requires { IfSome (list_last entries.old) (λ e. CanBeMeasured e.command) }
+    ensures result { result ≡ option_map_or (λ (e : JobEntry). Spec.may_close e.command) (list_last entries.old) false }
     ensures same { entries.new ≡ entries.old }
 {
     let last = entries.len().saturating_sub(1);

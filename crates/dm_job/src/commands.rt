@@ -3,7 +3,7 @@ ghost use Rattle.std.specs.Prelude.{◌≡◌, ◌++◌, ◌∷◌, [], IfOk, On
 ghost use Rattle.dm_base.specs.Fields.{parts};
 ghost use Rattle.dm_job.specs.Commands as Spec;
 
-use dm_base::{Boxed, Bytes, Form, List, Memory, OBJECT_LIMIT, hex_bytes, is_field};
+use dm_base::{Boxed, Bytes, FieldForm, List, Memory, OBJECT_LIMIT, hex_bytes, is_field};
 use dm_fields::{begins_with, five_fields, opt_of, three_fields, two_fields};
 use std::alloc::Global;
 use syncml_types::{Block, Command, Item, Loc, Member, Meta, Plain, SeqMember, Verb};
@@ -73,7 +73,7 @@ fn bare_in(alloc: Global, verb: Verb, line: &[u8]) -> Result<Option<Plain>, Memo
     let Some((_, uri)) = two_fields(line) else {
         return Ok(None);
     };
-    if !is_field(Form::Word, uri) {
+    if !is_field(FieldForm::Word, uri) {
         return Ok(None);
     }
     let item = item_of(alloc, uri, None, None)?;
@@ -87,7 +87,7 @@ fn exec_in(alloc: Global, line: &[u8]) -> Result<Option<Plain>, Memory>
     let Some((_, uri, correlator)) = three_fields(line) else {
         return Ok(None);
     };
-    if !is_field(Form::Word, uri) || !is_field(Form::Opt, correlator) {
+    if !is_field(FieldForm::Word, uri) || !is_field(FieldForm::Opt, correlator) {
         return Ok(None);
     }
     let item = item_of(alloc, uri, None, None)?;
@@ -96,7 +96,7 @@ fn exec_in(alloc: Global, line: &[u8]) -> Result<Option<Plain>, Memory>
 }
 
 fn data_in(alloc: Global, text: &[u8]) -> Result<Option<Bytes>, Memory>
-    ensures { IfOk result (λ bytes. bytes ≡ Spec.data_in text.now) }
+    ensures { IfOk result (λ bytes. bytes ≡ Spec.hex_data_in text.now) }
 {
     match hex_bytes(alloc, text)? {
         Some(bytes) if bytes.len() <= OBJECT_LIMIT as usize => Ok(Some(bytes)),
@@ -113,7 +113,7 @@ fn write_of(
     media: &[u8],
     bytes: Bytes,
 ) -> Result<Plain, Memory>
-    ensures { IfOk result (λ plain. plain ≡ Spec.written verb uri.now format.now media.now bytes) }
+    ensures { IfOk result (λ plain. plain ≡ Spec.plain_written verb uri.now format.now media.now bytes) }
 {
     let meta = meta_of(alloc, opt_of(alloc, format)?, opt_of(alloc, media)?)?;
     let item = item_of(alloc, uri, meta, Some(bytes))?;
@@ -127,7 +127,10 @@ fn write_in(alloc: Global, verb: Verb, line: &[u8]) -> Result<Option<Plain>, Mem
     let Some((_, uri, format, media, digits)) = five_fields(line) else {
         return Ok(None);
     };
-    if !is_field(Form::Word, uri) || !is_field(Form::Opt, format) || !is_field(Form::Word, media) {
+    if !is_field(FieldForm::Word, uri)
+        || !is_field(FieldForm::Opt, format)
+        || !is_field(FieldForm::Word, media)
+    {
         return Ok(None);
     }
     match data_in(alloc, digits)? {

@@ -4,7 +4,7 @@ use dm_auth::Account;
 
 /// Where the next line stands.
 #[derive(Clone, Copy, Debug, PartialEq, Eq)]
-pub enum Place {
+pub enum LinePlace {
     /// Before the first command of a package.
     Between,
     /// Behind a command of a package.
@@ -17,9 +17,9 @@ pub enum Place {
 
 /// A job as far as its commands were read, and how many came.
 #[derive(Drop)]
-pub struct Draft {
+pub struct JobDraft {
     pub job: Job,
-    pub place: Place,
+    pub place: LinePlace,
     pub count: u64,
 }
 
@@ -31,5 +31,5 @@ pub enum Reading {
     /// `limits`, for a server of this account.
     Limits(Account),
     /// A line of a command, or one that stands among commands.
-    Commands(Draft),
+    Commands(JobDraft),
 }

@@ -2,14 +2,14 @@
 ghost use Rattle.std.specs.Prelude.{◌≡◌, ◌++◌, ◌∷◌, [], None, OnOk, OnErr};
 ghost use Rattle.dm_job.specs.Commands as Says;
 ghost use Rattle.dm_job.specs.Reading as Spec;
-ghost use Rattle.dm_job.specs.Reading.{joined, with_entry};
+ghost use Rattle.dm_job.specs.Reading.{entry_joined, entry_put};
 ghost use Rattle.syncml_parts.specs.Packing.{last_changed};
-ghost use Rattle.dm_job.specs.Answers.{Does, Takes};
+ghost use Rattle.dm_job.specs.Answers.{MovesOn, AlwaysMovesOn};
 ghost use Rattle.dm_job.specs.Measures.{CanClose};
 
 use crate::closing::last_may_close;
 use crate::commands::{new_atomic, new_sequence, plain_in, push_member, verb_in};
-use crate::draft::{Draft, Place};
+use crate::draft::{JobDraft, LinePlace};
 use crate::job::JobEntry;
 use dm_base::{List, Memory};
 use dm_fields::{BAD_FIELDS, BAD_WORD, LineError, begins_with};
@@ -46,23 +46,23 @@ fn push_last<T: Drop>(lists: &mut List<List<T>>, value: T) -> Result<(), Memory>
 fn push_entry(
     alloc: Global,
     packages: &mut List<List<JobEntry>>,
-    place: Place,
+    place: LinePlace,
     entry: JobEntry,
 ) -> Result<(), Memory>
-    ensures ok { OnOk result (packages.new ≡ with_entry place packages.old entry) }
+    ensures ok { OnOk result (packages.new ≡ entry_put place packages.old entry) }
     ensures err { OnErr result (packages.new ≡ packages.old) }
 {
     match place {
-        Place::Between => begin_package(alloc, packages, entry),
-        Place::Package => push_last(packages, entry),
-        Place::Container => push_last(packages, entry),
-        Place::End => push_last(packages, entry),
+        LinePlace::Between => begin_package(alloc, packages, entry),
+        LinePlace::Package => push_last(packages, entry),
+        LinePlace::Container => push_last(packages, entry),
+        LinePlace::End => push_last(packages, entry),
     }
 }
 
 // Adds a command, numbered behind those that came. More than 18,446,744,073,709,551,615 of them find no memory.
-fn add(alloc: Global, draft: &mut Draft, next: Place, command: Command) -> Result<(), Memory>
-    ensures { Takes (Spec.adds draft.old next command) draft.old draft.new result }
+fn add(alloc: Global, draft: &mut JobDraft, next: LinePlace, command: Command) -> Result<(), Memory>
+    ensures { AlwaysMovesOn (Spec.adds draft.old next command) draft.old draft.new result }
 {
     let Some(number) = draft.count.checked_add(1) else {
         return Err(Memory);
@@ -76,7 +76,7 @@ fn add(alloc: Global, draft: &mut Draft, next: Place, command: Command) -> Resul
 
 #[tactic(auto, using(crate::proofs::Lasts::set_last, crate::proofs::Lasts::kept_last, crate::proofs::Lasts::none_last))]
 fn join_last_entry(entries: &mut List<JobEntry>, plain: Plain) -> Result<(), Memory>
-    ensures ok { OnOk result (entries.new ≡ last_changed (joined plain) entries.old) }
+    ensures ok { OnOk result (entries.new ≡ last_changed (entry_joined plain) entries.old) }
     ensures err { OnErr result (entries.new ≡ entries.old) }
 {
     let last = entries.len().saturating_sub(1);
@@ -88,7 +88,7 @@ fn join_last_entry(entries: &mut List<JobEntry>, plain: Plain) -> Result<(), Mem
 
 #[tactic(auto, using(crate::proofs::Lasts::set_last, crate::proofs::Lasts::kept_last, crate::proofs::Lasts::none_last))]
 fn join_last(packages: &mut List<List<JobEntry>>, plain: Plain) -> Result<(), Memory>
-    ensures ok { OnOk result (packages.new ≡ last_changed (last_changed (joined plain)) packages.old) }
+    ensures ok { OnOk result (packages.new ≡ last_changed (last_changed (entry_joined plain)) packages.old) }
     ensures err { OnErr result (packages.new ≡ packages.old) }
 {
     let last = packages.len().saturating_sub(1);
@@ -99,8 +99,8 @@ fn join_last(packages: &mut List<List<JobEntry>>, plain: Plain) -> Result<(), Me
 }
 
 // Adds a member to the container that is open.
-fn join(draft: &mut Draft, plain: Plain) -> Result<(), Memory>
-    ensures { Takes (Spec.joins draft.old plain) draft.old draft.new result }
+fn join(draft: &mut JobDraft, plain: Plain) -> Result<(), Memory>
+    ensures { AlwaysMovesOn (Spec.draft_joined draft.old plain) draft.old draft.new result }
 {
     let Some(number) = draft.count.checked_add(1) else {
         return Err(Memory);
@@ -110,21 +110,21 @@ fn join(draft: &mut Draft, plain: Plain) -> Result<(), Memory>
     Ok(())
 }
 
-fn close_line(draft: &mut Draft, line: &[u8]) -> Result<(), LineError>
+fn close_line(draft: &mut JobDraft, line: &[u8]) -> Result<(), LineError>
     requires { CanClose draft.old.job.packages }
-    ensures { Does (Spec.close_line draft.old line.now) draft.old draft.new result }
+    ensures { MovesOn (Spec.close_line draft.old line.now) draft.old draft.new result }
 {
     if line == b"close".as_slice() && last_may_close(&mut draft.job.packages) {
-        draft.place = Place::Package;
+        draft.place = LinePlace::Package;
         Ok(())
     } else {
         Err(BAD_FIELDS)
     }
 }
 
-fn inside(alloc: Global, draft: &mut Draft, line: &[u8]) -> Result<(), LineError>
+fn inside(alloc: Global, draft: &mut JobDraft, line: &[u8]) -> Result<(), LineError>
     requires { CanClose draft.old.job.packages }
-    ensures { Does (Spec.inside draft.old line.now (Says.verb_in line.now)) draft.old draft.new result }
+    ensures { MovesOn (Spec.inside draft.old line.now (Says.verb_in line.now)) draft.old draft.new result }
 {
     let Some(verb) = verb_in(line) else {
         if begins_with(b"close", line) {
@@ -143,22 +143,22 @@ fn inside(alloc: Global, draft: &mut Draft, line: &[u8]) -> Result<(), LineError
 
 fn open_container(
     alloc: Global,
-    draft: &mut Draft,
+    draft: &mut JobDraft,
     alone: bool,
     command: Command,
 ) -> Result<(), LineError>
-    ensures { Does (Spec.when alone (Spec.adds draft.old Place.Container command)) draft.old draft.new
+    ensures { MovesOn (Spec.when alone (Spec.adds draft.old Place.Container command)) draft.old draft.new
         result }
 {
     if !alone {
         return Err(BAD_FIELDS);
     }
-    add(alloc, draft, Place::Container, command)?;
+    add(alloc, draft, LinePlace::Container, command)?;
     Ok(())
 }
 
-fn move_to(draft: &mut Draft, alone: bool, place: Place) -> Result<(), LineError>
-    ensures { Does (Spec.when alone (record draft.old { place = place })) draft.old draft.new result }
+fn move_to(draft: &mut JobDraft, alone: bool, place: LinePlace) -> Result<(), LineError>
+    ensures { MovesOn (Spec.when alone (record draft.old { place = place })) draft.old draft.new result }
 {
     if !alone {
         return Err(BAD_FIELDS);
@@ -167,8 +167,8 @@ fn move_to(draft: &mut Draft, alone: bool, place: Place) -> Result<(), LineError
     Ok(())
 }
 
-fn between(alloc: Global, draft: &mut Draft, line: &[u8]) -> Result<(), LineError>
-    ensures { Does (Spec.outside draft.old line.now None) draft.old draft.new result }
+fn between(alloc: Global, draft: &mut JobDraft, line: &[u8]) -> Result<(), LineError>
+    ensures { MovesOn (Spec.outside draft.old line.now None) draft.old draft.new result }
 {
     if begins_with(b"atomic", line) {
         open_container(
@@ -185,23 +185,23 @@ fn between(alloc: Global, draft: &mut Draft, line: &[u8]) -> Result<(), LineErro
             new_sequence(alloc),
         )
     } else if begins_with(b"package", line) {
-        move_to(draft, line == b"package".as_slice(), Place::Between)
+        move_to(draft, line == b"package".as_slice(), LinePlace::Between)
     } else if begins_with(b"end", line) {
-        move_to(draft, line == b"end".as_slice(), Place::End)
+        move_to(draft, line == b"end".as_slice(), LinePlace::End)
     } else {
         Err(BAD_WORD)
     }
 }
 
-fn outside(alloc: Global, draft: &mut Draft, line: &[u8]) -> Result<(), LineError>
-    ensures { Does (Spec.outside draft.old line.now (Says.verb_in line.now)) draft.old draft.new result }
+fn outside(alloc: Global, draft: &mut JobDraft, line: &[u8]) -> Result<(), LineError>
+    ensures { MovesOn (Spec.outside draft.old line.now (Says.verb_in line.now)) draft.old draft.new result }
 {
     let Some(verb) = verb_in(line) else {
         return between(alloc, draft, line);
     };
     match plain_in(alloc, verb, line)? {
         Some(plain) => {
-            add(alloc, draft, Place::Package, Command::Plain(plain))?;
+            add(alloc, draft, LinePlace::Package, Command::Plain(plain))?;
             Ok(())
         }
         None => Err(BAD_FIELDS),
@@ -209,14 +209,14 @@ fn outside(alloc: Global, draft: &mut Draft, line: &[u8]) -> Result<(), LineErro
 }
 
 /// Takes a line behind the first ones.
-pub(crate) fn after_draft(alloc: Global, draft: &mut Draft, line: &[u8]) -> Result<(), LineError>
+pub(crate) fn after_draft(alloc: Global, draft: &mut JobDraft, line: &[u8]) -> Result<(), LineError>
     requires { CanClose draft.old.job.packages }
-    ensures { Does (Spec.draft_after draft.old.place draft.old line.now) draft.old draft.new result }
+    ensures { MovesOn (Spec.draft_after draft.old.place draft.old line.now) draft.old draft.new result }
 {
     match draft.place {
-        Place::Between => outside(alloc, draft, line),
-        Place::Package => outside(alloc, draft, line),
-        Place::Container => inside(alloc, draft, line),
-        Place::End => Err(BAD_WORD),
+        LinePlace::Between => outside(alloc, draft, line),
+        LinePlace::Package => outside(alloc, draft, line),
+        LinePlace::Container => inside(alloc, draft, line),
+        LinePlace::End => Err(BAD_WORD),
     }
 }

@@ -2,7 +2,7 @@
 ghost use Rattle.std.specs.Prelude.{◌≡◌, ◌++◌, ◌∷◌, [], MatchOption};
 ghost use Rattle.dm_job.specs.Texts as Spec;
 ghost use Rattle.dm_job.specs.declared.draft.Reading.TheVariants as reading;
-ghost use Rattle.dm_job.specs.Texts.{job_of, segments, Reads, ReadsAll, ReadsEnd};
+ghost use Rattle.dm_job.specs.Texts.{job_of, segments, ReadsJob, ReadsAll, ReadsEnd};
 
 use crate::errors::JobError;
 use crate::job::Job;
@@ -14,7 +14,7 @@ use memchr::memchr;
 use std::alloc::Global;
 
 fn bad_line(line: u64, error: LineError) -> JobError
-    ensures { result ≡ Spec.bad_line line error }
+    ensures { result ≡ Spec.line_fault line error }
 {
     match error {
         LineError::Bad(reason) => JobError::Bad { line, reason },
@@ -111,7 +111,7 @@ impl Job {
     /// than 8,400,000 bytes, `Cut` where the text ends inside the line or before it, `Word` and `Fields` as
     /// `JobReader::line` gives them, and `Extra` for a byte behind the `end` line.
     pub fn parse(alloc: Global, text: &[u8]) -> Result<Job, JobError>
-        ensures { Reads (job_of text.now) result }
+        ensures { ReadsJob (job_of text.now) result }
     {
         let mut reader = JobReader::new(alloc);
         match read_all(&mut reader, text) {

@@ -2,14 +2,14 @@
 ghost use Rattle.std.specs.Prelude.{◌≡◌, Some, Ok, IfOk, IfErr, OnOk, OnErr, false, true};
 ghost use Rattle.dm_fields.specs.Refusing.{Refuses};
 ghost use Rattle.dm_job.specs.declared.draft.Reading.TheVariants as reading;
-ghost use Rattle.dm_job.specs.Answers.{Does, Says};
+ghost use Rattle.dm_job.specs.Answers.{MovesOn, Says};
 ghost use Rattle.dm_job.specs.Measures.{CanGoOn};
 ghost use Rattle.dm_job.specs.Reading as Spec;
-ghost use Rattle.dm_job.specs.Reading.{after_line as reading_after};
-ghost use Rattle.dm_job.specs.Sound.{IsSound};
+ghost use Rattle.dm_job.specs.Reading.{reading_after};
+ghost use Rattle.dm_job.specs.Sound.{IsSoundJob};
 ghost use Rattle.dm_job.specs.Texts.{job_in, is_ended as has_ended};
 
-use crate::draft::{Draft, Place, Reading};
+use crate::draft::{JobDraft, LinePlace, Reading};
 use crate::job::Job;
 use crate::lines::after_draft;
 use dm_auth::Account;
@@ -65,23 +65,23 @@ fn limits_line(alloc: Global, account: &Account, line: &[u8]) -> Result<Reading,
         return Err(BAD_WORD);
     }
     match limits_in(line) {
-        Some(limits) => Ok(Reading::Commands(Draft {
+        Some(limits) => Ok(Reading::Commands(JobDraft {
             job: Job {
                 account: account.copy(alloc)?,
                 limits,
                 packages: List::new(alloc),
             },
-            place: Place::Between,
+            place: LinePlace::Between,
             count: 0,
         })),
         None => Err(BAD_FIELDS),
     }
 }
 
-#[tactic(auto, unfolding(crate::specs::Reading::after_line))]
+#[tactic(auto, unfolding(crate::specs::Reading::reading_after))]
 fn after_line(alloc: Global, reading: &mut Reading, line: &[u8]) -> Result<(), LineError>
     requires { CanGoOn reading.old }
-    ensures { Does (reading_after reading.old line.now) reading.old reading.new result }
+    ensures { MovesOn (reading_after reading.old line.now) reading.old reading.new result }
 {
     let next = match reading {
         Reading::First => first_line(line)?,
@@ -97,7 +97,7 @@ fn is_ended(reading: &Reading) -> bool
     ensures { result ≡ has_ended reading.now }
 {
     match reading {
-        Reading::Commands(draft) => draft.place == Place::End,
+        Reading::Commands(draft) => draft.place == LinePlace::End,
         Reading::First | Reading::Server | Reading::Limits(_) => false,
     }
 }
@@ -145,7 +145,7 @@ impl JobReader {
     pub fn finish(self) -> Job
         requires { has_ended self ≡ true }
         ensures job { job_in self ≡ Some result }
-        ensures sound { IsSound result }
+        ensures sound { IsSoundJob result }
     {
         job_of(self.reading)
     }

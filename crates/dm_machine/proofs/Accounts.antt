@@ -9,14 +9,15 @@ use Rattle.dm_headers.specs.declared.checks.Side.TheVariants.{Server}
 use Rattle.dm_headers.specs.Checks.{passes}
 use Rattle.dm_headers.specs.Standings.{Heard, hears}
 use Rattle.dm_atomic.specs.Run.{Next}
-use Rattle.dm_machine.specs.declared.kinds.Kind.{Kind}
+use Rattle.dm_machine.specs.declared.kinds.Initiator.{Initiator}
 use Rattle.dm_machine.specs.declared.kinds.End.TheVariants.{Aborted}
 use Rattle.dm_machine.specs.declared.progress.Progress.{Progress}
 use Rattle.dm_machine.specs.Machine.{Machine, Session}
 use Rattle.dm_machine.specs.Messages.{Outcome, ends, Waits, account_at, closed, is_abort, is_over, denied, answered}
 use Rattle.dm_machine.specs.Messages.{by_header, is_last_own, run_of, waits_after, accepts, ends_update, begins}
 use Rattle.dm_machine.specs.Sending.{sends}
-use Rattle.dm_machine.specs.Events.{Event, clock, opened, message, loss, act, takes, after, machine_of, message_outcome}
+use Rattle.dm_machine.specs.Events.{Event, clock, opened, message, loss, act, takes, after, outcome_machine}
+use Rattle.dm_machine.specs.Events.{message_outcome}
 use Rattle.dm_machine.specs.History.{next}
 
 abbrev count : Machine → ℕ
@@ -24,13 +25,13 @@ count c = length c.accounts
 
 -- so many are left by what a message does
 record Has (n : ℕ) (x : Outcome) : Type 0 where
-  is : count (machine_of x) ≡ n
+  is : count (outcome_machine x) ≡ n
 
 either : (b : Bool) (x y : Outcome) (n : ℕ) → Has n x → Has n y → Has n (cond b x y)
 either true x y n a b = a
 either false x y n a b = b
 
-begins_count : (c : Machine) (account : ℕ) (kind : Kind) (number : ℕ) → count (begins c account kind number) ≡ count c
+begins_count : (c : Machine) (account : ℕ) (kind : Initiator) (number : ℕ) → count (begins c account kind number) ≡ count c
 unfolding begins sends
 begins_count c account kind number = refl
 
@@ -62,7 +63,7 @@ accepts_has c p m nonce =
     (by_header_has d p m nonce h)
 
 message_count : (c : Machine) (o : Option Session) (m : Parts) (nonce : List ℕ)
-    → count (machine_of (message_outcome c o m nonce)) ≡ count c
+    → count (outcome_machine (message_outcome c o m nonce)) ≡ count c
 message_count c None m nonce = refl
 message_count c (Some s) m nonce = (accepts_has c s.progress m nonce).is
 

@@ -20,7 +20,7 @@ use Rattle.dm_machine.specs.Machine.{Machine}
 use Rattle.dm_machine.specs.Messages.{Outcome, ends, Waits, waits_after, account_at, closed, denied, is_abort}
 use Rattle.dm_machine.specs.Messages.{is_report, running_for, is_quiet, execute, run_of, is_over, answered}
 use Rattle.dm_machine.specs.Messages.{by_header, is_last_own, accepts}
-use Rattle.dm_machine.specs.Laws.{Leaves}
+use Rattle.dm_machine.specs.Laws.{GivesUpAtEnd}
 use Rattle.dm_ends.specs.Commands.{origin_of}
 
 first : (b c : Bool) → (b && c) ≡ true → b ≡ true
@@ -73,13 +73,13 @@ run-keeps c a m false h = refl
 
 -- ---- ends
 
-leaves-either : (before : State) (over : Bool) (x y : Outcome) → Leaves before x → Leaves before y
-    → Leaves before (cond over x y)
+leaves-either : (before : State) (over : Bool) (x y : Outcome) → GivesUpAtEnd before x → GivesUpAtEnd before y
+    → GivesUpAtEnd before (cond over x y)
 leaves-either before true x y h k = h
 leaves-either before false x y h k = k
 
-over-leaves : (before : State) (b : Bool) (x y : Outcome) → (b ≡ true → Leaves before x) → Leaves before y
-    → Leaves before (cond b x y)
+over-leaves : (before : State) (b : Bool) (x y : Outcome) → (b ≡ true → GivesUpAtEnd before x) → GivesUpAtEnd before y
+    → GivesUpAtEnd before (cond b x y)
 over-leaves before true x y h k = h refl
 over-leaves before false x y h k = k
 
@@ -90,7 +90,7 @@ over-reports m code waiting h =
     (first (passes code && m.last && list_all is_report m.body) (length waiting == 0) h)
 
 answered-leaves : (c : Machine) (w : Waits) (m : Parts) (h : Heard) (nonce : List ℕ)
-    → Leaves c.engine (answered c w m h nonce (run_of c h.account m h.code))
+    → GivesUpAtEnd c.engine (answered c w m h nonce (run_of c h.account m h.code))
 unfolding abandoned
 answered-leaves c w m h nonce =
     over-leaves c.engine (is_over m h.code _) _ _
@@ -103,7 +103,7 @@ answered-leaves c w m h nonce =
     }) tt
 
 header-leaves : (c : Machine) (p : Progress) (m : Parts) (nonce : List ℕ) (h : Heard)
-    → Leaves c.engine (by_header c p m nonce h)
+    → GivesUpAtEnd c.engine (by_header c p m nonce h)
 unfolding abandoned
 header-leaves c p m nonce h =
     let d : Machine = record c { accounts = set c.accounts p.account h.account } in
@@ -117,7 +117,7 @@ header-leaves c p m nonce h =
     (record { tree = refl; queue = refl; session = refl; group = refl; object = refl })
     (answered-leaves d w m h nonce))
 
-pub ends_give_up : (c : Machine) (p : Progress) (m : Parts) (nonce : List ℕ) → Leaves c.engine (accepts c p m nonce)
+pub ends_give_up : (c : Machine) (p : Progress) (m : Parts) (nonce : List ℕ) → GivesUpAtEnd c.engine (accepts c p m nonce)
 unfolding accepts abandoned
 ends_give_up c p m nonce =
     let d : Machine = record c { resp_uri = option_or m.header.resp_uri c.resp_uri } in

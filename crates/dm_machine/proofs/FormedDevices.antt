@@ -15,7 +15,7 @@ use Rattle.dm_tree.specs.Rows.{blank_node}
 use Rattle.dm_tree.specs.Devices.{pkg_data, state_node, value_at, is_update_state, IsDeviceTree, IsText, StaysAlike}
 use Rattle.dm_tree.proofs.DeviceTrees.{changed_keeps_device}
 use Rattle.dm_commands.specs.Outcomes.{Setting, asked_by, node_at}
-use Rattle.dm_commands.specs.Updates.{rewritten, with_text, with_state, package_at, update_ended}
+use Rattle.dm_commands.specs.Updates.{rewritten, rewritten_at, with_state, package_at, update_ended}
 use Rattle.dm_commands.specs.Promises.{IsShortStep}
 use Rattle.dm_commands.specs.Table.{act}
 use Rattle.dm_commands.proofs.Keeping.{state_there, step_keeps_device}
@@ -50,7 +50,7 @@ result_is_state false = refl
 module _ (s : Setting) (m n : Nodes) (device : IsDeviceTree n)
     (still : (q : Path) (x : Node) → state_node m ≡ Some q → get m q ≡ Some x → get n q ≡ Some x) (text : List ℕ)
     (is_state : is_update_state text ≡ true) where
-  restated : (q : Path) → state_node m ≡ Some q → IsDeviceTree (with_text s m n q text)
+  restated : (q : Path) → state_node m ≡ Some q → IsDeviceTree (rewritten_at s m n q text)
   restated q is = by_test (bytes_eq (value_at m q) text)
     where
       by_test : (b : Bool) → IsDeviceTree (cond b n (insert n q (rewritten s (node_at m q) text)))
@@ -70,7 +70,7 @@ led_device : (s : Setting) (m n : Nodes) → IsDeviceTree n
 led_device s m n device still state is_state = by_place (state_node m) refl
   where
     by_place : (o : Option Path) → state_node m ≡ o
-        → IsDeviceTree (option_map_or (λ q. with_text s m n q (decimal state)) o n)
+        → IsDeviceTree (option_map_or (λ q. rewritten_at s m n q (decimal state)) o n)
     by_place None is = device
     by_place (Some q) is = restated s m n device still (decimal state) is_state q is
 

@@ -12,7 +12,7 @@ use Rattle.dm_uri.specs.Names.{is_name, printed_path, is_within_limits, IsPath}
 use Rattle.dm_uri.proofs.Limits.{limits_of_path}
 use Rattle.dm_tree.specs.declared.nodes.Node.{Node}
 use Rattle.dm_tree.specs.Nodes.{Path, Nodes, tree_order, above, is_below, IsNode, IsChildOf, IsWellFormed}
-use Rattle.dm_tree.specs.Edits.{rekeyed, renamed, fits}
+use Rattle.dm_tree.specs.Edits.{rekeyed, renamed, paths_fit}
 use Rattle.dm_tree.proofs.Paths.{Ends, ends, none, last, same_path, other_path, same_ends, not_empty, below_none}
 use Rattle.dm_tree.proofs.Paths.{tree_total}
 use Rattle.dm_tree.proofs.MapKeys.{moved, moved_from, moved_to, keys_all}
@@ -73,7 +73,7 @@ pub record MayBear (m : Nodes) (p : Path) (name : List ℕ) (old new : Node) : T
   pub there : get m p ≡ Some old
   pub removable : old.permanent ≡ false
   pub free : (get m (above p ++ name ∷ []) ≡ None) ⊎ (above p ++ name ∷ [] ≡ p)
-  pub fits : fits m p name ≡ true
+  pub fits : paths_fit m p name ≡ true
   pub named : is_name name ≡ true
   pub node : IsNode new
   pub interior : new.interior ≡ old.interior

@@ -36,7 +36,7 @@ use Rattle.dm_tree.specs.declared.nodes.Stamp.{Stamp}
 use Rattle.dm_tree.specs.Nodes.{Path, Nodes, above, changed, is_format, is_node_format, with_value, with_acl}
 use Rattle.dm_tree.specs.Nodes.{with_title, IsReadAgain, IsRoot, IsStamp, IsValue, IsWellFormed}
 use Rattle.dm_tree.specs.Rows.{blank_node}
-use Rattle.dm_tree.specs.Edits.{pruned, fits}
+use Rattle.dm_tree.specs.Edits.{pruned, paths_fit}
 use Rattle.dm_tree.specs.Order.{children}
 use Rattle.dm_tree.specs.Devices.{is_of_update, is_role, update_node, has_role, child_of_role, pkg_data, state_node}
 use Rattle.dm_tree.specs.Devices.{value_at, IsUpdateInOrder}
@@ -46,7 +46,7 @@ use Rattle.dm_tree.proofs.NodesKept.{some_node, still_insert}
 use Rattle.dm_tree.proofs.Paths.{Ends, ends, none, last}
 use Rattle.dm_tree.proofs.LiveRows.{above-append, last_name-append}
 use Rattle.dm_commands.specs.Outcomes.{Setting, Done, asked_by, refused, unless, first_refusal, no_node, node_at}
-use Rattle.dm_commands.specs.Updates.{state_of, state_after_write, rewritten, with_text, with_state, package_at}
+use Rattle.dm_commands.specs.Updates.{state_in_tree, state_after_write, rewritten, rewritten_at, with_state, package_at}
 use Rattle.dm_commands.specs.Updates.{update_ended}
 use Rattle.dm_commands.specs.Promises.{IsShortStep}
 use Rattle.dm_commands.specs.Table as table
@@ -120,7 +120,7 @@ module _ (s : Setting) (stamp : IsStamp s.clock) (m n : Nodes) (order : IsUpdate
     (still : (q : Path) (x : Node) → state_node m ≡ Some q → get m q ≡ Some x → get n q ≡ Some x) where
   -- State tells another state
   state_restated : (state : ℕ) → state < 256 → (q : Path) → state_node m ≡ Some q
-      → IsWellFormed (with_text s m n q (decimal state))
+      → IsWellFormed (rewritten_at s m n q (decimal state))
   state_restated state small q is = by_test (bytes_eq (value_at m q) (decimal state))
     where
       by_test : (b : Bool) → IsWellFormed (cond b n (insert n q (rewritten s (node_at m q) (decimal state))))
@@ -141,7 +141,7 @@ module _ (s : Setting) (stamp : IsStamp s.clock) (m n : Nodes) (order : IsUpdate
   led_formed state small = by_place (state_node m) refl
     where
       by_place : (o : Option Path) → state_node m ≡ o
-          → IsWellFormed (option_map_or (λ q. with_text s m n q (decimal state)) o n)
+          → IsWellFormed (option_map_or (λ q. rewritten_at s m n q (decimal state)) o n)
       by_place None is = after
       by_place (Some q) is = state_restated state small q is
 
@@ -241,10 +241,10 @@ module _ (s : Setting) (stamp : IsStamp s.clock) (m : Nodes) (formed : IsWellFor
             role = root.role;
           })
         where
-          not_taken : uri.path ≡ [] → length step.value == 0 && table.is_root uri.path ≡ false
+          not_taken : uri.path ≡ [] → length step.value == 0 && table.is_root_path uri.path ≡ false
               → (length step.value == 0) ≡ false
           not_taken at_root free = by_test (length step.value == 0)
-              (sym (ap (λ (p : Path). length step.value == 0 && table.is_root p) at_root) ∙ free)
+              (sym (ap (λ (p : Path). length step.value == 0 && table.is_root_path p) at_root) ∙ free)
             where
               by_test : (b : Bool) → b && true ≡ false → b ≡ false
               by_test true e = e
@@ -291,7 +291,7 @@ module _ (s : Setting) (stamp : IsStamp s.clock) (m : Nodes) (formed : IsWellFor
             there = there;
             removable = tests.1.1.0;
             free = free_beside uri.path step.value tests.1.1.1.1.1.0;
-            fits = negated (fits m uri.path step.value) tests.1.1.1.1.1.1.0;
+            paths_fit = negated (paths_fit m uri.path step.value) tests.1.1.1.1.1.1.0;
             named = and_from (has_name_form step.value) (is_short_name step.value)
                 (negated (has_name_form step.value) tests.1.1.1.0) (negated (is_short_name step.value) tests.1.1.1.1.0);
             node = held_changed s.clock (node_at m uri.path) stamp held.value held.acl held.title;
@@ -400,11 +400,11 @@ module _ (s : Setting) (stamp : IsStamp s.clock) (m : Nodes) (formed : IsWellFor
           (state_after_write m (length step.value == 0)))
       package_formed is =
           let installing = (either (is_role x.role role.ReadOnly || is_role x.role role.State)
-          (is_role x.role role.PkgData && (state_of m == progressing)) kept).1 in
-          let not_now : (state_of m == progressing) ≡ false = sym (ap (λ b. b && (state_of m == progressing)) is)
+          (is_role x.role role.PkgData && (state_in_tree m == progressing)) kept).1 in
+          let not_now : (state_in_tree m == progressing) ≡ false = sym (ap (λ b. b && (state_in_tree m == progressing)) is)
           ∙ installing in
           led_formed s stamp m (table.valued s m step uri.path) order formed valued_formed (state_stays is)
-          (state_after_write m (length step.value == 0)) (led_to (state_of m) (length step.value == 0) not_now)
+          (state_after_write m (length step.value == 0)) (led_to (state_in_tree m) (length step.value == 0) not_now)
 
       after_value_formed : IsWellFormed (table.after_value s m step uri.path)
       after_value_formed = by_role (is_role x.role role.PkgData) refl

@@ -4,7 +4,8 @@ use Rattle.std.proofs.Common.{[], ◌∷◌, ◌++◌, refl, sym, ap, subst, ◌
 use Rattle.std.specs.Prelude.{Option, Ok, Err}
 use Rattle.syncml_types.specs.Message.{Parts}
 use Rattle.dm_machine.specs.Machine.{Session, Machine}
-use Rattle.dm_machine.specs.Events.{Event, clock, opened, message, loss, act, session_of, is_number, last_of, takes}
+use Rattle.dm_machine.specs.Events.{Event, clock, opened, message, loss, act, session_of, is_same_number, last_of}
+use Rattle.dm_machine.specs.Events.{takes}
 use Rattle.dm_machine.specs.Events.{after, taken_answer}
 use Rattle.dm_machine.specs.History.{fresh, reached, message_sent, is_message, first_reply, reply_in, first_to}
 use Rattle.dm_machine.specs.History.{answer_after, answers_after, kept_in, answer_now, next, answers_from, state_from}
@@ -104,11 +105,11 @@ left-beyond b c msg y a (Some z) x e m l (inr h) =
 
 -- ---- the first coming of the message that was accepted last
 
-is-it : (k : Option ℕ) (n i j : ℕ) → k ≡ Some n → i ≡ j → (is_number k n && i == j) ≡ true
+is-it : (k : Option ℕ) (n i j : ℕ) → k ≡ Some n → i ≡ j → (is_same_number k n && i == j) ≡ true
 is-it None n i j e f = cc
 is-it (Some k) n i j e f = let same : k ≡ n = cc in grind (arith, same, f)
 
-not-number : (k : Option ℕ) (n m i j : ℕ) → k ≡ Some m → m < n → (is_number k n && i == j) ≡ false
+not-number : (k : Option ℕ) (n m i j : ℕ) → k ≡ Some m → m < n → (is_same_number k n && i == j) ≡ false
 not-number None n m i j e h = cc
 not-number (Some k) n m i j e h = let same : k ≡ m = cc in grind (arith, same, h)
 
@@ -117,13 +118,13 @@ not-msg c i j h = grind (arith, h)
 
 left-not : (k : Option ℕ) (b c msg : ℕ) (y : Session) (a : Option Parts) (p : Option Session) (x : Session)
     → y.progress.number ≡ b → c ≡ b → k ≡ Some y.progress.number → Left y.progress.number msg a p → Beyond c p x
-    → (is_number k x.progress.number && msg == last_of x) ≡ false
+    → (is_same_number k x.progress.number && msg == last_of x) ≡ false
 left-not k b c msg y a None x w e is l h =
     not-number k x.progress.number y.progress.number msg (last_of x) is (omega (arith, w, e, h))
 left-not k b c msg y a (Some z) x w e is l (inl h) =
     not-number k x.progress.number y.progress.number msg (last_of x) is (omega (arith, w, e, h))
 left-not k b c msg y a (Some z) x w e is l (inr h) =
-    not-msg (is_number k x.progress.number) msg (last_of x) (let i = l.1.0 in let j = h.1 in omega (arith, i, j))
+    not-msg (is_same_number k x.progress.number) msg (last_of x) (let i = l.1.0 in let j = h.1 in omega (arith, i, j))
 
 abbrev number-or : Option Session → ℕ
 number-or None = 0
@@ -162,7 +163,7 @@ opened-known b number c o p first x some l e h (inr k) =
 left-first : (k : Option ℕ) (number msg : ℕ) (a : Option Parts) (p : Option Session) (first : Option Parts)
     (x : Session)
     → k ≡ Some number → Left number msg a p → p ≡ Some x
-    → cond (is_number k x.progress.number && msg == last_of x) a first ≡ Some x.sent
+    → cond (is_same_number k x.progress.number && msg == last_of x) a first ≡ Some x.sent
 left-first k number msg a None first x is l e = cc
 left-first k number msg a (Some z) first x is l e =
     let n : number ≡ x.progress.number = sym l.0 ∙ ap number-or e in
@@ -179,7 +180,7 @@ left-stands b c msg y a (Some z) x w m l e =
 message-known : (b c : ℕ) (y : Session) (m : Parts) (a : Option Parts) (p : Option Session) (first : Option Parts)
     (x : Session) → y.progress.number ≡ b → c ≡ b → session_of m ≡ Some y.progress.number → last_of y < m.header.msg
     → Left y.progress.number m.header.msg a p → Known c p first x
-    → Known b (Some y) (cond (is_number (session_of m) x.progress.number && m.header.msg == last_of x) a first) x
+    → Known b (Some y) (cond (is_same_number (session_of m) x.progress.number && m.header.msg == last_of x) a first) x
 message-known b c y m a p first x w e is l h (inl k) =
     inl (
       ap (λ t. cond t a first) (left-not (session_of m) b c m.header.msg y a p x w e is h k.1) ∙ k.0,

@@ -30,11 +30,11 @@ use Rattle.dm_atomic.specs.Made.{source_item}
 use Rattle.dm_pack.specs.Entries.{IsReady, whole_entry, bare_length}
 use Rattle.dm_pack.proofs.Most.{Most, none, most_append, most_parent, most_element, most_text, most_number}
 use Rattle.dm_pack.proofs.Ready.{IsText, IsOptional, Passes, texts_pass, short_passes, alert_ready}
-use Rattle.dm_machine.specs.declared.kinds.Kind.{Kind}
-use Rattle.dm_machine.specs.declared.kinds.Kind.TheVariants.{ByServer, ByClient}
+use Rattle.dm_machine.specs.declared.kinds.Initiator.{Initiator}
+use Rattle.dm_machine.specs.declared.kinds.Initiator.TheVariants.{ByServer, ByClient}
 use Rattle.dm_machine.specs.declared.progress.UpdateResult.{UpdateResult}
 use Rattle.dm_machine.specs.Machine.{Machine}
-use Rattle.dm_machine.specs.Opening.{alert, kind_code, meta_of, result_alert, update_uri, device_item, device_told}
+use Rattle.dm_machine.specs.Opening.{alert, kind_code, typed_meta, result_alert, update_uri, device_item, device_told}
 use Rattle.dm_machine.specs.Opening.{first_package}
 use Rattle.dm_machine.specs.Ready.{IsCorrelator, AreReadyResults, IsDevice}
 use Rattle.dm_ends.proofs.Uris.{printed_path_text}
@@ -64,7 +64,7 @@ source_most n uri is =
     let inside = most_parent ESource (most_append (most_text n ELocURI uri is.few) none) in
     record { at = λ p. let most = inside.at p in omega (arith, most) }
 
-meta_most : (k : ℕ) (media : List ℕ) → IsText k media → Most (k + 19) (meta_tokens (meta_of (codes "chr") media))
+meta_most : (k : ℕ) (media : List ℕ) → IsText k media → Most (k + 19) (meta_tokens (typed_meta (codes "chr") media))
 unfolding meta_tokens
 meta_most k media is =
     let inside = most_element _ EMeta
@@ -74,7 +74,7 @@ meta_most k media is =
     record { at = λ p. let most = inside.at p in omega (arith, most) }
 
 item_most : (n k d : ℕ) (uri media value : List ℕ) → IsText n uri → IsText k media → IsText d value
-    → Most (n + k + d + 39) (item_tokens (source_item uri (Some (meta_of (codes "chr") media)) (Some value)))
+    → Most (n + k + d + 39) (item_tokens (source_item uri (Some (typed_meta (codes "chr") media)) (Some value)))
 unfolding item_tokens flag_tokens
 item_most n k d uri media value u m v =
     let inside = most_element _ EItem
@@ -85,7 +85,7 @@ item_most n k d uri media value u m v =
 
 item_pass : (test : List ℕ → Bool) (n k : ℕ) (uri media value : List ℕ) → Passes test → n ≤ 1000 → k ≤ 1000
     → IsText n uri → IsText k media
-    → item_texts test (source_item uri (Some (meta_of (codes "chr") media)) (Some value)) ≡ true
+    → item_texts test (source_item uri (Some (typed_meta (codes "chr") media)) (Some value)) ≡ true
 unfolding item_texts loc_texts meta_texts
 item_pass test n k uri media value passes low few u m =
     rw (
@@ -149,7 +149,7 @@ told_pass test code correlator i passes is item =
 told_ready : (code : ℕ) (correlator : Option (List ℕ)) (n k d : ℕ) (uri media value : List ℕ) → code < 2 ^ 32
     → IsOptional 255 correlator → n + k + d ≤ 318 → IsText n uri → IsText k media → IsText d value
     → IsReady (whole_entry (alert code correlator
-    (source_item uri (Some (meta_of (codes "chr") media)) (Some value) ∷ [])))
+    (source_item uri (Some (typed_meta (codes "chr") media)) (Some value) ∷ [])))
 unfolding command_data command_numbers command_filled command_correlates with_numbers item_data
 told_ready code correlator n k d uri media value low is few u m v =
     let item = item_most n k d uri media value u m v in
@@ -165,7 +165,7 @@ told_ready code correlator n k d uri media value low is few u m v =
         short_data = and_from _ _ (pass_text is_in_limit d value short_passes (omega (arith, few)) v) refl;
       };
       short =
-          let short : Most 357 (item_tokens (source_item uri (Some (meta_of (codes "chr") media)) (Some value))) =
+          let short : Most 357 (item_tokens (source_item uri (Some (typed_meta (codes "chr") media)) (Some value))) =
           record { at = λ p. let most = item.at p in omega (arith, most, few) } in
           let most = (told_most code correlator _ low is short).at 0 in
           omega (arith, most);
@@ -184,7 +184,7 @@ results_ready node (r ∷ rs) n h = (result_ready node r n h.0, results_ready no
 
 -- ---- the Alert of the session
 
-opening_ready : (kind : Kind) → IsReady (whole_entry (alert (kind_code kind) None []))
+opening_ready : (kind : Initiator) → IsReady (whole_entry (alert (kind_code kind) None []))
 opening_ready ByServer = alert_ready 1200 [] (omega arith) tt
 opening_ready ByClient = alert_ready 1201 [] (omega arith) tt
 
@@ -297,7 +297,7 @@ last_ready : (rs : List UpdateResult) (node : List ℕ) (c : Command)
 last_ready [] node c all ready = (ready, tt)
 last_ready (r ∷ rs) node c all ready = (all.0, last_ready rs node c all.1 ready)
 
-pub package_ready : (c : Machine) (kind : Kind) → IsDevice c.engine.tree → AreReadyResults c.results
+pub package_ready : (c : Machine) (kind : Initiator) → IsDevice c.engine.tree → AreReadyResults c.results
     → AllByRecursion IsReady (first_package c kind)
 package_ready c kind device results =
     let node = update_uri c.engine.tree in (

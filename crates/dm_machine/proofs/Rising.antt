@@ -5,7 +5,7 @@ use Rattle.syncml_types.specs.Message.{Parts}
 use Rattle.dm_machine.specs.Machine.{Session, Machine}
 use Rattle.dm_machine.specs.Events.{Event, clock, opened, message, loss, act, session_of, last_of, after, taken_answer}
 use Rattle.dm_machine.specs.History.{fresh, message_sent}
-use Rattle.dm_machine.specs.Laws.{Position, number_or_zero, position_of, Follows, or_last, Rise, AcceptedNumbersRise}
+use Rattle.dm_machine.specs.Laws.{Position, number_or_zero, position_of, Precedes, or_last, Rise, AcceptedNumbersRise}
 use Rattle.dm_machine.proofs.Steps.{Left, Starts, Steps, steps}
 use Rattle.dm_machine.proofs.History.{AllAct, fresh_act, Well, well_after}
 
@@ -34,7 +34,7 @@ same-at : (p : Position) (b c : ℕ) (o q : Option Session) → c ≡ b → q �
 same-at p b c o q e f h = subst (λ x. StandsAt p c x) (sym f) (subst (λ n. StandsAt p n o) (sym e) h)
 
 step-before : (p : Position) (b : ℕ) (o : Option Session) (e : Event) (a : Option Parts) (c : ℕ) (q : Option Session)
-    → Well b o → StandsAt p b o → Steps b o e a c q → Follows p (position_of e)
+    → Well b o → StandsAt p b o → Steps b o e a c q → Precedes p (position_of e)
 step-before p b o (clock stamp) a c q w h s = tt
 step-before p b o (opened account kind number) a c q w h s =
     let more = s.0 in

@@ -16,10 +16,10 @@ use Rattle.dm_machine.specs.Machine.{Machine, Session}
 use Rattle.dm_machine.specs.Sending.{sends}
 use Rattle.dm_machine.specs.Messages.{Outcome, goes_on, ends, account_at, execute, begins, ends_update}
 use Rattle.dm_machine.specs.Messages.{accepts}
-use Rattle.dm_machine.specs.Events.{Event, opened, message, loss, act, clock, after, machine_of}
+use Rattle.dm_machine.specs.Events.{Event, opened, message, loss, act, clock, after, outcome_machine}
 use Rattle.dm_machine.specs.Events.{message_outcome}
 use Rattle.dm_machine.specs.History.{fresh, reached}
-use Rattle.dm_machine.specs.Statuses.{Counted, counted, waiting_at, executed, message_counted}
+use Rattle.dm_machine.specs.Statuses.{Counted, counted_at, waiting_at, executed, message_counted}
 use Rattle.dm_machine.specs.Statuses.{session_counted}
 use Rattle.dm_machine.specs.Statuses.{asked_in_run, made_in_run, given_up_in_run}
 use Rattle.dm_machine.proofs.Statuses.{one_status_each}
@@ -37,7 +37,7 @@ OfMessage weight before asked run executed outcome =
       asked = cond executed asked [];
       made = made_posts (cond executed run (quietly before)).made;
       given_up = waiting_at outcome (cond executed run (quietly before)).state.group;
-    }) (machine_of outcome).engine
+    }) (outcome_machine outcome).engine
 
 -- where the session ends and nothing was executed
 ended_quietly : (weight : Post → ℕ) (before : State) (asked : List Post) (run : Next) (c : Machine) (end : End)
@@ -73,7 +73,7 @@ message_cases weight before asked run false false false abort false c1 c2 c3 c4 
     let waits = ap (λ g. sum_by weight (waiting_posts g)) same in omega (arith, waits)
 
 message_balances : (weight : Post → ℕ) (c : Machine) (p : Progress) (m : Parts) (nonce : List ℕ)
-    → Balances weight c.engine (message_counted c p m nonce) (machine_of (accepts c p m nonce)).engine
+    → Balances weight c.engine (message_counted c p m nonce) (outcome_machine (accepts c p m nonce)).engine
 unfolding accepts sends abandoned execute
 message_balances weight c p m nonce =
     let h = hears Server (account_at c p.account) p.standing m nonce in
@@ -82,12 +82,12 @@ message_balances weight c p m nonce =
     _ _ _ _ _ _ _ _ _ refl refl refl refl refl (one_status_each c h.account m)
 
 by_session : (weight : Post → ℕ) (c : Machine) (s : Option Session) (m : Parts) (nonce : List ℕ)
-    → Balances weight c.engine (session_counted c s m nonce) (machine_of (message_outcome c s m nonce)).engine
+    → Balances weight c.engine (session_counted c s m nonce) (outcome_machine (message_outcome c s m nonce)).engine
 by_session weight c None m nonce = omega arith
 by_session weight c (Some s) m nonce = message_balances weight c s.progress m nonce
 
 event_balances : (weight : Post → ℕ) (c : Machine) (e : Event)
-    → Balances weight c.engine (counted c e) (after c e).engine
+    → Balances weight c.engine (counted_at c e) (after c e).engine
 unfolding after begins ends_update sends abandoned
 event_balances weight c (clock stamp) = omega arith
 event_balances weight c (opened account kind number) = omega arith
@@ -102,7 +102,7 @@ runs_balance : (weight : Post → ℕ) (c : Machine) (es : List Event)
     + sum_by weight (waiting_posts (reached c es).engine.group))
 runs_balance weight c [] = omega arith
 runs_balance weight c (e ∷ es) =
-    let n = counted c e in
+    let n = counted_at c e in
     let d = after c e in
     let here = event_balances weight c e in
     let behind = runs_balance weight d es in

@@ -23,7 +23,8 @@ use Rattle.dm_machine.specs.Messages.{is_abort, answered, run_of, by_header, is_
 use Rattle.dm_machine.specs.Messages.{first_progress, correlator_of}
 use Rattle.dm_machine.specs.Opening.{first_package}
 use Rattle.dm_machine.specs.Sending.{header_from, sends}
-use Rattle.dm_machine.specs.Events.{Event, clock, opened, message, loss, act, takes, message_outcome, machine_of, after}
+use Rattle.dm_machine.specs.Events.{Event, clock, opened, message, loss, act, takes, message_outcome, outcome_machine}
+use Rattle.dm_machine.specs.Events.{after}
 use Rattle.dm_machine.specs.History.{next}
 use Rattle.dm_machine.specs.Ready.{IsCorrelator, IsReadyAccount, IsReadyProgress, IsReadyMachine, IsReadyMessage}
 use Rattle.dm_machine.specs.Ready.{IsReadyEvent}
@@ -106,7 +107,7 @@ waits_ready c p m h nonce ready progress is heard own =
 -- ---- how a message ends
 
 abbrev IsReadyOutcome : Outcome → Type 0
-IsReadyOutcome x = IsReadyMachine (machine_of x)
+IsReadyOutcome x = IsReadyMachine (outcome_machine x)
 
 ready_either : (b : Bool) (x y : Outcome) → IsReadyOutcome x → IsReadyOutcome y → IsReadyOutcome (cond b x y)
 ready_either true x y a b = a
@@ -280,7 +281,7 @@ abbrev IsShortFarewell : Option Parts → Type 0
 IsShortFarewell o = IfSome o (λ m. length (canonical m) ≤ 2048)
 
 abbrev IsShortOutcome : Outcome → Type 0
-IsShortOutcome x = IsShort (machine_of x)
+IsShortOutcome x = IsShort (outcome_machine x)
 
 short_either : (b : Bool) (x y : Outcome) → IsShortOutcome x → IsShortOutcome y → IsShortOutcome (cond b x y)
 short_either true x y a b = a

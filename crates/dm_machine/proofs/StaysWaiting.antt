@@ -13,7 +13,7 @@ use Rattle.dm_atomic.specs.Run.{Next, quietly}
 use Rattle.dm_pack.specs.Entries.{Entry, IsReady, whole_entry}
 use Rattle.dm_pack.specs.Filling.{IsReadyHeader}
 use Rattle.dm_pack.proofs.Taking.{all_behind}
-use Rattle.dm_machine.specs.declared.kinds.Kind.{Kind}
+use Rattle.dm_machine.specs.declared.kinds.Initiator.{Initiator}
 use Rattle.dm_machine.specs.declared.progress.Progress.{Progress}
 use Rattle.dm_machine.specs.Machine.{Machine}
 use Rattle.dm_machine.specs.Opening.{first_package}
@@ -214,11 +214,11 @@ closed_apart c ready = record {
 }
 
 -- the machine with which its first message goes out
-abbrev pub beginning : Machine → Kind → ℕ → Machine
+abbrev pub beginning : Machine → Initiator → ℕ → Machine
 beginning c kind number =
     record (closed c) { queue = first_package (closed c) kind; begun = number; resp_uri = None; farewell = None }
 
-pub begins_to_send : (c : Machine) (account : ℕ) (kind : Kind) (number : ℕ) → IsReadyApart c
+pub begins_to_send : (c : Machine) (account : ℕ) (kind : Initiator) (number : ℕ) → IsReadyApart c
     → account < length c.accounts
     → number < 2 ^ 32
     → IsToSend (beginning c kind number) (first_progress account kind number (first_package (closed c) kind))
@@ -247,7 +247,7 @@ begins_to_send c account kind number ready low small =
       own = omega arith;
     }
 
-pub begins_ready : (c : Machine) (account : ℕ) (kind : Kind) (number : ℕ) → IsReadyApart c → account < length c.accounts
+pub begins_ready : (c : Machine) (account : ℕ) (kind : Initiator) (number : ℕ) → IsReadyApart c → account < length c.accounts
     → number < 2 ^ 32 → IsReadyMachine (begins c account kind number)
 unfolding begins
 begins_ready c account kind number ready low small =

@@ -18,7 +18,7 @@ use Rattle.dm_atomic.specs.Made.{told}
 use Rattle.dm_atomic.specs.Run.{State, Running, Next, run_command, run_all, quietly, still, abandoned}
 use Rattle.dm_atomic.specs.Updates.{is_updating, TellsStarted}
 use Rattle.dm_atomic.proofs.Tellings.{command_keeps, quiet_keeps, result_keeps}
-use Rattle.dm_machine.specs.declared.kinds.Kind.{Kind}
+use Rattle.dm_machine.specs.declared.kinds.Initiator.{Initiator}
 use Rattle.dm_machine.specs.declared.kinds.End.TheVariants.{Finished, Aborted}
 use Rattle.dm_machine.specs.declared.progress.Progress.{Progress}
 use Rattle.dm_machine.specs.Machine.{Machine, Session}
@@ -26,7 +26,8 @@ use Rattle.dm_machine.specs.Messages.{Outcome, goes_on, ends, Waits, account_at,
 use Rattle.dm_machine.specs.Messages.{denied, answered, by_header, is_last_own, is_quiet, running_for}
 use Rattle.dm_machine.specs.Messages.{execute, run_of, waits_after, accepts, ends_update, begins}
 use Rattle.dm_machine.specs.Sending.{sends}
-use Rattle.dm_machine.specs.Events.{Event, clock, opened, message, loss, act, takes, after, machine_of, message_outcome}
+use Rattle.dm_machine.specs.Events.{Event, clock, opened, message, loss, act, takes, after, outcome_machine}
+use Rattle.dm_machine.specs.Events.{message_outcome}
 use Rattle.dm_machine.specs.History.{next}
 use Rattle.dm_machine.specs.Laws.{IsSteady, StaysSteady}
 use Rattle.dm_ends.specs.Commands.{origin_of}
@@ -56,7 +57,7 @@ run-tells c a m false tells = tells
 -- ---- what a message does
 
 record Steady (x : Outcome) : Type 0 where
-  is : IsSteady (machine_of x)
+  is : IsSteady (outcome_machine x)
 
 either : (b : Bool) (x y : Outcome) → Steady x → Steady y → Steady (cond b x y)
 either true x y h k = h
@@ -71,7 +72,7 @@ unfolding sends
 sends-steady c p a tells = record { started = tells; closed = λ h. absurd (cc) }
 
 denied-steady : (c : Machine) (w : Waits) (m : Parts) (h : Heard) (nonce : List ℕ) → TellsStarted c.engine
-    → IsSteady (machine_of (denied c w m h nonce))
+    → IsSteady (outcome_machine (denied c w m h nonce))
 denied-steady c w m h nonce tells =
     let up = given-up c tells in
     record { started = up.started; closed = up.closed }
@@ -118,13 +119,13 @@ accepts-steady c p m nonce tells =
     (header-steady d p m nonce h tells)
 
 message-steady : (c : Machine) (o : Option Session) (m : Parts) (nonce : List ℕ) → IsSteady c
-    → IsSteady (machine_of (message_outcome c o m nonce))
+    → IsSteady (outcome_machine (message_outcome c o m nonce))
 message-steady c None m nonce steady = steady
 message-steady c (Some s) m nonce steady = (accepts-steady c s.progress m nonce steady.started).is
 
 -- ---- the other events
 
-begins-steady : (c : Machine) (account : ℕ) (kind : Kind) (number : ℕ) → TellsStarted c.engine
+begins-steady : (c : Machine) (account : ℕ) (kind : Initiator) (number : ℕ) → TellsStarted c.engine
     → IsSteady (begins c account kind number)
 unfolding begins
 begins-steady c account kind number tells = sends-steady _ _ _ (given-up c tells).started

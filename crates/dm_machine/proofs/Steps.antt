@@ -20,8 +20,10 @@ use Rattle.dm_machine.specs.Sending.{sends}
 use Rattle.dm_machine.specs.Messages.{Outcome, goes_on, ends, begins, Waits, queued_again, waits_after, is_over}
 use Rattle.dm_machine.specs.Messages.{is_abort, account_at, closed, denied, run_of, answered, by_header, is_last_own}
 use Rattle.dm_machine.specs.Messages.{accepts, ends_update}
-use Rattle.dm_machine.specs.Events.{Event, clock, opened, message, loss, act, stale, stranger, session_of, is_number}
-use Rattle.dm_machine.specs.Events.{is_of, last_of, takes, takes_message, message_outcome, outcome_answer, machine_of}
+use Rattle.dm_machine.specs.Events.{Event, clock, opened, message, loss, act, stale, stranger, session_of}
+use Rattle.dm_machine.specs.Events.{is_same_number}
+use Rattle.dm_machine.specs.Events.{is_of, last_of, takes, takes_message, message_outcome, outcome_answer}
+use Rattle.dm_machine.specs.Events.{outcome_machine}
 use Rattle.dm_machine.specs.Events.{after, taken_answer, sent_in, repeat_answer, message_refusal, refusal}
 use Rattle.dm_machine.specs.History.{message_sent}
 
@@ -116,7 +118,7 @@ accepts-comes c p m nonce =
 pub lt_of : (a b : ℕ) → nat_lt a b ≡ true → a < b
 lt_of a b h = grind arith
 
-of_number : (k : Option ℕ) (n : ℕ) → is_number k n ≡ true → k ≡ Some n
+of_number : (k : Option ℕ) (n : ℕ) → is_same_number k n ≡ true → k ≡ Some n
 of_number None n h = cc
 of_number (Some k) n h = let e : k ≡ n = grind (arith, h) in ap Some e
 
@@ -129,7 +131,7 @@ second_of true d h = h
 second_of false d h = cc
 
 outcome-moves : (b number msg : ℕ) (x : Outcome) → Comes b number msg x
-    → ((machine_of x).begun ≡ b) × Left number msg (message_sent (outcome_answer x)) (machine_of x).session
+    → ((outcome_machine x).begun ≡ b) × Left number msg (message_sent (outcome_answer x)) (outcome_machine x).session
 outcome-moves b number msg (goes_on c) h = h
 outcome-moves b number msg (ends c end) h = (h.0, none-left c.session h.1)
   where
@@ -138,8 +140,8 @@ outcome-moves b number msg (ends c end) h = (h.0, none-left c.session h.1)
     none-left (Some x) e = absurd (cc)
 
 message-moves : (c : Machine) (o : Option Session) (m : Parts) (nonce : List ℕ) → takes_message o m ≡ true
-    → ((machine_of (message_outcome c o m nonce)).begun ≡ c.begun)
-    × Moves o m (message_sent (outcome_answer (message_outcome c o m nonce))) (machine_of
+    → ((outcome_machine (message_outcome c o m nonce)).begun ≡ c.begun)
+    × Moves o m (message_sent (outcome_answer (message_outcome c o m nonce))) (outcome_machine
     (message_outcome c o m nonce)).session
 message-moves c None m nonce h = absurd (cc)
 message-moves c (Some y) m nonce h =

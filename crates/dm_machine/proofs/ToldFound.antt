@@ -41,14 +41,14 @@ use Rattle.dm_tree.specs.Order.{below, is_child_of, children, child_names, names
 use Rattle.dm_tree.proofs.MapKeys.{all_keys}
 use Rattle.dm_commands.specs.declared.outcome.Found.{Found}
 use Rattle.dm_commands.specs.Outcomes.{Setting, node_at}
-use Rattle.dm_commands.specs.Finding.{found_at, node_value, prop_format, prop_value, is_shown, shown_below, listed}
+use Rattle.dm_commands.specs.Finding.{found_node, node_value, prop_format, prop_value, is_shown, shown_below, listed}
 use Rattle.dm_commands.specs.Finding.{found_by}
 use Rattle.dm_atomic.specs.declared.tasks.Named.{Named}
 use Rattle.dm_atomic.specs.declared.tasks.Named.TheVariants as named
 use Rattle.syncml_types.specs.declared.command.Verb.TheVariants as verb
 use Rattle.dm_atomic.specs.declared.tasks.Post.{Post}
 use Rattle.dm_atomic.specs.Tasks.{named_text}
-use Rattle.dm_atomic.specs.Made.{entry_of, uri_in, source_item}
+use Rattle.dm_atomic.specs.Made.{command_told, uri_in, source_item}
 use Rattle.dm_atomic.specs.Made as made
 use Rattle.dm_pack.specs.Entries.{IsReady, whole_entry}
 use Rattle.dm_pack.proofs.Fit.{both}
@@ -373,7 +373,7 @@ found_media n true is = tt
 found_media n false is = is
 
 found_at_ready : (uri : List ℕ) (n : Node) (value : Option (List ℕ)) → IsText 271 uri → IsReadyNode n
-    → all_of is_in_limit value ≡ true → IsReadyFound (found_at uri n value)
+    → all_of is_in_limit value ≡ true → IsReadyFound (found_node uri n value)
 found_at_ready uri n value u is few = record {
   uri = u;
   format = is.format;

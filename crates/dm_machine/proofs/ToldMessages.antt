@@ -34,7 +34,7 @@ use Rattle.dm_atomic.specs.declared.tasks.Task.{Task}
 use Rattle.dm_atomic.specs.declared.reports.Started.{Started}
 use Rattle.dm_atomic.specs.Tasks.{item_task, item_tasks, plain_tasks, alert_task, member_tasks, members_tasks}
 use Rattle.dm_atomic.specs.Tasks.{container_post}
-use Rattle.dm_atomic.specs.Made.{Made, told, is_withheld, entry_of}
+use Rattle.dm_atomic.specs.Made.{Made, told, is_suppressed, command_told}
 use Rattle.dm_atomic.specs.Made as made
 use Rattle.dm_atomic.specs.Updates.{update_finished}
 use Rattle.dm_atomic.specs.Run.{State, Running, Next, quietly, run_atomic, run_member, run_members, run_sequence}
@@ -260,7 +260,7 @@ finished_update_ready clock max s ok stamp state = record {
 pub told_ready : (ms : List Made) → AreReadyMade ms → AllByRecursion IsReady (map whole_entry (told ms))
 told_ready [] all = tt
 told_ready (m ∷ ms) all =
-    elim (is_withheld m) as (λ b. AllByRecursion IsReady (map whole_entry (cond b (told ms) (entry_of m ∷ told ms)))) [
+    elim (is_suppressed m) as (λ b. AllByRecursion IsReady (map whole_entry (cond b (told ms) (command_told m ∷ told ms)))) [
       | true ↦ told_ready ms all.1
       | false ↦ (all.0, told_ready ms all.1)
     ]

@@ -26,7 +26,7 @@ use Rattle.dm_atomic.specs.declared.tasks.Task.{Task}
 use Rattle.dm_atomic.specs.declared.reports.Started.{Started}
 use Rattle.dm_atomic.specs.Engine.{IsShortWhat}
 use Rattle.dm_atomic.specs.Made as made
-use Rattle.dm_atomic.specs.Run.{State, Running, Ran, ran, alert_code, started_by, whole_step, by_what, one_piece}
+use Rattle.dm_atomic.specs.Run.{State, Running, Ran, ran, alert_code, started_by, step_ran, by_what, one_piece}
 use Rattle.dm_atomic.specs.Run.{by_work, one_step}
 use Rattle.dm_atomic.proofs.Gathers.{gather-fits, gather-short}
 use Rattle.dm_machine.specs.Ready.{IsReadyMade, IsReadyReport, IsReadyObject, IsCorrelator, IsReadyState}
@@ -175,7 +175,7 @@ started_ready step before false h k = k
 
 whole_ready : (r : Running) (s : State) (post : Post) (broken : Option (List ℕ)) (step : Step)
     → IsReadyRunning r → IsReadyState r.max_obj s → IsReadyPost post → IsShortStep step → IsReadyStep step
-    → IsReadyRan r.max_obj (whole_step r s post broken step)
+    → IsReadyRan r.max_obj (step_ran r s post broken step)
 whole_ready r s post broken step running state is short ready =
     let done = act_ready r.setting s.tree step state.tree in
     record {

@@ -5,8 +5,8 @@ use Rattle.syncml_types.specs.Message.{Parts}
 use Rattle.wbxml_tokens.specs.declared.reason.Refusal.{Refusal}
 use Rattle.dm_tree.specs.declared.nodes.Stamp.{Stamp}
 use Rattle.dm_atomic.specs.Updates.{is_updating}
-pub use Rattle.dm_ends.specs.Commands.{session_of, is_number}
-use Rattle.dm_machine.specs.declared.kinds.Kind.{Kind}
+pub use Rattle.dm_ends.specs.Commands.{session_of, is_same_number}
+use Rattle.dm_machine.specs.declared.kinds.Initiator.{Initiator}
 use Rattle.dm_machine.specs.declared.kinds.End.{End}
 use Rattle.dm_machine.specs.Machine.{Session, Machine}
 use Rattle.dm_machine.specs.Messages.{Outcome, goes_on, ends, begins, accepts, ends_update}
@@ -15,7 +15,7 @@ use Rattle.dm_machine.specs.Messages.{Outcome, goes_on, ends, begins, accepts, e
 -- refusal stands for, with the nonce of a challenge; no reply came; an update ended
 pub data Event : Type 0 where
   clock : Stamp → Event
-  opened : ℕ → Kind → ℕ → Event
+  opened : ℕ → Initiator → ℕ → Event
   message : Result Parts Refusal → List ℕ → Event
   loss : Event
   act : Bool → Event
@@ -39,7 +39,7 @@ pub data Answer : Type 0 where
 
 -- a message of the open session
 abbrev pub is_of : Session → Parts → Bool
-is_of s m = is_number (session_of m) s.progress.number
+is_of s m = is_same_number (session_of m) s.progress.number
 
 abbrev pub last_of : Session → ℕ
 last_of s = s.progress.standing.last
@@ -69,14 +69,14 @@ abbrev pub outcome_of : Machine → Result Parts Refusal → List ℕ → Outcom
 outcome_of c (Ok m) nonce = message_outcome c c.session m nonce
 outcome_of c (Err place) nonce = goes_on c
 
-abbrev pub machine_of : Outcome → Machine
-machine_of (goes_on c) = c
-machine_of (ends c end) = c
+abbrev pub outcome_machine : Outcome → Machine
+outcome_machine (goes_on c) = c
+outcome_machine (ends c end) = c
 
 unfoldable pub after : Machine → Event → Machine
 after c (clock stamp) = record c { clock = stamp }
 after c (opened account kind number) = begins c account kind number
-after c (message read nonce) = machine_of (outcome_of c read nonce)
+after c (message read nonce) = outcome_machine (outcome_of c read nonce)
 after c loss = c
 after c (act ok) = ends_update c ok
 

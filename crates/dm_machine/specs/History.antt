@@ -4,7 +4,7 @@ use Rattle.std.specs.Prelude.{None, Result, Ok, Err}
 use Rattle.syncml_types.specs.Message.{Parts}
 use Rattle.wbxml_tokens.specs.declared.reason.Refusal.{Refusal}
 use Rattle.dm_machine.specs.Machine.{Session, Machine}
-use Rattle.dm_machine.specs.Events.{Event, message, Answer, sent, session_of, is_number, last_of, takes, after}
+use Rattle.dm_machine.specs.Events.{Event, message, Answer, sent, session_of, is_same_number, last_of, takes, after}
 use Rattle.dm_machine.specs.Events.{taken_answer, refusal}
 
 -- ---- by the history
@@ -26,7 +26,7 @@ message_sent other = None
 
 -- a message of this session and MsgID
 abbrev pub reads_as : Result Parts Refusal → ℕ → ℕ → Bool
-reads_as (Ok m) session msg = is_number (session_of m) session && m.header.msg == msg
+reads_as (Ok m) session msg = is_same_number (session_of m) session && m.header.msg == msg
 reads_as (Err refusal) session msg = false
 
 abbrev pub is_message : Event → ℕ → ℕ → Bool

@@ -54,9 +54,9 @@ position_of other = []
 abbrev pub IsBefore : Position → Position → Type 0
 IsBefore p q = (p.session < q.session) ⊎ ((p.session ≡ q.session) × (p.msg < q.msg))
 
-abbrev pub Follows : Position → List Position → Type 0
-Follows p [] = ⊤
-Follows p (q ∷ qs) = IsBefore p q
+abbrev pub Precedes : Position → List Position → Type 0
+Precedes p [] = ⊤
+Precedes p (q ∷ qs) = IsBefore p q
 
 abbrev pub or_last : Position → List Position → Position
 or_last p [] = p
@@ -65,7 +65,7 @@ or_last p (q ∷ qs) = q
 -- each event that stands somewhere stands behind the one before it
 abbrev pub Rise : Position → List Event → Type 0
 Rise p [] = ⊤
-Rise p (e ∷ es) = Follows p (position_of e) × Rise (or_last p (position_of e)) es
+Rise p (e ∷ es) = Precedes p (position_of e) × Rise (or_last p (position_of e)) es
 
 -- accepted message numbers rise, so none is accepted twice
 abbrev pub AcceptedNumbersRise : Type 0
@@ -104,12 +104,12 @@ pub record GivesUp (before : State) (c : Machine) : Type 0 where
   pub group : c.engine.group ≡ None
   pub object : c.engine.object ≡ Nothing
 
-abbrev pub Leaves : State → Outcome → Type 0
-Leaves before (goes_on c) = ⊤
-Leaves before (ends c end) = GivesUp before c
+abbrev pub GivesUpAtEnd : State → Outcome → Type 0
+GivesUpAtEnd before (goes_on c) = ⊤
+GivesUpAtEnd before (ends c end) = GivesUp before c
 
 abbrev pub EndsGiveUp : Type 0
-EndsGiveUp = (c : Machine) (p : Progress) (m : Parts) (nonce : List ℕ) → Leaves c.engine (accepts c p m nonce)
+EndsGiveUp = (c : Machine) (p : Progress) (m : Parts) (nonce : List ℕ) → GivesUpAtEnd c.engine (accepts c p m nonce)
 
 -- a session that is denied ends with a farewell
 abbrev pub HasFarewell : Outcome → Type 0

@@ -27,7 +27,7 @@ pub use Rattle.dm_ends.specs.Commands.{is_abort, is_report}
 use Rattle.dm_ends.specs.Beginning.{first_standing as begun_standing}
 use Rattle.dm_ends.specs.Farewells.{farewell}
 use Rattle.dm_ends.specs.Commands.{origin_of}
-use Rattle.dm_machine.specs.declared.kinds.Kind.{Kind}
+use Rattle.dm_machine.specs.declared.kinds.Initiator.{Initiator}
 use Rattle.dm_machine.specs.declared.kinds.End.{End}
 use Rattle.dm_machine.specs.declared.kinds.End.TheVariants.{Finished, Aborted, Denied}
 use Rattle.dm_machine.specs.declared.progress.Progress.{Progress}
@@ -66,22 +66,22 @@ abbrev pub account_at : Machine → ℕ → Account
 account_at c at = get_or c.accounts at no_account
 
 -- nobody is accepted yet, and the first package, which is the client's, ends with its first Final
-abbrev pub first_standing : Standing
-first_standing = begun_standing true false
+abbrev pub opening_standing : Standing
+opening_standing = begun_standing true false
 
 -- the whole first package waits
-abbrev pub first_progress : ℕ → Kind → ℕ → List Entry → Progress
+abbrev pub first_progress : ℕ → Initiator → ℕ → List Entry → Progress
 first_progress account kind number first = record {
   number = number;
   account = account;
   kind = kind;
-  standing = first_standing;
+  standing = opening_standing;
   opening_at = 0;
   opening_left = length first;
 }
 
 -- a session that is still open ends by Aborted first, which no answer tells
-unfoldable pub begins : Machine → ℕ → Kind → ℕ → Machine
+unfoldable pub begins : Machine → ℕ → Initiator → ℕ → Machine
 begins c account kind number =
     let d = closed c in
     let first = first_package d kind in

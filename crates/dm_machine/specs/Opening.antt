@@ -15,24 +15,24 @@ use Rattle.dm_fumo.specs.States.{result_code}
 use Rattle.dm_atomic.specs.Made.{source_item}
 use Rattle.dm_pack.specs.Entries.{Entry, whole_entry}
 pub use Rattle.dm_ends.specs.Commands.{alert}
-use Rattle.dm_machine.specs.declared.kinds.Kind.{Kind}
-use Rattle.dm_machine.specs.declared.kinds.Kind.TheVariants.{ByServer, ByClient}
+use Rattle.dm_machine.specs.declared.kinds.Initiator.{Initiator}
+use Rattle.dm_machine.specs.declared.kinds.Initiator.TheVariants.{ByServer, ByClient}
 use Rattle.dm_machine.specs.declared.progress.UpdateResult.{UpdateResult}
 use Rattle.dm_machine.specs.Machine.{Machine}
 
-abbrev pub kind_code : Kind → ℕ
+abbrev pub kind_code : Initiator → ℕ
 kind_code ByServer = 1200
 kind_code ByClient = 1201
 
-abbrev pub meta_of : List ℕ → List ℕ → Meta
-meta_of format media = record no_meta { format = Some format; media = Some media }
+abbrev pub typed_meta : List ℕ → List ℕ → Meta
+typed_meta format media = record no_meta { format = Some format; media = Some media }
 
 -- ---- results of updates
 
 -- of the update at this node, by its printed path
 abbrev pub result_item : List ℕ → Bool → Item
 result_item node ok =
-    source_item node (Some (meta_of (codes "chr") (codes "org.openmobilealliance.dm.firmwareupdate.update")))
+    source_item node (Some (typed_meta (codes "chr") (codes "org.openmobilealliance.dm.firmwareupdate.update")))
     (Some (decimal (result_code ok)))
 
 abbrev pub result_alert : List ℕ → UpdateResult → Command
@@ -45,7 +45,7 @@ update_uri tree = option_map_or printed_path (update_node tree) []
 
 abbrev pub device_item : Nodes → List ℕ → Item
 device_item tree name =
-    source_item (printed_path (device_path name)) (Some (meta_of (codes "chr") (codes "text/plain")))
+    source_item (printed_path (device_path name)) (Some (typed_meta (codes "chr") (codes "text/plain")))
     (Some (value_at tree (device_path name)))
 
 abbrev pub device_told : Nodes → Command
@@ -60,9 +60,9 @@ device_told tree = command.Plain (record {
 
 -- ---- the package
 
-abbrev pub opening : Kind → List UpdateResult → Nodes → List Command
+abbrev pub opening : Initiator → List UpdateResult → Nodes → List Command
 opening kind results tree =
     alert (kind_code kind) None [] ∷ map (result_alert (update_uri tree)) results ++ device_told tree ∷ []
 
-abbrev pub first_package : Machine → Kind → List Entry
+abbrev pub first_package : Machine → Initiator → List Entry
 first_package c kind = map whole_entry (opening kind c.results c.engine.tree)

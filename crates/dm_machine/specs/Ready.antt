@@ -19,7 +19,7 @@ use Rattle.dm_atomic.specs.declared.reports.Report.{Report}
 use Rattle.dm_atomic.specs.declared.reports.Part.{Part}
 use Rattle.dm_atomic.specs.declared.reports.Started.{Started}
 use Rattle.dm_atomic.specs.Engine.{FitsObject}
-use Rattle.dm_atomic.specs.Made.{Made, entry_of}
+use Rattle.dm_atomic.specs.Made.{Made, command_told}
 use Rattle.dm_atomic.specs.Made as made
 use Rattle.dm_atomic.specs.Run.{Group, State}
 use Rattle.dm_pack.specs.Entries.{IsReady, whole_entry}
@@ -32,7 +32,7 @@ use Rattle.dm_machine.specs.Events.{Event, clock, opened, message, loss, act}
 -- ---- what is made
 
 abbrev pub IsReadyMade : Made → Type 0
-IsReadyMade m = IsReady (whole_entry (entry_of m))
+IsReadyMade m = IsReady (whole_entry (command_told m))
 
 -- what waits in a group: a Status with any code, and what was found
 pub record IsReadyReport (r : Report) : Type 0 where

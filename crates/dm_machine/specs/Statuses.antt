@@ -58,22 +58,22 @@ read_counted c (Ok m) nonce = session_counted c c.session m nonce
 read_counted c (Err place) nonce = nothing_counted
 
 -- an open session ends where another begins
-abbrev pub counted : Machine → Event → Counted
-counted c (opened account kind number) = record nothing_counted { given_up = waiting_posts c.engine.group }
-counted c (message read nonce) = read_counted c read nonce
-counted c other = nothing_counted
+abbrev pub counted_at : Machine → Event → Counted
+counted_at c (opened account kind number) = record nothing_counted { given_up = waiting_posts c.engine.group }
+counted_at c (message read nonce) = read_counted c read nonce
+counted_at c other = nothing_counted
 
 abbrev pub asked_in_run : Machine → List Event → List Post
 asked_in_run c [] = []
-asked_in_run c (e ∷ es) = (counted c e).asked ++ asked_in_run (after c e) es
+asked_in_run c (e ∷ es) = (counted_at c e).asked ++ asked_in_run (after c e) es
 
 abbrev pub made_in_run : Machine → List Event → List Post
 made_in_run c [] = []
-made_in_run c (e ∷ es) = (counted c e).made ++ made_in_run (after c e) es
+made_in_run c (e ∷ es) = (counted_at c e).made ++ made_in_run (after c e) es
 
 abbrev pub given_up_in_run : Machine → List Event → List Post
 given_up_in_run c [] = []
-given_up_in_run c (e ∷ es) = (counted c e).given_up ++ given_up_in_run (after c e) es
+given_up_in_run c (e ∷ es) = (counted_at c e).given_up ++ given_up_in_run (after c e) es
 
 -- over all events that act, each step and each container that is executed has one Status made, in its message or later,
 -- unless it still waits for its group's close, or its session ended while it waited: however one counts

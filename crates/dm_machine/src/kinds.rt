@@ -2,7 +2,7 @@
 
 /// Who asked for a session: Alert 1200 or 1201.
 #[derive(Clone, Copy, Debug, PartialEq, Eq)]
-pub enum Kind {
+pub enum Initiator {
     ByServer,
     ByClient,
 }

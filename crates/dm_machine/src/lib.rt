@@ -5,5 +5,5 @@ pub mod kinds;
 pub mod laws;
 pub mod progress;
 
-pub use kinds::{End, Kind};
+pub use kinds::{End, Initiator};
 pub use progress::{Progress, UpdateResult};

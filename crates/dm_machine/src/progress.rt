@@ -1,5 +1,5 @@
 // What a client keeps of a session, and of an update that ended.
-use crate::kinds::Kind;
+use crate::kinds::Initiator;
 use dm_base::Bytes;
 use dm_headers::Standing;
 
@@ -9,7 +9,7 @@ pub struct Progress {
     pub number: u32,
     /// The place of its account.
     pub account: usize,
-    pub kind: Kind,
+    pub kind: Initiator,
     pub standing: Standing,
     /// Where in the queue the entries of the first package stand that still wait.
     pub opening_at: usize,

@@ -5,9 +5,9 @@ use Rattle.std.proofs.lemmas.List.{take_at, append-nil}
 use Rattle.dm_objects.specs.declared.object.Object.{Object}
 use Rattle.dm_objects.specs.declared.log.Past.{Past}
 use Rattle.dm_objects.specs.declared.log.Past.TheVariants.{Same, Was, Grew}
-use Rattle.dm_objects.specs.Seen.{Seen, before, first_of, seen_of, present, is_unfinished, now_holding}
+use Rattle.dm_objects.specs.Seen.{Seen, before, first_or, seen_of, present, is_unfinished, now_holding}
 
-first-append : (ps : List Past) (x now : Object) → first_of (seen_of ps x ++ now ∷ []) now ≡ first_of (seen_of ps x) x
+first-append : (ps : List Past) (x now : Object) → first_or (seen_of ps x ++ now ∷ []) now ≡ first_or (seen_of ps x) x
 first-append [] x now = refl
 first-append (p ∷ ps) x now = refl
 
@@ -17,7 +17,7 @@ pub seen-push : (ps : List Past) (p : Past) (now : Object)
 seen-push [] p now = refl
 seen-push (q ∷ ps) p now =
     let h = seen-push ps p now in
-    ap (λ s. before q (first_of s now) ∷ s) h
+    ap (λ s. before q (first_or s now) ∷ s) h
     ∙ ap (λ x. before q x ∷ (seen_of ps (before p now) ++ now ∷ [])) (first-append ps (before p now) now)
 
 pub seen_long : (ps : List Past) (now : Object) → length (seen_of ps now) ≡ length ps + 1

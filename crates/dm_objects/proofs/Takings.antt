@@ -14,8 +14,8 @@ use Rattle.dm_objects.specs.declared.piece.What.TheVariants.{Whole, Refused}
 use Rattle.dm_objects.specs.Gathering.{gather, gathered_by, Gathered, Came, came, continues}
 use Rattle.dm_objects.specs.Gathering.{first_of_several, single, write_piece, by_rules, buffered_target}
 use Rattle.dm_objects.specs.declared.log.Past.{Past}
-use Rattle.dm_objects.specs.declared.rules.Verdict.{Verdict}
-use Rattle.dm_objects.specs.declared.rules.Verdict.TheVariants as verdicts
+use Rattle.dm_objects.specs.declared.rules.Ruling.{Ruling}
+use Rattle.dm_objects.specs.declared.rules.Ruling.TheVariants as verdicts
 use Rattle.dm_objects.specs.Changes.{IsCame, object_by, what_by}
 use Rattle.dm_objects.specs.InPlace.{what_of, taken_of, sort_of, step_by}
 use Rattle.dm_objects.specs.Seen.{Seen, present, is_unfinished, is_whole_step, holding, seen_of, Takes}
@@ -56,7 +56,7 @@ other_takes old new piece taken object c came broken now =
 
 pub next_taken : (old : Seen) (max : ℕ) (past : List Past) (o : Object)
     → old ≡ record { max_obj = max; objects = seen_of past o }
-    → (piece : Piece) (taken : Taken) (verdict : Verdict) (new : Seen) → continues (present old.objects) piece ≡ true
+    → (piece : Piece) (taken : Taken) (verdict : Ruling) (new : Seen) → continues (present old.objects) piece ≡ true
     → IsCame (by_rules max o piece) (object_by verdict o piece) taken.what → taken.broken ≡ None
     → new ≡ holding old (object_by verdict (present old.objects) piece) → Takes old new piece taken
 next_taken old max past o e piece taken verdict new =
@@ -83,7 +83,7 @@ other_taken old max past o e piece taken object new =
 
 -- ---- a piece that is taken over
 
-same-what : (v : Verdict) (o : Object) (piece : Piece)
+same-what : (v : Ruling) (o : Object) (piece : Piece)
     → what_of (sort_of v) (step_by v o piece.step) ≡ what_by v o piece
 same-what (verdicts.Refuses code) o piece = refl
 same-what verdicts.Passes o piece = refl
@@ -95,7 +95,7 @@ same-what verdicts.Grows o piece = refl
 same-what verdicts.Completes o piece = refl
 
 -- a step that was made whole makes no other object
-same-object : (v : Verdict) (o x : Object) (piece : Piece)
+same-object : (v : Ruling) (o x : Object) (piece : Piece)
     → object_by v x (record piece { step = step_by v o piece.step }) ≡ object_by v x piece
 same-object (verdicts.Refuses code) o x piece = refl
 same-object verdicts.Passes o x piece = refl
@@ -108,7 +108,7 @@ same-object verdicts.Completes o x piece = refl
 
 pub next_taken_over : (old : Seen) (max : ℕ) (past : List Past) (o : Object)
     → old ≡ record { max_obj = max; objects = seen_of past o }
-    → (piece : Piece) (step : Step) (over : TakenOver) (verdict : Verdict) (new : Seen)
+    → (piece : Piece) (step : Step) (over : TakenOver) (verdict : Ruling) (new : Seen)
     → continues (present old.objects) piece ≡ true
     → IsCame (by_rules max o piece) (object_by verdict o piece) (what_by verdict o piece)
     → step ≡ step_by verdict o piece.step → over.broken ≡ None → over.sort ≡ sort_of verdict
@@ -123,7 +123,7 @@ next_taken_over old max past o e piece step over verdict new c came whole broken
 
 pub other_taken_over : (old : Seen) (max : ℕ) (past : List Past) (o : Object)
     → old ≡ record { max_obj = max; objects = seen_of past o }
-    → (piece : Piece) (step : Step) (over : TakenOver) (verdict : Verdict) (new : Seen)
+    → (piece : Piece) (step : Step) (over : TakenOver) (verdict : Ruling) (new : Seen)
     → continues (present old.objects) piece ≡ false
     → IsCame (by_rules max Nothing piece) (object_by verdict Nothing piece) (what_by verdict Nothing piece)
     → over.broken ≡ buffered_target o → over.sort ≡ sort_of verdict

@@ -19,7 +19,7 @@ use Rattle.dm_objects.specs.declared.piece.Piece.{Piece}
 use Rattle.dm_objects.specs.declared.piece.What.{What}
 use Rattle.dm_objects.specs.declared.piece.What.TheVariants.{Whole, Buffered, Refused}
 use Rattle.dm_objects.specs.Gathering.{key_of, verb_number, is_same_text, is_same_place, is_same_key, continues, Came}
-use Rattle.dm_objects.specs.Gathering.{came, skipped, begun_by, first_of_several, single, whole_step}
+use Rattle.dm_objects.specs.Gathering.{came, skipped, begun_object, first_of_several, single, whole_step}
 use Rattle.dm_objects.specs.Gathering.{next_piece, write_piece, by_rules, gather}
 use Rattle.dm_objects.specs.Laws.{gather_all, bytes_of, wants_more, is_earlier, IsPutTogether, WholesArePutTogether}
 
@@ -177,7 +177,7 @@ single-does done piece false f m = (tt, ends-all piece m Nothing, alone done pie
 
 begun-fits : (done : List Piece) (piece : Piece) (size : ℕ) → is_write piece.step.verb ≡ true
     → is_some piece.step.target ≡ true → IsFront done (key_of piece.step) → piece.more ≡ true
-    → IsBegun (done ++ piece ∷ []) (begun_by piece size)
+    → IsBegun (done ++ piece ∷ []) (begun_object piece size)
 begun-fits done piece size w n f m = record {
   old = done;
   first = piece;
@@ -195,7 +195,7 @@ begun-fits done piece size w n f m = record {
 sized-does : (done : List Piece) (piece : Piece) (size : ℕ) (b c : Bool) → is_write piece.step.verb ≡ true
     → is_some piece.step.target ≡ true → IsFront done (key_of piece.step) → piece.more ≡ true
     → Does done piece
-    (cond b (skipped piece 416) (cond c (skipped piece 424) (came (Buffering (begun_by piece size)) Buffered)))
+    (cond b (skipped piece 416) (cond c (skipped piece 424) (came (Buffering (begun_object piece size)) Buffered)))
 sized-does done piece size true c w n f m = (tt, λ x. refl, not-whole done piece 416)
 sized-does done piece size false true w n f m = (tt, λ x. refl, not-whole done piece 424)
 sized-does done piece size false false w n f m = (begun-fits done piece size w n f m, λ x. refl, not-yet done piece)

@@ -6,9 +6,9 @@ use Rattle.dm_objects.specs.declared.object.Object.TheVariants.{Nothing, Bufferi
 use Rattle.dm_objects.specs.declared.piece.Piece.{Piece}
 use Rattle.dm_objects.specs.declared.piece.What.{What}
 use Rattle.dm_objects.specs.declared.piece.What.TheVariants as whats
-use Rattle.dm_objects.specs.declared.rules.Verdict.{Verdict}
-use Rattle.dm_objects.specs.declared.rules.Verdict.TheVariants as verdicts
-use Rattle.dm_objects.specs.Gathering.{Came, key_of, begun_by, whole_step}
+use Rattle.dm_objects.specs.declared.rules.Ruling.{Ruling}
+use Rattle.dm_objects.specs.declared.rules.Ruling.TheVariants as verdicts
+use Rattle.dm_objects.specs.Gathering.{Came, key_of, begun_object, whole_step}
 use Rattle.dm_objects.specs.Seen.{extended}
 
 -- what continues an object that is being buffered is refused
@@ -24,17 +24,17 @@ completed (Buffering begun) step = whole_step begun step
 completed (Skipping key code) step = step
 
 -- the object behind a piece that meets this one
-abbrev pub object_by : Verdict → Object → Piece → Object
+abbrev pub object_by : Ruling → Object → Piece → Object
 object_by (verdicts.Refuses code) object piece = object
 object_by verdicts.Passes object piece = object
 object_by (verdicts.Ends code) object piece = Nothing
 object_by (verdicts.Skips code) object piece = Skipping (key_of piece.step) code
 object_by (verdicts.GivesUp code) object piece = given_up object code
-object_by (verdicts.Begins size) object piece = Buffering (begun_by piece size)
+object_by (verdicts.Begins size) object piece = Buffering (begun_object piece size)
 object_by verdicts.Grows object piece = extended object piece.step.value
 object_by verdicts.Completes object piece = Nothing
 
-abbrev pub what_by : Verdict → Object → Piece → What
+abbrev pub what_by : Ruling → Object → Piece → What
 what_by (verdicts.Refuses code) object piece = whats.Refused code
 what_by verdicts.Passes object piece = whats.Whole piece.step
 what_by (verdicts.Ends code) object piece = whats.Refused code

@@ -68,8 +68,8 @@ came object what = record { object = object; what = what }
 abbrev pub skipped : Piece → ℕ → Came
 skipped piece code = came (Skipping (key_of piece.step) code) (Refused code)
 
-abbrev pub begun_by : Piece → ℕ → Begun
-begun_by piece size = record {
+abbrev pub begun_object : Piece → ℕ → Begun
+begun_object piece size = record {
   key = key_of piece.step;
   format = piece.step.format;
   media = piece.step.media;
@@ -83,7 +83,7 @@ first_of_several max piece None = skipped piece 411
 first_of_several max piece (Some size) =
     if nat_lt max size then skipped piece 416
     else if nat_lt size (length piece.step.value) then skipped piece 424
-    else came (Buffering (begun_by piece size)) Buffered
+    else came (Buffering (begun_object piece size)) Buffered
 
 -- a piece that is the whole object; its Size isn't looked at
 abbrev pub single : ℕ → Piece → Came

@@ -7,8 +7,8 @@ use Rattle.dm_objects.specs.declared.piece.Sort.{Sort}
 use Rattle.dm_objects.specs.declared.piece.Sort.TheVariants as sorts
 use Rattle.dm_objects.specs.declared.piece.Taken.{Taken}
 use Rattle.dm_objects.specs.declared.piece.TakenOver.{TakenOver}
-use Rattle.dm_objects.specs.declared.rules.Verdict.{Verdict}
-use Rattle.dm_objects.specs.declared.rules.Verdict.TheVariants as verdicts
+use Rattle.dm_objects.specs.declared.rules.Ruling.{Ruling}
+use Rattle.dm_objects.specs.declared.rules.Ruling.TheVariants as verdicts
 use Rattle.dm_objects.specs.Changes.{completed}
 
 -- what a piece of this sort is, whose step is now this one
@@ -20,7 +20,7 @@ what_of (sorts.Refused code) step = whats.Refused code
 abbrev pub taken_of : TakenOver → Step → Taken
 taken_of over step = record { broken = over.broken; what = what_of over.sort step }
 
-abbrev pub sort_of : Verdict → Sort
+abbrev pub sort_of : Ruling → Sort
 sort_of (verdicts.Refuses code) = sorts.Refused code
 sort_of verdicts.Passes = sorts.Whole
 sort_of (verdicts.Ends code) = sorts.Refused code
@@ -31,7 +31,7 @@ sort_of verdicts.Grows = sorts.Buffered
 sort_of verdicts.Completes = sorts.Whole
 
 -- the piece's step behind a verdict
-abbrev pub step_by : Verdict → Object → Step → Step
+abbrev pub step_by : Ruling → Object → Step → Step
 step_by (verdicts.Refuses code) object step = step
 step_by verdicts.Passes object step = step
 step_by (verdicts.Ends code) object step = step

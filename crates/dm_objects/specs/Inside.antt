@@ -16,6 +16,6 @@ stays (Buffering begun) = if begun.key.in_atomic then Skipping begun.key 500 els
 stays Nothing = Nothing
 stays (Skipping key code) = Skipping key code
 
-abbrev pub failed : Seen → Seen
-failed seen =
+abbrev pub failed_inside : Seen → Seen
+failed_inside seen =
     if is_buffering_inside (present seen.objects) then holding seen (stays (present seen.objects)) else seen

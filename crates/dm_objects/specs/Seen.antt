@@ -63,11 +63,11 @@ before Same now = now
 before (Was object) now = object
 before (Grew length_before) now = shortened length_before now
 
-abbrev pub first_of : List Object → Object → Object
-first_of [] now = now
-first_of (o ∷ os) now = o
+abbrev pub first_or : List Object → Object → Object
+first_or [] now = now
+first_or (o ∷ os) now = o
 
 -- the objects seen, by the changes, the oldest first
 abbrev pub seen_of : List Past → Object → List Object
 seen_of [] now = now ∷ []
-seen_of (p ∷ ps) now = before p (first_of (seen_of ps now) now) ∷ seen_of ps now
+seen_of (p ∷ ps) now = before p (first_or (seen_of ps now) now) ∷ seen_of ps now

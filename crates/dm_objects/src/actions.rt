@@ -1,14 +1,14 @@
 // What a verdict does, by copies or in place.
 ghost use Rattle.std.specs.Prelude.{◌≡◌, [], None, IfOk, OnOk};
 ghost use Rattle.dm_objects.specs.declared.object.Object.TheVariants.{Nothing};
-ghost use Rattle.dm_objects.specs.Gathering.{buffered_target, begun_by};
+ghost use Rattle.dm_objects.specs.Gathering.{buffered_target, begun_object};
 ghost use Rattle.dm_objects.specs.Changes.{given_up, completed, object_by, what_by};
 ghost use Rattle.dm_objects.specs.InPlace.{sort_of, step_by};
 
 use crate::copies::{begun_by, copy_key, copy_step, joined, key_of, whole_step};
 use crate::object::{Begun, Key, Object};
 use crate::piece::{Piece, Sort, What};
-use crate::rules::Verdict;
+use crate::rules::Ruling;
 use dm_base::{Bytes, Memory};
 use std::alloc::Global;
 use std::mem;
@@ -41,18 +41,18 @@ pub(crate) fn given_up(alloc: Global, object: &Object, code: u32) -> Result<Obje
 }
 
 /// The object behind a piece that meets none.
-pub(crate) fn next_alone(alloc: Global, verdict: Verdict, piece: &Piece) -> Result<Object, Memory>
+pub(crate) fn next_alone(alloc: Global, verdict: Ruling, piece: &Piece) -> Result<Object, Memory>
     ensures { IfOk result (λ next. next ≡ object_by verdict Nothing piece.now) }
 {
     match verdict {
-        Verdict::Skips(code) => Ok(Object::Skipping(key_of(alloc, &piece.step)?, code)),
-        Verdict::Begins(size) => Ok(Object::Buffering(begun_by(alloc, piece, size)?)),
-        Verdict::Refuses(_) => Ok(Object::Nothing),
-        Verdict::Passes => Ok(Object::Nothing),
-        Verdict::Ends(_) => Ok(Object::Nothing),
-        Verdict::GivesUp(_) => Ok(Object::Nothing),
-        Verdict::Grows => Ok(Object::Nothing),
-        Verdict::Completes => Ok(Object::Nothing),
+        Ruling::Skips(code) => Ok(Object::Skipping(key_of(alloc, &piece.step)?, code)),
+        Ruling::Begins(size) => Ok(Object::Buffering(begun_by(alloc, piece, size)?)),
+        Ruling::Refuses(_) => Ok(Object::Nothing),
+        Ruling::Passes => Ok(Object::Nothing),
+        Ruling::Ends(_) => Ok(Object::Nothing),
+        Ruling::GivesUp(_) => Ok(Object::Nothing),
+        Ruling::Grows => Ok(Object::Nothing),
+        Ruling::Completes => Ok(Object::Nothing),
     }
 }
 
@@ -70,37 +70,37 @@ fn completed_copy(alloc: Global, object: &Object, step: &Step) -> Result<Step, M
 /// What a piece is, whose step is copied.
 pub(crate) fn what_by(
     alloc: Global,
-    verdict: Verdict,
+    verdict: Ruling,
     object: &Object,
     piece: &Piece,
 ) -> Result<What, Memory>
     ensures { IfOk result (λ what. what ≡ what_by verdict object.now piece.now) }
 {
     match verdict {
-        Verdict::Refuses(code) => Ok(What::Refused(code)),
-        Verdict::Passes => Ok(What::Whole(copy_step(alloc, &piece.step)?)),
-        Verdict::Ends(code) => Ok(What::Refused(code)),
-        Verdict::Skips(code) => Ok(What::Refused(code)),
-        Verdict::GivesUp(code) => Ok(What::Refused(code)),
-        Verdict::Begins(_) => Ok(What::Buffered),
-        Verdict::Grows => Ok(What::Buffered),
-        Verdict::Completes => Ok(What::Whole(completed_copy(alloc, object, &piece.step)?)),
+        Ruling::Refuses(code) => Ok(What::Refused(code)),
+        Ruling::Passes => Ok(What::Whole(copy_step(alloc, &piece.step)?)),
+        Ruling::Ends(code) => Ok(What::Refused(code)),
+        Ruling::Skips(code) => Ok(What::Refused(code)),
+        Ruling::GivesUp(code) => Ok(What::Refused(code)),
+        Ruling::Begins(_) => Ok(What::Buffered),
+        Ruling::Grows => Ok(What::Buffered),
+        Ruling::Completes => Ok(What::Whole(completed_copy(alloc, object, &piece.step)?)),
     }
 }
 
 /// What a piece is that is taken over.
-pub(crate) fn sort_of(verdict: Verdict) -> Sort
+pub(crate) fn sort_of(verdict: Ruling) -> Sort
     ensures { result ≡ sort_of verdict }
 {
     match verdict {
-        Verdict::Refuses(code) => Sort::Refused(code),
-        Verdict::Passes => Sort::Whole,
-        Verdict::Ends(code) => Sort::Refused(code),
-        Verdict::Skips(code) => Sort::Refused(code),
-        Verdict::GivesUp(code) => Sort::Refused(code),
-        Verdict::Begins(_) => Sort::Buffered,
-        Verdict::Grows => Sort::Buffered,
-        Verdict::Completes => Sort::Whole,
+        Ruling::Refuses(code) => Sort::Refused(code),
+        Ruling::Passes => Sort::Whole,
+        Ruling::Ends(code) => Sort::Refused(code),
+        Ruling::Skips(code) => Sort::Refused(code),
+        Ruling::GivesUp(code) => Sort::Refused(code),
+        Ruling::Begins(_) => Sort::Buffered,
+        Ruling::Grows => Sort::Buffered,
+        Ruling::Completes => Sort::Whole,
     }
 }
 
@@ -119,27 +119,27 @@ fn complete(alloc: Global, object: &Object, step: &mut Step) -> Result<(), Memor
 /// The step of a piece that is taken over is made whole, where it comes to a whole one.
 pub(crate) fn make_whole(
     alloc: Global,
-    verdict: Verdict,
+    verdict: Ruling,
     object: &Object,
     step: &mut Step,
 ) -> Result<(), Memory>
     ensures { OnOk result (step.new ≡ step_by verdict object.now step.old) }
 {
     match verdict {
-        Verdict::Completes => complete(alloc, object, step),
-        Verdict::Refuses(_) => Ok(()),
-        Verdict::Passes => Ok(()),
-        Verdict::Ends(_) => Ok(()),
-        Verdict::Skips(_) => Ok(()),
-        Verdict::GivesUp(_) => Ok(()),
-        Verdict::Begins(_) => Ok(()),
-        Verdict::Grows => Ok(()),
+        Ruling::Completes => complete(alloc, object, step),
+        Ruling::Refuses(_) => Ok(()),
+        Ruling::Passes => Ok(()),
+        Ruling::Ends(_) => Ok(()),
+        Ruling::Skips(_) => Ok(()),
+        Ruling::GivesUp(_) => Ok(()),
+        Ruling::Begins(_) => Ok(()),
+        Ruling::Grows => Ok(()),
     }
 }
 
 /// The object that a piece begins, which keeps the piece's texts and bytes. It takes no memory.
 pub(crate) fn begun_with(alloc: Global, piece: &mut Piece, size: u64) -> Begun
-    ensures { result ≡ begun_by piece.old size }
+    ensures { result ≡ begun_object piece.old size }
 {
     Begun {
         key: Key {

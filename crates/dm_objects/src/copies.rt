@@ -1,6 +1,6 @@
 // Copies of steps and of what they are made of.
 ghost use Rattle.std.specs.Prelude.{◌≡◌, ◌++◌, IfOk};
-ghost use Rattle.dm_objects.specs.Gathering.{key_of, begun_by, whole_step};
+ghost use Rattle.dm_objects.specs.Gathering.{key_of, begun_object, whole_step};
 
 use crate::object::{Begun, Key};
 use crate::piece::Piece;
@@ -45,7 +45,7 @@ pub(crate) fn copy_key(alloc: Global, key: &Key) -> Result<Key, Memory>
 }
 
 pub(crate) fn begun_by(alloc: Global, piece: &Piece, size: u64) -> Result<Begun, Memory>
-    ensures { IfOk result (λ begun. begun ≡ begun_by piece.now size) }
+    ensures { IfOk result (λ begun. begun ≡ begun_object piece.now size) }
 {
     Ok(Begun {
         key: key_of(alloc, &piece.step)?,

@@ -4,7 +4,7 @@ ghost use Rattle.std.specs.Prelude.{None, IfOk};
 ghost use Rattle.dm_objects.specs.declared.object.Object.TheVariants.{Nothing, Skipping};
 ghost use Rattle.dm_objects.specs.declared.piece.What.TheVariants.{Whole};
 ghost use Rattle.dm_objects.specs.Gathering.{key_of, continues, buffered_target};
-ghost use Rattle.dm_objects.specs.Inside.{is_buffering_inside, stays, failed};
+ghost use Rattle.dm_objects.specs.Inside.{is_buffering_inside, stays, failed_inside};
 ghost use Rattle.dm_objects.specs.Seen.{Seen, present, is_unfinished, is_whole_step, holding, extended, Takes};
 
 use crate::actions::{buffered_target, given_up};
@@ -227,7 +227,7 @@ impl Inbox {
     /// is as before.
     #[tactic(auto, using(crate::proofs::SeenObjects::present_seen))]
     pub fn skip_inside(&mut self) -> Result<(), Memory>
-        ensures ok { OnOk result (self.new ≡ failed self.old) }
+        ensures ok { OnOk result (self.new ≡ failed_inside self.old) }
         ensures err { OnErr result (self.new ≡ self.old) }
     {
         if !is_inside(&self.object) {

@@ -9,7 +9,7 @@ use crate::piece::Piece;
 
 /// What the rules decide. It is a small value, so that objects and steps are made where they are to stand.
 #[derive(Clone, Copy)]
-pub enum Verdict {
+pub enum Ruling {
     /// The piece is refused with this code, and the object stays.
     Refuses(u32),
     /// The piece is a whole step as it stands, and the object stays.
@@ -28,32 +28,32 @@ pub enum Verdict {
     Completes,
 }
 
-fn first_of_several(max: u32, piece: &Piece) -> Verdict
+fn first_of_several(max: u32, piece: &Piece) -> Ruling
     ensures { IsCame (first_of_several max piece.now piece.now.size)
         (object_by result Nothing piece.now) (what_by result Nothing piece.now) }
 {
     let Some(size) = piece.size else {
-        return Verdict::Skips(411);
+        return Ruling::Skips(411);
     };
     if u64::from(max) < size {
-        return Verdict::Skips(416);
+        return Ruling::Skips(416);
     }
     if size < piece.step.value.len() as u64 {
-        return Verdict::Skips(424);
+        return Ruling::Skips(424);
     }
-    Verdict::Begins(size)
+    Ruling::Begins(size)
 }
 
-fn single(max: u32, piece: &Piece) -> Verdict
+fn single(max: u32, piece: &Piece) -> Ruling
     ensures { IsCame (single max piece.now) (object_by result Nothing piece.now) (what_by result Nothing piece.now) }
 {
     if u64::from(max) < piece.step.value.len() as u64 {
-        return Verdict::Ends(416);
+        return Ruling::Ends(416);
     }
-    Verdict::Passes
+    Ruling::Passes
 }
 
-fn met_nothing(max: u32, piece: &Piece) -> Verdict
+fn met_nothing(max: u32, piece: &Piece) -> Ruling
     ensures { IsCame (write_piece max Nothing piece.now)
         (object_by result Nothing piece.now) (what_by result Nothing piece.now) }
 {
@@ -64,28 +64,28 @@ fn met_nothing(max: u32, piece: &Piece) -> Verdict
     }
 }
 
-fn next_piece(begun: &Begun, piece: &Piece) -> Verdict
+fn next_piece(begun: &Begun, piece: &Piece) -> Ruling
     ensures { IsCame (next_piece begun.now piece.now)
         (object_by result (Buffering begun.now) piece.now) (what_by result (Buffering begun.now) piece.now) }
 {
     let total = begun.value.len() as u128 + piece.step.value.len() as u128;
     if u128::from(begun.size) < total {
         return if piece.more {
-            Verdict::GivesUp(424)
+            Ruling::GivesUp(424)
         } else {
-            Verdict::Ends(424)
+            Ruling::Ends(424)
         };
     }
     if piece.more {
-        return Verdict::Grows;
+        return Ruling::Grows;
     }
     if total == u128::from(begun.size) {
-        return Verdict::Completes;
+        return Ruling::Completes;
     }
-    Verdict::Ends(424)
+    Ruling::Ends(424)
 }
 
-fn write_piece(max: u32, object: &Object, piece: &Piece) -> Verdict
+fn write_piece(max: u32, object: &Object, piece: &Piece) -> Ruling
     ensures { IsCame (write_piece max object.now piece.now)
         (object_by result object.now piece.now) (what_by result object.now piece.now) }
 {
@@ -94,29 +94,29 @@ fn write_piece(max: u32, object: &Object, piece: &Piece) -> Verdict
         Object::Buffering(begun) => next_piece(begun, piece),
         Object::Skipping(_, code) => {
             if piece.more {
-                Verdict::Refuses(*code)
+                Ruling::Refuses(*code)
             } else {
-                Verdict::Ends(*code)
+                Ruling::Ends(*code)
             }
         }
     }
 }
 
 /// What a piece comes to, where the object that it meets is the one that it continues, or none.
-pub(crate) fn by_rules(max: u32, object: &Object, piece: &Piece) -> Verdict
+pub(crate) fn by_rules(max: u32, object: &Object, piece: &Piece) -> Ruling
     ensures { IsCame (by_rules max object.now piece.now)
         (object_by result object.now piece.now) (what_by result object.now piece.now) }
 {
     if !is_write(piece.step.verb) {
         // Such a verb has no pieces.
         return if piece.more {
-            Verdict::Refuses(400)
+            Ruling::Refuses(400)
         } else {
-            Verdict::Passes
+            Ruling::Passes
         };
     }
     if piece.more && piece.step.target.is_none() {
-        return Verdict::Refuses(400);
+        return Ruling::Refuses(400);
     }
     write_piece(max, object, piece)
 }

@@ -1,7 +1,7 @@
 // How an inbox takes pieces.
 ghost use Rattle.std.specs.Prelude.{◌≡◌, true, false, IfOk, OnOk, OnErr};
 ghost use Rattle.dm_objects.specs.declared.object.Object.TheVariants.{Nothing, Buffering};
-ghost use Rattle.dm_objects.specs.Gathering.{begun_by, continues};
+ghost use Rattle.dm_objects.specs.Gathering.{begun_object, continues};
 ghost use Rattle.dm_objects.specs.Changes.{object_by, what_by};
 ghost use Rattle.dm_objects.specs.InPlace.{what_of, taken_of, sort_of};
 ghost use Rattle.dm_objects.specs.Seen.{present, is_unfinished, holding, Takes};
@@ -14,34 +14,34 @@ use crate::keys::continues;
 use crate::log::Past;
 use crate::object::Object;
 use crate::piece::{Piece, Taken, TakenOver};
-use crate::rules::{Verdict, by_rules};
+use crate::rules::{Ruling, by_rules};
 use dm_base::Memory;
 use std::mem;
 
 impl Inbox {
     // The unfinished object as the rules decided of a piece that continues it.
     #[tactic(auto, using(crate::proofs::SeenObjects::present_seen))]
-    fn change(&mut self, verdict: Verdict, piece: &Piece) -> Result<(), Memory>
+    fn change(&mut self, verdict: Ruling, piece: &Piece) -> Result<(), Memory>
         requires unfinished { is_unfinished (present self.old.objects) ≡ true }
         ensures ok { OnOk result
             (self.new ≡ holding self.old (object_by verdict (present self.old.objects) piece.now)) }
         ensures err { OnErr result (self.new ≡ self.old) }
     {
         match verdict {
-            Verdict::Refuses(_) => self.stay(),
-            Verdict::Passes => self.stay(),
-            Verdict::Grows => self.grow(piece.step.value.as_slice()),
-            Verdict::GivesUp(code) => {
+            Ruling::Refuses(_) => self.stay(),
+            Ruling::Passes => self.stay(),
+            Ruling::Grows => self.grow(piece.step.value.as_slice()),
+            Ruling::GivesUp(code) => {
                 let next = given_up(self.alloc, &self.object, code)?;
                 self.hold(next)
             }
-            Verdict::Skips(_) => self.hold(next_alone(self.alloc, verdict, piece)?),
-            Verdict::Begins(_) => self.hold(next_alone(self.alloc, verdict, piece)?),
-            Verdict::Ends(_) => {
+            Ruling::Skips(_) => self.hold(next_alone(self.alloc, verdict, piece)?),
+            Ruling::Begins(_) => self.hold(next_alone(self.alloc, verdict, piece)?),
+            Ruling::Ends(_) => {
                 self.clear();
                 Ok(())
             }
-            Verdict::Completes => {
+            Ruling::Completes => {
                 self.clear();
                 Ok(())
             }
@@ -101,7 +101,7 @@ impl Inbox {
     // The object that a piece begins keeps the piece's texts and bytes.
     #[tactic(auto, using(crate::proofs::SeenObjects::was_seen, crate::proofs::SeenObjects::something_new))]
     fn begin(&mut self, piece: &mut Piece, size: u64) -> Result<(), Memory>
-        ensures ok { OnOk result (self.new ≡ holding self.old (Buffering (begun_by piece.old size))) }
+        ensures ok { OnOk result (self.new ≡ holding self.old (Buffering (begun_object piece.old size))) }
         ensures err { OnErr result (self.new ≡ self.old) }
     {
         self.past.reserve(2)?;
@@ -112,20 +112,20 @@ impl Inbox {
     }
 
     // The object as the rules decided of a piece that meets none.
-    fn change_alone(&mut self, verdict: Verdict, piece: &mut Piece) -> Result<(), Memory>
+    fn change_alone(&mut self, verdict: Ruling, piece: &mut Piece) -> Result<(), Memory>
         ensures ok { OnOk result (self.new ≡ holding self.old (object_by verdict Nothing piece.old)) }
         ensures what { OnOk result (what_of (sort_of verdict) piece.new.step ≡ what_by verdict Nothing piece.old) }
         ensures err { OnErr result (self.new ≡ self.old) }
     {
         match verdict {
-            Verdict::Begins(size) => self.begin(piece, size),
-            Verdict::Skips(_) => self.hold(next_alone(self.alloc, verdict, piece)?),
-            Verdict::Refuses(_) => Ok(self.clear()),
-            Verdict::Passes => Ok(self.clear()),
-            Verdict::Ends(_) => Ok(self.clear()),
-            Verdict::GivesUp(_) => Ok(self.clear()),
-            Verdict::Grows => Ok(self.clear()),
-            Verdict::Completes => Ok(self.clear()),
+            Ruling::Begins(size) => self.begin(piece, size),
+            Ruling::Skips(_) => self.hold(next_alone(self.alloc, verdict, piece)?),
+            Ruling::Refuses(_) => Ok(self.clear()),
+            Ruling::Passes => Ok(self.clear()),
+            Ruling::Ends(_) => Ok(self.clear()),
+            Ruling::GivesUp(_) => Ok(self.clear()),
+            Ruling::Grows => Ok(self.clear()),
+            Ruling::Completes => Ok(self.clear()),
         }
     }
 

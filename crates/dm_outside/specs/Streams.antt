@@ -1,7 +1,8 @@
 -- A stream in memory, which tells all that it holds.
-use Rattle.std.specs.Prelude.{◌≡◌, ◌++◌, ℕ, List, [], map, min, length, take, drop, All, Option, IfSome, option_map, Result}
+use Rattle.std.specs.Prelude.{◌≡◌, ◌++◌, ℕ, List, [], map, min, length, take, drop, All, Option, IfSome, option_map}
+use Rattle.std.specs.Prelude.{Result}
 use Rattle.std.specs.Prelude.{Ok, Err}
-use Rattle.dm_base.specs.Memory.{after}
+use Rattle.dm_base.specs.Memory.{one_more}
 use Rattle.dm_base.specs.declared.outside.Failed.{Failed}
 use Rattle.dm_base.specs.declared.outside.Fault.{Fault}
 use Rattle.dm_base.specs.declared.outside.Fault.TheVariants as fault
@@ -49,12 +50,12 @@ bytes_held script = option_map (λ s. s.held) script
 -- a take is one call more: it fails, or gives as many bytes as the piece, the room and what is left allow
 abbrev pub StreamTakes : StreamState → StreamState → ℕ → Result ℕ Failed → Type 0
 StreamTakes old new room (Ok n) = (n ≡ min old.piece (min room (length old.left)))
-    × (new ≡ record old { left = drop n old.left; calls = after old.calls })
-StreamTakes old new room (Err e) = new ≡ record old { calls = after old.calls; takes = after old.takes }
+    × (new ≡ record old { left = drop n old.left; calls = one_more old.calls })
+StreamTakes old new room (Err e) = new ≡ record old { calls = one_more old.calls; takes = one_more old.takes }
 
 -- a put is one call more: it fails, or takes as many bytes as the piece allows; for want of memory it is no call at all
 abbrev pub StreamPuts : StreamState → StreamState → List ℕ → Result ℕ Fault → Type 0
 StreamPuts old new bytes (Ok n) = (n ≡ min old.piece (length bytes))
-    × (new ≡ record old { got = old.got ++ take n bytes; calls = after old.calls })
-StreamPuts old new bytes (Err fault.Failed) = new ≡ record old { calls = after old.calls; puts = after old.puts }
+    × (new ≡ record old { got = old.got ++ take n bytes; calls = one_more old.calls })
+StreamPuts old new bytes (Err fault.Failed) = new ≡ record old { calls = one_more old.calls; puts = one_more old.puts }
 StreamPuts old new bytes (Err fault.Memory) = new ≡ old

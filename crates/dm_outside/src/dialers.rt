@@ -3,7 +3,8 @@ ghost use Rattle.std.specs.Prelude.{◌≡◌, ◌+◌, ℕ, Option, Some, optio
 ghost use Rattle.dm_base.specs.Outside.{PutCounts};
 ghost use Rattle.dm_outside.specs.Told.{coming};
 ghost use Rattle.dm_outside.specs.Streams.{AreUntouched, scripts_of, stream_of};
-ghost use Rattle.dm_outside.specs.Calls.{Calls, calls_of, Dials, call_made, DialerCloses, closed_conn, HasOut, CloseCounts};
+ghost use Rattle.dm_outside.specs.Calls.{Calls, calls_of, Dials, call_made, DialerCloses, closed_conn, HasOut};
+ghost use Rattle.dm_outside.specs.Calls.{CloseCounts};
 ghost use Rattle.dm_outside.specs.Calls.{closed_in, got_by};
 ghost use Rattle.dm_outside.specs.Logs.{dial_of};
 

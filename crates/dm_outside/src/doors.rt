@@ -4,7 +4,8 @@ ghost use Rattle.dm_base.specs.Outside.{PutCounts};
 ghost use Rattle.dm_outside.specs.Told.{coming};
 ghost use Rattle.dm_outside.specs.Streams.{AreUntouched, scripts_of, stream_of};
 ghost use Rattle.dm_outside.specs.Calls.{closed_conn, got_by};
-ghost use Rattle.dm_outside.specs.Doors.{Doorway, doorway_of, Listens, Accepts, accept_made, DoorCloses, HasVisitor, visitors_in};
+ghost use Rattle.dm_outside.specs.Doors.{Doorway, doorway_of, Listens, Accepts, accept_made, DoorCloses, HasVisitor};
+ghost use Rattle.dm_outside.specs.Doors.{visitors_in};
 ghost use Rattle.dm_outside.specs.Doors.{told_to_listen};
 ghost use Rattle.dm_outside.specs.Logs.{visit_of};
 

@@ -2,7 +2,7 @@
 ghost use Rattle.std.specs.Prelude.{◌≡◌, ◌<◌, ◌+◌, ◌↔◌, Some, refl, length, take};
 ghost use Rattle.std.specs.Prelude.{Contains, IsTrue, IsErr, IsErrOf, min, nat_lt};
 ghost use Rattle.dm_base.specs.Outside.{TakeCounts, PutCounts, PutsSome, TakesSome};
-ghost use Rattle.dm_base.specs.Memory.{after};
+ghost use Rattle.dm_base.specs.Memory.{one_more};
 ghost use Rattle.dm_outside.specs.Streams.{stream_of, StreamTakes, StreamPuts};
 
 use dm_base::{Bytes, Failed, Fault, List, Sink, Source, Stream};
@@ -93,7 +93,7 @@ impl MemStream {
 
     // Whether the call that comes is one of those that fail.
     fn fails_now(&self) -> bool
-        ensures { IsTrue result ↔ Contains self.now.fails (after self.now.calls) }
+        ensures { IsTrue result ↔ Contains self.now.fails (one_more self.now.calls) }
     {
         self.fails
             .as_slice()
@@ -112,7 +112,7 @@ impl Source for MemStream {
         requires { 0 < length buf.old }
         ensures bytes { TakesSome (Some self.old.left) (Some self.new.left) result buf.new }
         ensures count { TakeCounts self.old.takes self.new.takes result }
-        ensures fails { IsErr result ↔ Contains self.old.fails (after self.old.calls) }
+        ensures fails { IsErr result ↔ Contains self.old.fails (one_more self.old.calls) }
         ensures state { StreamTakes self.old self.new (length buf.old) result }
     {
         let fails = self.fails_now();
@@ -138,7 +138,7 @@ impl Sink for MemStream {
         requires { 0 < length piece.now }
         ensures bytes { PutsSome (Some self.old.got) (Some self.new.got) result piece.now }
         ensures count { PutCounts self.old.puts self.new.puts result }
-        ensures fails { IsErrOf result Fault.Failed ↔ Contains self.old.fails (after self.old.calls) }
+        ensures fails { IsErrOf result Fault.Failed ↔ Contains self.old.fails (one_more self.old.calls) }
         ensures state { StreamPuts self.old self.new piece.now result }
     {
         if self.fails_now() {

@@ -5,9 +5,9 @@ use Rattle.std.proofs.lemmas.List.{take_all}
 use Rattle.syncml_types.specs.declared.values.Item.{Item}
 use Rattle.syncml_types.specs.declared.command.Command.{Command}
 use Rattle.syncml_parts.specs.Packing.{cut_item, cut_changed, cut_data, bytes_in, data_in}
-use Rattle.syncml_parts.specs.Pages.{with_value}
+use Rattle.syncml_parts.specs.Pages.{with_item_value}
 use Rattle.dm_pack.specs.Entries.{whole_entry}
-use Rattle.dm_pack.specs.Measures.{hollow_item, put_back, entry_of, HasEmptyData, IsApart}
+use Rattle.dm_pack.specs.Measures.{hollow_item, put_back, entry_left, HasEmptyData, IsTakenApart}
 use Rattle.dm_pack.proofs.Changing.{agree_at, unchanged, no_item, twice, item_changed}
 
 -- ---- what was taken out
@@ -65,7 +65,7 @@ hollow_has c h =
       empty = ap (option_map (λ _. [])) d.value;
     }
 
-pub taken_apart : (c : Command) → IsApart (cut_changed hollow_item c) (cut_data c) 0
+pub taken_apart : (c : Command) → IsTakenApart (cut_changed hollow_item c) (cut_data c) 0
 taken_apart c = record {
   hollow = hollow_data c;
   place = hollow_has c;
@@ -76,10 +76,10 @@ taken_apart c = record {
 -- ---- and put back
 
 back_at : (b : ℕ) (bs : List ℕ) (c : Command) (d : HasData c) → b ∷ bs ≡ cut_data c
-    → cut_changed (with_value (b ∷ bs)) (cut_changed hollow_item c) ≡ c
+    → cut_changed (with_item_value (b ∷ bs)) (cut_changed hollow_item c) ≡ c
 back_at b bs c d same =
-    twice (with_value (b ∷ bs)) hollow_item c
-    ∙ agree_at (λ i. with_value (b ∷ bs) (hollow_item i)) (λ i. i) c d.item d.is
+    twice (with_item_value (b ∷ bs)) hollow_item c
+    ∙ agree_at (λ i. with_item_value (b ∷ bs) (hollow_item i)) (λ i. i) c d.item d.is
     (ap (λ v. record d.item { value = Some v }) same ∙ ap (λ v. record d.item { value = v }) (sym d.value))
     ∙ unchanged (λ i. i) c (itself (cut_item c))
   where
@@ -94,31 +94,31 @@ back_by c (b ∷ bs) same = back_at b bs c (has_data c (let long = ap length sam
 pub put_back_again : (c : Command) → put_back (cut_data c) (cut_changed hollow_item c) ≡ c
 put_back_again c = back_by c (cut_data c) refl
 
-pub fresh_apart : (c : Command) → entry_of (cut_changed hollow_item c) (cut_data c) 0 ≡ whole_entry c
+pub fresh_apart : (c : Command) → entry_left (cut_changed hollow_item c) (cut_data c) 0 ≡ whole_entry c
 fresh_apart c = ap (λ d. record { command = d; begun = false }) (put_back_again c)
 
 data_put : (b : ℕ) (bs : List ℕ) (c : Command) (e : HasEmptyData c)
-    → cut_data (cut_changed (with_value (b ∷ bs)) c) ≡ b ∷ bs
-data_put b bs c e = ap data_in (item_changed (with_value (b ∷ bs)) c ∙ ap (option_map (with_value (b ∷ bs))) e.is)
+    → cut_data (cut_changed (with_item_value (b ∷ bs)) c) ≡ b ∷ bs
+data_put b bs c e = ap data_in (item_changed (with_item_value (b ∷ bs)) c ∙ ap (option_map (with_item_value (b ∷ bs))) e.is)
 
 data_by : (c : Command) (v : List ℕ) → cut_data c ≡ [] → (0 < length v → HasEmptyData c) → cut_data (put_back v c) ≡ v
 data_by c [] hollow place = hollow
 data_by c (b ∷ bs) hollow place = data_put b bs c (place (omega arith))
 
-rest_place : (c : Command) (value : List ℕ) (sent : ℕ) → IsApart c value sent → 0 < length (drop sent value)
+rest_place : (c : Command) (value : List ℕ) (sent : ℕ) → IsTakenApart c value sent → 0 < length (drop sent value)
     → HasEmptyData c
 rest_place c value sent a h = let long = length-drop sent value in a.place (omega (arith, h, long))
 
 -- the Data of the entry is what is left of it
-pub data_apart : (c : Command) (value : List ℕ) (sent : ℕ) → IsApart c value sent
-    → cut_data (entry_of c value sent).command ≡ drop sent value
+pub data_apart : (c : Command) (value : List ℕ) (sent : ℕ) → IsTakenApart c value sent
+    → cut_data (entry_left c value sent).command ≡ drop sent value
 data_apart c value sent a = data_by c (drop sent value) a.hollow (rest_place c value sent a)
 
 hollow_put : (b : ℕ) (bs : List ℕ) (c : Command) → cut_data c ≡ [] → HasEmptyData c
-    → cut_changed hollow_item (cut_changed (with_value (b ∷ bs)) c) ≡ c
+    → cut_changed hollow_item (cut_changed (with_item_value (b ∷ bs)) c) ≡ c
 hollow_put b bs c hollow e =
-    twice hollow_item (with_value (b ∷ bs)) c
-    ∙ agree_at (λ i. hollow_item (with_value (b ∷ bs) i)) hollow_item c e.item e.is
+    twice hollow_item (with_item_value (b ∷ bs)) c
+    ∙ agree_at (λ i. hollow_item (with_item_value (b ∷ bs) i)) hollow_item c e.item e.is
     (ap (λ v. record e.item { value = v }) (sym (ap (option_map (λ _. [])) e.empty)))
     ∙ nothing_out c hollow
 
@@ -128,8 +128,8 @@ hollow_by c [] hollow place = nothing_out c hollow
 hollow_by c (b ∷ bs) hollow place = hollow_put b bs c hollow (place (omega arith))
 
 -- and the command that is kept is the entry's without it
-pub hollow_apart : (c : Command) (value : List ℕ) (sent : ℕ) → IsApart c value sent
-    → cut_changed hollow_item (entry_of c value sent).command ≡ c
+pub hollow_apart : (c : Command) (value : List ℕ) (sent : ℕ) → IsTakenApart c value sent
+    → cut_changed hollow_item (entry_left c value sent).command ≡ c
 hollow_apart c value sent a = hollow_by c (drop sent value) a.hollow (rest_place c value sent a)
 
 pub drop_slice : (sent : ℕ) (value : List ℕ) → take (length value - sent) (drop sent value) ≡ drop sent value

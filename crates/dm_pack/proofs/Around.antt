@@ -16,7 +16,7 @@ use Rattle.syncml_types.specs.declared.command.Command.TheVariants as command
 use Rattle.syncml_types.specs.Canonical.{parent_tokens, item_tokens, items_tokens, plain_tokens, member_tokens}
 use Rattle.syncml_types.specs.Canonical.{members_tokens, atomic_tokens, seq_member_tokens, seq_members_tokens}
 use Rattle.syncml_types.specs.Canonical.{sequence_tokens, results_tokens, command_tokens}
-use Rattle.syncml_parts.specs.Packing.{only_item, write_item, member_item, seq_member_item, last_of, cut_item}
+use Rattle.syncml_parts.specs.Packing.{only_item, write_item, member_item, seq_member_item, list_last, cut_item}
 use Rattle.syncml_parts.specs.Packing.{only_changed, write_changed, member_changed, seq_member_changed, last_changed}
 use Rattle.syncml_parts.specs.Packing.{cut_changed}
 use Rattle.syncml_parts.proofs.Last.{last_next}
@@ -80,7 +80,7 @@ around_seq_member (seq_member.Atomic b) i h = absurd (cc)
 
 around_last : {A : Type 0} (tokens : A → List Token) (item : A → Option Item) (changed : (Item → Item) → A → A)
     → ((x : A) (i : Item) → item x ≡ Some i → Around i (λ f. tokens (changed f x)))
-    → (xs : List A) (i : Item) → option_and_then item (last_of xs) ≡ Some i
+    → (xs : List A) (i : Item) → option_and_then item (list_last xs) ≡ Some i
     → Around i (λ f. flat_map tokens (last_changed (changed f) xs))
 around_last tokens item changed one [] i h = absurd (cc)
 around_last tokens item changed one (x ∷ []) i h = around_back [] (one x i h)

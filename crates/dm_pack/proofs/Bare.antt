@@ -20,7 +20,7 @@ use Rattle.syncml_types.specs.Canonical.{members_tokens, atomic_tokens, seq_memb
 use Rattle.syncml_types.specs.Canonical.{sequence_tokens, status_tokens, results_tokens, command_tokens}
 use Rattle.syncml_parts.specs.Numbering.{with_number, numbered_members, numbered_seq_member, numbered_seq_members}
 use Rattle.syncml_parts.specs.Numbering.{ids_in_seq_member, ids_in_seq_members, ids_in, with_numbers}
-use Rattle.syncml_parts.specs.Packing.{only_item, write_item, member_item, seq_member_item, last_of, cut_item}
+use Rattle.syncml_parts.specs.Packing.{only_item, write_item, member_item, seq_member_item, list_last, cut_item}
 use Rattle.syncml_parts.specs.Packing.{only_changed, write_changed, member_changed, seq_member_changed, last_changed}
 use Rattle.syncml_parts.specs.Packing.{cut_changed}
 use Rattle.syncml_parts.proofs.Last.{last_next}
@@ -107,7 +107,7 @@ near_all n m (x ∷ xs) l =
     (near_all (n + 1) (m + 1) xs (later l 1 (length xs) (omega arith)))
 
 near_members : (k : ℕ) (f : Item → Item) (n m : ℕ) (xs : List Member) → NotLonger n m (length xs)
-    → NearItem k f (option_and_then member_item (last_of xs))
+    → NearItem k f (option_and_then member_item (list_last xs))
     → Near k (members_tokens (numbered_members n (last_changed (member_changed f) xs)))
     (members_tokens (numbered_members m (last_changed (member_changed without_value) xs)))
 unfolding members_tokens numbered_members
@@ -149,7 +149,7 @@ near_seq_member k f n m (seq_member.Atomic b) l h =
     near_more (near_seq_numbered n m (seq_member.Atomic b) l) (omega arith)
 
 near_seq_members : (k : ℕ) (f : Item → Item) (n m : ℕ) (xs : List SeqMember) → NotLonger n m (ids_in_seq_members xs)
-    → NearItem k f (option_and_then seq_member_item (last_of xs))
+    → NearItem k f (option_and_then seq_member_item (list_last xs))
     → Near k (seq_members_tokens (numbered_seq_members n (last_changed (seq_member_changed f) xs)))
     (seq_members_tokens (numbered_seq_members m (last_changed (seq_member_changed without_value) xs)))
 unfolding seq_members_tokens numbered_seq_members ids_in_seq_members

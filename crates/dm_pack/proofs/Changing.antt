@@ -10,7 +10,7 @@ use Rattle.syncml_types.specs.declared.command.SeqMember.{SeqMember}
 use Rattle.syncml_types.specs.declared.command.SeqMember.TheVariants as seq_member
 use Rattle.syncml_types.specs.declared.command.Command.{Command}
 use Rattle.syncml_types.specs.declared.command.Command.TheVariants as command
-use Rattle.syncml_parts.specs.Packing.{only_item, write_item, member_item, seq_member_item, last_of, cut_item}
+use Rattle.syncml_parts.specs.Packing.{only_item, write_item, member_item, seq_member_item, list_last, cut_item}
 use Rattle.syncml_parts.specs.Packing.{only_changed, write_changed, member_changed, seq_member_changed, last_changed}
 use Rattle.syncml_parts.specs.Packing.{cut_changed}
 use Rattle.syncml_parts.proofs.Last.{last_next}
@@ -45,7 +45,7 @@ agree_seq_member f g (seq_member.Atomic b) h = refl
 
 agree_last : {A : Type 0} (f g : Item → Item) (item : A → Option Item) (changed : (Item → Item) → A → A)
     → ((x : A) → Agree f g (item x) → changed f x ≡ changed g x)
-    → (xs : List A) → Agree f g (option_and_then item (last_of xs))
+    → (xs : List A) → Agree f g (option_and_then item (list_last xs))
     → last_changed (changed f) xs ≡ last_changed (changed g) xs
 agree_last f g item changed one [] h = refl
 agree_last f g item changed one (x ∷ []) h = ap (λ y. y ∷ []) (one x h)
@@ -195,7 +195,7 @@ item_seq_member f (seq_member.Single m) = item_member f m
 item_seq_member f (seq_member.Atomic b) = refl
 
 last_of_changed : {A : Type 0} (changed : A → A) (xs : List A)
-    → last_of (last_changed changed xs) ≡ option_map changed (last_of xs)
+    → list_last (last_changed changed xs) ≡ option_map changed (list_last xs)
 last_of_changed changed [] = refl
 last_of_changed changed (x ∷ []) = refl
 last_of_changed changed (x ∷ y ∷ []) = refl
@@ -211,10 +211,10 @@ item_of f item changed one (Some x) = one x
 
 item_last : {A : Type 0} (f : Item → Item) (item : A → Option Item) (changed : A → A)
     → ((x : A) → item (changed x) ≡ option_map f (item x))
-    → (xs : List A) → option_and_then item (last_of (last_changed changed xs))
-    ≡ option_map f (option_and_then item (last_of xs))
+    → (xs : List A) → option_and_then item (list_last (last_changed changed xs))
+    ≡ option_map f (option_and_then item (list_last xs))
 item_last f item changed one xs =
-    ap (option_and_then item) (last_of_changed changed xs) ∙ item_of f item changed one (last_of xs)
+    ap (option_and_then item) (last_of_changed changed xs) ∙ item_of f item changed one (list_last xs)
 
 pub item_changed : (f : Item → Item) (c : Command) → cut_item (cut_changed f c) ≡ option_map f (cut_item c)
 item_changed f (command.Plain c) = item_write f c.verb c.items

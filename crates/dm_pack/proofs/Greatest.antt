@@ -11,10 +11,10 @@ use Rattle.syncml_parts.proofs.Parted.{bounds_data}
 use Rattle.dm_pack.specs.declared.place.Place.{Place}
 use Rattle.dm_pack.specs.Entries.{Entry, part_of, data_left}
 use Rattle.syncml_types.specs.declared.values.Header.{Header}
-use Rattle.dm_pack.specs.Filling.{greatest, fits, cut, numbered, next_part, next_rest, tail_of}
+use Rattle.dm_pack.specs.Filling.{greatest, fits_room, cut, numbered, next_part, next_rest, tail_of}
 use Rattle.dm_pack.specs.declared.filled.Tail.{Tail}
 use Rattle.dm_pack.specs.declared.filled.Tail.TheVariants.{Final, NextMessage, Nothing}
-use Rattle.dm_pack.specs.Measures.{behind, behind_all, behind_hollow, fits_at, end_length, data_cost, hollow_next}
+use Rattle.dm_pack.specs.Measures.{place_past, behind_all, behind_hollow, fits_at, end_length, data_cost, hollow_next}
 use Rattle.dm_pack.specs.Measures.{marks_of, with_cost, with_marks, greatest_within, greatest_with, greatest_at, cut_at}
 use Rattle.dm_pack.specs.Measures.{place_of, ids_of}
 use Rattle.dm_pack.proofs.Marking.{is_marked}
@@ -91,15 +91,15 @@ budget_greatest p v room end used budget e u most is =
 
 -- a part is behind its Data
 pub part_at : (p : Place) (e : Entry) (n : ℕ) → 0 < data_left e
-    → with_cost (take n (cut_data e.command)) (behind p (part_of e 0)) ≡ behind p (part_of e n)
+    → with_cost (take n (cut_data e.command)) (place_past p (part_of e 0)) ≡ place_past p (part_of e n)
 part_at p e n some =
-    ap (λ v. with_cost v (behind p (part_of e 0))) (sym (part_data e n some))
-    ∙ ap (λ c. with_cost (cut_data (part_of e n)) (behind p c)) (sym (hollow_part e n))
+    ap (λ v. with_cost v (place_past p (part_of e 0))) (sym (part_data e n some))
+    ∙ ap (λ c. with_cost (cut_data (part_of e n)) (place_past p c)) (sym (hollow_part e n))
     ∙ data_behind p (part_of e n)
 
 -- the entry without its Data, and with marks, is the part without Data
 pub part_behind : (p q : Place) (e : Entry) → 0 < data_left e → q ≡ behind_hollow p e
-    → with_marks e q ≡ behind p (part_of e 0)
+    → with_marks e q ≡ place_past p (part_of e 0)
 part_behind p q e some is =
     let m = is_marked p e some in
     let used = m.used in
@@ -113,15 +113,15 @@ marks_there p q e some is =
     let same = ap (λ (r : Place). r.used) is in
     omega (arith, used, same)
 
-pub part_greatest : (p q : Place) (e : Entry) (v : List ℕ) (room : ℕ) → 0 < data_left e → q ≡ behind p (part_of e 0)
+pub part_greatest : (p q : Place) (e : Entry) (v : List ℕ) (room : ℕ) → 0 < data_left e → q ≡ place_past p (part_of e 0)
     → v ≡ cut_data e.command
     → greatest_with q v room ≡ greatest_at p e room
 unfolding greatest_with greatest_at
 part_greatest p q e v room some is left =
     ap (λ x. greatest (λ n. fits_at room (with_cost (take n v) x)) (length v - 1)) is
-    ∙ ap (λ w. greatest (λ n. fits_at room (with_cost (take n w) (behind p (part_of e 0)))) (length w - 1)) left
-    ∙ greatest_same (λ n. fits_at room (with_cost (take n (cut_data e.command)) (behind p (part_of e 0))))
-    (λ n. fits_at room (behind p (part_of e n)))
+    ∙ ap (λ w. greatest (λ n. fits_at room (with_cost (take n w) (place_past p (part_of e 0)))) (length w - 1)) left
+    ∙ greatest_same (λ n. fits_at room (with_cost (take n (cut_data e.command)) (place_past p (part_of e 0))))
+    (λ n. fits_at room (place_past p (part_of e n)))
     (data_left e - 1) (λ k a b. ap (fits_at room) (part_at p e k some))
 
 most_by : (p : ℕ → Bool) (k : ℕ) (t : Bool) → greatest p k ≤ k → (if t then suc k else greatest p k) ≤ suc k
@@ -134,7 +134,7 @@ greatest_most p (suc k) = most_by p k (p (suc k)) (greatest_most p k)
 
 pub part_most : (p : Place) (e : Entry) (room : ℕ) → greatest_at p e room ≤ data_left e - 1
 unfolding greatest_at
-part_most p e room = greatest_most (λ n. fits_at room (behind p (part_of e n))) (data_left e - 1)
+part_most p e room = greatest_most (λ n. fits_at room (place_past p (part_of e n))) (data_left e - 1)
 
 pub no_part : (p : Place) (e : Entry) (room : ℕ) → data_left e < 2 → 0 ≡ greatest_at p e room
 no_part p e room h = let most = part_most p e room in omega (arith, most, h)
@@ -150,13 +150,13 @@ pub part_pushed : (body : List Command) (k n : ℕ) (e : Entry) → 0 < n
     → body ++ with_numbers k (part_of e n) ∷ [] ≡ body ++ numbered k (next_part n (e ∷ []))
 part_pushed body k n e some = ap (λ l. body ++ l) (sym (one_pushed k n e [] some))
 
-one_behind : (p : Place) (n : ℕ) (e : Entry) → 0 < n → behind_all p (next_part n (e ∷ [])) ≡ behind p (part_of e n)
+one_behind : (p : Place) (n : ℕ) (e : Entry) → 0 < n → behind_all p (next_part n (e ∷ [])) ≡ place_past p (part_of e n)
 one_behind p zero e h = absurd (omega (arith, h))
 one_behind p (suc n) e h = refl
 
 -- where the message has come to with a part
 pub part_reached : (p q : Place) (e : Entry) (n token : ℕ) → 0 < n → n ≤ data_left e - 1 → 0 < data_left e
-    → q ≡ behind p (part_of e 0)
+    → q ≡ place_past p (part_of e 0)
     → token ≡ data_length (take n (cut_data e.command))
     → place_at (q.used + 1 + token) q.page q.next ≡ behind_all p (next_part n (e ∷ []))
 part_reached p q e n token pos low some is long =
@@ -190,8 +190,8 @@ pub cut_is : (h : Header) (room : ℕ) (before : List Command) (next : List Entr
 unfolding greatest_at
 cut_is h room before [] = refl
 cut_is h room before (e ∷ es) =
-    greatest_same (λ n. fits h room (before ++ part_of e n ∷ []))
-    (λ n. fits_at room (behind (place_of h before) (part_of e n))) (data_left e - 1)
+    greatest_same (λ n. fits_room h room (before ++ part_of e n ∷ []))
+    (λ n. fits_at room (place_past (place_of h before) (part_of e n))) (data_left e - 1)
     (λ k a b. fits_next h room before (part_of e k))
 
 -- ---- the end

@@ -23,8 +23,8 @@ use Rattle.syncml_parts.specs.Numbering.{with_number, numbered_members, numbered
 use Rattle.syncml_parts.specs.Numbering.{ids_in_seq_member, ids_in_seq_members, ids_in, with_numbers}
 use Rattle.syncml_parts.specs.Packing.{cut_changed, bytes_in}
 use Rattle.dm_pack.specs.Entries.{Entry, data_left, part_of, IsFitCommand, IsReady, without_value, bare_length}
-use Rattle.dm_pack.specs.Entries.{most_bytes, rest_item, last_only, last_alone, rest_of}
-use Rattle.dm_pack.specs.Filling.{next_rest, left_after, fill, fits, taken, cut, commands_of, HasMore, CanBeTaken}
+use Rattle.dm_pack.specs.Entries.{entry_limit, rest_item, last_only, last_alone, rest_of}
+use Rattle.dm_pack.specs.Filling.{next_rest, left_after, fill, fits_room, taken, cut, commands_of, HasMore, CanBeTaken}
 use Rattle.dm_pack.specs.Laws.{TheRestIsLeft, WhatIsLeftIsReady}
 use Rattle.dm_pack.proofs.Bare.{fewer, later, near_all, near_block, near_seq_numbered}
 use Rattle.dm_pack.proofs.Changing.{twice}
@@ -195,7 +195,7 @@ bare_alone n c few =
     let none = gap_none 0 in
     omega (arith, long, near, none)
 
-most_alone : (n : ℕ) (c : Command) → most_bytes (last_alone (cut_changed (rest_item n) c)) ≡ most_bytes c
+most_alone : (n : ℕ) (c : Command) → entry_limit (last_alone (cut_changed (rest_item n) c)) ≡ entry_limit c
 most_alone n (command.Plain c) = refl
 most_alone n (command.Alert c) = refl
 most_alone n (command.Atomic b) = refl
@@ -238,13 +238,13 @@ low_by n m false h = omega arith
 taken_low : (h : Header) (room : ℕ) (before : List Command) (es : List Entry) → taken h room before es ≤ length es
 taken_low h room before [] = omega arith
 taken_low h room before (e ∷ es) =
-    low_by _ _ (fits h room (before ++ e.command ∷ [])) (taken_low h room (before ++ e.command ∷ []) es)
+    low_by _ _ (fits_room h room (before ++ e.command ∷ [])) (taken_low h room (before ++ e.command ∷ []) es)
 
 cut_low : (h : Header) (room : ℕ) (before : List Command) (next : List Entry) → HasMore (cut h room before next) next
 cut_low h room before [] = refl
 cut_low h room before (e ∷ es) =
     λ some.
-    let most = greatest_most (λ n. fits h room (before ++ part_of e n ∷ [])) (data_left e - 1) in
+    let most = greatest_most (λ n. fits_room h room (before ++ part_of e n ∷ [])) (data_left e - 1) in
     omega (arith, most, some)
 
 pub fill_taken : (es : List Entry) (h : Header) (room : ℕ) (heard : Bool)

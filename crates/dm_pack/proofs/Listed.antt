@@ -17,7 +17,7 @@ use Rattle.dm_pack.specs.declared.place.Place.{Place}
 use Rattle.dm_pack.specs.declared.filled.Tail.{Tail}
 use Rattle.dm_pack.specs.Entries.{Entry, whole_entry}
 use Rattle.dm_pack.specs.Filling.{Filling, numbered, commands_of, taken, tail_of, tail_commands, fill}
-use Rattle.dm_pack.specs.Measures.{ids_of, behind, fits_at, within, place_of, end_length, cut_at}
+use Rattle.dm_pack.specs.Measures.{ids_of, place_past, fits_at, within, place_of, end_length, cut_at}
 use Rattle.dm_pack.proofs.Measuring.{place_at, same_place}
 use Rattle.dm_pack.proofs.Numbers.{numbered_append}
 use Rattle.dm_pack.proofs.Packed.{Packs, packed}
@@ -33,9 +33,9 @@ pub one_behind : (p : Place) (c : Command) (bytes page next used end least room 
     → page ≡ page_behind p.page (command_tokens (with_numbers p.next c)) → next ≡ p.next + ids_in c
     → used ≡ min (p.used + bytes) (2 ^ 64 - 1) → end ≡ up_to_most (end_length page next)
     → least ≡ min (used + end) (2 ^ 64 - 1) → room ≤ 65536 → least ≤ room
-    → Some (place_at used page next) ≡ within room (behind p c)
+    → Some (place_at used page next) ≡ within room (place_past p c)
 one_behind p c bytes page next used end least room b g n u e l most low =
-    let same : place_at used page next ≡ behind p c =
+    let same : place_at used page next ≡ place_past p c =
     same_place _ _ _ _ _ _ (omega (arith, b, u, l, most, low)) g n in
     let fits = le-leb (used + end_length page next) room (omega (arith, e, l, most, low)) in
     sym (is_within room (place_at used page next) fits) ∙ ap (within room) same
@@ -57,7 +57,7 @@ HasListed h room cs at place =
 
 pub one_listed : (h : Header) (room at : ℕ) (cs : List Command) (c : Command) (place next : Place)
     → HasListed h room cs at place → room ≤ 65536 → drop at cs ≡ c ∷ drop (at + 1) cs
-    → Some next ≡ within room (behind place c) → HasListed h room cs (at + 1) next
+    → Some next ≡ within room (place_past place c) → HasListed h room cs (at + 1) next
 one_listed h room at cs c place next t most is some =
     let es = map whole_entry cs in
     let first = fresh_at cs at c is in
@@ -182,8 +182,8 @@ left_listed h cs room heard place t q first body p alone =
 
 -- ---- put into a queue
 
-pub put_alone : (old new behind : List Entry) → old ≡ [] → new ≡ old ++ behind → new ≡ behind
-put_alone old new behind none is = is ∙ ap (λ l. l ++ behind) none
+pub put_alone : (old new place_past : List Entry) → old ≡ [] → new ≡ old ++ place_past → new ≡ place_past
+put_alone old new place_past none is = is ∙ ap (λ l. l ++ place_past) none
 
 pub put_around : (front entries all : List Command) (old : List Entry) → old ≡ [] → all ≡ front ++ entries
     → map whole_entry all ≡ map whole_entry front ++ (old ++ map whole_entry entries)

@@ -22,13 +22,14 @@ use Rattle.syncml_types.specs.Canonical.{data_tokens, optional, loc_tokens, meta
 use Rattle.syncml_types.specs.Canonical.{item_children, item_tokens, command_tokens}
 use Rattle.syncml_parts.specs.Numbering.{with_numbers}
 use Rattle.syncml_parts.specs.Packing.{cut_item, cut_changed, cut_data, bytes_in}
-use Rattle.syncml_parts.specs.Pages.{with_value}
+use Rattle.syncml_parts.specs.Pages.{with_item_value}
 use Rattle.syncml_types.proofs.Bare.{bare_meta, full_meta}
 use Rattle.syncml_parts.proofs.Parted.{page_append}
 use Rattle.dm_pack.specs.declared.place.Place.{Place}
 use Rattle.dm_pack.specs.Entries.{Entry, with_size, part_item, part_of, data_left}
-use Rattle.dm_pack.specs.Measures.{hollow_item, put_back, entry_of, marked, size_told, meta_cost, marks_cost, marks_in}
-use Rattle.dm_pack.specs.Measures.{marks_of, IsApart, behind, behind_hollow}
+use Rattle.dm_pack.specs.Measures.{hollow_item, put_back, entry_left, marked, size_told, meta_cost, marks_cost}
+use Rattle.dm_pack.specs.Measures.{marks_in}
+use Rattle.dm_pack.specs.Measures.{marks_of, IsTakenApart, place_past, behind_hollow}
 use Rattle.dm_pack.proofs.Apart.{has_data}
 use Rattle.dm_pack.proofs.Around.{Around, around}
 use Rattle.dm_pack.proofs.Changing.{agree_at, same, twice, item_changed}
@@ -419,9 +420,9 @@ hollow_marked e some =
 
 -- a part is as much longer as its marks
 pub record IsMarked (p : Place) (e : Entry) : Type 0 where
-  pub used : (behind p (part_of e 0)).used + marks_of e.command ≡ (behind_hollow p e).used + marks_of (part_of e 0)
-  pub page : (behind p (part_of e 0)).page ≡ (behind_hollow p e).page
-  pub next : (behind p (part_of e 0)).next ≡ (behind_hollow p e).next
+  pub used : (place_past p (part_of e 0)).used + marks_of e.command ≡ (behind_hollow p e).used + marks_of (part_of e 0)
+  pub page : (place_past p (part_of e 0)).page ≡ (behind_hollow p e).page
+  pub next : (place_past p (part_of e 0)).next ≡ (behind_hollow p e).next
 
 pub is_marked : (p : Place) (e : Entry) → 0 < data_left e → IsMarked p e
 is_marked p e some =
@@ -455,22 +456,22 @@ is_marked p e some =
 
 -- ---- as an entry that waits tells them
 
-marks_put_in : (v : List ℕ) (o : Option Item) → marks_in (option_map (with_value v) o) ≡ marks_in o
+marks_put_in : (v : List ℕ) (o : Option Item) → marks_in (option_map (with_item_value v) o) ≡ marks_in o
 marks_put_in v None = refl
 marks_put_in v (Some i) = refl
 
 marks_put : (v : List ℕ) (c : Command) → marks_of (put_back v c) ≡ marks_of c
 marks_put [] c = refl
-marks_put (b ∷ bs) c = ap marks_in (item_changed (with_value (b ∷ bs)) c) ∙ marks_put_in (b ∷ bs) (cut_item c)
+marks_put (b ∷ bs) c = ap marks_in (item_changed (with_item_value (b ∷ bs)) c) ∙ marks_put_in (b ∷ bs) (cut_item c)
 
 -- before the entry is marked
-pub marks_kept : (c : Command) (value : List ℕ) (sent : ℕ) (e : Entry) → entry_of c value sent ≡ e
+pub marks_kept : (c : Command) (value : List ℕ) (sent : ℕ) (e : Entry) → entry_left c value sent ≡ e
     → marks_of e.command ≡ marks_in (cut_item c)
 marks_kept c value sent e is = ap (λ (x : Entry). marks_of x.command) (sym is) ∙ marks_put (drop sent value) c
 
 -- and behind it
-pub marks_part : (c : Command) (value : List ℕ) (sent : ℕ) (size : Option ℕ) (e : Entry) → IsApart c value sent
-    → entry_of c value sent ≡ e
+pub marks_part : (c : Command) (value : List ℕ) (sent : ℕ) (size : Option ℕ) (e : Entry) → IsTakenApart c value sent
+    → entry_left c value sent ≡ e
     → 0 < data_left e → size ≡ size_told sent value
     → marks_of (part_of e 0) ≡ marks_in (option_map (marked size) (cut_item c))
 marks_part c value sent size e a is some told =

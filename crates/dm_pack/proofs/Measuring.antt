@@ -13,16 +13,17 @@ use Rattle.syncml_types.specs.declared.command.Command.{Command}
 use Rattle.syncml_types.specs.Canonical.{canonical, command_tokens, commands_tokens, header_tokens, flag_tokens}
 use Rattle.syncml_types.specs.Lengths.{head_tokens, up_to_most, spelled_length}
 use Rattle.syncml_parts.specs.Numbering.{with_numbers, ids_in}
-use Rattle.syncml_parts.specs.Packing.{cut_changed, cut_data, emptied, data_in, data_length, head_bytes, body_tag}
+use Rattle.syncml_parts.specs.Packing.{cut_changed, cut_data, without_data, data_in, data_length, head_bytes, body_tag}
 use Rattle.syncml_parts.specs.Packing.{tail_tokens}
-use Rattle.syncml_parts.specs.Pages.{with_value}
+use Rattle.syncml_parts.specs.Pages.{with_item_value}
 use Rattle.syncml_parts.proofs.Parted.{spells_in_parts, spells_commands, bounds_data}
 use Rattle.syncml_parts.proofs.Pages.{page_without_data, page_without_numbers}
 use Rattle.syncml_parts.proofs.Rest.{rest_and_data}
 use Rattle.dm_pack.specs.declared.place.Place.{Place}
 use Rattle.dm_pack.specs.Entries.{Entry}
-use Rattle.dm_pack.specs.Filling.{numbered, asks_next, fits}
-use Rattle.dm_pack.specs.Measures.{ids_of, front_length, front_page, end_length, behind, behind_hollow, fits_at, within}
+use Rattle.dm_pack.specs.Filling.{numbered, asks_next, fits_room}
+use Rattle.dm_pack.specs.Measures.{ids_of, front_length, front_page, end_length, place_past, behind_hollow, fits_at}
+use Rattle.dm_pack.specs.Measures.{within}
 use Rattle.dm_pack.specs.Measures.{with_cost, place_of, hollow_item, data_cost, cost_within}
 use Rattle.dm_pack.proofs.Changing.{agree_at}
 use Rattle.dm_pack.proofs.Numbers.{numbered_append, ids_append, number_changed, item_numbered, many_bytes, ids_changed}
@@ -79,7 +80,7 @@ page_later h cs c =
 next_later : (cs : List Command) (c : Command) → 1 + ids_of (cs ++ c ∷ []) ≡ 1 + ids_of cs + ids_in c
 next_later cs c = let sum = ids_append cs (c ∷ []) in omega (arith, sum)
 
-pub behind_is : (h : Header) (cs : List Command) (c : Command) → behind (place_of h cs) c ≡ place_of h (cs ++ c ∷ [])
+pub behind_is : (h : Header) (cs : List Command) (c : Command) → place_past (place_of h cs) c ≡ place_of h (cs ++ c ∷ [])
 behind_is h cs c = sym (same_place _ _ _ _ _ _ (longer h cs c) (page_later h cs c) (next_later cs c))
 
 -- ---- whether it fits
@@ -127,15 +128,15 @@ long_measured h cs =
     let tail = ap (λ p. length (spelled p (tail_tokens true))) (page_next 0 ns d) in
     omega (arith, body, whole, tokens, tail)
 
-pub fits_is : (h : Header) (room : ℕ) (cs : List Command) → fits h room cs ≡ fits_at room (place_of h cs)
-unfolding fits
+pub fits_is : (h : Header) (room : ℕ) (cs : List Command) → fits_room h room cs ≡ fits_at room (place_of h cs)
+unfolding fits_room
 fits_is h room cs = ap (λ n. nat_le n room) (long_measured h cs)
 
 pub fits_next : (h : Header) (room : ℕ) (cs : List Command) (c : Command)
-    → fits h room (cs ++ c ∷ []) ≡ fits_at room (behind (place_of h cs) c)
+    → fits_room h room (cs ++ c ∷ []) ≡ fits_at room (place_past (place_of h cs) c)
 fits_next h room cs c = fits_is h room (cs ++ c ∷ []) ∙ ap (fits_at room) (sym (behind_is h cs c))
 
-pub next_low : (p : Place) (c : Command) → p.next ≤ 1 + p.used → (behind p c).next ≤ 1 + (behind p c).used
+pub next_low : (p : Place) (c : Command) → p.next ≤ 1 + p.used → (place_past p c).next ≤ 1 + (place_past p c).used
 next_low p c h = let many = many_bytes p.page p.next c in omega (arith, h, many)
 
 -- ---- Data apart
@@ -143,11 +144,11 @@ next_low p c h = let many = many_bytes p.page p.next c in omega (arith, h, many)
 pub data_numbered : (n : ℕ) (c : Command) → cut_data (with_numbers n c) ≡ cut_data c
 data_numbered n c = ap data_in (item_numbered n c)
 
-hollow_empties : (i : Item) (v : List ℕ) → i.value ≡ Some v → emptied i ≡ hollow_item i
+hollow_empties : (i : Item) (v : List ℕ) → i.value ≡ Some v → without_data i ≡ hollow_item i
 hollow_empties i v h = ap (λ o. record i { value = o }) (sym (ap (option_map (λ _. [])) h))
 
-emptied_is : (c : Command) (d : HasData c) → cut_changed emptied c ≡ cut_changed hollow_item c
-emptied_is c d = agree_at emptied hollow_item c d.item d.is (hollow_empties d.item (cut_data c) d.value)
+emptied_is : (c : Command) (d : HasData c) → cut_changed without_data c ≡ cut_changed hollow_item c
+emptied_is c d = agree_at without_data hollow_item c d.item d.is (hollow_empties d.item (cut_data c) d.value)
 
 long_some : (page n : ℕ) (c : Command) → 0 < length (cut_data c)
     → length (spelled page (command_tokens (with_numbers n c)))
@@ -157,7 +158,7 @@ long_some page n c some =
     let whole = rest_and_data page (with_numbers n c) (let long = ap length data_same in omega (arith, some, long)) in
     let value = ap data_length data_same in
     let rest = ap (λ d. length (spelled page (command_tokens d)))
-    (sym (number_changed emptied n c) ∙ ap (with_numbers n) (emptied_is c (has_data c some))) in
+    (sym (number_changed without_data n c) ∙ ap (with_numbers n) (emptied_is c (has_data c some))) in
     omega (arith, whole, value, rest)
 
 long_by : (page n : ℕ) (c : Command) (v : List ℕ) → cut_data c ≡ v
@@ -187,7 +188,7 @@ page_by page n c (b ∷ bs) is =
     let d = has_data c (let long = ap length is in omega (arith, long)) in
     page_without_numbers page n (cut_changed hollow_item c)
     ∙ ap (λ e. page_behind page (command_tokens e))
-    (agree_at hollow_item (with_value []) c d.item d.is (sym (hollow_empties d.item (cut_data c) d.value)))
+    (agree_at hollow_item (with_item_value []) c d.item d.is (sym (hollow_empties d.item (cut_data c) d.value)))
     ∙ page_without_data page c d.item (cut_data c) [] d.is d.value
     ∙ sym (page_without_numbers page n c)
 
@@ -306,13 +307,13 @@ is_within : (room : ℕ) (p : Place) → fits_at room p ≡ true → within room
 is_within room p h = rw h refl
 
 -- a command is behind its Data, put in where it was taken out
-pub data_behind : (p : Place) (c : Command) → with_cost (cut_data c) (behind p (cut_changed hollow_item c)) ≡ behind p c
+pub data_behind : (p : Place) (c : Command) → with_cost (cut_data c) (place_past p (cut_changed hollow_item c)) ≡ place_past p c
 data_behind p c =
     let whole = long_apart p.page p.next c in
     same_place _ _ _ _ _ _ (omega (arith, whole)) (page_apart p.page p.next c) (ap (λ n. p.next + n) (ids_apart c))
 
 pub reached : (p q : Place) (e : Entry) (v : List ℕ) → v ≡ cut_data e.command → q ≡ behind_hollow p e
-    → with_cost v q ≡ behind p e.command
+    → with_cost v q ≡ place_past p e.command
 reached p q e v left is =
     ap (λ w. with_cost w q) left ∙ ap (with_cost (cut_data e.command)) is ∙ data_behind p e.command
 

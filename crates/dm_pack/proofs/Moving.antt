@@ -11,7 +11,7 @@ use Rattle.dm_pack.specs.declared.filled.Tail.{Tail}
 use Rattle.dm_pack.specs.Entries.{Entry}
 use Rattle.dm_pack.specs.Filling.{Filling, numbered, commands_of, taken, next_part, next_rest, tail_of, tail_commands}
 use Rattle.dm_pack.specs.Filling.{fill, left_after, HasMore}
-use Rattle.dm_pack.specs.Measures.{behind_all, place_of, cut_at, put_back, entry_of}
+use Rattle.dm_pack.specs.Measures.{behind_all, place_of, cut_at, put_back, entry_left}
 use Rattle.dm_pack.proofs.Left.{fill_taken, the_rest_is_left}
 use Rattle.dm_pack.proofs.Packed.{Packs}
 use Rattle.dm_pack.proofs.Parts.{put_numbered}
@@ -72,7 +72,7 @@ whole_value v sent none = let zero_sent : 0 ≡ sent = omega (arith, none) in wh
     whole (x ∷ l) = refl
 
 -- the command that waits, with its Data
-pub out_of : (first : ℕ) (c : Command) (value rest : List ℕ) (sent : ℕ) (e : Entry) → entry_of c value sent ≡ e
+pub out_of : (first : ℕ) (c : Command) (value rest : List ℕ) (sent : ℕ) (e : Entry) → entry_left c value sent ≡ e
     → rest ≡ drop sent value → put_back rest (with_numbers first c) ≡ with_numbers first e.command
 out_of first c value rest sent e is left =
     put_numbered first rest c ∙ ap (λ w. with_numbers first (put_back w c)) left

@@ -20,10 +20,10 @@ use Rattle.syncml_types.specs.Canonical.{seq_members_tokens, sequence_tokens, st
 use Rattle.syncml_types.specs.Canonical.{command_tokens}
 use Rattle.syncml_parts.specs.Numbering.{with_number, numbered_members, numbered_seq_member, numbered_seq_members}
 use Rattle.syncml_parts.specs.Numbering.{ids_in_seq_member, ids_in_seq_members, ids_in, with_numbers}
-use Rattle.syncml_parts.specs.Packing.{member_item, seq_member_item, last_of, cut_item, member_changed}
+use Rattle.syncml_parts.specs.Packing.{member_item, seq_member_item, list_last, cut_item, member_changed}
 use Rattle.syncml_parts.specs.Packing.{seq_member_changed, last_changed, cut_changed}
 use Rattle.syncml_parts.proofs.Last.{last_next}
-use Rattle.dm_pack.specs.Entries.{Entry, IsReady, bare_length, most_bytes, without_value}
+use Rattle.dm_pack.specs.Entries.{Entry, IsReady, bare_length, entry_limit, without_value}
 use Rattle.dm_pack.specs.Filling.{numbered}
 use Rattle.dm_pack.specs.Measures.{ids_of}
 
@@ -72,7 +72,7 @@ item_number n (member.One c) = refl
 item_number n (member.Alert c) = refl
 
 item_members : (n : ℕ) (ms : List Member)
-    → option_and_then member_item (last_of (numbered_members n ms)) ≡ option_and_then member_item (last_of ms)
+    → option_and_then member_item (list_last (numbered_members n ms)) ≡ option_and_then member_item (list_last ms)
 unfolding numbered_members
 item_members n [] = refl
 item_members n (m ∷ []) = item_number n m
@@ -87,8 +87,8 @@ item_seq_number n (seq_member.Single m) = item_number n m
 item_seq_number n (seq_member.Atomic b) = refl
 
 item_seq_members : (n : ℕ) (ms : List SeqMember)
-    → option_and_then seq_member_item (last_of (numbered_seq_members n ms))
-    ≡ option_and_then seq_member_item (last_of ms)
+    → option_and_then seq_member_item (list_last (numbered_seq_members n ms))
+    ≡ option_and_then seq_member_item (list_last ms)
 unfolding numbered_seq_members
 item_seq_members n [] = refl
 item_seq_members n (m ∷ []) = item_seq_number n m
@@ -240,7 +240,7 @@ bare_ids c =
     let many = many_bytes 0 1000000000 (cut_changed without_value c) in
     omega (arith, same, many)
 
-pub few_most : (c : Command) → most_bytes c ≤ 1000
+pub few_most : (c : Command) → entry_limit c ≤ 1000
 few_most (command.Plain c) = omega arith
 few_most (command.Alert c) = omega arith
 few_most (command.Atomic b) = omega arith

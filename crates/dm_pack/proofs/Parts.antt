@@ -8,13 +8,13 @@ use Rattle.syncml_types.specs.declared.values.Item.{Item}
 use Rattle.syncml_types.specs.declared.command.Command.{Command}
 use Rattle.syncml_types.specs.declared.command.Command.TheVariants as command
 use Rattle.syncml_parts.specs.Packing.{cut_item, cut_changed, cut_data, data_in, bytes_in, member_item, seq_member_item}
-use Rattle.syncml_parts.specs.Packing.{member_changed, seq_member_changed, last_of, last_changed}
-use Rattle.syncml_parts.specs.Pages.{with_value}
+use Rattle.syncml_parts.specs.Packing.{member_changed, seq_member_changed, list_last, last_changed}
+use Rattle.syncml_parts.specs.Pages.{with_item_value}
 use Rattle.syncml_parts.specs.Numbering.{with_numbers, ids_in}
 use Rattle.syncml_parts.proofs.Last.{less_one, last_next}
 use Rattle.dm_pack.specs.Entries.{Entry, part_item, part_meta, part_of, rest_item, rest_of, last_only, last_alone}
 use Rattle.dm_pack.specs.Entries.{with_size, data_left}
-use Rattle.dm_pack.specs.Measures.{hollow_item, put_back, entry_of, marked, size_told, HasEmptyData, IsApart}
+use Rattle.dm_pack.specs.Measures.{hollow_item, put_back, entry_left, marked, size_told, HasEmptyData, IsTakenApart}
 use Rattle.dm_pack.proofs.Changing.{agree_at, twice, item_changed}
 use Rattle.dm_pack.proofs.Numbers.{number_changed, ids_changed}
 use Rattle.dm_pack.proofs.Apart.{HasData, has_data, data_apart, hollow_apart}
@@ -22,11 +22,11 @@ use Rattle.dm_pack.proofs.Apart.{HasData, has_data, data_apart, hollow_apart}
 -- ---- the part without Data
 
 part_first : (b : ℕ) (bs : List ℕ) (i : Item) → i.value ≡ Some []
-    → part_item false 0 (with_value (b ∷ bs) i) ≡ marked (Some (length (b ∷ bs))) i
+    → part_item false 0 (with_item_value (b ∷ bs) i) ≡ marked (Some (length (b ∷ bs))) i
 part_first b bs i e = ap (λ o. record i { meta = with_size (length (b ∷ bs)) i.meta; value = o; more = true }) (sym e)
 
 part_later : (b : ℕ) (bs : List ℕ) (i : Item) → i.value ≡ Some []
-    → part_item true 0 (with_value (b ∷ bs) i) ≡ marked None i
+    → part_item true 0 (with_item_value (b ∷ bs) i) ≡ marked None i
 part_later b bs i e = ap (λ o. record i { value = o; more = true }) (sym e)
 
 marked_part : (begun : Bool) (size : Option ℕ) (c : Command) (v : List ℕ) → HasEmptyData c → 0 < length v
@@ -34,12 +34,12 @@ marked_part : (begun : Bool) (size : Option ℕ) (c : Command) (v : List ℕ) �
     → cut_changed (part_item begun 0) (put_back v c) ≡ cut_changed (marked size) c
 marked_part begun size c [] e some is = absurd (omega (arith, some))
 marked_part true size c (b ∷ bs) e some is =
-    rw is (twice (part_item true 0) (with_value (b ∷ bs)) c
-    ∙ agree_at (λ i. part_item true 0 (with_value (b ∷ bs) i)) (marked None) c e.item e.is
+    rw is (twice (part_item true 0) (with_item_value (b ∷ bs)) c
+    ∙ agree_at (λ i. part_item true 0 (with_item_value (b ∷ bs) i)) (marked None) c e.item e.is
     (part_later b bs e.item e.empty))
 marked_part false size c (b ∷ bs) e some is =
-    rw is (twice (part_item false 0) (with_value (b ∷ bs)) c
-    ∙ agree_at (λ i. part_item false 0 (with_value (b ∷ bs) i)) (marked (Some (length (b ∷ bs)))) c e.item e.is
+    rw is (twice (part_item false 0) (with_item_value (b ∷ bs)) c
+    ∙ agree_at (λ i. part_item false 0 (with_item_value (b ∷ bs) i)) (marked (Some (length (b ∷ bs)))) c e.item e.is
     (part_first b bs e.item e.empty))
 
 size_by : (sent : ℕ) (value : List ℕ)
@@ -51,9 +51,9 @@ some_left : (value : List ℕ) (sent : ℕ) → 0 < length (drop sent value) →
 some_left value sent h = let long = length-drop sent value in omega (arith, long, h)
 
 -- the command that is kept, marked, is the next part without Data
-pub part_hollow : (size : Option ℕ) (c : Command) (value : List ℕ) (sent : ℕ) → IsApart c value sent
-    → 0 < data_left (entry_of c value sent) → size ≡ size_told sent value
-    → cut_changed (marked size) c ≡ part_of (entry_of c value sent) 0
+pub part_hollow : (size : Option ℕ) (c : Command) (value : List ℕ) (sent : ℕ) → IsTakenApart c value sent
+    → 0 < data_left (entry_left c value sent) → size ≡ size_told sent value
+    → cut_changed (marked size) c ≡ part_of (entry_left c value sent) 0
 unfolding part_of
 part_hollow size c value sent a some is =
     let left = ap length (data_apart c value sent a) in
@@ -62,42 +62,42 @@ part_hollow size c value sent a some is =
     (is ∙ size_by sent value))
 
 -- and so is a copy with CmdIDs
-part_marked : (first : ℕ) (size : Option ℕ) (c : Command) (value : List ℕ) (sent : ℕ) → IsApart c value sent
-    → 0 < data_left (entry_of c value sent) → size ≡ size_told sent value
-    → cut_changed (marked size) (with_numbers first c) ≡ with_numbers first (part_of (entry_of c value sent) 0)
+part_marked : (first : ℕ) (size : Option ℕ) (c : Command) (value : List ℕ) (sent : ℕ) → IsTakenApart c value sent
+    → 0 < data_left (entry_left c value sent) → size ≡ size_told sent value
+    → cut_changed (marked size) (with_numbers first c) ≡ with_numbers first (part_of (entry_left c value sent) 0)
 part_marked first size c value sent a some is =
     sym (number_changed (marked size) first c) ∙ ap (with_numbers first) (part_hollow size c value sent a some is)
 
 -- ---- and with it
 
 put_item : (begun : Bool) (n : ℕ) (i : Item) (v : List ℕ) → i.value ≡ Some v
-    → with_value (take n v) (part_item begun 0 i) ≡ part_item begun n i
+    → with_item_value (take n v) (part_item begun 0 i) ≡ part_item begun n i
 put_item begun n i v e =
     ap (λ o. record i { meta = part_meta begun i; value = Some (take n (bytes_in o)); more = true }) (sym e)
 
 part_filled : (first n : ℕ) (e : Entry) → 0 < data_left e
-    → cut_changed (with_value (take n (cut_data e.command))) (with_numbers first (part_of e 0))
+    → cut_changed (with_item_value (take n (cut_data e.command))) (with_numbers first (part_of e 0))
     ≡ with_numbers first (part_of e n)
 unfolding part_of
 part_filled first n e some =
     let d = has_data e.command some in
-    sym (number_changed (with_value (take n (cut_data e.command))) first (cut_changed (part_item e.begun 0) e.command))
+    sym (number_changed (with_item_value (take n (cut_data e.command))) first (cut_changed (part_item e.begun 0) e.command))
     ∙ ap (with_numbers first)
-    (twice (with_value (take n (cut_data e.command))) (part_item e.begun 0) e.command
-    ∙ agree_at (λ i. with_value (take n (cut_data e.command)) (part_item e.begun 0 i)) (part_item e.begun n) e.command
+    (twice (with_item_value (take n (cut_data e.command))) (part_item e.begun 0) e.command
+    ∙ agree_at (λ i. with_item_value (take n (cut_data e.command)) (part_item e.begun 0 i)) (part_item e.begun n) e.command
     d.item d.is
     (put_item e.begun n d.item (cut_data e.command) d.value))
 
 -- marked and filled, a copy is the next part
 pub part_made : (first n : ℕ) (size : Option ℕ) (c : Command) (value : List ℕ) (sent : ℕ) (e : Entry) (v : List ℕ)
-    → IsApart c value sent
-    → entry_of c value sent ≡ e → 0 < data_left e → size ≡ size_told sent value → v ≡ take n (cut_data e.command)
-    → cut_changed (with_value v) (cut_changed (marked size) (with_numbers first c)) ≡ with_numbers first (part_of e n)
+    → IsTakenApart c value sent
+    → entry_left c value sent ≡ e → 0 < data_left e → size ≡ size_told sent value → v ≡ take n (cut_data e.command)
+    → cut_changed (with_item_value v) (cut_changed (marked size) (with_numbers first c)) ≡ with_numbers first (part_of e n)
 part_made first n size c value sent e v a is some told filled =
     let left = ap data_left is in
-    ap (cut_changed (with_value v)) (part_marked first size c value sent a (omega (arith, left, some)) told)
-    ∙ ap (λ (x : Entry). cut_changed (with_value v) (with_numbers first (part_of x 0))) is
-    ∙ ap (λ w. cut_changed (with_value w) (with_numbers first (part_of e 0))) filled
+    ap (cut_changed (with_item_value v)) (part_marked first size c value sent a (omega (arith, left, some)) told)
+    ∙ ap (λ (x : Entry). cut_changed (with_item_value v) (with_numbers first (part_of x 0))) is
+    ∙ ap (λ w. cut_changed (with_item_value w) (with_numbers first (part_of e 0))) filled
     ∙ part_filled first n e some
 
 -- ---- a whole command
@@ -106,17 +106,17 @@ pub put_none : (v : List ℕ) (c : Command) → (length v == 0) ≡ true → put
 put_none [] c h = refl
 put_none (b ∷ bs) c h = absurd (let long = eqb-true (length (b ∷ bs)) 0 h in omega (arith, long))
 
-pub put_some : (v : List ℕ) (c : Command) → (length v == 0) ≡ false → put_back v c ≡ cut_changed (with_value v) c
+pub put_some : (v : List ℕ) (c : Command) → (length v == 0) ≡ false → put_back v c ≡ cut_changed (with_item_value v) c
 put_some [] c h = absurd (eqb-false 0 0 h refl)
 put_some (b ∷ bs) c h = refl
 
 pub put_numbered : (first : ℕ) (v : List ℕ) (c : Command)
     → put_back v (with_numbers first c) ≡ with_numbers first (put_back v c)
 put_numbered first [] c = refl
-put_numbered first (b ∷ bs) c = sym (number_changed (with_value (b ∷ bs)) first c)
+put_numbered first (b ∷ bs) c = sym (number_changed (with_item_value (b ∷ bs)) first c)
 
-pub whole_filled : (first : ℕ) (c : Command) (value : List ℕ) (sent : ℕ) (e : Entry) (v : List ℕ) → IsApart c value sent
-    → entry_of c value sent ≡ e → v ≡ cut_data e.command
+pub whole_filled : (first : ℕ) (c : Command) (value : List ℕ) (sent : ℕ) (e : Entry) (v : List ℕ) → IsTakenApart c value sent
+    → entry_left c value sent ≡ e → v ≡ cut_data e.command
     → put_back v (with_numbers first c) ≡ with_numbers first e.command
 whole_filled first c value sent e v a is left =
     put_numbered first v c
@@ -126,11 +126,11 @@ whole_filled first c value sent e v a is left =
 
 -- ---- the command that is kept
 
-pub kept : (c : Command) (value : List ℕ) (sent : ℕ) (e : Entry) → IsApart c value sent → entry_of c value sent ≡ e
+pub kept : (c : Command) (value : List ℕ) (sent : ℕ) (e : Entry) → IsTakenApart c value sent → entry_left c value sent ≡ e
     → cut_changed hollow_item e.command ≡ c
 kept c value sent e a is = ap (λ (x : Entry). cut_changed hollow_item x.command) (sym is) ∙ hollow_apart c value sent a
 
-pub kept_ids : (c : Command) (value : List ℕ) (sent : ℕ) (e : Entry) → IsApart c value sent → entry_of c value sent ≡ e
+pub kept_ids : (c : Command) (value : List ℕ) (sent : ℕ) (e : Entry) → IsTakenApart c value sent → entry_left c value sent ≡ e
     → ids_in c ≡ ids_in e.command
 kept_ids c value sent e a is = ap ids_in (sym (kept c value sent e a is)) ∙ ids_changed hollow_item e.command
 
@@ -140,10 +140,10 @@ pub only_next : {A : Type 0} (x y : A) (xs : List A) → last_only (x ∷ y ∷ 
 only_next x y xs =
     ap (λ k. drop k (x ∷ y ∷ xs)) (less_one (suc (length xs))) ∙ ap (λ k. drop k (y ∷ xs)) (sym (less_one (length xs)))
 
-last_of_only : {A : Type 0} (xs : List A) → last_of (last_only xs) ≡ last_of xs
+last_of_only : {A : Type 0} (xs : List A) → list_last (last_only xs) ≡ list_last xs
 last_of_only [] = refl
 last_of_only (x ∷ []) = refl
-last_of_only (x ∷ y ∷ xs) = ap last_of (only_next x y xs) ∙ last_of_only (y ∷ xs) ∙ sym (last_next x y xs)
+last_of_only (x ∷ y ∷ xs) = ap list_last (only_next x y xs) ∙ last_of_only (y ∷ xs) ∙ sym (last_next x y xs)
 
 only_changed_last : {A : Type 0} (f : A → A) (xs : List A)
     → last_only (last_changed f xs) ≡ last_changed f (last_only xs)
@@ -175,14 +175,14 @@ alone_changed f (command.Results c) = refl
 empty_alone : (c : Command) → HasEmptyData c → HasEmptyData (last_alone c)
 empty_alone c e = record { item = e.item; is = item_alone c ∙ e.is; empty = e.empty }
 
-pub left_long : (c : Command) (value : List ℕ) (sent : ℕ) (e : Entry) → IsApart c value sent → entry_of c value sent ≡ e
+pub left_long : (c : Command) (value : List ℕ) (sent : ℕ) (e : Entry) → IsTakenApart c value sent → entry_left c value sent ≡ e
     → data_left e ≡ length value - sent
 left_long c value sent e a is =
     ap data_left (sym is) ∙ ap length (data_apart c value sent a) ∙ length-drop sent value
 
-pub gone_apart : (c : Command) (value : List ℕ) (sent n later : ℕ) (e : Entry) → IsApart c value sent
-    → entry_of c value sent ≡ e
-    → n < data_left e → later ≡ sent + n → IsApart (last_alone c) value later
+pub gone_apart : (c : Command) (value : List ℕ) (sent n later : ℕ) (e : Entry) → IsTakenApart c value sent
+    → entry_left c value sent ≡ e
+    → n < data_left e → later ≡ sent + n → IsTakenApart (last_alone c) value later
 gone_apart c value sent n later e a is left same =
     let long = left_long c value sent e a is in
     record {
@@ -197,9 +197,9 @@ rest_put : (n : ℕ) (c : Command) (d w : List ℕ) → w ≡ drop n d → 0 < l
 rest_put n c d [] same some more = absurd (omega (arith, some))
 rest_put n c [] (b ∷ bs) same some more = absurd (omega (arith, more))
 rest_put n c (x ∷ xs) (b ∷ bs) same some more =
-    sym (alone_changed (with_value (b ∷ bs)) c)
-    ∙ ap (λ v. last_alone (cut_changed (with_value v) c)) same
-    ∙ ap last_alone (sym (twice (rest_item n) (with_value (x ∷ xs)) c))
+    sym (alone_changed (with_item_value (b ∷ bs)) c)
+    ∙ ap (λ v. last_alone (cut_changed (with_item_value v) c)) same
+    ∙ ap last_alone (sym (twice (rest_item n) (with_item_value (x ∷ xs)) c))
 
 abbrev entry_at : Command → Bool → Entry
 entry_at c begun = record { command = c; begun = begun }
@@ -207,9 +207,9 @@ entry_at c begun = record { command = c; begun = begun }
 rest_entry : (c d : Command) (a b : Bool) → c ≡ d → a ≡ b → entry_at c a ≡ entry_at d b
 rest_entry c d a b x y = rw (x, y) refl
 
-pub gone_is : (c : Command) (value : List ℕ) (sent n later : ℕ) (e : Entry) → IsApart c value sent
-    → entry_of c value sent ≡ e
-    → 0 < n → n < data_left e → later ≡ sent + n → entry_of (last_alone c) value later ≡ rest_of e n
+pub gone_is : (c : Command) (value : List ℕ) (sent n later : ℕ) (e : Entry) → IsTakenApart c value sent
+    → entry_left c value sent ≡ e
+    → 0 < n → n < data_left e → later ≡ sent + n → entry_left (last_alone c) value later ≡ rest_of e n
 unfolding rest_of
 gone_is c value sent n later e a is some left same =
     let long = left_long c value sent e a is in

@@ -25,9 +25,9 @@ use Rattle.syncml_types.specs.Message.{no_meta}
 use Rattle.dm_pack.specs.declared.place.Place.{Place}
 use Rattle.dm_pack.specs.Entries.{Entry, IsReady, data_left, with_size, part_meta, part_item, part_of}
 use Rattle.dm_pack.specs.Entries.{without_value}
-use Rattle.dm_pack.specs.Filling.{IsReadyHeader, fits, commands_of, taken, greatest, cut, fill}
+use Rattle.dm_pack.specs.Filling.{IsReadyHeader, fits_room, commands_of, taken, greatest, cut, fill}
 use Rattle.dm_pack.specs.Laws.{TheFirstGoesOut, TheSecondGoesOut}
-use Rattle.dm_pack.specs.Measures.{ids_of, front_length, front_page, behind, behind_hollow, place_of, hollow_item}
+use Rattle.dm_pack.specs.Measures.{ids_of, front_length, front_page, place_past, behind_hollow, place_of, hollow_item}
 use Rattle.dm_pack.proofs.Bare.{NearItem, near_command}
 use Rattle.dm_pack.proofs.Changing.{same}
 use Rattle.dm_pack.proofs.Fit.{short_items}
@@ -208,9 +208,9 @@ pub record HasRoom (h : Header) (before : List Command) : Type 0 where
 fits_more : (h : Header) (room : ℕ) (before : List Command) (c : Command) → HasRoom h before → 2048 ≤ room
     → ids_in c ≤ 1000
     → length (spelled (front_page before) (command_tokens (with_numbers (1 + ids_of before) c))) ≤ 1045
-    → fits h room (before ++ c ∷ []) ≡ true
+    → fits_room h room (before ++ c ∷ []) ≡ true
 fits_more h room before c has most few short =
-    let p = behind (place_of h before) c in
+    let p = place_past (place_of h before) c in
     let front = has.front in
     let ids = has.ids in
     let end = end_most p.page p.next (omega (arith, ids, few)) in
@@ -234,13 +234,13 @@ a_part : (h : Header) (room : ℕ) (before : List Command) (e : Entry) (es : Lis
     → IsReady e
     → 1 < data_left e → 0 < cut h room before (e ∷ es)
 a_part h room before e es has most ready more =
-    some_greatest (λ n. fits h room (before ++ part_of e n ∷ [])) (data_left e - 1) (omega (arith, more))
+    some_greatest (λ n. fits_room h room (before ++ part_of e n ∷ [])) (data_left e - 1) (omega (arith, more))
     (fits_more h room before (part_of e 1) has most
     (let ids = part_ids e 1 in let few = few_ids e ready in omega (arith, ids, few))
     (part_most (front_page before) (1 + ids_of before) e ready (let ids = has.ids in omega (arith, ids))))
 
 more_left : (h : Header) (room : ℕ) (before : List Command) (e : Entry) → HasRoom h before → 2048 ≤ room → IsReady e
-    → fits h room (before ++ e.command ∷ []) ≡ false → (t : Bool) → nat_le (data_left e) 1 ≡ t → 1 < data_left e
+    → fits_room h room (before ++ e.command ∷ []) ≡ false → (t : Bool) → nat_le (data_left e) 1 ≡ t → 1 < data_left e
 more_left h room before e has most ready not_fit true few =
     let fit = fits_more h room before e.command has most (few_ids e ready)
     (whole_most (front_page before) (1 + ids_of before) e ready (let ids = has.ids in omega (arith, ids))
@@ -250,7 +250,7 @@ more_left h room before e has most ready not_fit false many = leb-false (data_le
 
 moves_by : (h : Header) (room : ℕ) (before : List Command) (e : Entry) (es : List Entry) → HasRoom h before
     → 2048 ≤ room → IsReady e
-    → (t : Bool) → fits h room (before ++ e.command ∷ []) ≡ t → Moves h room before e es
+    → (t : Bool) → fits_room h room (before ++ e.command ∷ []) ≡ t → Moves h room before e es
 moves_by h room before e es has most ready true fit =
     inl (let is = taken_one h room before e es fit in omega (arith, is))
 moves_by h room before e es has most ready false fit =
@@ -264,7 +264,7 @@ moves : (h : Header) (room : ℕ) (before : List Command) (e : Entry) (es : List
     → IsReady e
     → Moves h room before e es
 moves h room before e es has most ready =
-    moves_by h room before e es has most ready (fits h room (before ++ e.command ∷ [])) refl
+    moves_by h room before e es has most ready (fits_room h room (before ++ e.command ∷ [])) refl
 
 -- ---- the first entry
 
@@ -301,7 +301,7 @@ short_room h c ready short =
     }
 
 short_fits : (h : Header) (room : ℕ) (c : Command) → IsReadyHeader h → 2048 ≤ room
-    → length (spelled 0 (command_tokens (with_numbers 1 c))) ≤ 250 → fits h room (c ∷ []) ≡ true
+    → length (spelled 0 (command_tokens (with_numbers 1 c))) ≤ 250 → fits_room h room (c ∷ []) ≡ true
 unfolding front_page commands_tokens
 short_fits h room c ready most short =
     let many = many_bytes 0 1 c in

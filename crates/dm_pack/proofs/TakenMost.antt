@@ -1,5 +1,6 @@
 -- As many entries are taken as fit, as much Data of the next one is cut off as fits, and none of it is lost.
-use Rattle.std.proofs.Common.{◌≡◌, ◌<◌, ◌≤◌, ℕ, zero, suc, Bool, true, false, List, [], ◌∷◌, ◌++◌, length, take, refl, sym}
+use Rattle.std.proofs.Common.{◌≡◌, ◌<◌, ◌≤◌, ℕ, zero, suc, Bool, true, false, List, [], ◌∷◌, ◌++◌, length, take, refl}
+use Rattle.std.proofs.Common.{sym}
 use Rattle.std.proofs.Common.{◌∙◌, ap, subst, append_assoc, arith, if◌then◌else◌, nat_le, Option, Some, None}
 use Rattle.std.proofs.Common.{option_map}
 use Rattle.std.proofs.lemmas.Bool.{leb-true, leb-false}
@@ -9,7 +10,7 @@ use Rattle.syncml_parts.specs.Packing.{cut_changed, cut_data, cut_item, data_in,
 use Rattle.syncml_types.specs.declared.values.Header.{Header}
 use Rattle.syncml_types.specs.declared.command.Command.{Command}
 use Rattle.dm_pack.specs.Entries.{Entry, part_item, part_of, rest_item, rest_of}
-use Rattle.dm_pack.specs.Filling.{fits, taken, commands_of, greatest}
+use Rattle.dm_pack.specs.Filling.{fits_room, taken, commands_of, greatest}
 use Rattle.dm_pack.specs.Laws.{TakesTheMost, CutsTheMost, CutDataIsJoined}
 use Rattle.dm_pack.proofs.Changing.{item_changed}
 use Rattle.dm_pack.proofs.Parts.{item_alone}
@@ -17,39 +18,39 @@ use Rattle.dm_pack.proofs.Parts.{item_alone}
 -- ---- whole entries
 
 one_more : (h : Header) (room : ℕ) (before : List Command) (e : Entry) (es : List Entry) (k : ℕ)
-    → fits h room (before ++ e.command ∷ []) ≡ true
+    → fits_room h room (before ++ e.command ∷ []) ≡ true
     → ((j : ℕ) → 0 < j → j ≤ taken h room (before ++ e.command ∷ []) es
-    → fits h room ((before ++ e.command ∷ []) ++ commands_of (take j es)) ≡ true)
+    → fits_room h room ((before ++ e.command ∷ []) ++ commands_of (take j es)) ≡ true)
     → k ≤ taken h room (before ++ e.command ∷ []) es
-    → fits h room (before ++ e.command ∷ commands_of (take k es)) ≡ true
+    → fits_room h room (before ++ e.command ∷ commands_of (take k es)) ≡ true
 one_more h room before e es zero x ih l = x
 one_more h room before e es (suc j) x ih l =
-    ap (fits h room) (sym (append_assoc before (e.command ∷ []) (commands_of (take (suc j) es))))
+    ap (fits_room h room) (sym (append_assoc before (e.command ∷ []) (commands_of (take (suc j) es))))
     ∙ ih (suc j) (omega arith) l
 
 taken_fit : (h : Header) (room : ℕ) (before : List Command) (es : List Entry) (k : ℕ) → 0 < k
-    → k ≤ taken h room before es → fits h room (before ++ commands_of (take k es)) ≡ true
+    → k ≤ taken h room before es → fits_room h room (before ++ commands_of (take k es)) ≡ true
 taken_fit h room before [] k some l = absurd (omega (arith, some, l))
 taken_fit h room before (e ∷ es) zero some l = absurd (omega (arith, some))
 taken_fit h room before (e ∷ es) (suc k) some l =
     let next = before ++ e.command ∷ [] in
-    elim (fits h room next) as (λ b. fits h room next ≡ b
+    elim (fits_room h room next) as (λ b. fits_room h room next ≡ b
     → suc k ≤ (if b then suc (taken h room next es) else 0)
-    → fits h room (before ++ e.command ∷ commands_of (take k es)) ≡ true) [
+    → fits_room h room (before ++ e.command ∷ commands_of (take k es)) ≡ true) [
       | true ↦ λ x m. one_more h room before e es k x (λ j a b. taken_fit h room next es j a b) (omega (arith, m))
       | false ↦ λ x m. absurd (omega (arith, m))
     ] refl l
 
 taken_stops : (h : Header) (room : ℕ) (before : List Command) (es : List Entry)
     → taken h room before es < length es
-    → fits h room (before ++ commands_of (take (suc (taken h room before es)) es)) ≡ false
+    → fits_room h room (before ++ commands_of (take (suc (taken h room before es)) es)) ≡ false
 taken_stops h room before [] l = absurd (omega (arith, l))
 taken_stops h room before (e ∷ es) l =
     let next = before ++ e.command ∷ [] in
-    elim (fits h room next) as (λ b. fits h room next ≡ b
+    elim (fits_room h room next) as (λ b. fits_room h room next ≡ b
     → (if b then suc (taken h room next es) else 0) < suc (length es)
-    → fits h room (before ++ commands_of (take (suc (if b then suc (taken h room next es) else 0)) (e ∷ es))) ≡ false) [
-      | true ↦ λ x m. ap (fits h room) (sym (append_assoc before (e.command ∷ [])
+    → fits_room h room (before ++ commands_of (take (suc (if b then suc (taken h room next es) else 0)) (e ∷ es))) ≡ false) [
+      | true ↦ λ x m. ap (fits_room h room) (sym (append_assoc before (e.command ∷ [])
           (commands_of (take (suc (taken h room next es)) es)))) ∙ taken_stops h room next es (omega (arith, m))
       | false ↦ λ x m. x
     ] refl l

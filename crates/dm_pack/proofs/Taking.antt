@@ -9,12 +9,12 @@ use Rattle.syncml_types.specs.declared.command.Command.{Command}
 use Rattle.syncml_parts.specs.Numbering.{with_numbers}
 use Rattle.dm_pack.specs.declared.place.Place.{Place}
 use Rattle.dm_pack.specs.Entries.{Entry, IsReady, IsFitCommand}
-use Rattle.dm_pack.specs.Filling.{numbered, fits, commands_of, taken, next_part, tail_commands}
+use Rattle.dm_pack.specs.Filling.{numbered, fits_room, commands_of, taken, next_part, tail_commands}
 use Rattle.syncml_types.specs.Fitness.{IsFit}
 use Rattle.dm_pack.specs.declared.filled.Tail.{Tail}
 use Rattle.dm_pack.specs.declared.filled.Tail.TheVariants.{Final, NextMessage, Nothing}
 use Rattle.dm_pack.proofs.Fit.{numbered_fit, part_fit, asks_fit}
-use Rattle.dm_pack.specs.Measures.{behind, fits_at, within, place_of}
+use Rattle.dm_pack.specs.Measures.{place_past, fits_at, within, place_of}
 use Rattle.dm_pack.proofs.Numbers.{numbered_append}
 use Rattle.dm_pack.proofs.Measuring.{behind_is, fits_next, next_low}
 use Rattle.std.proofs.lemmas.Bool.{leb-true}
@@ -55,12 +55,12 @@ pub record HasTaken (h : Header) (room : ℕ) (es : List Entry) (at : ℕ) (plac
   pub ready : AllByRecursion IsReady (drop at es)
 
 pub taken_one : (h : Header) (room : ℕ) (cs : List Command) (e : Entry) (es : List Entry)
-    → fits h room (cs ++ e.command ∷ []) ≡ true
+    → fits_room h room (cs ++ e.command ∷ []) ≡ true
     → taken h room cs (e ∷ es) ≡ suc (taken h room (cs ++ e.command ∷ []) es)
 taken_one h room cs e es fit = rw fit refl
 
 pub taken_none : (h : Header) (room : ℕ) (cs : List Command) (e : Entry) (es : List Entry)
-    → fits h room (cs ++ e.command ∷ []) ≡ false
+    → fits_room h room (cs ++ e.command ∷ []) ≡ false
     → taken h room cs (e ∷ es) ≡ 0
 taken_none h room cs e es fit = rw fit refl
 
@@ -77,25 +77,25 @@ all_rest (x ∷ xs) e rest is h =
 
 pub one_more : (h : Header) (room at : ℕ) (es : List Entry) (e : Entry) (place next : Place) (body later : List Command)
     → HasTaken h room es at place body
-    → room ≤ 65536 → drop at es ≡ e ∷ drop (at + 1) es → Some next ≡ within room (behind place e.command)
+    → room ≤ 65536 → drop at es ≡ e ∷ drop (at + 1) es → Some next ≡ within room (place_past place e.command)
     → later ≡ body ++ with_numbers place.next e.command ∷ [] → HasTaken h room es (at + 1) next later
 one_more h room at es e place next body later t most is some pushed =
     let cs = commands_of (take at es) in
-    let was = was_within room (behind place e.command) next some in
+    let was = was_within room (place_past place e.command) next some in
     let more = commands_next es at e (drop (at + 1) es) is in
-    let fit : fits h room (cs ++ e.command ∷ []) ≡ true =
-    fits_next h room cs e.command ∙ ap (λ p. fits_at room (behind p e.command)) (sym t.place_is) ∙ was.1 in
+    let fit : fits_room h room (cs ++ e.command ∷ []) ≡ true =
+    fits_next h room cs e.command ∙ ap (λ p. fits_at room (place_past p e.command)) (sym t.place_is) ∙ was.1 in
     let one = ap (taken h room cs) is ∙ taken_one h room cs e (drop (at + 1) es) fit in
     let same = ap (λ l. taken h room l (drop (at + 1) es)) more in
     let before = t.rest in
     let used = ap (λ (p : Place). p.used) was.0 in
     let number = ap (λ (p : Place). p.next) was.0 in
-    let low = fit_low room (behind place e.command) was.1 in
+    let low = fit_low room (place_past place e.command) was.1 in
     let next_bound = next_low place e.command t.next_is_low in
     record {
       rest = omega (arith, one, same, before);
       place_is =
-          was.0 ∙ ap (λ p. behind p e.command) t.place_is ∙ behind_is h cs e.command ∙ ap (place_of h) (sym more);
+          was.0 ∙ ap (λ p. place_past p e.command) t.place_is ∙ behind_is h cs e.command ∙ ap (place_of h) (sym more);
       body_is =
           pushed
           ∙ ap (λ b. b ++ with_numbers place.next e.command ∷ []) t.body_is
@@ -109,12 +109,12 @@ one_more h room at es e place next body later t most is some pushed =
 
 pub ended : (h : Header) (room at : ℕ) (es : List Entry) (e : Entry) (place : Place) (body : List Command)
     → HasTaken h room es at place body
-    → drop at es ≡ e ∷ drop (at + 1) es → None ≡ within room (behind place e.command) → at ≡ taken h room [] es
+    → drop at es ≡ e ∷ drop (at + 1) es → None ≡ within room (place_past place e.command) → at ≡ taken h room [] es
 ended h room at es e place body t is none =
     let cs = commands_of (take at es) in
-    let fit : fits h room (cs ++ e.command ∷ []) ≡ false =
-    fits_next h room cs e.command ∙ ap (λ p. fits_at room (behind p e.command)) (sym t.place_is)
-    ∙ was_not_within room (behind place e.command) none in
+    let fit : fits_room h room (cs ++ e.command ∷ []) ≡ false =
+    fits_next h room cs e.command ∙ ap (λ p. fits_at room (place_past p e.command)) (sym t.place_is)
+    ∙ was_not_within room (place_past place e.command) none in
     let stop = ap (taken h room cs) is ∙ taken_none h room cs e (drop (at + 1) es) fit in
     let before = t.rest in
     omega (arith, stop, before)

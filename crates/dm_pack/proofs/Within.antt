@@ -26,7 +26,8 @@ use Rattle.dm_pack.specs.declared.place.Place.{Place}
 use Rattle.dm_pack.specs.declared.filled.Tail.{Tail}
 use Rattle.dm_pack.specs.declared.filled.Tail.TheVariants.{Final, NextMessage, Nothing}
 use Rattle.dm_pack.specs.Entries.{Entry, part_of, data_left}
-use Rattle.dm_pack.specs.Filling.{numbered, asks_next, fits, commands_of, taken, greatest, cut, next_part, next_rest}
+use Rattle.dm_pack.specs.Filling.{numbered, asks_next, fits_room, commands_of, taken, greatest, cut, next_part}
+use Rattle.dm_pack.specs.Filling.{next_rest}
 use Rattle.dm_pack.specs.Filling.{tail_of, tail_commands, is_final, fill, IsReadyHeader}
 use Rattle.dm_pack.specs.Measures.{ids_of, front_length, front_page, end_length, tail_length}
 use Rattle.dm_pack.proofs.Numbers.{numbered_append, some_bytes}
@@ -182,7 +183,7 @@ bare_front h ready =
     let short = ready.short in
     omega (arith, head, tag, short)
 
-pub fits_empty : (h : Header) (room : ℕ) → IsReadyHeader h → 2048 ≤ room → fits h room [] ≡ true
+pub fits_empty : (h : Header) (room : ℕ) → IsReadyHeader h → 2048 ≤ room → fits_room h room [] ≡ true
 fits_empty h room ready most =
     let front = bare_front h ready in
     let end = end_most (front_page []) 1 (omega arith) in
@@ -215,24 +216,24 @@ bare_message h last ready =
 -- ---- what is taken fits
 
 taken_by : (h : Header) (room : ℕ) (before : List Command) (e : Entry) (es : List Entry) (t : Bool)
-    → fits h room (before ++ e.command ∷ []) ≡ t
-    → fits h room before ≡ true
-    → (fits h room (before ++ e.command ∷ []) ≡ true
-    → fits h room ((before ++ e.command ∷ []) ++ commands_of (take (taken h room (before ++ e.command ∷ []) es) es))
+    → fits_room h room (before ++ e.command ∷ []) ≡ t
+    → fits_room h room before ≡ true
+    → (fits_room h room (before ++ e.command ∷ []) ≡ true
+    → fits_room h room ((before ++ e.command ∷ []) ++ commands_of (take (taken h room (before ++ e.command ∷ []) es) es))
     ≡ true)
-    → fits h room (before
+    → fits_room h room (before
     ++ commands_of (take (if t then suc (taken h room (before ++ e.command ∷ []) es) else 0) (e ∷ es))) ≡ true
 taken_by h room before e es true is fit more =
-    ap (fits h room)
+    ap (fits_room h room)
     (sym (append_assoc before (e.command ∷ []) (commands_of (take (taken h room (before ++ e.command ∷ []) es) es))))
     ∙ more is
-taken_by h room before e es false is fit more = ap (fits h room) (append-nil before) ∙ fit
+taken_by h room before e es false is fit more = ap (fits_room h room) (append-nil before) ∙ fit
 
-taken_fits : (h : Header) (room : ℕ) (before : List Command) (es : List Entry) → fits h room before ≡ true
-    → fits h room (before ++ commands_of (take (taken h room before es) es)) ≡ true
-taken_fits h room before [] fit = ap (fits h room) (append-nil before) ∙ fit
+taken_fits : (h : Header) (room : ℕ) (before : List Command) (es : List Entry) → fits_room h room before ≡ true
+    → fits_room h room (before ++ commands_of (take (taken h room before es) es)) ≡ true
+taken_fits h room before [] fit = ap (fits_room h room) (append-nil before) ∙ fit
 taken_fits h room before (e ∷ es) fit =
-    taken_by h room before e es (fits h room (before ++ e.command ∷ [])) refl fit
+    taken_by h room before e es (fits_room h room (before ++ e.command ∷ [])) refl fit
     (λ is. taken_fits h room (before ++ e.command ∷ []) es is)
 
 passes_by : (p : ℕ → Bool) (k : ℕ) (t : Bool) → p (suc k) ≡ t → (0 < greatest p k → p (greatest p k) ≡ true)
@@ -245,17 +246,17 @@ greatest_passes p zero h = absurd (omega (arith, h))
 greatest_passes p (suc k) h = passes_by p k (p (suc k)) refl (greatest_passes p k) h
 
 part_by : (h : Header) (room : ℕ) (before : List Command) (e : Entry) (es : List Entry) (n : ℕ)
-    → fits h room before ≡ true
-    → (0 < n → fits h room (before ++ part_of e n ∷ []) ≡ true) → fits h room (before ++ next_part n (e ∷ es)) ≡ true
-part_by h room before e es zero fit passes = ap (fits h room) (append-nil before) ∙ fit
+    → fits_room h room before ≡ true
+    → (0 < n → fits_room h room (before ++ part_of e n ∷ []) ≡ true) → fits_room h room (before ++ next_part n (e ∷ es)) ≡ true
+part_by h room before e es zero fit passes = ap (fits_room h room) (append-nil before) ∙ fit
 part_by h room before e es (suc n) fit passes = passes (omega arith)
 
-part_fits : (h : Header) (room : ℕ) (before : List Command) (next : List Entry) → fits h room before ≡ true
-    → fits h room (before ++ next_part (cut h room before next) next) ≡ true
-part_fits h room before [] fit = ap (fits h room) (append-nil before) ∙ fit
+part_fits : (h : Header) (room : ℕ) (before : List Command) (next : List Entry) → fits_room h room before ≡ true
+    → fits_room h room (before ++ next_part (cut h room before next) next) ≡ true
+part_fits h room before [] fit = ap (fits_room h room) (append-nil before) ∙ fit
 part_fits h room before (e ∷ es) fit =
     part_by h room before e es (cut h room before (e ∷ es)) fit
-    (greatest_passes (λ n. fits h room (before ++ part_of e n ∷ [])) (data_left e - 1))
+    (greatest_passes (λ n. fits_room h room (before ++ part_of e n ∷ [])) (data_left e - 1))
 
 -- ---- and so does the message
 
@@ -265,9 +266,9 @@ some_numbered cs c =
     let sum = length-append (numbered 1 cs) (numbered (1 + ids_of cs) (c ∷ [])) in
     omega (arith, apart_are, sum)
 
-open_within : (h : Header) (room : ℕ) (cs : List Command) → fits h room cs ≡ true
+open_within : (h : Header) (room : ℕ) (cs : List Command) → fits_room h room cs ≡ true
     → length (canonical (record { header = h; body = numbered 1 (cs ++ asks_next ∷ []); last = false })) ≤ room
-unfolding fits
+unfolding fits_room
 open_within h room cs fit =
     let ns = numbered 1 (cs ++ asks_next ∷ []) in
     let measured = leb-true _ room fit in
@@ -278,9 +279,9 @@ open_within h room cs fit =
     omega (arith, measured, closed, opened, two, three)
 
 bare_within : (h : Header) (room : ℕ) (cs : List Command) (last : Bool) → IsReadyHeader h → 2048 ≤ room
-    → fits h room cs ≡ true
+    → fits_room h room cs ≡ true
     → length (canonical (record { header = h; body = numbered 1 cs; last = last })) ≤ room
-unfolding fits front_length
+unfolding fits_room front_length
 bare_within h room [] last ready most fit = let short = bare_message h last ready in omega (arith, short, most)
 bare_within h room (c ∷ cs) last ready most fit =
     let low = leb-true _ room fit in
@@ -291,7 +292,7 @@ bare_within h room (c ∷ cs) last ready most fit =
     omega (arith, low, measured, whole, end, tail)
 
 tail_within : (h : Header) (room : ℕ) (cs : List Command) (t : Tail) → IsReadyHeader h → 2048 ≤ room
-    → fits h room cs ≡ true
+    → fits_room h room cs ≡ true
     → length (canonical (record { header = h; body = numbered 1 (cs ++ tail_commands t); last = is_final t })) ≤ room
 tail_within h room cs NextMessage ready most fit = open_within h room cs fit
 tail_within h room cs Final ready most fit =

@@ -82,11 +82,11 @@ abbrev pub bare_length : Command → ℕ
 bare_length c = length (spelled 0 (command_tokens (with_numbers 1000000000 (cut_changed without_value c))))
 
 -- in bytes
-abbrev pub most_bytes : Command → ℕ
-most_bytes (command.Atomic b) = 1000
-most_bytes (command.Sequence b) = 1000
-most_bytes other = 700
+abbrev pub entry_limit : Command → ℕ
+entry_limit (command.Atomic b) = 1000
+entry_limit (command.Sequence b) = 1000
+entry_limit other = 700
 
 pub record IsReady (e : Entry) : Type 0 where
   pub fit : IsFitCommand e.command
-  pub short : bare_length e.command ≤ most_bytes e.command
+  pub short : bare_length e.command ≤ entry_limit e.command

@@ -24,8 +24,8 @@ abbrev pub asks_next : Command
 asks_next = command.Alert (record { id = 0; no_resp = false; code = 1222; correlator = None; items = [] })
 
 -- a message fits as if an Alert 1222 and Final stood at its end
-unfoldable pub fits : Header → ℕ → List Command → Bool
-fits header room cs =
+unfoldable pub fits_room : Header → ℕ → List Command → Bool
+fits_room header room cs =
     nat_le (length (canonical (record { header = header; body = numbered 1 (cs ++ asks_next ∷ []); last = true }))) room
 
 abbrev pub commands_of : List Entry → List Command
@@ -35,7 +35,7 @@ commands_of es = map (λ (e : Entry). e.command) es
 abbrev pub taken : Header → ℕ → List Command → List Entry → ℕ
 taken header room before [] = 0
 taken header room before (e ∷ es) =
-    if fits header room (before ++ e.command ∷ []) then suc (taken header room (before ++ e.command ∷ []) es) else 0
+    if fits_room header room (before ++ e.command ∷ []) then suc (taken header room (before ++ e.command ∷ []) es) else 0
 
 -- the greatest number from 1 to a most that passes; 0 where none does
 abbrev pub greatest : (ℕ → Bool) → ℕ → ℕ
@@ -46,7 +46,7 @@ greatest passes (suc most) = if passes (suc most) then suc most else greatest pa
 -- 0 where it isn't cut
 abbrev pub cut : Header → ℕ → List Command → List Entry → ℕ
 cut header room before [] = 0
-cut header room before (e ∷ es) = greatest (λ n. fits header room (before ++ part_of e n ∷ [])) (data_left e - 1)
+cut header room before (e ∷ es) = greatest (λ n. fits_room header room (before ++ part_of e n ∷ [])) (data_left e - 1)
 
 abbrev pub next_part : ℕ → List Entry → List Command
 next_part zero es = []

@@ -8,7 +8,7 @@ use Rattle.syncml_types.specs.Canonical.{command_tokens}
 use Rattle.syncml_parts.specs.Numbering.{with_numbers}
 use Rattle.syncml_parts.specs.Packing.{cut_data}
 use Rattle.dm_pack.specs.Entries.{Entry, IsReady, part_of, rest_of}
-use Rattle.dm_pack.specs.Filling.{Filling, fill, fits, taken, commands_of, greatest, left_after, IsReadyHeader}
+use Rattle.dm_pack.specs.Filling.{Filling, fill, fits_room, taken, commands_of, greatest, left_after, IsReadyHeader}
 
 -- the whole entries and the part that a message tells of, taken off, leave what it leaves
 abbrev pub TheRestIsLeft : Type 0
@@ -18,8 +18,8 @@ TheRestIsLeft = (es : List Entry) (h : Header) (room : ℕ) (heard : Bool)
 -- as many entries as fit are taken: the message fits with each number of them up to that one, and not with one more
 abbrev pub TakesTheMost : Type 0
 TakesTheMost = (h : Header) (room : ℕ) (es : List Entry)
-    → ((k : ℕ) → 0 < k → k ≤ taken h room [] es → fits h room (commands_of (take k es)) ≡ true)
-    × (taken h room [] es < length es → fits h room (commands_of (take (suc (taken h room [] es)) es)) ≡ false)
+    → ((k : ℕ) → 0 < k → k ≤ taken h room [] es → fits_room h room (commands_of (take k es)) ≡ true)
+    × (taken h room [] es < length es → fits_room h room (commands_of (take (suc (taken h room [] es)) es)) ≡ false)
 
 -- a cut is the greatest: its number passes, where it isn't 0, and no greater one up to the most does
 abbrev pub CutsTheMost : Type 0
@@ -49,11 +49,11 @@ TheFirstGoesOut =
     → GoesOut 0 (fill (e ∷ es) h room heard)
 
 -- at most 250 bytes at the head of a message, as the Status of a header
-abbrev pub IsShort : Entry → Type 0
-IsShort e = length (spelled 0 (command_tokens (with_numbers 1 e.command))) ≤ 250
+abbrev pub IsShortStatus : Entry → Type 0
+IsShortStatus e = length (spelled 0 (command_tokens (with_numbers 1 e.command))) ≤ 250
 
 -- and so does the one behind a short first entry
 abbrev pub TheSecondGoesOut : Type 0
 TheSecondGoesOut = (first e : Entry) (es : List Entry) (h : Header) (room : ℕ) (heard : Bool)
-    → IsShort first → IsReady e → IsReadyHeader h → least_room ≤ room
+    → IsShortStatus first → IsReady e → IsReadyHeader h → least_room ≤ room
     → GoesOut 1 (fill (first ∷ e ∷ es) h room heard)

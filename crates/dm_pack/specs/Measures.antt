@@ -11,7 +11,7 @@ use Rattle.syncml_types.specs.Canonical.{optional, number_tokens, is_empty_meta,
 use Rattle.syncml_types.specs.Lengths.{head_tokens}
 use Rattle.syncml_parts.specs.Numbering.{ids_in, with_numbers}
 use Rattle.syncml_parts.specs.Packing.{cut_item, cut_changed, cut_data, data_length, head_bytes, body_tag, tail_tokens}
-use Rattle.syncml_parts.specs.Pages.{with_value}
+use Rattle.syncml_parts.specs.Pages.{with_item_value}
 use Rattle.dm_pack.specs.declared.kept_data.Apart.{Apart}
 use Rattle.dm_pack.specs.declared.place.Place.{Place}
 use Rattle.dm_pack.specs.declared.filled.Tail.{Tail}
@@ -36,11 +36,11 @@ apart_sent (Some apart) = apart.sent
 -- what is left of the Data, put back where it was taken out
 abbrev pub put_back : List ℕ → Command → Command
 put_back [] c = c
-put_back (b ∷ bs) c = cut_changed (with_value (b ∷ bs)) c
+put_back (b ∷ bs) c = cut_changed (with_item_value (b ∷ bs)) c
 
 -- the entry of which so many bytes went out
-abbrev pub entry_of : Command → List ℕ → ℕ → Entry
-entry_of c value sent = record { command = put_back (drop sent value) c; begun = not (sent == 0) }
+abbrev pub entry_left : Command → List ℕ → ℕ → Entry
+entry_left c value sent = record { command = put_back (drop sent value) c; begun = not (sent == 0) }
 
 -- a part's item, all but its Data
 abbrev pub marked : Option ℕ → Item → Item
@@ -73,7 +73,7 @@ pub record HasEmptyData (c : Command) : Type 0 where
   pub is : cut_item c ≡ Some item
   pub empty : item.value ≡ Some []
 
-pub record IsApart (c : Command) (value : List ℕ) (sent : ℕ) : Type 0 where
+pub record IsTakenApart (c : Command) (value : List ℕ) (sent : ℕ) : Type 0 where
   pub hollow : cut_data c ≡ []
   pub place : 0 < length value → HasEmptyData c
   pub within : sent ≤ length value
@@ -107,8 +107,8 @@ abbrev pub place_of : Header → List Command → Place
 place_of h cs = record { used = front_length h cs; page = front_page cs; next = 1 + ids_of cs }
 
 -- and with one more
-abbrev pub behind : Place → Command → Place
-behind p c =
+abbrev pub place_past : Place → Command → Place
+place_past p c =
     let d = with_numbers p.next c in
     record {
       used = p.used + length (spelled p.page (command_tokens d));
@@ -119,11 +119,11 @@ behind p c =
 -- and with several
 abbrev pub behind_all : Place → List Command → Place
 behind_all p [] = p
-behind_all p (c ∷ cs) = behind_all (behind p c) cs
+behind_all p (c ∷ cs) = behind_all (place_past p c) cs
 
 -- and with an entry without its Data
 abbrev pub behind_hollow : Place → Entry → Place
-behind_hollow p e = behind p (cut_changed hollow_item e.command)
+behind_hollow p e = place_past p (cut_changed hollow_item e.command)
 
 -- behind the first entry of those that are left, without its Data
 abbrev pub hollow_next : Place → List Entry → Option Place
@@ -169,7 +169,7 @@ greatest_with p value room = greatest (λ n. fits_at room (with_cost (take n val
 
 -- and with which a part of an entry fits behind a place
 unfoldable pub greatest_at : Place → Entry → ℕ → ℕ
-greatest_at p e room = greatest (λ n. fits_at room (behind p (part_of e n))) (data_left e - 1)
+greatest_at p e room = greatest (λ n. fits_at room (place_past p (part_of e n))) (data_left e - 1)
 
 -- of the first entry of those that are left
 abbrev pub cut_at : Place → ℕ → List Entry → ℕ

@@ -11,7 +11,7 @@ ghost use Rattle.dm_pack.specs.Filling.{numbered, commands_of, taken, next_part,
 ghost use Rattle.dm_pack.specs.Measures.{place_of, behind_all, hollow_next, cut_at};
 
 use crate::filled::{ENTRY, Filled, Tail, is_final, push_tail, spelled};
-use crate::fitting::{Taken, push_part};
+use crate::fitting::{Fitting, push_part};
 use crate::place::Place;
 use crate::queue::Queue;
 use dm_base::{Boxed, List, Memory};
@@ -38,7 +38,7 @@ fn take_out(
     header: &Boxed<Header>,
     room: u64,
     body: &mut List<Command>,
-) -> Result<Taken, Memory>
+) -> Result<Fitting, Memory>
     requires ready { AllByRecursion IsReady queue.old }
     requires header { IsReadyHeader header.now }
     requires room { room ≤ message_limit }
@@ -57,7 +57,7 @@ fn take_out(
         let hollow = place.with_hollow(entry);
         match hollow.with_data(entry.left(), room) {
             None => {
-                return Ok(Taken {
+                return Ok(Fitting {
                     whole: at,
                     place,
                     hollow: Some(hollow),
@@ -69,7 +69,7 @@ fn take_out(
             }
         }
     }
-    Ok(Taken {
+    Ok(Fitting {
         whole: count,
         place,
         hollow: None,
@@ -79,7 +79,7 @@ fn take_out(
 // Adds a part of the first entry, where there is one.
 fn push_first(
     queue: &Queue,
-    taken: Taken,
+    taken: Fitting,
     room: u64,
     body: &mut List<Command>,
 ) -> Result<(u64, Place), Memory>

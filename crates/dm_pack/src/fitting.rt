@@ -4,7 +4,7 @@ ghost use Rattle.std.specs.List.{AllByRecursion};
 ghost use Rattle.dm_base.specs.Limits.{message_limit};
 ghost use Rattle.syncml_types.specs.Message.{IsShortData};
 ghost use Rattle.syncml_parts.specs.Numbering.{with_numbers, ids_in};
-ghost use Rattle.syncml_parts.specs.Packing as Packing;
+ghost use Rattle.syncml_parts.specs.Packing;
 ghost use Rattle.dm_pack.specs.Entries.{IsReady, data_left, part_of};
 ghost use Rattle.dm_pack.specs.Filling.{IsReadyHeader, numbered, commands_of, taken, next_part};
 ghost use Rattle.dm_pack.specs.Measures.{place_of, behind_all, behind_hollow, hollow_next, greatest_within};
@@ -21,7 +21,7 @@ use syncml_types::{Command, Header};
 // How many entries a message holds whole, where it has come to with them, and where it comes to with the next one
 // without the Data that may be cut, which isn't measured again.
 #[derive(Clone, Copy)]
-pub(crate) struct Taken {
+pub(crate) struct Fitting {
     pub(crate) whole: usize,
     pub(crate) place: Place,
     pub(crate) hollow: Option<Place>,
@@ -81,7 +81,7 @@ pub(crate) fn take_entries(
     header: &Boxed<Header>,
     room: u64,
     body: &mut List<Command>,
-) -> Result<Taken, Memory>
+) -> Result<Fitting, Memory>
     requires ready { AllByRecursion IsReady queue.now }
     requires header { IsReadyHeader header.now }
     requires room { room ≤ message_limit }
@@ -100,7 +100,7 @@ pub(crate) fn take_entries(
         let hollow = place.with_hollow(entry);
         match hollow.with_data(entry.left(), room) {
             None => {
-                return Ok(Taken {
+                return Ok(Fitting {
                     whole: at,
                     place,
                     hollow: Some(hollow),
@@ -112,7 +112,7 @@ pub(crate) fn take_entries(
             }
         }
     }
-    Ok(Taken {
+    Ok(Fitting {
         whole: queue.len(),
         place,
         hollow: None,
@@ -176,7 +176,7 @@ pub(crate) fn push_part(
 // Adds a part of the entry behind those that are taken, where there is one.
 pub(crate) fn push_next(
     queue: &Queue,
-    taken: Taken,
+    taken: Fitting,
     room: u64,
     body: &mut List<Command>,
 ) -> Result<(u64, Place), Memory>

@@ -8,10 +8,10 @@ ghost use Rattle.syncml_types.specs.Lengths.{up_to_most, spelled_length};
 ghost use Rattle.syncml_parts.specs.Numbering.{with_numbers};
 ghost use Rattle.syncml_parts.specs.Packing.{body_tag, tail_tokens};
 ghost use Rattle.dm_pack.specs.Entries.{IsReady, data_left, whole_entry, part_of};
-ghost use Rattle.dm_pack.specs.Filling as Filling;
+ghost use Rattle.dm_pack.specs.Filling;
 ghost use Rattle.dm_pack.specs.Filling.{IsReadyHeader};
 ghost use Rattle.dm_pack.specs.Measures as Spec;
-ghost use Rattle.dm_pack.specs.Measures.{behind, behind_hollow, within, with_cost, place_of, marks_of};
+ghost use Rattle.dm_pack.specs.Measures.{place_past, behind_hollow, within, with_cost, place_of, marks_of};
 
 use crate::filled::Tail;
 use crate::marks::decimal_length;
@@ -173,7 +173,7 @@ impl Place {
         requires ready { IsReady (whole_entry command.now) }
         requires room { room ≤ message_limit }
         requires low { (self.used ≤ message_limit) × (self.next ≤ 1 + self.used) }
-        ensures { IfSome result (λ next. Some next ≡ within room (behind self command.now)) }
+        ensures { IfSome result (λ next. Some next ≡ within room (place_past self command.now)) }
     {
         let (bytes, page) = numbered_length(self.page, self.next, command);
         let used = self.used.saturating_add(bytes);

@@ -3,13 +3,13 @@
 ghost use Rattle.std.specs.Prelude.{◌≡◌, ◌<◌, ◌≤◌, ◌+◌, ◌-◌, ◌^◌, IfOk, OnOk, true};
 ghost use Rattle.wbxml_tokens.specs.Spelling.{page_behind};
 ghost use Rattle.syncml_types.specs.Fitness.{is_in_limit, command_data};
-ghost use Rattle.syncml_parts.specs.Pages.{with_value};
+ghost use Rattle.syncml_parts.specs.Pages.{with_item_value};
 ghost use Rattle.syncml_types.specs.Canonical.{command_tokens};
 ghost use Rattle.syncml_types.specs.Lengths.{spelled_length};
 ghost use Rattle.syncml_parts.specs.Numbering.{ids_in as ids_of_command, with_numbers};
 ghost use Rattle.syncml_parts.specs.Packing.{cut_changed, cut_data, bytes_in};
 ghost use Rattle.dm_pack.specs.Entries.{whole_entry, data_left, part_of, rest_of, with_size, last_only, last_alone};
-ghost use Rattle.dm_pack.specs.Measures.{hollow_item, marked, marks_of, put_back, entry_of, IsApart};
+ghost use Rattle.dm_pack.specs.Measures.{hollow_item, marked, marks_of, put_back, entry_left, IsTakenApart};
 ghost use Rattle.dm_pack.specs.Measures.{apart_value, apart_sent};
 
 use crate::kept_data::{Apart, copy_apart, into_left, kept_apart, leave, left_of, size_of};
@@ -29,13 +29,13 @@ pub(crate) struct Waiting {
 
 impl Model for Waiting {
     ghost use Rattle.dm_pack.specs.Entries.{Entry};
-    ghost use Rattle.dm_pack.specs.Measures.{entry_of, apart_value, apart_sent, IsApart};
+    ghost use Rattle.dm_pack.specs.Measures.{entry_left, apart_value, apart_sent, IsTakenApart};
 
     ghost Value = { Entry };
 
-    ghost view = { λ w. entry_of w.command (apart_value w.apart) (apart_sent w.apart) };
+    ghost view = { λ w. entry_left w.command (apart_value w.apart) (apart_sent w.apart) };
 
-    ghost invariant = { λ w. IsApart w.command (apart_value w.apart) (apart_sent w.apart) };
+    ghost invariant = { λ w. IsTakenApart w.command (apart_value w.apart) (apart_sent w.apart) };
 }
 
 fn take_value(alloc: Global, item: &mut Item) -> Bytes
@@ -66,8 +66,8 @@ pub(crate) fn set_apart(
     alloc: Global,
     command: &mut Command,
 ) -> Result<Option<Boxed<Apart>>, Memory>
-    ensures apart { IfOk result (λ apart. IsApart command.new (apart_value apart) (apart_sent apart)) }
-    ensures whole { IfOk result (λ apart. entry_of command.new (apart_value apart) (apart_sent apart)
+    ensures apart { IfOk result (λ apart. IsTakenApart command.new (apart_value apart) (apart_sent apart)) }
+    ensures whole { IfOk result (λ apart. entry_left command.new (apart_value apart) (apart_sent apart)
         ≡ whole_entry command.old) }
 {
     let value = take_data(alloc, command);
@@ -75,14 +75,14 @@ pub(crate) fn set_apart(
 }
 
 fn write_value(item: &mut Item, value: Bytes)
-    ensures { item.new ≡ with_value value item.old }
+    ensures { item.new ≡ with_item_value value item.old }
 {
     item.value = Some(value);
 }
 
 // Data for the item that may be cut.
 fn put_value(command: &mut Command, value: Bytes)
-    ensures { command.new ≡ cut_changed (with_value value) command.old }
+    ensures { command.new ≡ cut_changed (with_item_value value) command.old }
 {
     match cut_item_mut(command) {
         None => drop(value),
@@ -170,8 +170,8 @@ fn keep_last(command: &mut Command)
 impl Waiting {
     // The entry of a command without its Data, which stands apart.
     pub(crate) fn new(command: Command, apart: Option<Boxed<Apart>>) -> Waiting
-        requires { IsApart command (apart_value apart) (apart_sent apart) }
-        ensures { result ≡ entry_of command (apart_value apart) (apart_sent apart) }
+        requires { IsTakenApart command (apart_value apart) (apart_sent apart) }
+        ensures { result ≡ entry_left command (apart_value apart) (apart_sent apart) }
     {
         Waiting { command, apart }
     }

@@ -5,7 +5,7 @@ use Rattle.std.proofs.lemmas.List.{get_or_default}
 use Rattle.std.specs.Prelude.{true, false, Result, Ok, Err, OnOk}
 use Rattle.dm_base.specs.declared.bytes.Memory.{Memory}
 use Rattle.syncml_codec.specs.Decoding.{read_of}
-use Rattle.dm_machine.specs.declared.kinds.Kind.{Kind}
+use Rattle.dm_machine.specs.declared.kinds.Initiator.{Initiator}
 use Rattle.dm_machine.specs.Machine.{Machine}
 use Rattle.dm_machine.specs.Events as client
 use Rattle.dm_machine.specs.Events.{message as came, opened, loss, act}
@@ -15,12 +15,12 @@ use Rattle.dm_service.specs.Service.{Service}
 use Rattle.dm_service.specs.History as server_runs
 use Rattle.dm_session.specs.View.{sent_last}
 use Rattle.dm_server.specs.View.{sent_last as server_last, arrival_of as arrival}
-use Rattle.dm_pair.specs.declared.events.Event.{Event}
-use Rattle.dm_pair.specs.declared.events.Event.TheVariants as event
+use Rattle.dm_pair.specs.declared.events.PairEvent.{PairEvent}
+use Rattle.dm_pair.specs.declared.events.PairEvent.TheVariants as event
 use Rattle.dm_pair.specs.Pairing.{Pairing, Round, Step, sent_up, sent_down, nonce_of, comes_up, comes_down}
 use Rattle.dm_pair.specs.Pairing.{client_words, server_word, stop_word, last_up, last_down, half_down, round_up, round}
 use Rattle.dm_pair.specs.Pairing.{stops, behind_round, rounds, client_step, up_step, down_step, step_of}
-use Rattle.dm_pair.specs.Pairing.{to_client, numbered}
+use Rattle.dm_pair.specs.Pairing.{to_client, message_numbered}
 use Rattle.dm_pair.specs.Seen.{round_behind}
 
 abbrev pub ends : Machine → Service → List (List ℕ) → List (List ℕ) → ℕ → Pairing
@@ -153,16 +153,16 @@ quiet_step p e c words is quiet told =
 
 -- ---- any event
 
-pub step_open : (p : Pairing) (account : ℕ) (kind : Kind) (session : ℕ)
+pub step_open : (p : Pairing) (account : ℕ) (kind : Initiator) (session : ℕ)
     → step_of p (event.Open account kind session) ≡ client_step p (opened account kind session)
 unfolding step_of
 step_open p account kind session = refl
 
-pub step_up : (p : Pairing) (number : ℕ) → step_of p (event.Up number) ≡ up_step p (numbered p.ups number)
+pub step_up : (p : Pairing) (number : ℕ) → step_of p (event.Up number) ≡ up_step p (message_numbered p.ups number)
 unfolding step_of
 step_up p number = refl
 
-pub step_down : (p : Pairing) (number : ℕ) → step_of p (event.Down number) ≡ down_step p (numbered p.downs number)
+pub step_down : (p : Pairing) (number : ℕ) → step_of p (event.Down number) ≡ down_step p (message_numbered p.downs number)
 unfolding step_of
 step_down p number = refl
 
@@ -174,20 +174,20 @@ pub step_act : (p : Pairing) (ok : Bool) → step_of p (event.Act ok) ≡ client
 unfolding step_of
 step_act p ok = refl
 
-pub end_words : (p : Pairing) (e : Event) (out : List ℕ) → e ≡ event.End → out ≡ out ++ (step_of p e).words
+pub end_words : (p : Pairing) (e : PairEvent) (out : List ℕ) → e ≡ event.End → out ≡ out ++ (step_of p e).words
 unfolding step_of
 end_words p e out is = sym (ap (λ x. out ++ (step_of p x).words) is ∙ append-nil out)
 
-pub end_state : (p : Pairing) (e : Event) → e ≡ event.End → p ≡ (step_of p e).behind
+pub end_state : (p : Pairing) (e : PairEvent) → e ≡ event.End → p ≡ (step_of p e).behind
 unfolding step_of
 end_state p e is = sym (ap (λ x. (step_of p x).behind) is)
 
-step_words : (p q : Pairing) (e x : Event) (s : Step) (words out now : List ℕ) → e ≡ x → step_of p x ≡ s
+step_words : (p q : Pairing) (e x : PairEvent) (s : Step) (words out now : List ℕ) → e ≡ x → step_of p x ≡ s
     → s ≡ stops q words → now ≡ out ++ words → now ≡ out ++ (step_of p e).words
 step_words p q e x s words out now is does comes adds =
     adds ∙ ap (λ w. out ++ w) (sym (ap (λ t. t.words) (ap (step_of p) is ∙ does ∙ comes)))
 
-pub step_state : (p q : Pairing) (e x : Event) (s : Step) (words : List ℕ) → e ≡ x → step_of p x ≡ s
+pub step_state : (p q : Pairing) (e x : PairEvent) (s : Step) (words : List ℕ) → e ≡ x → step_of p x ≡ s
     → s ≡ stops q words → q ≡ (step_of p e).behind
 step_state p q e x s words is does comes = sym (ap (λ t. t.behind) (ap (step_of p) is ∙ does ∙ comes))
 
@@ -203,7 +203,7 @@ pub run_state : (p q : Pairing) (n : ℕ) (word : List ℕ) → rounds n p ≡ s
 unfolding step_of
 run_state p q n word ran = sym (ap (λ s. s.behind) ran)
 
-pub words_then : (r : Result (Unit {0}) Memory) (p q : Pairing) (e x : Event) (s : Step) (words out now : List ℕ)
+pub words_then : (r : Result (Unit {0}) Memory) (p q : Pairing) (e x : PairEvent) (s : Step) (words out now : List ℕ)
     → e ≡ x → step_of p x ≡ s → s ≡ stops q words → OnOk r (now ≡ out ++ words)
     → OnOk r (now ≡ out ++ (step_of p e).words)
 words_then (Ok u) p q e x s words out now is does comes adds = step_words p q e x s words out now is does comes adds
@@ -249,7 +249,7 @@ rounds_keep (suc n) p =
     behind_keeps (round p) (rounds n (round p).behind) (many p) (round_keeps p)
     (rounds_keep n (round p).behind ∙ round_keeps p)
 
-step_keeps : (p : Pairing) (e : Event) → many (step_of p e).behind ≡ many p
+step_keeps : (p : Pairing) (e : PairEvent) → many (step_of p e).behind ≡ many p
 unfolding step_of
 step_keeps p (event.Open account kind session) = client_keeps p (opened account kind session)
 step_keeps p (event.Up number) = refl
@@ -259,5 +259,5 @@ step_keeps p (event.Act ok) = client_keeps p (act ok)
 step_keeps p (event.Run count) = rounds_keep count p
 step_keeps p event.End = refl
 
-pub accounts_kept : (p q : Pairing) (e : Event) → q ≡ (step_of p e).behind → many q ≡ many p
+pub accounts_kept : (p q : Pairing) (e : PairEvent) → q ≡ (step_of p e).behind → many q ≡ many p
 accounts_kept p q e is = ap many is ∙ step_keeps p e

@@ -4,25 +4,26 @@ use Rattle.std.proofs.Common.{subst, length, codes, nat_lt, nat_le, arith}
 use Rattle.std.specs.Prelude.{Result, Ok, Err, bytes_eq}
 use Rattle.std.specs.Str.Parse.{digits_value}
 use Rattle.std.proofs.lemmas.Bool.Decides.{nat_tests}
-use Rattle.dm_base.specs.Fields.{parts, is_id, is_numeral, num_of, nonce_of, hex_of}
+use Rattle.dm_base.specs.Fields.{parts, is_id, is_numeral, num_of, challenge_of, hex_of}
 use Rattle.dm_base.specs.declared.lines.LineReason.{LineReason}
 use Rattle.dm_base.specs.declared.lines.LineReason.TheVariants as reason
 use Rattle.dm_base.specs.declared.values.Nonce.{Nonce}
-use Rattle.dm_machine.specs.declared.kinds.Kind.{Kind}
+use Rattle.dm_machine.specs.declared.kinds.Initiator.{Initiator}
 use Rattle.dm_fields.specs.Fields.{begins_with}
 use Rattle.dm_replay.specs.declared.events.Event.{Event as TraceEvent}
 use Rattle.dm_replay.specs.declared.events.Event.TheVariants as trace
-use Rattle.dm_replay.specs.Events.{event_of as trace_event_of, kind_of, session_by, session_of, place_of, opened_at}
+use Rattle.dm_replay.specs.Events.{event_of as trace_event_of, kind_of, session_by, session_in_text, account_place}
+use Rattle.dm_replay.specs.Events.{opened_at}
 use Rattle.dm_replay.specs.Events.{opened_by, open_in, msg_by, msg_in}
 use Rattle.dm_world.proofs.Lists.{either, either_is, and-left, and-right}
-use Rattle.dm_pair.specs.declared.events.Event.{Event}
-use Rattle.dm_pair.specs.declared.events.Event.TheVariants as event
-use Rattle.dm_pair.specs.Events.{IsOf, sent_number, told_by, up_in, down_in, rounds_by, run_in, said_of_trace}
-use Rattle.dm_pair.specs.Events.{trace_line, event_of}
+use Rattle.dm_pair.specs.declared.events.PairEvent.{PairEvent}
+use Rattle.dm_pair.specs.declared.events.PairEvent.TheVariants as event
+use Rattle.dm_pair.specs.Events.{IsPairEvent, sent_number, told_by, up_in, down_in, rounds_by, run_in, said_of_trace}
+use Rattle.dm_pair.specs.Events.{trace_line, pair_event_of}
 use Rattle.dm_pair.proofs.Within.{AreOf, trace_within}
 
 -- the number of a session is of 32 bits
-abbrev pub IsNumber : Event → Type 0
+abbrev pub IsNumber : PairEvent → Type 0
 IsNumber (event.Open account kind session) = session < 2 ^ 32
 IsNumber (event.Up number) = Unit {0}
 IsNumber (event.Down number) = Unit {0}
@@ -31,8 +32,8 @@ IsNumber (event.Act ok) = Unit {0}
 IsNumber (event.Run count) = Unit {0}
 IsNumber event.End = Unit {0}
 
-abbrev Fine : ℕ → ℕ → ℕ → Result Event LineReason → Type 0
-Fine accounts ups downs (Ok e) = IsOf accounts ups downs e × IsNumber e
+abbrev Fine : ℕ → ℕ → ℕ → Result PairEvent LineReason → Type 0
+Fine accounts ups downs (Ok e) = IsPairEvent accounts ups downs e × IsNumber e
 Fine accounts ups downs (Err why) = Unit {0}
 
 lt-yes : (a b : ℕ) → nat_lt a b ≡ true → a < b
@@ -112,24 +113,24 @@ session-low (Some n) =
     either_is IsLow (nat_lt 0 n && nat_lt n (2 ^ 32)) {x = Some n} {y = None}
     (λ t. lt-yes n (2 ^ 32) (and-right (nat_lt 0 n) _ t)) (λ t. tt)
 
-at-opens : (o : Option ℕ) (k : Kind) (n : ℕ) → n < 2 ^ 32 → Opens (opened_at o k n)
+at-opens : (o : Option ℕ) (k : Initiator) (n : ℕ) → n < 2 ^ 32 → Opens (opened_at o k n)
 at-opens None k n h = tt
 at-opens (Some a) k n h = h
 
-by-opens : (ids : List (List ℕ)) (server : List ℕ) (k : Option Kind) (s : Option ℕ) → IsLow s
+by-opens : (ids : List (List ℕ)) (server : List ℕ) (k : Option Initiator) (s : Option ℕ) → IsLow s
     → Opens (opened_by ids server k s)
 by-opens ids server None s h = tt
 by-opens ids server (Some k) None h = tt
 by-opens ids server (Some k) (Some n) h =
-    either Opens (is_id server) {x = opened_at (place_of ids server) k n} {y = Err reason.Fields}
-    (at-opens (place_of ids server) k n h) tt
+    either Opens (is_id server) {x = opened_at (account_place ids server) k n} {y = Err reason.Fields}
+    (at-opens (account_place ids server) k n h) tt
 
 open-opens : (ids fields : List (List ℕ)) → Opens (open_in ids fields)
 open-opens ids [] = tt
 open-opens ids (w ∷ []) = tt
 open-opens ids (w ∷ a ∷ []) = tt
 open-opens ids (w ∷ a ∷ b ∷ []) = tt
-open-opens ids (w ∷ a ∷ b ∷ c ∷ []) = by-opens ids a (kind_of b) (session_of c) (session-low (num_of c))
+open-opens ids (w ∷ a ∷ b ∷ c ∷ []) = by-opens ids a (kind_of b) (session_in_text c) (session-low (num_of c))
 open-opens ids (w ∷ a ∷ b ∷ c ∷ d ∷ ds) = tt
 
 msg-opens : (n : Option Nonce) (b : Option (List ℕ)) → Opens (msg_by n b)
@@ -141,7 +142,7 @@ msgs-open : (fields : List (List ℕ)) → Opens (msg_in fields)
 msgs-open [] = tt
 msgs-open (w ∷ []) = tt
 msgs-open (w ∷ a ∷ []) = tt
-msgs-open (w ∷ a ∷ b ∷ []) = msg-opens (nonce_of a) (hex_of b)
+msgs-open (w ∷ a ∷ b ∷ []) = msg-opens (challenge_of a) (hex_of b)
 msgs-open (w ∷ a ∷ b ∷ c ∷ cs) = tt
 
 trace-opens : (ids : List (List ℕ)) (line : List ℕ) → Opens (trace_event_of 1 ids line)
@@ -184,8 +185,8 @@ trace-fine ids ups downs line =
 -- ---- any line
 
 event-fine : (ids : List (List ℕ)) (ups downs : ℕ) (line : List ℕ)
-    → Fine (length ids) ups downs (event_of ids ups downs line)
-unfolding event_of
+    → Fine (length ids) ups downs (pair_event_of ids ups downs line)
+unfolding pair_event_of
 event-fine ids ups downs line =
     either (Fine (length ids) ups downs) (begins_with (codes "up") line) (up-fine (length ids) ups downs (parts line))
     (either (Fine (length ids) ups downs) (begins_with (codes "down") line)
@@ -194,7 +195,7 @@ event-fine ids ups downs line =
     (run-fine (length ids) ups downs (parts line)) (trace-fine ids ups downs line)))
 
 -- of an event that it says
-pub event-is : (ids : List (List ℕ)) (ups downs : ℕ) (line : List ℕ) (e : Event)
-    → event_of ids ups downs line ≡ Ok e
-    → IsOf (length ids) ups downs e × IsNumber e
+pub event-is : (ids : List (List ℕ)) (ups downs : ℕ) (line : List ℕ) (e : PairEvent)
+    → pair_event_of ids ups downs line ≡ Ok e
+    → IsPairEvent (length ids) ups downs e × IsNumber e
 event-is ids ups downs line e h = subst (Fine (length ids) ups downs) h (event-fine ids ups downs line)

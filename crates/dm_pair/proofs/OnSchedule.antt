@@ -6,7 +6,7 @@ use Rattle.std.proofs.Common.{get_or, Option, None, Some, refl, sym, ◌∙◌, 
 use Rattle.std.specs.Prelude.{Ok, Err, Result, slice_get, option_map}
 use Rattle.dm_base.specs.declared.lines.LineReason.{LineReason}
 use Rattle.dm_auth.specs.declared.accounts.Account.{Account}
-use Rattle.dm_replay.specs.Trace.{ids_of}
+use Rattle.dm_replay.specs.Trace.{servers_of}
 use Rattle.std.specs.Int.{byte_at, bytes_high_first}
 use Rattle.std.proofs.lemmas.List.{append-nil, length-append}
 use Rattle.std.proofs.lemmas.Bool.Decides.{nat_tests}
@@ -28,14 +28,15 @@ use Rattle.dm_world.proofs.Ranges.{all-append}
 use Rattle.dm_world.proofs.ReadAgain.{reads_the_sent}
 use Rattle.dm_world.proofs.ToldMade.{run-snoc}
 use Rattle.dm_world.proofs.Heads.{all-heads}
-use Rattle.dm_pair.specs.declared.events.Event.{Event}
-use Rattle.dm_pair.specs.declared.events.Event.TheVariants as event
-use Rattle.dm_pair.specs.Events.{IsOf}
-use Rattle.dm_pair.specs.Pairing.{Pairing, Round, Step, sent_up, sent_down, to_client, to_server, nonce_of, counted}
+use Rattle.dm_pair.specs.declared.events.PairEvent.{PairEvent}
+use Rattle.dm_pair.specs.declared.events.PairEvent.TheVariants as event
+use Rattle.dm_pair.specs.Events.{IsPairEvent}
+use Rattle.dm_pair.specs.Pairing.{Pairing, Round, Step, sent_up, sent_down, to_client, to_server, nonce_of}
+use Rattle.dm_pair.specs.Pairing.{delivery_counted}
 use Rattle.dm_pair.specs.Pairing.{comes_up, comes_down, half_down, round_up, round}
 use Rattle.dm_pair.specs.Pairing.{behind_round, rounds, step_of}
-use Rattle.dm_pair.specs.Events.{event_of}
-use Rattle.dm_pair.specs.Texts.{happening, over, said_turn, event_turn, turn}
+use Rattle.dm_pair.specs.Events.{pair_event_of}
+use Rattle.dm_pair.specs.Texts.{happening, over, said_turn, event_turn, text_turn}
 use Rattle.dm_pair.specs.Schedules.{in_bytes, itself, reply_message, IsWorld, first_pairing, brought_by, brought}
 use Rattle.dm_pair.specs.Schedules.{HasEnds, OnSchedule, RunsOnSchedules}
 use Rattle.dm_pair.proofs.EventLines.{IsNumber, event-is}
@@ -135,7 +136,7 @@ client-world p w e h = record {
 }
 
 server-world : (p : Pairing) (w : World) (m : Parts) (nonce : List ℕ) → IsWorld p w
-    → IsWorld (counted (to_server p (arrival m nonce))) (up_delivered w (Some m) nonce)
+    → IsWorld (delivery_counted (to_server p (arrival m nonce))) (up_delivered w (Some m) nonce)
 server-world p w m nonce h = record {
   client = h.client;
   server = ap (λ v. server_runs.next v (arrival m nonce)) h.server;
@@ -146,7 +147,7 @@ server-world p w m nonce h = record {
 }
 
 down-world : (p : Pairing) (w : World) (d : Reply) (nonce : List ℕ) → IsWorld p w
-    → IsWorld (counted (to_client p (client.message (Ok d.message) nonce))) (down_delivered w (Some d) nonce)
+    → IsWorld (delivery_counted (to_client p (client.message (Ok d.message) nonce))) (down_delivered w (Some d) nonce)
 down-world p w d nonce h =
     let x = client-world p w (client.message (Ok d.message) nonce) h in
     record { client = x.client; server = x.server; ups = x.ups; downs = x.downs }
@@ -193,7 +194,7 @@ up-on c job p k m start o e =
     let read = ((reads_the_sent c job o.schedule start o.is_schedule).server_end k m e).read in
     one-more c job p (comes_up p (canonical m)) o (up_comes k nonce) (nonce-is p)
     (subst (λ u. IsWorld (comes_up p (canonical m)) (up_delivered w u nonce)) (sym e)
-    (subst (λ r. IsWorld (counted (to_server p (record { read = r; nonce = nonce }))) (up_delivered w (Some m) nonce))
+    (subst (λ r. IsWorld (delivery_counted (to_server p (record { read = r; nonce = nonce }))) (up_delivered w (Some m) nonce))
     (sym read) (server-world p w m nonce o.is_world)))
 
 down-on : (c : Machine) (job : Job) (p : Pairing) (k : ℕ) (d : Reply) → IsWorldStart c job → (o : OnSchedule c job p)
@@ -207,13 +208,13 @@ down-on c job p k d start o e =
     one-more c job p (comes_down p (canonical d.message)) o (down_comes k nonce) (nonce-is p)
     (subst (λ r. IsWorld (comes_down p (canonical d.message)) (down_delivered w r nonce)) (sym e)
     (subst
-    (λ r. IsWorld (counted (to_client p (client.message r nonce))) (down_delivered w (Some d) nonce))
+    (λ r. IsWorld (delivery_counted (to_client p (client.message r nonce))) (down_delivered w (Some d) nonce))
     (sym read) (down-world p w d nonce o.is_world)))
 
 -- ---- rounds
 
 -- a delivery of nothing is counted
-counted-on : (c : Machine) (job : Job) (p : Pairing) → OnSchedule c job p → OnSchedule c job (counted p)
+counted-on : (c : Machine) (job : Job) (p : Pairing) → OnSchedule c job p → OnSchedule c job (delivery_counted p)
 counted-on c job p o = record {
   schedule = o.schedule;
   is_schedule = o.is_schedule;
@@ -262,8 +263,8 @@ rounds-on c job (suc n) p start o =
 
 -- ---- any event
 
-step-on : (c : Machine) (job : Job) (p : Pairing) (e : Event) → IsWorldStart c job
-    → IsOf (length c.accounts) (length p.ups) (length p.downs) e
+step-on : (c : Machine) (job : Job) (p : Pairing) (e : PairEvent) → IsWorldStart c job
+    → IsPairEvent (length c.accounts) (length p.ups) (length p.downs) e
     → IsNumber e
     → OnSchedule c job p
     → OnSchedule c job (step_of p e).behind
@@ -299,44 +300,44 @@ step-on c job p event.End start h n o = o
 
 -- ---- lines
 
-ids-long : (accounts : List Account) → length (ids_of accounts) ≡ length accounts
+ids-long : (accounts : List Account) → length (servers_of accounts) ≡ length accounts
 ids-long [] = refl
 ids-long (a ∷ more) = ap suc (ids-long more)
 
-accounts-of : (a b ups downs : ℕ) (e : Event) → a ≡ b → IsOf a ups downs e → IsOf b ups downs e
-accounts-of a b ups downs e same h = subst (λ n. IsOf n ups downs e) same h
+accounts-of : (a b ups downs : ℕ) (e : PairEvent) → a ≡ b → IsPairEvent a ups downs e → IsPairEvent b ups downs e
+accounts-of a b ups downs e same h = subst (λ n. IsPairEvent n ups downs e) same h
 
 -- behind the end nothing comes any more
 over-on : (c : Machine) (job : Job) (lines : List (List ℕ)) (q p : Pairing) → OnSchedule c job q
     → HasEnds p (brought (over q) lines)
     → OnSchedule c job p
-unfolding turn
+unfolding text_turn
 over-on c job [] q p o h = subst (OnSchedule c job) h o
 over-on c job (line ∷ lines) q p o h = subst (OnSchedule c job) h o
 
 line-on : (c : Machine) (job : Job) (line : List ℕ) (lines : List (List ℕ)) (q p : Pairing) → IsWorldStart c job
     → OnSchedule c job q
-    → ((r : Pairing) → OnSchedule c job r → HasEnds p (brought (happening (ids_of c.accounts) r) lines)
+    → ((r : Pairing) → OnSchedule c job r → HasEnds p (brought (happening (servers_of c.accounts) r) lines)
     → OnSchedule c job p)
-    → HasEnds p (brought (happening (ids_of c.accounts) q) (line ∷ lines))
+    → HasEnds p (brought (happening (servers_of c.accounts) q) (line ∷ lines))
     → OnSchedule c job p
-unfolding turn
+unfolding text_turn
 line-on c job line lines q p start o rest h =
-    by (event_of (ids_of c.accounts) (length q.ups) (length q.downs) line) refl h
+    by (pair_event_of (servers_of c.accounts) (length q.ups) (length q.downs) line) refl h
   where
-    goes : (e : Event)
-        → IsOf (length (ids_of c.accounts)) (length q.ups) (length q.downs) e × IsNumber e
-        → HasEnds p (brought (happening (ids_of c.accounts) (step_of q e).behind) lines)
+    goes : (e : PairEvent)
+        → IsPairEvent (length (servers_of c.accounts)) (length q.ups) (length q.downs) e × IsNumber e
+        → HasEnds p (brought (happening (servers_of c.accounts) (step_of q e).behind) lines)
         → OnSchedule c job p
     goes e k h =
         rest (step_of q e).behind
         (step-on c job q e start
-        (accounts-of (length (ids_of c.accounts)) (length c.accounts) (length q.ups) (length q.downs) e
+        (accounts-of (length (servers_of c.accounts)) (length c.accounts) (length q.ups) (length q.downs) e
         (ids-long c.accounts) k.0) k.1 o) h
 
-    turned : (e : Event)
-        → IsOf (length (ids_of c.accounts)) (length q.ups) (length q.downs) e × IsNumber e
-        → HasEnds p (brought (said_turn (ids_of c.accounts) q e).stage lines)
+    turned : (e : PairEvent)
+        → IsPairEvent (length (servers_of c.accounts)) (length q.ups) (length q.downs) e × IsNumber e
+        → HasEnds p (brought (said_turn (servers_of c.accounts) q e).stage lines)
         → OnSchedule c job p
     turned event.End k h = over-on c job lines q p o h
     turned (event.Open account kind session) k h = goes (event.Open account kind session) k h
@@ -346,17 +347,17 @@ line-on c job line lines q p start o rest h =
     turned (event.Act ok) k h = goes (event.Act ok) k h
     turned (event.Run count) k h = goes (event.Run count) k h
 
-    by : (r : Result Event LineReason)
-        → event_of (ids_of c.accounts) (length q.ups) (length q.downs) line ≡ r
+    by : (r : Result PairEvent LineReason)
+        → pair_event_of (servers_of c.accounts) (length q.ups) (length q.downs) line ≡ r
         → HasEnds p
-        (brought_by (event_turn (ids_of c.accounts) q r) (happening (ids_of c.accounts) q) (λ t. brought t lines))
+        (brought_by (event_turn (servers_of c.accounts) q r) (happening (servers_of c.accounts) q) (λ t. brought t lines))
         → OnSchedule c job p
     by (Err why) e h = subst (OnSchedule c job) h o
     by (Ok said) e h =
-        turned said (event-is (ids_of c.accounts) (length q.ups) (length q.downs) line said e) h
+        turned said (event-is (servers_of c.accounts) (length q.ups) (length q.downs) line said e) h
 
 lines-on : (c : Machine) (job : Job) (lines : List (List ℕ)) (q p : Pairing) → IsWorldStart c job → OnSchedule c job q
-    → HasEnds p (brought (happening (ids_of c.accounts) q) lines)
+    → HasEnds p (brought (happening (servers_of c.accounts) q) lines)
     → OnSchedule c job p
 lines-on c job [] q p start o h = subst (OnSchedule c job) h o
 lines-on c job (line ∷ lines) q p start o h =

@@ -13,18 +13,18 @@ use Rattle.dm_exit.specs.Puts.{PutsPart, PutsEnd, Ends}
 use Rattle.dm_exit.specs.Answers.{IsOfText}
 use Rattle.dm_exit.proofs.Parts.{ends_put, rest_breaks, end_of_text}
 use Rattle.dm_pair.specs.Texts.{written, is_too_long, pair_text, pair_exit}
-use Rattle.dm_pair.specs.Seen.{exit_of}
+use Rattle.dm_pair.specs.Seen.{exit_where_bad}
 
 -- ---- the text of the whole input
 
 full : (text : List ℕ) (bad : Bool) (old new : Option (List ℕ)) → Appends old new text
-    → Ends text (exit_of bad) old new (exit_of bad)
+    → Ends text (exit_where_bad bad) old new (exit_where_bad bad)
 full text true old new h = (h, refl)
 full text false old new h = (h, refl)
 
-ends_by : (text : List ℕ) (bad : Bool) (old new : Option (List ℕ)) (e : Exit) → PutsEnd text (exit_of bad) old new e
-    → Ends text (exit_of bad) old new e
-ends_by text bad old new e h = ends_put text (exit_of bad) old new e (full text bad old new) h
+ends_by : (text : List ℕ) (bad : Bool) (old new : Option (List ℕ)) (e : Exit) → PutsEnd text (exit_where_bad bad) old new e
+    → Ends text (exit_where_bad bad) old new e
+ends_by text bad old new e h = ends_put text (exit_where_bad bad) old new e (full text bad old new) h
 
 few : (bytes : List ℕ) → length bytes ≤ 67108864 → is_too_long bytes ≡ false
 few bytes h = grind (arith, common_steps, h)
@@ -33,7 +33,7 @@ many : (bytes : List ℕ) → 67108864 < length bytes → is_too_long bytes ≡ 
 many bytes h = grind (arith, common_steps, h)
 
 whole_ends : (bytes : List ℕ) (b : Bool) (old new : Option (List ℕ)) (e : Exit) → is_too_long bytes ≡ b → b ≡ false
-    → Ends (written bytes).text (exit_of (written bytes).bad) old new e
+    → Ends (written bytes).text (exit_where_bad (written bytes).bad) old new e
     → Ends (pair_text bytes) (pair_exit bytes) old new e
 unfolding pair_text pair_exit
 whole_ends bytes b old new e is none h = rw is (rw none h)
@@ -46,13 +46,13 @@ taken_is bytes (Some ys) input taken end = taken ∙ ap (λ l. input ++ l) end �
 
 pub all_put : (left rest : Option (List ℕ)) (input text : List ℕ) (bad : Bool) (old new : Option (List ℕ)) (e : Exit)
     → TakesAll left rest 67108864 (Ok input) → text ≡ (written input).text → bad ≡ (written input).bad
-    → PutsEnd text (exit_of bad) old new e → OfKnown left (λ bytes. Ends (pair_text bytes) (pair_exit bytes) old new e)
+    → PutsEnd text (exit_where_bad bad) old new e → OfKnown left (λ bytes. Ends (pair_text bytes) (pair_exit bytes) old new e)
 all_put None rest input text bad old new e took is_text is_bad h = tt
 all_put (Some bytes) rest input text bad old new e took is_text is_bad h =
     subst (λ b. Ends (pair_text b) (pair_exit b) old new e) (sym (taken_is bytes rest input took.1 took.2))
     (whole_ends input false old new e (few input took.0) refl
-    (subst (λ t. Ends t (exit_of (written input).bad) old new e) is_text
-    (subst (λ b. Ends text (exit_of b) old new e) is_bad (ends_by text bad old new e h))))
+    (subst (λ t. Ends t (exit_where_bad (written input).bad) old new e) is_text
+    (subst (λ b. Ends text (exit_where_bad b) old new e) is_bad (ends_by text bad old new e h))))
 
 -- ---- part by part
 
@@ -91,10 +91,10 @@ too_long (Some bytes) rest old took =
 
 -- ---- the answer
 
-exit_of_text : (bad : Bool) → IsOfText (exit_of bad)
+exit_of_text : (bad : Bool) → IsOfText (exit_where_bad bad)
 exit_of_text true = tt
 exit_of_text false = tt
 
 pub put_of_text : (text : List ℕ) (bad : Bool) (old new : Option (List ℕ)) (e : Exit)
-    → PutsEnd text (exit_of bad) old new e → IsOfText e
-put_of_text text bad old new e h = end_of_text text (exit_of bad) old new e (exit_of_text bad) h
+    → PutsEnd text (exit_where_bad bad) old new e → IsOfText e
+put_of_text text bad old new e h = end_of_text text (exit_where_bad bad) old new e (exit_of_text bad) h

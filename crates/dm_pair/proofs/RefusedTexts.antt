@@ -12,7 +12,8 @@ use Rattle.dm_exit.specs.declared.exit.Exit.TheVariants as exit
 use Rattle.dm_job.specs.Texts.{segments, is_long, unended}
 use Rattle.dm_job.proofs.Turns.{some_segments}
 use Rattle.dm_texts.specs.Lines.{bad_line}
-use Rattle.dm_pair.specs.Texts.{Stage, first, starting, jobbing, happening, over, Turn, quietly, turn, Written, refuses}
+use Rattle.dm_pair.specs.Texts.{TextStage, first, starting, jobbing, happening, over, TextTurn, silently, text_turn}
+use Rattle.dm_pair.specs.Texts.{Written, refuses}
 use Rattle.dm_pair.specs.Texts.{ends_at, behind_text, goes_on, behind_turn, written_from, written, is_too_long}
 use Rattle.dm_pair.specs.Texts.{pair_text, pair_exit}
 use Rattle.dm_pair.specs.Pairing.{Pairing}
@@ -20,28 +21,28 @@ use Rattle.dm_pair.specs.Refused.{behind_written, and_turns, turns_from, IsWrong
 use Rattle.dm_pair.specs.Refused.{IsRefusedText, TextRefusalsAreFirst, TextRefusalsAreTold}
 
 abbrev Turned : Type 0
-Turned = Result Turn LineReason
+Turned = Result TextTurn LineReason
 
 -- what is written from line n on, behind `end` too
-abbrev rest_from : ℕ → Stage → List (List ℕ) → Written
+abbrev rest_from : ℕ → TextStage → List (List ℕ) → Written
 rest_from n s lines = goes_on n s lines (written_from n s lines)
 
 -- before `end`
-abbrev IsOpen : Stage → Type 0
+abbrev IsOpen : TextStage → Type 0
 IsOpen first = Unit {0}
 IsOpen (starting s) = Unit {0}
 IsOpen (jobbing told r) = Unit {0}
 IsOpen (happening ids p) = Unit {0}
 IsOpen (over p) = ⊥
 
-open_rest : (s : Stage) (n : ℕ) (lines : List (List ℕ)) → IsOpen s → rest_from n s lines ≡ written_from n s lines
+open_rest : (s : TextStage) (n : ℕ) (lines : List (List ℕ)) → IsOpen s → rest_from n s lines ≡ written_from n s lines
 open_rest first n lines o = refl
 open_rest (starting s) n lines o = refl
 open_rest (jobbing told r) n lines o = refl
 open_rest (happening ids p) n lines o = refl
 open_rest (over p) n lines o = absurd o
 
-wrong_when_open : (s : Stage) (why : LineReason) (line : List ℕ) (behind : List (List ℕ)) → IsOpen s
+wrong_when_open : (s : TextStage) (why : LineReason) (line : List ℕ) (behind : List (List ℕ)) → IsOpen s
     → IsWrongOrLong why s line behind → IsRefusedBehind why s line behind
 wrong_when_open first why line behind o h = h
 wrong_when_open (starting s) why line behind o h = h
@@ -55,17 +56,17 @@ wrong_when_open (over p) why line behind o h = absurd o
 abbrev behind_line : ℕ → List (List ℕ) → Turned → Written
 behind_line n others x = behind_turn n x others (λ t. written_from (n + 1) t others)
 
-one_line : (n : ℕ) (s : Stage) (line next : List ℕ) (others : List (List ℕ)) (b : Bool) (x : Turned)
-    → is_long line ≡ b → turn s line ≡ x
+one_line : (n : ℕ) (s : TextStage) (line next : List ℕ) (others : List (List ℕ)) (b : Bool) (x : Turned)
+    → is_long line ≡ b → text_turn s line ≡ x
     → written_from n s (line ∷ next ∷ others)
     ≡ cond b (refuses (n, reason.Long)) (behind_line n (next ∷ others) x)
 one_line n s line next others b x long is =
-    ap (λ c. cond c (refuses (n, reason.Long)) (behind_line n (next ∷ others) (turn s line))) long
+    ap (λ c. cond c (refuses (n, reason.Long)) (behind_line n (next ∷ others) (text_turn s line))) long
     ∙ ap (λ y. cond b (refuses (n, reason.Long)) (behind_line n (next ∷ others) y)) is
 
 -- ---- a refusal is told
 
-told_tail : (n : ℕ) (s : Stage) (tail : List ℕ) (why : LineReason) → IsWrongOrLong why s tail []
+told_tail : (n : ℕ) (s : TextStage) (tail : List ℕ) (why : LineReason) → IsWrongOrLong why s tail []
     → written_from n s (tail ∷ []) ≡ refuses (n, why)
 told_tail n s tail why h = elim h [
   | inl x ↦
@@ -74,15 +75,15 @@ told_tail n s tail why h = elim h [
       ap (λ b. refuses (n, cond b reason.Long reason.Cut)) x.0 ∙ ap (λ w. refuses (n, w)) (sym x.1)
 ]
 
-told_line : (n : ℕ) (s : Stage) (line next : List ℕ) (others : List (List ℕ)) (why : LineReason)
+told_line : (n : ℕ) (s : TextStage) (line next : List ℕ) (others : List (List ℕ)) (why : LineReason)
     → IsWrongOrLong why s line (next ∷ others) → written_from n s (line ∷ next ∷ others) ≡ refuses (n, why)
 told_line n s line next others why h = elim h [
   | inl x ↦
-      one_line n s line next others true (turn s line) x.0 refl ∙ ap (λ w. refuses (n, w)) (sym x.1)
+      one_line n s line next others true (text_turn s line) x.0 refl ∙ ap (λ w. refuses (n, w)) (sym x.1)
   | inr x ↦ one_line n s line next others false (Err why) x.0 x.1
 ]
 
-told_open : (n : ℕ) (s : Stage) (line : List ℕ) (behind : List (List ℕ)) (why : LineReason)
+told_open : (n : ℕ) (s : TextStage) (line : List ℕ) (behind : List (List ℕ)) (why : LineReason)
     → IsWrongOrLong why s line behind → written_from n s (line ∷ behind) ≡ refuses (n, why)
 told_open n s line [] why h = told_tail n s line why h
 told_open n s line (next ∷ others) why h = told_line n s line next others why h
@@ -93,7 +94,7 @@ told_extra n p [] [] h = absurd (h refl)
 told_extra n p [] (x ∷ xs) h = refl
 told_extra n p (b ∷ bs) behind h = refl
 
-told_here : (n : ℕ) (s : Stage) (line : List ℕ) (behind : List (List ℕ)) (why : LineReason)
+told_here : (n : ℕ) (s : TextStage) (line : List ℕ) (behind : List (List ℕ)) (why : LineReason)
     → IsRefusedBehind why s line behind → rest_from n s (line ∷ behind) ≡ refuses (n, why)
 told_here n first line behind why h = told_open n first line behind why h
 told_here n (starting s) line behind why h = told_open n (starting s) line behind why h
@@ -106,19 +107,19 @@ not_long : (b : Bool) → not b ≡ true → b ≡ false
 not_long true h = absurd (cc)
 not_long false h = refl
 
-abbrev turned_value : Turn → Turned → Turn
+abbrev turned_value : TextTurn → Turned → TextTurn
 turned_value d (Ok t) = t
 turned_value d (Err why) = d
 
-same_turn : (a b : Turn) → ◌≡◌ {A = Turned} (Ok a) (Ok b) → a ≡ b
+same_turn : (a b : TextTurn) → ◌≡◌ {A = Turned} (Ok a) (Ok b) → a ≡ b
 same_turn a b h = ap (turned_value a) h
 
-extra_turn : (p : Pairing) (line : List ℕ) → turn (over p) line ≡ Err reason.Extra
-unfolding turn
+extra_turn : (p : Pairing) (line : List ℕ) → text_turn (over p) line ≡ Err reason.Extra
+unfolding text_turn
 extra_turn p line = refl
 
 -- a line is taken before `end` alone
-taken_open : (s : Stage) (line : List ℕ) (t : Turn) → turn s line ≡ Ok t → IsOpen s
+taken_open : (s : TextStage) (line : List ℕ) (t : TextTurn) → text_turn s line ≡ Ok t → IsOpen s
 taken_open first line t h = tt
 taken_open (starting s) line t h = tt
 taken_open (jobbing told r) line t h = tt
@@ -126,16 +127,16 @@ taken_open (happening ids p) line t h = tt
 taken_open (over p) line t h = let e = extra_turn p line in cc
 
 -- a line that is taken, and what stands behind it
-taken_line : (n : ℕ) (s : Stage) (line next : List ℕ) (others : List (List ℕ)) (t : Turn) → is_long line ≡ false
-    → turn s line ≡ Ok t
+taken_line : (n : ℕ) (s : TextStage) (line next : List ℕ) (others : List (List ℕ)) (t : TextTurn) → is_long line ≡ false
+    → text_turn s line ≡ Ok t
     → rest_from n s (line ∷ next ∷ others) ≡ behind_text t.written (rest_from (n + 1) t.stage (next ∷ others))
 taken_line n s line next others t short is =
     open_rest s n (line ∷ next ∷ others) (taken_open s line t is)
     ∙ one_line n s line next others false (Ok t) short is
 
 -- the same, where a line stands behind some others
-taken_before : (n : ℕ) (s : Stage) (b : List ℕ) (bs : List (List ℕ)) (line : List ℕ) (behind : List (List ℕ)) (t : Turn)
-    → is_long b ≡ false → turn s b ≡ Ok t
+taken_before : (n : ℕ) (s : TextStage) (b : List ℕ) (bs : List (List ℕ)) (line : List ℕ) (behind : List (List ℕ)) (t : TextTurn)
+    → is_long b ≡ false → text_turn s b ≡ Ok t
     → rest_from n s (b ∷ (bs ++ line ∷ behind))
     ≡ behind_text t.written (rest_from (n + 1) t.stage (bs ++ line ∷ behind))
 taken_before n s b [] line behind t short is = taken_line n s b line behind t short is
@@ -144,18 +145,18 @@ taken_before n s b (c ∷ cs) line behind t short is = taken_line n s b c (cs ++
 behind_both : (a b : List ℕ) (w : Written) → behind_text a (behind_text b w) ≡ behind_text (a ++ b) w
 behind_both a b w = ap (λ l. let x : Written = record { text = l; bad = w.bad } in x) (sym (append_assoc a b w.text))
 
-abbrev Later : ℕ → List (List ℕ) → List ℕ → List (List ℕ) → Stage → Type 0
+abbrev Later : ℕ → List (List ℕ) → List ℕ → List (List ℕ) → TextStage → Type 0
 Later n bs line behind s =
-    (t : Turn) → turns_from s bs ≡ Ok t
+    (t : TextTurn) → turns_from s bs ≡ Ok t
     → rest_from n s (bs ++ line ∷ behind) ≡ behind_text t.written (rest_from (n + length bs) t.stage (line ∷ behind))
 
-one_before : (n : ℕ) (s : Stage) (b : List ℕ) (bs : List (List ℕ)) (line : List ℕ) (behind : List (List ℕ)) (t : Turn)
-    → is_long b ≡ false → ((next : Stage) → Later (n + 1) bs line behind next) → turns_from s (b ∷ bs) ≡ Ok t
+one_before : (n : ℕ) (s : TextStage) (b : List ℕ) (bs : List (List ℕ)) (line : List ℕ) (behind : List (List ℕ)) (t : TextTurn)
+    → is_long b ≡ false → ((next : TextStage) → Later (n + 1) bs line behind next) → turns_from s (b ∷ bs) ≡ Ok t
     → rest_from n s (b ∷ (bs ++ line ∷ behind))
     ≡ behind_text t.written (rest_from (n + 1 + length bs) t.stage (line ∷ behind))
-one_before n s b bs line behind t short later h = by_turn (turn s b) refl h
+one_before n s b bs line behind t short later h = by_turn (text_turn s b) refl h
   where
-    by_rest : (u : Turn) → turn s b ≡ Ok u → (y : Turned) → turns_from u.stage bs ≡ y
+    by_rest : (u : TextTurn) → text_turn s b ≡ Ok u → (y : Turned) → turns_from u.stage bs ≡ y
         → behind_written u.written y ≡ Ok t
         → rest_from n s (b ∷ (bs ++ line ∷ behind))
         ≡ behind_text t.written (rest_from (n + 1 + length bs) t.stage (line ∷ behind))
@@ -164,21 +165,21 @@ one_before n s b bs line behind t short later h = by_turn (turn s b) refl h
         taken_before n s b bs line behind u short is
         ∙ ap (behind_text u.written) (later u.stage v are)
         ∙ behind_both u.written v.written (rest_from (n + 1 + length bs) v.stage (line ∷ behind))
-        ∙ ap (λ (x : Turn). behind_text x.written (rest_from (n + 1 + length bs) x.stage (line ∷ behind)))
+        ∙ ap (λ (x : TextTurn). behind_text x.written (rest_from (n + 1 + length bs) x.stage (line ∷ behind)))
         (same_turn (record { stage = v.stage; written = u.written ++ v.written }) t g)
 
-    by_turn : (x : Turned) → turn s b ≡ x → and_turns x (λ next. turns_from next bs) ≡ Ok t
+    by_turn : (x : Turned) → text_turn s b ≡ x → and_turns x (λ next. turns_from next bs) ≡ Ok t
         → rest_from n s (b ∷ (bs ++ line ∷ behind))
         ≡ behind_text t.written (rest_from (n + 1 + length bs) t.stage (line ∷ behind))
     by_turn (Err w) is g = absurd (cc)
     by_turn (Ok u) is g = by_rest u is (turns_from u.stage bs) refl g
 
-all_before : (n : ℕ) (s : Stage) (bs : List (List ℕ)) (line : List ℕ) (behind : List (List ℕ))
+all_before : (n : ℕ) (s : TextStage) (bs : List (List ℕ)) (line : List ℕ) (behind : List (List ℕ))
     → list_all (λ l. not (is_long l)) bs ≡ true → Later n bs line behind s
 all_before n s [] line behind short t h =
     let here : n ≡ n + 0 = omega arith in
     ap (λ m. rest_from m s (line ∷ behind)) here
-    ∙ ap (λ (x : Turn). behind_text x.written (rest_from (n + 0) x.stage (line ∷ behind))) (same_turn (quietly s) t h)
+    ∙ ap (λ (x : TextTurn). behind_text x.written (rest_from (n + 0) x.stage (line ∷ behind))) (same_turn (silently s) t h)
 all_before n s (b ∷ bs) line behind short t h =
     let both = and_parts (not (is_long b)) (list_all (λ l. not (is_long l)) bs) short in
     let next : n + 1 + length bs ≡ n + length (b ∷ bs) = omega arith in
@@ -213,7 +214,7 @@ refusals_are_told bytes n why r =
 -- ---- what ends a text is a refusal
 
 -- from line n on
-record Refused (n : ℕ) (s : Stage) (lines : List (List ℕ)) : Type 0 where
+record Refused (n : ℕ) (s : TextStage) (lines : List (List ℕ)) : Type 0 where
   at : ℕ
   why : LineReason
   before : List (List ℕ)
@@ -222,11 +223,11 @@ record Refused (n : ℕ) (s : Stage) (lines : List (List ℕ)) : Type 0 where
   are : lines ≡ before ++ line ∷ behind
   number : at ≡ n + length before
   short : list_all (λ l. not (is_long l)) before ≡ true
-  reached : Turn
+  reached : TextTurn
   taken : turns_from s before ≡ Ok reached
   refused : IsRefusedBehind why reached.stage line behind
 
-at_once : (n : ℕ) (s : Stage) (line : List ℕ) (behind : List (List ℕ)) (why : LineReason)
+at_once : (n : ℕ) (s : TextStage) (line : List ℕ) (behind : List (List ℕ)) (why : LineReason)
     → IsRefusedBehind why s line behind → Refused n s (line ∷ behind)
 at_once n s line behind why h = record {
   at = n;
@@ -237,13 +238,13 @@ at_once n s line behind why h = record {
   are = refl;
   number = omega arith;
   short = refl;
-  reached = quietly s;
+  reached = silently s;
   taken = refl;
   refused = h;
 }
 
-later : (n : ℕ) (s : Stage) (line : List ℕ) (lines : List (List ℕ)) (t : Turn) → is_long line ≡ false
-    → turn s line ≡ Ok t → Refused (n + 1) t.stage lines → Refused n s (line ∷ lines)
+later : (n : ℕ) (s : TextStage) (line : List ℕ) (lines : List (List ℕ)) (t : TextTurn) → is_long line ≡ false
+    → text_turn s line ≡ Ok t → Refused (n + 1) t.stage lines → Refused n s (line ∷ lines)
 later n s line lines t short is rest =
     let number = rest.number in
     record {
@@ -268,7 +269,7 @@ first_extra n p [] [] h = absurd (cc)
 first_extra n p [] (x ∷ xs) h = λ e. cc
 first_extra n p (b ∷ bs) behind h = λ e. cc
 
-first_tail : (n : ℕ) (s : Stage) (tail : List ℕ) → IsOpen s → Refused n s (tail ∷ [])
+first_tail : (n : ℕ) (s : TextStage) (tail : List ℕ) → IsOpen s → Refused n s (tail ∷ [])
 first_tail n s tail o = by_length (is_long tail) refl
   where
     by_length : (b : Bool) → is_long tail ≡ b → Refused n s (tail ∷ [])
@@ -277,12 +278,12 @@ first_tail n s tail o = by_length (is_long tail) refl
     by_length false short =
         at_once n s tail [] reason.Cut (wrong_when_open s reason.Cut tail [] o (inr (short, refl)))
 
-first_line : (n : ℕ) (s : Stage) (line next : List ℕ) (others : List (List ℕ)) → IsOpen s
-    → ((t : Stage) → (rest_from (n + 1) t (next ∷ others)).bad ≡ true → Refused (n + 1) t (next ∷ others))
+first_line : (n : ℕ) (s : TextStage) (line next : List ℕ) (others : List (List ℕ)) → IsOpen s
+    → ((t : TextStage) → (rest_from (n + 1) t (next ∷ others)).bad ≡ true → Refused (n + 1) t (next ∷ others))
     → (written_from n s (line ∷ next ∷ others)).bad ≡ true → Refused n s (line ∷ next ∷ others)
 first_line n s line next others o rest h = by_length (is_long line) refl
   where
-    by_turn : is_long line ≡ false → (x : Turned) → turn s line ≡ x
+    by_turn : is_long line ≡ false → (x : Turned) → text_turn s line ≡ x
         → (behind_line n (next ∷ others) x).bad ≡ true → Refused n s (line ∷ next ∷ others)
     by_turn short (Err why) is g =
         at_once n s line (next ∷ others) why (wrong_when_open s why line (next ∷ others) o (inr (short, is)))
@@ -293,18 +294,18 @@ first_line n s line next others o rest h = by_length (is_long line) refl
         at_once n s line (next ∷ others) reason.Long
         (wrong_when_open s reason.Long line (next ∷ others) o (inl (long, refl)))
     by_length false short =
-        by_turn short (turn s line) refl
-        (ap (λ (w : Written). w.bad) (sym (one_line n s line next others false (turn s line) short refl)) ∙ h)
+        by_turn short (text_turn s line) refl
+        (ap (λ (w : Written). w.bad) (sym (one_line n s line next others false (text_turn s line) short refl)) ∙ h)
 
-first_open : (n : ℕ) (s : Stage) (line : List ℕ) (behind : List (List ℕ)) → IsOpen s
-    → ((m : ℕ) (t : Stage) → behind ≢ [] → (rest_from m t behind).bad ≡ true → Refused m t behind)
+first_open : (n : ℕ) (s : TextStage) (line : List ℕ) (behind : List (List ℕ)) → IsOpen s
+    → ((m : ℕ) (t : TextStage) → behind ≢ [] → (rest_from m t behind).bad ≡ true → Refused m t behind)
     → (written_from n s (line ∷ behind)).bad ≡ true → Refused n s (line ∷ behind)
 first_open n s line [] o rest h = first_tail n s line o
 first_open n s line (next ∷ others) o rest h =
     first_line n s line next others o (λ t g. rest (n + 1) t (λ e. cc) g) h
 
-first_here : (s : Stage) (n : ℕ) (line : List ℕ) (behind : List (List ℕ))
-    → ((m : ℕ) (t : Stage) → behind ≢ [] → (rest_from m t behind).bad ≡ true → Refused m t behind)
+first_here : (s : TextStage) (n : ℕ) (line : List ℕ) (behind : List (List ℕ))
+    → ((m : ℕ) (t : TextStage) → behind ≢ [] → (rest_from m t behind).bad ≡ true → Refused m t behind)
     → (rest_from n s (line ∷ behind)).bad ≡ true → Refused n s (line ∷ behind)
 first_here first n line behind rest h = first_open n first line behind tt rest h
 first_here (starting s) n line behind rest h = first_open n (starting s) line behind tt rest h
@@ -313,7 +314,7 @@ first_here (happening ids p) n line behind rest h = first_open n (happening ids 
 first_here (over p) n line behind rest h =
     at_once n (over p) line behind reason.Extra (refl, first_extra n p line behind h)
 
-first_from : (lines : List (List ℕ)) (n : ℕ) (s : Stage) → lines ≢ [] → (rest_from n s lines).bad ≡ true
+first_from : (lines : List (List ℕ)) (n : ℕ) (s : TextStage) → lines ≢ [] → (rest_from n s lines).bad ≡ true
     → Refused n s lines
 first_from [] n s some h = absurd (some refl)
 first_from (line ∷ behind) n s some h =

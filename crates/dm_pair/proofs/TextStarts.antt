@@ -13,19 +13,19 @@ use Rattle.dm_start.specs.Start.{Setup, Section, opening, telling, after_line as
 use Rattle.dm_job.specs.declared.draft.Reading.{Reading}
 use Rattle.dm_job.specs.declared.draft.Reading.TheVariants as reading
 use Rattle.dm_job.specs.declared.job.Job.{Job}
-use Rattle.dm_job.specs.Grammar.{ended}
+use Rattle.dm_job.specs.Grammar.{with_feed}
 use Rattle.dm_job.specs.Laws.{JobsAreSound}
-use Rattle.dm_job.specs.Reading.{after_line as job_after, behind_line}
+use Rattle.dm_job.specs.Reading.{reading_after as job_after, reading_behind}
 use Rattle.dm_job.specs.Texts.{segments, is_long, job_in, end_or, job_from, job_of}
 use Rattle.dm_world.proofs.JobNumbers.{jobs_are_in_range}
 use Rattle.dm_replay.specs.Output.{client_of}
-use Rattle.dm_replay.specs.Trace.{ids_of, told_in}
+use Rattle.dm_replay.specs.Trace.{servers_of, told_in}
 use Rattle.dm_replay.proofs.StartSections.{IsGoodSection, good_line, told_is_good}
-use Rattle.dm_pair.specs.Begins.{StartsAndJobsBegin, lines_of, OnWorldSchedule, TextsBegin}
+use Rattle.dm_pair.specs.Begins.{StartsAndJobsBegin, lines_before_long, OnWorldSchedule, TextsBegin}
 use Rattle.dm_pair.specs.Pairing.{Pairing}
 use Rattle.dm_pair.specs.Schedules.{brought_by, brought, HasEnds}
-use Rattle.dm_pair.specs.Texts.{Stage, first, starting, jobbing, happening, pairing_of, quietly, stage_after}
-use Rattle.dm_pair.specs.Texts.{start_turn, stage_behind, job_turn, turn}
+use Rattle.dm_pair.specs.Texts.{TextStage, first, starting, jobbing, happening, pairing_of, silently, stage_after}
+use Rattle.dm_pair.specs.Texts.{start_turn, stage_behind, job_turn, text_turn}
 use Rattle.dm_pair.proofs.OnSchedule.{runs_on_schedules}
 use Rattle.dm_pair.proofs.ReadyClients.{world_start}
 
@@ -55,16 +55,16 @@ all_feedless (b ∷ bs) = by_feed (b == 10) refl (segments bs) (all_feedless bs)
         let both = and_parts (is_feedless x) (list_all is_feedless xs) h in
         and_from _ _ (and_from _ _ (ap not is) both.0) both.1
 
-are_cut : (segs : List (List ℕ)) → list_all is_feedless segs ≡ true → AllByRecursion IsCut (lines_of segs)
+are_cut : (segs : List (List ℕ)) → list_all is_feedless segs ≡ true → AllByRecursion IsCut (lines_before_long segs)
 are_cut [] h = tt
 are_cut (tail ∷ []) h = tt
 are_cut (line ∷ next ∷ others) h =
     let both = and_parts (is_feedless line) (list_all is_feedless (next ∷ others)) h in
     by_length both.0 (are_cut (next ∷ others) both.1) (is_long line) refl
   where
-    by_length : is_feedless line ≡ true → AllByRecursion IsCut (lines_of (next ∷ others)) → (b : Bool)
+    by_length : is_feedless line ≡ true → AllByRecursion IsCut (lines_before_long (next ∷ others)) → (b : Bool)
         → is_long line ≡ b
-        → AllByRecursion IsCut (cond b [] (line ∷ lines_of (next ∷ others)))
+        → AllByRecursion IsCut (cond b [] (line ∷ lines_before_long (next ∷ others)))
     by_length feedless rest true is = tt
     by_length feedless rest false is = (record { short = is; feedless = feedless }, rest)
 
@@ -77,10 +77,10 @@ cut_off (b ∷ bs) rest h =
     slice_split-cons_no (λ x. x == 10) b (bs ++ 10 ∷ rest) (turned (b == 10) both.0)
     ∙ ap (onto_first b) (cut_off bs rest both.1)
 
-segments_of : (lines : List (List ℕ)) → AllByRecursion IsCut lines → segments (flat_map ended lines) ≡ lines ++ [] ∷ []
+segments_of : (lines : List (List ℕ)) → AllByRecursion IsCut lines → segments (flat_map with_feed lines) ≡ lines ++ [] ∷ []
 segments_of [] h = refl
 segments_of (l ∷ ls) h =
-    ap segments (append_assoc l (10 ∷ []) (flat_map ended ls)) ∙ cut_off l (flat_map ended ls) h.0.feedless
+    ap segments (append_assoc l (10 ∷ []) (flat_map with_feed ls)) ∙ cut_off l (flat_map with_feed ls) h.0.feedless
     ∙ ap (λ s. l ∷ s) (segments_of ls h.1)
 
 cut_more : (lines : List (List ℕ)) (line : List ℕ) → AllByRecursion IsCut lines → IsCut line
@@ -101,9 +101,9 @@ one_line : (n : ℕ) (r : Reading) (line next : List ℕ) (others : List (List �
     → job_from n r (line ∷ next ∷ others) ≡ end_or n o (next ∷ others) (job_from (n + 1) read (next ∷ others))
 one_line n r line next others read o short is at =
     ap (λ b. cond b (Err (n, reason.Long))
-    (behind_line n (job_after r line)
+    (reading_behind n (job_after r line)
     (λ read. end_or n (job_in read) (next ∷ others) (job_from (n + 1) read (next ∷ others))))) short
-    ∙ ap (λ x. behind_line n x
+    ∙ ap (λ x. reading_behind n x
     (λ read. end_or n (job_in read) (next ∷ others) (job_from (n + 1) read (next ∷ others)))) is
     ∙ ap (λ o. end_or n o (next ∷ others) (job_from (n + 1) read (next ∷ others))) at
 
@@ -117,7 +117,7 @@ module _ (past : List (List ℕ)) (n : ℕ) (r : Reading) (line : List ℕ) (rea
         ∙ has.goes_on line (next ∷ others) ∙ one_line n r line next others read None cut.short is none;
   }
 
-  read_whole : (job : Job) → job_in read ≡ Some job → job_of (flat_map ended (past ++ line ∷ [])) ≡ Ok job
+  read_whole : (job : Job) → job_in read ≡ Some job → job_of (flat_map with_feed (past ++ line ∷ [])) ≡ Ok job
   unfolding job_of
   read_whole job some =
       ap (job_from 1 reading.First)
@@ -127,17 +127,17 @@ module _ (past : List (List ℕ)) (n : ℕ) (r : Reading) (line : List ℕ) (rea
 -- ---- the stages of a text
 
 section_turn : (s : Section) (line : List ℕ) (t : Section) → section_after s line ≡ Ok t
-    → turn (starting s) line ≡ Ok (quietly (stage_after t (told_in t)))
-unfolding turn
+    → text_turn (starting s) line ≡ Ok (silently (stage_after t (told_in t)))
+unfolding text_turn
 section_turn s line t is = ap start_turn is
 
 job_line_turn : (told : Setup) (r : Reading) (line : List ℕ) (read : Reading) → job_after r line ≡ Ok read
-    → turn (jobbing told r) line ≡ Ok (quietly (stage_behind told read (job_in read)))
-unfolding turn
+    → text_turn (jobbing told r) line ≡ Ok (silently (stage_behind told read (job_in read)))
+unfolding text_turn
 job_line_turn told r line read is = ap (job_turn told) is
 
 module _ (sound : JobsAreSound) (p : Pairing) where
-  one_more : (s t : Stage) (line : List ℕ) (lines : List (List ℕ)) → turn s line ≡ Ok (quietly t)
+  one_more : (s t : TextStage) (line : List ℕ) (lines : List (List ℕ)) → text_turn s line ≡ Ok (silently t)
       → OnWorldSchedule t lines p
       → OnWorldSchedule s (line ∷ lines) p
   one_more s t line lines is on = record {
@@ -153,8 +153,8 @@ module _ (sound : JobsAreSound) (p : Pairing) where
 
   at_events : (told : Setup) (job : Job) (text : List ℕ) (lines : List (List ℕ))
       → IsGoodSection (telling phase.Begun told) → job_of text ≡ Ok job
-      → HasEnds p (brought (happening (ids_of told.accounts) (pairing_of told job)) lines)
-      → OnWorldSchedule (happening (ids_of told.accounts) (pairing_of told job)) lines p
+      → HasEnds p (brought (happening (servers_of told.accounts) (pairing_of told job)) lines)
+      → OnWorldSchedule (happening (servers_of told.accounts) (pairing_of told job)) lines p
   at_events told job text lines good is h =
       let start = world_start told job good (sound text job is) (jobs_are_in_range text job is) in record {
         client = client_of told;
@@ -174,7 +174,7 @@ module _ (sound : JobsAreSound) (p : Pairing) where
       → HasEnds p (brought (jobbing told read) lines) → OnWorldSchedule (jobbing told read) lines p)
       → HasEnds p (brought (jobbing told r) (line ∷ lines))
       → OnWorldSchedule (jobbing told r) (line ∷ lines) p
-  unfolding turn
+  unfolding text_turn
   job_line told good line lines past n r has cut rest h = by_line (job_after r line) refl h
     where
       by_end : (read : Reading) → job_after r line ≡ Ok read → (o : Option Job) → job_in read ≡ o
@@ -182,7 +182,7 @@ module _ (sound : JobsAreSound) (p : Pairing) where
           → OnWorldSchedule (stage_behind told read o) lines p
       by_end read is None at g = rest (past ++ line ∷ []) (n + 1) read (read_more past n r line read has cut is at) g
       by_end read is (Some job) at g =
-          at_events told job (flat_map ended (past ++ line ∷ [])) lines good
+          at_events told job (flat_map with_feed (past ++ line ∷ [])) lines good
           (read_whole past n r line read has cut is job at) g
 
       by_line : (x : Result Reading LineReason) → job_after r line ≡ x
@@ -207,7 +207,7 @@ module _ (sound : JobsAreSound) (p : Pairing) where
       → OnWorldSchedule (starting t) lines p)
       → HasEnds p (brought (starting s) (line ∷ lines))
       → OnWorldSchedule (starting s) (line ∷ lines) p
-  unfolding turn
+  unfolding text_turn
   section_line line lines s good cut rest h = by_line (section_after s line) refl h
     where
       by_section : (t : Section) → IsGoodSection t → HasEnds p (brought (stage_after t (told_in t)) lines)
@@ -233,13 +233,13 @@ module _ (sound : JobsAreSound) (p : Pairing) where
   in_section (line ∷ lines) s good cut h =
       section_line line lines s good cut.1 (λ t next g. in_section lines t next cut.1 g) h
 
-  abbrev begins : Stage
+  abbrev begins : TextStage
   begins = starting (opening (head.Device 1))
 
   first_turn : (line : List ℕ) (b : Bool) → bytes_eq line (codes "dm-pair 1") ≡ b
-      → turn first line ≡ cond b (Ok (quietly begins)) (Err reason.Word)
-  unfolding turn
-  first_turn line b is = ap (λ b. cond b (Ok (quietly begins)) (Err reason.Word)) is
+      → text_turn first line ≡ cond b (Ok (silently begins)) (Err reason.Word)
+  unfolding text_turn
+  first_turn line b is = ap (λ b. cond b (Ok (silently begins)) (Err reason.Word)) is
 
   from_first : (lines : List (List ℕ)) → AllByRecursion IsCut lines → HasEnds p (brought first lines)
       → OnWorldSchedule first lines p
@@ -247,7 +247,7 @@ module _ (sound : JobsAreSound) (p : Pairing) where
   from_first (line ∷ lines) cut h =
       by_word (bytes_eq line (codes "dm-pair 1")) (first_turn line (bytes_eq line (codes "dm-pair 1")) refl)
     where
-      by_word : (b : Bool) → turn first line ≡ cond b (Ok (quietly begins)) (Err reason.Word)
+      by_word : (b : Bool) → text_turn first line ≡ cond b (Ok (silently begins)) (Err reason.Word)
           → OnWorldSchedule first (line ∷ lines) p
       by_word true is =
           one_more first begins line lines is (in_section lines (opening (head.Device 1))
@@ -261,4 +261,4 @@ starts_and_jobs_begin sound lines told text job begins is =
 
 pub texts_begin : JobsAreSound → TextsBegin
 texts_begin sound text p h =
-    from_first sound p (lines_of (segments text)) (are_cut (segments text) (all_feedless text)) h
+    from_first sound p (lines_before_long (segments text)) (are_cut (segments text) (all_feedless text)) h

@@ -10,23 +10,23 @@ use Rattle.dm_replay.specs.declared.events.Event.{Event as TraceEvent}
 use Rattle.dm_replay.specs.declared.events.Event.TheVariants as trace
 use Rattle.dm_replay.specs.Events.{Reads, event_of as trace_event_of}
 use Rattle.dm_replay.proofs.Saying.{is_of}
-use Rattle.dm_pair.specs.declared.events.Event.{Event}
-use Rattle.dm_pair.specs.Events.{IsOf, said_of_trace, trace_line}
+use Rattle.dm_pair.specs.declared.events.PairEvent.{PairEvent}
+use Rattle.dm_pair.specs.Events.{IsPairEvent, said_of_trace, trace_line}
 
 -- what is said is of them; of a refusal nothing is said
-abbrev pub AreOf : ℕ → ℕ → ℕ → Result Event LineReason → Type 0
-AreOf accounts ups downs (Ok e) = IsOf accounts ups downs e
+abbrev pub AreOf : ℕ → ℕ → ℕ → Result PairEvent LineReason → Type 0
+AreOf accounts ups downs (Ok e) = IsPairEvent accounts ups downs e
 AreOf accounts ups downs (Err why) = ⊤
 
-pub read_within : (accounts ups downs : ℕ) (said : Result Event LineReason) (r : Result Event LineError)
-    → AreOf accounts ups downs said → Reads said r → IfOk r (IsOf accounts ups downs)
+pub read_within : (accounts ups downs : ℕ) (said : Result PairEvent LineReason) (r : Result PairEvent LineError)
+    → AreOf accounts ups downs said → Reads said r → IfOk r (IsPairEvent accounts ups downs)
 read_within accounts ups downs said (Ok e) h is = subst (AreOf accounts ups downs) is h
 read_within accounts ups downs said (Err why) h is = tt
 
-pub same_counts : (accounts ups downs u d : ℕ) (e : Event) → u ≡ ups → d ≡ downs → IsOf accounts u d e
-    → IsOf accounts ups downs e
+pub same_counts : (accounts ups downs u d : ℕ) (e : PairEvent) → u ≡ ups → d ≡ downs → IsPairEvent accounts u d e
+    → IsPairEvent accounts ups downs e
 same_counts accounts ups downs u d e are are' h =
-    subst (λ n. IsOf accounts ups n e) are' (subst (λ n. IsOf accounts n d e) are h)
+    subst (λ n. IsPairEvent accounts ups n e) are' (subst (λ n. IsPairEvent accounts n d e) are h)
 
 pub trace_within : (ids : List (List ℕ)) (ups downs : ℕ) (line : List ℕ)
     → AreOf (length ids) ups downs (trace_line ids line)

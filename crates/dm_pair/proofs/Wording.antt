@@ -15,8 +15,8 @@ use Rattle.dm_session.specs.declared.answers.Answer.{Answer}
 use Rattle.dm_session.specs.declared.answers.Answer.TheVariants as answers
 use Rattle.dm_session.specs.declared.answers.Acted.TheVariants as acts
 use Rattle.dm_session.specs.View.{Tells, TellsActed, sent_last}
-use Rattle.dm_server.specs.declared.answers.Answer.{Answer as ServerAnswer}
-use Rattle.dm_server.specs.declared.answers.Answer.TheVariants as served
+use Rattle.dm_server.specs.declared.answers.ServerAnswer.{ServerAnswer}
+use Rattle.dm_server.specs.declared.answers.ServerAnswer.TheVariants as served
 use Rattle.dm_server.specs.View.{Tells as TellsServed}
 use Rattle.dm_pair.specs.Pairing.{client_words, server_word, stop_word, end_word, ended_words, sent_up}
 

@@ -7,12 +7,12 @@ use Rattle.dm_base.specs.declared.bytes.Memory.{Memory}
 use Rattle.dm_base.specs.declared.lines.LineReason.TheVariants as reason
 use Rattle.dm_job.specs.Texts.{segments}
 use Rattle.dm_job.proofs.Turns.{some_segments}
-use Rattle.dm_pair.specs.declared.lines.Halt.{Halt}
+use Rattle.dm_pair.specs.declared.lines.TextHalt.{TextHalt}
 use Rattle.dm_pair.specs.Pairing.{Pairing}
 use Rattle.dm_pair.specs.Texts.{Written, first, happening, refuses, behind_text, ends_at, written}
-use Rattle.dm_pair.specs.From.{rest_of, HaltsAs}
+use Rattle.dm_pair.specs.From.{rest_written, HaltsAs}
 use Rattle.dm_pair.specs.declared.text.PairOut.{PairOut}
-use Rattle.dm_pair.specs.Seen.{wrote, text_of, written_in}
+use Rattle.dm_pair.specs.Seen.{wrote, all_written, written_in}
 
 -- where something was written, it is this
 abbrev pub Writes : Result PairOut Memory → Written → Type 0
@@ -22,14 +22,14 @@ pub writes_same : (r : Result PairOut Memory) (w v : Written) → Writes r w →
 writes_same (Ok o) w v h same = h ∙ same
 writes_same (Err e) w v h same = tt
 
-pub writes_rest : (r : Result PairOut Memory) (rest : Written) (h : Halt) (out : List ℕ)
+pub writes_rest : (r : Result PairOut Memory) (rest : Written) (h : TextHalt) (out : List ℕ)
     → IfOk r (λ o. (w : Written) → HaltsAs w h → written_in o ≡ behind_text out w)
     → HaltsAs rest h → Writes r (behind_text out rest)
 writes_rest (Ok o) rest h out says halts = says rest halts
 writes_rest (Err e) rest h out says halts = tt
 
 -- behind nothing
-pub writes_first : (r : Result PairOut Memory) (rest : Written) (h : Halt) (out : List ℕ) → out ≡ []
+pub writes_first : (r : Result PairOut Memory) (rest : Written) (h : TextHalt) (out : List ℕ) → out ≡ []
     → IfOk r (λ o. (w : Written) → HaltsAs w h → written_in o ≡ behind_text out w)
     → HaltsAs rest h → Writes r rest
 writes_first r rest h out none says halts =
@@ -37,19 +37,19 @@ writes_first r rest h out none says halts =
     (ap (λ t. behind_text t rest) none)
 
 pub writes_there : (r : Result PairOut Memory) (n : ℕ) (ids servers : List (List ℕ)) (p q : Pairing) (text : List ℕ)
-    → ids ≡ servers → p ≡ q → Writes r (rest_of n (happening ids p) text)
-    → Writes r (rest_of n (happening servers q) text)
+    → ids ≡ servers → p ≡ q → Writes r (rest_written n (happening ids p) text)
+    → Writes r (rest_written n (happening servers q) text)
 writes_there r n ids servers p q text are is h =
-    writes_same r (rest_of n (happening ids p) text) (rest_of n (happening servers q) text) h
-    (ap (λ i. rest_of n (happening i p) text) are ∙ ap (λ x. rest_of n (happening servers x) text) is)
+    writes_same r (rest_written n (happening ids p) text) (rest_written n (happening servers q) text) h
+    (ap (λ i. rest_written n (happening i p) text) are ∙ ap (λ x. rest_written n (happening servers x) text) is)
 
-pub text_is : (r : Result PairOut Memory) (text : List ℕ) (w : Written) → Writes r w → rest_of 1 first text ≡ w
-    → IfOk r (λ o. text_of o ≡ (written text).text)
+pub text_is : (r : Result PairOut Memory) (text : List ℕ) (w : Written) → Writes r w → rest_written 1 first text ≡ w
+    → IfOk r (λ o. all_written o ≡ (written text).text)
 unfolding written
 text_is (Ok o) text w h is = ap (λ x. x.text) (h ∙ sym is)
 text_is (Err e) text w h is = tt
 
-pub bad_is : (r : Result PairOut Memory) (text : List ℕ) (w : Written) → Writes r w → rest_of 1 first text ≡ w
+pub bad_is : (r : Result PairOut Memory) (text : List ℕ) (w : Written) → Writes r w → rest_written 1 first text ≡ w
     → IfOk r (λ o. o.bad ≡ (written text).bad)
 unfolding written
 bad_is (Ok o) text w h is = ap (λ x. x.bad) (h ∙ sym is)

@@ -6,11 +6,11 @@ use Rattle.dm_machine.specs.Machine.{Machine}
 use Rattle.dm_start.specs.declared.telling.Phase.TheVariants as phase
 use Rattle.dm_start.specs.Start.{Setup, telling, section_of_lines}
 use Rattle.dm_replay.specs.Output.{client_of}
-use Rattle.dm_replay.specs.Trace.{ids_of}
+use Rattle.dm_replay.specs.Trace.{servers_of}
 use Rattle.dm_world.specs.Start.{IsWorldStart}
 use Rattle.dm_pair.specs.Pairing.{Pairing}
 use Rattle.dm_pair.specs.Schedules.{brought, first_pairing, HasEnds, OnSchedule}
-use Rattle.dm_pair.specs.Texts.{Stage, first, happening}
+use Rattle.dm_pair.specs.Texts.{TextStage, first, happening}
 
 -- whatever a whole start section and the text of a job tell
 abbrev pub StartsAndJobsBegin : Type 0
@@ -21,24 +21,24 @@ StartsAndJobsBegin =
     → IsWorldStart (client_of told) job
 
 -- the lines of a text up to the first that is longer than a line may be; what no line feed ends is none
-abbrev pub lines_of : List (List ℕ) → List (List ℕ)
-lines_of [] = []
-lines_of (tail ∷ []) = []
-lines_of (line ∷ next ∷ others) = if is_long line then [] else line ∷ lines_of (next ∷ others)
+abbrev pub lines_before_long : List (List ℕ) → List (List ℕ)
+lines_before_long [] = []
+lines_before_long (tail ∷ []) = []
+lines_before_long (line ∷ next ∷ others) = if is_long line then [] else line ∷ lines_before_long (next ∷ others)
 
 -- lines of which the first bring a stage to a client and a job such as schedules begin with, and all of them to what a
 -- schedule from there makes of the world
-pub record OnWorldSchedule (s : Stage) (lines : List (List ℕ)) (p : Pairing) : Type 0 where
+pub record OnWorldSchedule (s : TextStage) (lines : List (List ℕ)) (p : Pairing) : Type 0 where
   pub client : Machine
   pub job : Job
   pub before : List (List ℕ)
   pub behind : List (List ℕ)
   pub are : lines ≡ before ++ behind
-  pub begins : brought s before ≡ happening (ids_of client.accounts) (first_pairing client job)
+  pub begins : brought s before ≡ happening (servers_of client.accounts) (first_pairing client job)
   pub start : IsWorldStart client job
   pub on : OnSchedule client job p
 
 -- so whatever the text, where its lines come behind its job
 abbrev pub TextsBegin : Type 0
-TextsBegin = (text : List ℕ) (p : Pairing) → HasEnds p (brought first (lines_of (segments text)))
-    → OnWorldSchedule first (lines_of (segments text)) p
+TextsBegin = (text : List ℕ) (p : Pairing) → HasEnds p (brought first (lines_before_long (segments text)))
+    → OnWorldSchedule first (lines_before_long (segments text)) p

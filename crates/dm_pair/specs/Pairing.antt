@@ -16,8 +16,8 @@ use Rattle.dm_service.specs.Service.{Service}
 use Rattle.dm_service.specs.Events as server
 use Rattle.dm_service.specs.Events.{Arrival}
 use Rattle.dm_service.specs.History as server_runs
-use Rattle.dm_pair.specs.declared.events.Event.{Event}
-use Rattle.dm_pair.specs.declared.events.Event.TheVariants as event
+use Rattle.dm_pair.specs.declared.events.PairEvent.{PairEvent}
+use Rattle.dm_pair.specs.declared.events.PairEvent.TheVariants as event
 
 -- both ends, the messages that each has sent in the order in which they were first sent, in their bytes, and how many
 -- deliveries there were
@@ -54,19 +54,19 @@ to_server p e =
 abbrev pub nonce_of : Pairing → List ℕ
 nonce_of p = to_be_bytes w128 (p.deliveries + 1)
 
-abbrev pub counted : Pairing → Pairing
-counted p = record p { deliveries = p.deliveries + 1 }
+abbrev pub delivery_counted : Pairing → Pairing
+delivery_counted p = record p { deliveries = p.deliveries + 1 }
 
-abbrev pub arrival_of : Pairing → List ℕ → Arrival
-arrival_of p bytes = record { read = read_of bytes; nonce = nonce_of p }
+abbrev pub delivered_by : Pairing → List ℕ → Arrival
+delivered_by p bytes = record { read = read_of bytes; nonce = nonce_of p }
 
 -- a message comes to the server
 abbrev pub comes_up : Pairing → List ℕ → Pairing
-comes_up p bytes = counted (to_server p (arrival_of p bytes))
+comes_up p bytes = delivery_counted (to_server p (delivered_by p bytes))
 
 -- a message comes to the client
 abbrev pub comes_down : Pairing → List ℕ → Pairing
-comes_down p bytes = counted (to_client p (message (read_of bytes) (nonce_of p)))
+comes_down p bytes = delivery_counted (to_client p (message (read_of bytes) (nonce_of p)))
 
 -- ---- words
 
@@ -125,7 +125,7 @@ stop_word (client.ended end farewell) = Some (end_word end)
 stop_word other = Some (client_words other)
 
 abbrev pub half_down : Pairing → Option (List ℕ) → Round
-half_down p None = record { behind = counted p; stop = Some (codes "silent") }
+half_down p None = record { behind = delivery_counted p; stop = Some (codes "silent") }
 half_down p (Some bytes) = record {
   behind = comes_down p bytes;
   stop = stop_word (client_runs.answer_now p.client (message (read_of bytes) (nonce_of p)));
@@ -166,7 +166,7 @@ abbrev pub client_step : Pairing → client.Event → Step
 client_step p e = stops (to_client p e) (client_words (client_runs.answer_now p.client e))
 
 abbrev pub up_step : Pairing → List ℕ → Step
-up_step p bytes = stops (comes_up p bytes) (server_word (server_runs.answer_now p.server (arrival_of p bytes)))
+up_step p bytes = stops (comes_up p bytes) (server_word (server_runs.answer_now p.server (delivered_by p bytes)))
 
 abbrev pub down_step : Pairing → List ℕ → Step
 down_step p bytes =
@@ -176,14 +176,14 @@ abbrev pub run_step : Step → Step
 run_step s = stops s.behind (codes "ran " ++ s.words)
 
 -- the message of this number, from 1
-abbrev pub numbered : List (List ℕ) → ℕ → List ℕ
-numbered messages number = get_or messages (number - 1) []
+abbrev pub message_numbered : List (List ℕ) → ℕ → List ℕ
+message_numbered messages number = get_or messages (number - 1) []
 
 -- what an event does; the end does nothing
-unfoldable pub step_of : Pairing → Event → Step
+unfoldable pub step_of : Pairing → PairEvent → Step
 step_of p (event.Open account kind session) = client_step p (opened account kind session)
-step_of p (event.Up number) = up_step p (numbered p.ups number)
-step_of p (event.Down number) = down_step p (numbered p.downs number)
+step_of p (event.Up number) = up_step p (message_numbered p.ups number)
+step_of p (event.Down number) = down_step p (message_numbered p.downs number)
 step_of p event.Loss = client_step p loss
 step_of p (event.Act ok) = client_step p (act ok)
 step_of p (event.Run count) = run_step (rounds count p)

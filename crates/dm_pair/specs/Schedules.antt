@@ -8,9 +8,9 @@ use Rattle.dm_machine.specs.Machine.{Machine}
 use Rattle.dm_service.specs.Messages.{first_service}
 use Rattle.dm_world.specs.World.{Reply, World, Happening, run}
 use Rattle.dm_world.specs.Start.{at_start, IsWorldStart, IsSchedule}
-use Rattle.dm_replay.specs.Trace.{ids_of}
+use Rattle.dm_replay.specs.Trace.{servers_of}
 use Rattle.dm_pair.specs.Pairing.{Pairing}
-use Rattle.dm_pair.specs.Texts.{Stage, first, starting, jobbing, happening, over, Turn, turn}
+use Rattle.dm_pair.specs.Texts.{TextStage, first, starting, jobbing, happening, over, TextTurn, text_turn}
 
 -- the bytes of what is listed with the newest first, the oldest first
 abbrev pub in_bytes : {A : Type 0} → (A → Parts) → List A → List (List ℕ)
@@ -35,16 +35,16 @@ abbrev pub first_pairing : Machine → Job → Pairing
 first_pairing c job = record { client = c; server = first_service job; ups = []; downs = []; deliveries = 0 }
 
 -- how far lines bring a text: a line that is refused leaves it where it is
-abbrev pub brought_by : Result Turn LineReason → Stage → (Stage → Stage) → Stage
+abbrev pub brought_by : Result TextTurn LineReason → TextStage → (TextStage → TextStage) → TextStage
 brought_by (Err why) s rest = s
 brought_by (Ok t) s rest = rest t.stage
 
-abbrev pub brought : Stage → List (List ℕ) → Stage
+abbrev pub brought : TextStage → List (List ℕ) → TextStage
 brought s [] = s
-brought s (line ∷ lines) = brought_by (turn s line) s (λ t. brought t lines)
+brought s (line ∷ lines) = brought_by (text_turn s line) s (λ t. brought t lines)
 
 -- among the events, or behind the end, both ends are these
-abbrev pub HasEnds : Pairing → Stage → Type 0
+abbrev pub HasEnds : Pairing → TextStage → Type 0
 HasEnds p first = ⊥
 HasEnds p (starting s) = ⊥
 HasEnds p (jobbing told r) = ⊥
@@ -60,5 +60,5 @@ pub record OnSchedule (c : Machine) (job : Job) (p : Pairing) : Type 0 where
 -- so whatever lines stand behind a job
 abbrev pub RunsOnSchedules : Type 0
 RunsOnSchedules = (c : Machine) (job : Job) (lines : List (List ℕ)) (p : Pairing) → IsWorldStart c job
-    → HasEnds p (brought (happening (ids_of c.accounts) (first_pairing c job)) lines)
+    → HasEnds p (brought (happening (servers_of c.accounts) (first_pairing c job)) lines)
     → OnSchedule c job p

@@ -9,12 +9,12 @@ use Rattle.dm_service.specs.Report.{report_text}
 use Rattle.dm_world.specs.World.{World, Happening, run}
 use Rattle.dm_world.specs.Start.{at_start, IsWorldStart, IsSchedule}
 use Rattle.dm_pair.specs.Pairing.{Pairing}
-use Rattle.dm_pair.specs.Texts.{Stage, first, written, written_from, whole_ending}
+use Rattle.dm_pair.specs.Texts.{TextStage, first, written, written_from, whole_ending}
 use Rattle.dm_pair.specs.Schedules.{brought, HasEnds}
-use Rattle.dm_pair.specs.Begins.{lines_of}
+use Rattle.dm_pair.specs.Begins.{lines_before_long}
 
 -- the text ends with the tree and the report of the ends that its lines come to
-pub record EndsWithBoth (s : Stage) (lines : List (List ℕ)) (text : List ℕ) : Type 0 where
+pub record EndsWithBoth (s : TextStage) (lines : List (List ℕ)) (text : List ℕ) : Type 0 where
   pub ends : Pairing
   pub comes : HasEnds ends (brought s lines)
   pub before : List ℕ

@@ -7,7 +7,7 @@ ghost use Rattle.dm_exit.specs.Causes.{SourceCause, SinkCause};
 ghost use Rattle.dm_exit.specs.Puts.{PutsEnd, PutsPart, Ends};
 ghost use Rattle.dm_replay.specs.Input.{TakesOnePast};
 ghost use Rattle.dm_pair.specs.Texts.{pair_text, pair_exit};
-ghost use Rattle.dm_pair.specs.Seen.{text_of, exit_of};
+ghost use Rattle.dm_pair.specs.Seen.{all_written, exit_where_bad};
 
 use crate::text::{PairOut, run_pair};
 use dm_base::{RUN_LIMIT, Sink, Source, TakeError, take_all};
@@ -28,8 +28,8 @@ fn put_both<K: Sink>(out: &mut K, first: &[u8], second: &[u8]) -> Result<(), Exi
 
 // Puts what is written part by part.
 fn put_parts<K: Sink>(out: &mut K, written: &PairOut) -> Result<(), Exit>
-    ensures bytes { MatchResult result (λ _. Appends (K.got out.old) (K.got out.new) (text_of written.now))
-        (λ e. PutsPart (K.got out.old) (K.got out.new) (text_of written.now) e) }
+    ensures bytes { MatchResult result (λ _. Appends (K.got out.old) (K.got out.new) (all_written written.now))
+        (λ e. PutsPart (K.got out.old) (K.got out.new) (all_written written.now) e) }
     ensures count { MatchResult result (λ _. K.faults out.new ≡ K.faults out.old)
         (λ e. SinkCause (K.faults out.old) (K.faults out.new) e) }
 {
@@ -40,7 +40,7 @@ fn put_parts<K: Sink>(out: &mut K, written: &PairOut) -> Result<(), Exit>
 }
 
 fn put_out<K: Sink>(out: &mut K, written: &PairOut) -> Exit
-    ensures bytes { PutsEnd (text_of written.now) (exit_of written.now.bad) (K.got out.old) (K.got out.new) result }
+    ensures bytes { PutsEnd (all_written written.now) (exit_where_bad written.now.bad) (K.got out.old) (K.got out.new) result }
     ensures count { SinkCause (K.faults out.old) (K.faults out.new) result }
 {
     match put_parts(out, written) {

@@ -13,8 +13,8 @@ ghost use Rattle.dm_pair.specs.Pairing as Spec;
 ghost use Rattle.dm_pair.specs.Seen.{as_list};
 
 use dm_base::{Bytes, List, Memory, Nonce};
-use dm_machine::{End, Kind};
-use dm_server::{Answer as ServerAnswer, Server};
+use dm_machine::{End, Initiator};
+use dm_server::{Server, ServerAnswer};
 use dm_session::{Acted, Answer, BeginError, Client};
 use std::alloc::Global;
 
@@ -116,7 +116,7 @@ pub(crate) fn open(
     client: &mut Client,
     ups: &mut List<Bytes>,
     account: usize,
-    kind: Kind,
+    kind: Initiator,
     session: u32,
 ) -> Result<&'static [u8], Memory>
     requires { account < length client.old.machine.accounts }

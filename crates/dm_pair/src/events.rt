@@ -4,22 +4,22 @@ ghost use Rattle.std.specs.List.{list_all};
 ghost use Rattle.std.specs.Char.{is_ascii_digit};
 ghost use Rattle.dm_base.specs.Fields.{parts, is_numeral as is_numeral_text};
 ghost use Rattle.dm_pair.specs.Events as Spec;
-ghost use Rattle.dm_pair.specs.Events.{event_of, IsOf};
+ghost use Rattle.dm_pair.specs.Events.{pair_event_of, IsPairEvent};
 ghost use Rattle.dm_replay.specs.Events.{Reads};
 
 use dm_base::{Bytes, LineReason, List, num};
 use dm_fields::{BAD_FIELDS, BAD_WORD, LineError, begins_with, two_fields};
-use dm_machine::Kind;
+use dm_machine::Initiator;
 use dm_replay::events::{Event as TraceEvent, read_event as read_trace_event};
 use std::alloc::Global;
 
 /// What a line behind the job says.
 #[derive(Clone, Copy, Debug, PartialEq, Eq)]
-pub enum Event {
+pub enum PairEvent {
     /// The client begins a session with the account of this place.
     Open {
         account: usize,
-        kind: Kind,
+        kind: Initiator,
         session: u32,
     },
     /// The client's message of this number, from 1, comes to the server.
@@ -68,47 +68,47 @@ fn sent_number(count: usize, text: &[u8]) -> Result<usize, LineError>
 }
 
 // `up NUM`
-fn up_in(ups: usize, line: &[u8]) -> Result<Event, LineError>
+fn up_in(ups: usize, line: &[u8]) -> Result<PairEvent, LineError>
     ensures { Reads (Spec.up_in ups (parts line.now)) result }
 {
     let Some((_, number)) = two_fields(line) else {
         return Err(BAD_FIELDS);
     };
     match sent_number(ups, number) {
-        Ok(number) => Ok(Event::Up(number)),
+        Ok(number) => Ok(PairEvent::Up(number)),
         Err(error) => Err(error),
     }
 }
 
 // `down NUM`
-fn down_in(downs: usize, line: &[u8]) -> Result<Event, LineError>
+fn down_in(downs: usize, line: &[u8]) -> Result<PairEvent, LineError>
     ensures { Reads (Spec.down_in downs (parts line.now)) result }
 {
     let Some((_, number)) = two_fields(line) else {
         return Err(BAD_FIELDS);
     };
     match sent_number(downs, number) {
-        Ok(number) => Ok(Event::Down(number)),
+        Ok(number) => Ok(PairEvent::Down(number)),
         Err(error) => Err(error),
     }
 }
 
 // `run NUM`
-fn run_in(line: &[u8]) -> Result<Event, LineError>
+fn run_in(line: &[u8]) -> Result<PairEvent, LineError>
     ensures { Reads (Spec.run_in (parts line.now)) result }
 {
     let Some((_, number)) = two_fields(line) else {
         return Err(BAD_FIELDS);
     };
     match num(number) {
-        Some(rounds) if 0 < rounds && rounds <= MOST_ROUNDS => Ok(Event::Run(rounds as u32)),
+        Some(rounds) if 0 < rounds && rounds <= MOST_ROUNDS => Ok(PairEvent::Run(rounds as u32)),
         Some(_) => Err(BAD_FIELDS),
         None => Err(BAD_FIELDS),
     }
 }
 
 // An event of a trace that is one of both ends too.
-fn of_trace(event: &TraceEvent) -> Result<Event, LineError>
+fn of_trace(event: &TraceEvent) -> Result<PairEvent, LineError>
     ensures { Reads (Spec.of_trace event.now) result }
 {
     match event {
@@ -116,21 +116,21 @@ fn of_trace(event: &TraceEvent) -> Result<Event, LineError>
             account,
             kind,
             session,
-        } => Ok(Event::Open {
+        } => Ok(PairEvent::Open {
             account: *account,
             kind: *kind,
             session: *session,
         }),
-        TraceEvent::Loss => Ok(Event::Loss),
-        TraceEvent::Act(ok) => Ok(Event::Act(*ok)),
-        TraceEvent::End => Ok(Event::End),
+        TraceEvent::Loss => Ok(PairEvent::Loss),
+        TraceEvent::Act(ok) => Ok(PairEvent::Act(*ok)),
+        TraceEvent::End => Ok(PairEvent::End),
         TraceEvent::Msg { .. } => Err(BAD_WORD),
         TraceEvent::Clock(_) => Err(BAD_WORD),
     }
 }
 
 // A line that a trace of version 1 may have too.
-fn trace_line(alloc: Global, ids: &List<Bytes>, line: &[u8]) -> Result<Event, LineError>
+fn trace_line(alloc: Global, ids: &List<Bytes>, line: &[u8]) -> Result<PairEvent, LineError>
     ensures { Reads (Spec.trace_line ids.now line.now) result }
 {
     if begins_with(b"msg", line) {
@@ -148,16 +148,16 @@ fn trace_line(alloc: Global, ids: &List<Bytes>, line: &[u8]) -> Result<Event, Li
 /// - `Fields` where the number or the form of the fields is another,
 /// - `Account` where no account has the server that a session is opened with,
 /// - `Message` where no message of this number was sent.
-#[tactic(auto, unfolding(crate::specs::Events::event_of))]
+#[tactic(auto, unfolding(crate::specs::Events::pair_event_of))]
 pub fn read_event(
     alloc: Global,
     ids: &List<Bytes>,
     ups: usize,
     downs: usize,
     line: &[u8],
-) -> Result<Event, LineError>
-    ensures said { Reads (event_of ids.now ups downs line.now) result }
-    ensures range { IfOk result (IsOf (length ids.now) ups downs) }
+) -> Result<PairEvent, LineError>
+    ensures said { Reads (pair_event_of ids.now ups downs line.now) result }
+    ensures range { IfOk result (IsPairEvent (length ids.now) ups downs) }
 {
     if begins_with(b"up", line) {
         up_in(ups, line)

@@ -13,7 +13,7 @@ pub mod text;
 mod words;
 
 pub use command::pair;
-pub use events::{Event, read_event};
-pub use lines::{Halt, next_line};
-pub use reading::{Begun, Given, read_first, read_job, read_start};
+pub use events::{PairEvent, read_event};
+pub use lines::{TextHalt, next_line};
+pub use reading::{JobRead, StartRead, read_first, read_job, read_start};
 pub use text::{PairOut, run_pair};

@@ -2,16 +2,16 @@
 ghost use Rattle.std.specs.Prelude.{◌≡◌, ◌++◌, ◌<◌, ◌≤◌, ◌+◌, ◌*◌, ◌^◌, length, option_map, IfOk, OnOk, OnErr};
 ghost use Rattle.syncml_codec.specs.Decoding.{read_of};
 ghost use Rattle.dm_machine.specs.Events.{opened};
-ghost use Rattle.dm_pair.specs.declared.events.Event.TheVariants as event;
-ghost use Rattle.dm_pair.specs.Events.{IsOf};
+ghost use Rattle.dm_pair.specs.declared.events.PairEvent.TheVariants as event;
+ghost use Rattle.dm_pair.specs.Events.{IsPairEvent};
 ghost use Rattle.dm_pair.specs.Pairing as Spec;
 ghost use Rattle.dm_pair.specs.Seen.{seen, round_behind};
 
 use crate::ends::{act, deliver_down, deliver_up, lose, nonce_of, open};
-use crate::events::Event;
+use crate::events::PairEvent;
 use crate::words::{client_words, server_word, stop_word};
 use dm_base::{Bytes, List, Memory};
-use dm_machine::Kind;
+use dm_machine::Initiator;
 use dm_server::Server;
 use dm_session::Client;
 use std::alloc::Global;
@@ -31,7 +31,7 @@ pub(crate) struct Pairing {
 fn up(pairing: &mut Pairing, number: usize) -> Result<&'static [u8], Memory>
     requires number { (0 < number) × (number ≤ length pairing.old.ups) }
     requires few { pairing.old.deliveries + 1 < 2 ^ 128 }
-    ensures step { IfOk result (λ words. Spec.up_step (seen pairing.old) (Spec.numbered pairing.old.ups number)
+    ensures step { IfOk result (λ words. Spec.up_step (seen pairing.old) (Spec.message_numbered pairing.old.ups number)
         ≡ Spec.stops (seen pairing.new) words.now) }
     ensures count { OnOk result (pairing.new.deliveries ≤ pairing.old.deliveries + 1) }
     ensures unused { OnErr result (pairing.new.deliveries ≡ pairing.old.deliveries) }
@@ -52,7 +52,7 @@ fn up(pairing: &mut Pairing, number: usize) -> Result<&'static [u8], Memory>
 fn down(pairing: &mut Pairing, number: usize) -> Result<&'static [u8], Memory>
     requires number { (0 < number) × (number ≤ length pairing.old.downs) }
     requires few { pairing.old.deliveries + 1 < 2 ^ 128 }
-    ensures step { IfOk result (λ words. Spec.down_step (seen pairing.old) (Spec.numbered pairing.old.downs number)
+    ensures step { IfOk result (λ words. Spec.down_step (seen pairing.old) (Spec.message_numbered pairing.old.downs number)
         ≡ Spec.stops (seen pairing.new) words.now) }
     ensures count { OnOk result (pairing.new.deliveries ≤ pairing.old.deliveries + 1) }
     ensures unused { OnErr result (pairing.new.deliveries ≡ pairing.old.deliveries) }
@@ -160,7 +160,7 @@ fn run(pairing: &mut Pairing, count: u32, out: &mut Bytes) -> Result<(), Memory>
 fn begin(
     pairing: &mut Pairing,
     account: usize,
-    kind: Kind,
+    kind: Initiator,
     session: u32,
 ) -> Result<&'static [u8], Memory>
     requires { account < length pairing.old.client.machine.accounts }
@@ -179,8 +179,8 @@ fn begin(
 }
 
 /// Does what an event says, and adds the words that tell it. A run of rounds makes at most 200,000 deliveries.
-pub(crate) fn step(pairing: &mut Pairing, event: Event, out: &mut Bytes) -> Result<(), Memory>
-    requires event { IsOf (length pairing.old.client.machine.accounts) (length pairing.old.ups)
+pub(crate) fn step(pairing: &mut Pairing, event: PairEvent, out: &mut Bytes) -> Result<(), Memory>
+    requires event { IsPairEvent (length pairing.old.client.machine.accounts) (length pairing.old.ups)
         (length pairing.old.downs) event }
     requires few { pairing.old.deliveries + 200000 < 2 ^ 128 }
     ensures told { OnOk result (out.new ≡ out.old ++ (Spec.step_of (seen pairing.old) event).words) }
@@ -188,7 +188,7 @@ pub(crate) fn step(pairing: &mut Pairing, event: Event, out: &mut Bytes) -> Resu
     ensures count { OnOk result (pairing.new.deliveries ≤ pairing.old.deliveries + 200000) }
 {
     match event {
-        Event::Open {
+        PairEvent::Open {
             account,
             kind,
             session,
@@ -196,20 +196,20 @@ pub(crate) fn step(pairing: &mut Pairing, event: Event, out: &mut Bytes) -> Resu
             let words = begin(pairing, account, kind, session)?;
             out.extend(words)
         }
-        Event::Up(number) => {
+        PairEvent::Up(number) => {
             let words = up(pairing, number)?;
             out.extend(words)
         }
-        Event::Down(number) => {
+        PairEvent::Down(number) => {
             let words = down(pairing, number)?;
             out.extend(words)
         }
-        Event::Loss => out.extend(lose(&pairing.client)),
-        Event::Act(ok) => {
+        PairEvent::Loss => out.extend(lose(&pairing.client)),
+        PairEvent::Act(ok) => {
             let words = act(&mut pairing.client, ok)?;
             out.extend(words)
         }
-        Event::Run(count) => run(pairing, count, out),
-        Event::End => Ok(()),
+        PairEvent::Run(count) => run(pairing, count, out),
+        PairEvent::End => Ok(()),
     }
 }

@@ -4,22 +4,22 @@ ghost use Rattle.dm_base.specs.Lines.{line_feed};
 ghost use Rattle.dm_start.specs.declared.heads.Head.TheVariants.{Device};
 ghost use Rattle.dm_start.specs.Start.{opening, told_of};
 ghost use Rattle.dm_job.specs.declared.draft.Reading.TheVariants as reading;
-ghost use Rattle.dm_job.specs.Sound.{IsSound};
+ghost use Rattle.dm_job.specs.Sound.{IsSoundJob};
 ghost use Rattle.dm_job.specs.Texts.{segments};
 ghost use Rattle.dm_replay.specs.From.{CanBegin};
-ghost use Rattle.dm_replay.specs.Trace.{ids_of as servers_of};
-ghost use Rattle.dm_pair.specs.Events.{IsOf};
+ghost use Rattle.dm_replay.specs.Trace.{servers_of};
+ghost use Rattle.dm_pair.specs.Events.{IsPairEvent};
 ghost use Rattle.dm_pair.specs.Pairing as Runs;
 ghost use Rattle.dm_pair.specs.Texts as Spec;
 ghost use Rattle.dm_pair.specs.Texts.{Written, starting, jobbing, happening, refuses, behind_text, ends_at, pairing_of};
 ghost use Rattle.dm_pair.specs.Texts.{written};
-ghost use Rattle.dm_pair.specs.From.{rest_of, HaltsAs};
-ghost use Rattle.dm_pair.specs.Seen.{seen, wrote, text_of, written_in, after_said};
+ghost use Rattle.dm_pair.specs.From.{rest_written, HaltsAs};
+ghost use Rattle.dm_pair.specs.Seen.{seen, wrote, all_written, written_in, after_said};
 
-use crate::events::{Event, read_event};
-use crate::lines::{Halt, halt_at, next_line};
+use crate::events::{PairEvent, read_event};
+use crate::lines::{TextHalt, halt_at, next_line};
 use crate::pairing::{Pairing, step};
-use crate::reading::{Begun, Given, read_first, read_job, read_start};
+use crate::reading::{JobRead, StartRead, read_first, read_job, read_start};
 use dm_base::{Bytes, LineReason, List, Memory};
 use dm_job::Job;
 use dm_replay::ids_of;
@@ -60,12 +60,12 @@ fn refused(
 }
 
 // Behind what was written so far, what is written where the reading halts.
-fn halted(alloc: Global, out: Bytes, halt: Halt) -> Result<PairOut, Memory>
+fn halted(alloc: Global, out: Bytes, halt: TextHalt) -> Result<PairOut, Memory>
     ensures { IfOk result (λ o. (rest : Written) → HaltsAs rest halt → written_in o ≡ behind_text out rest) }
 {
     match halt {
-        Halt::Bad { number, reason } => refused(alloc, out, number, reason),
-        Halt::Memory => Err(Memory),
+        TextHalt::Bad { number, reason } => refused(alloc, out, number, reason),
+        TextHalt::Memory => Err(Memory),
     }
 }
 
@@ -101,13 +101,13 @@ fn next_event<'a>(
     ids: &List<Bytes>,
     text: &'a [u8],
     number: u64,
-) -> Result<(Option<Event>, &'a [u8]), Halt>
-    ensures said { IfOk result (λ next. rest_of number (happening ids.now (seen pairing.now)) text.now
+) -> Result<(Option<PairEvent>, &'a [u8]), TextHalt>
+    ensures said { IfOk result (λ next. rest_written number (happening ids.now (seen pairing.now)) text.now
         ≡ after_said number ids.now (seen pairing.now) next.0 next.1.now) }
-    ensures range { IfOk result (λ next. IfSome next.0 (IsOf (length ids.now) (length pairing.now.ups)
+    ensures range { IfOk result (λ next. IfSome next.0 (IsPairEvent (length ids.now) (length pairing.now.ups)
         (length pairing.now.downs))) }
     ensures shorter { IfOk result (λ next. length next.1.now < length text.now) }
-    ensures halt { IfErr result (HaltsAs (rest_of number (happening ids.now (seen pairing.now)) text.now)) }
+    ensures halt { IfErr result (HaltsAs (rest_written number (happening ids.now (seen pairing.now)) text.now)) }
 {
     let (line, behind) = match next_line(text, number) {
         Ok(cut) => cut,
@@ -124,14 +124,14 @@ fn next_event<'a>(
         Err(error) => return Err(halt_at(number, error)),
     };
     match event {
-        Event::End => Ok((None, behind)),
+        PairEvent::End => Ok((None, behind)),
         _ => Ok((Some(event), behind)),
     }
 }
 
 // Does an event, and adds its line.
-fn answer(pairing: &mut Pairing, event: Event, out: &mut Bytes) -> Result<(), Memory>
-    requires event { IsOf (length pairing.old.client.machine.accounts) (length pairing.old.ups)
+fn answer(pairing: &mut Pairing, event: PairEvent, out: &mut Bytes) -> Result<(), Memory>
+    requires event { IsPairEvent (length pairing.old.client.machine.accounts) (length pairing.old.ups)
         (length pairing.old.downs) event }
     requires few { pairing.old.deliveries + 200000 < 2 ^ 128 }
     ensures told { OnOk result (out.new ≡ out.old ++ ((Runs.step_of (seen pairing.old) event).words ++ line_feed)) }
@@ -154,7 +154,7 @@ fn run_events(
     requires number { first + length text.now < 2 ^ 64 }
     requires few { pairing.old.deliveries ≤ 200000 * first }
     requires accounts { length ids.now ≡ length pairing.old.client.machine.accounts }
-    ensures { IfOk result (λ o. written_in o ≡ rest_of first (happening ids.now (seen pairing.old)) text.now) }
+    ensures { IfOk result (λ o. written_in o ≡ rest_written first (happening ids.now (seen pairing.old)) text.now) }
 {
     let alloc = pairing.alloc;
     let mut out = Bytes::new(alloc);
@@ -177,7 +177,7 @@ fn run_events(
 // Both ends before the first event.
 fn pairing_from(alloc: Global, start: Start, job: Job) -> Result<Pairing, Memory>
     requires client { CanBegin start }
-    requires job { IsSound job }
+    requires job { IsSoundJob job }
     ensures begun { IfOk result (λ p. seen p ≡ pairing_of (told_of start) job) }
 {
     Ok(Pairing {
@@ -199,10 +199,10 @@ fn run_behind(
     number: u64,
 ) -> Result<PairOut, Memory>
     requires client { CanBegin start }
-    requires job { IsSound job }
+    requires job { IsSoundJob job }
     requires number { number + length text.now < 2 ^ 64 }
     ensures { IfOk result (λ o. written_in o
-        ≡ rest_of number (happening (servers_of (told_of start).accounts) (pairing_of (told_of start) job)) text.now) }
+        ≡ rest_written number (happening (servers_of (told_of start).accounts) (pairing_of (told_of start) job)) text.now) }
 {
     let ids = ids_of(alloc, &start.accounts)?;
     let mut pairing = pairing_from(alloc, start, job)?;
@@ -213,10 +213,10 @@ fn run_behind(
 fn run_job(alloc: Global, start: Start, text: &[u8], number: u64) -> Result<PairOut, Memory>
     requires client { CanBegin start }
     requires number { number + length text.now < 2 ^ 64 }
-    ensures { IfOk result (λ o. written_in o ≡ rest_of number (jobbing (told_of start) reading.First) text.now) }
+    ensures { IfOk result (λ o. written_in o ≡ rest_written number (jobbing (told_of start) reading.First) text.now) }
 {
     match read_job(alloc, text, number) {
-        Ok(Given { job, rest, number }) => run_behind(alloc, start, job, rest, number),
+        Ok(JobRead { job, rest, number }) => run_behind(alloc, start, job, rest, number),
         Err(halt) => halted(alloc, Bytes::new(alloc), halt),
     }
 }
@@ -224,11 +224,11 @@ fn run_job(alloc: Global, start: Start, text: &[u8], number: u64) -> Result<Pair
 // What stands behind the first line.
 fn run_start(alloc: Global, text: &[u8]) -> Result<PairOut, Memory>
     requires { length text.now < 2 ^ 63 }
-    ensures { IfOk result (λ o. written_in o ≡ rest_of 2 (starting (opening (Device 1))) text.now) }
+    ensures { IfOk result (λ o. written_in o ≡ rest_written 2 (starting (opening (Device 1))) text.now) }
 {
     match read_start(alloc, text) {
         Ok(
-            Begun {
+            StartRead {
                 start,
                 rest,
                 number,
@@ -242,7 +242,7 @@ fn run_start(alloc: Global, text: &[u8]) -> Result<PairOut, Memory>
 /// `done`; or, behind the lines of the events before it, which line is refused and why. The only error is want of
 /// memory.
 pub fn run_pair(alloc: Global, text: &[u8]) -> Result<PairOut, Memory>
-    ensures text { IfOk result (λ o. text_of o ≡ (written text.now).text) }
+    ensures text { IfOk result (λ o. all_written o ≡ (written text.now).text) }
     ensures bad { IfOk result (λ o. o.bad ≡ (written text.now).bad) }
 {
     match read_first(text) {

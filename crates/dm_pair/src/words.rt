@@ -9,7 +9,7 @@ ghost use Rattle.dm_server.specs.View.{Tells as TellsServed};
 ghost use Rattle.dm_pair.specs.Pairing as Spec;
 
 use dm_machine::End;
-use dm_server::Answer as ServerAnswer;
+use dm_server::ServerAnswer;
 use dm_session::Answer;
 
 fn end_word(end: End) -> &'static [u8]

@@ -6,9 +6,9 @@ use Rattle.dm_machine.specs.History.{next}
 use Rattle.dm_machine.proofs.Accounts.{accounts_stay}
 use Rattle.dm_replay.specs.declared.events.Event.{Event}
 use Rattle.dm_replay.specs.declared.events.Event.TheVariants as event
-use Rattle.dm_replay.specs.Events.{IsOf, happening_of}
+use Rattle.dm_replay.specs.Events.{IsEventOf, happening_of}
 
-pub said_many : (said : Event) (n : ℕ) (now after : Machine) → IsOf n said
+pub said_many : (said : Event) (n : ℕ) (now after : Machine) → IsEventOf n said
     → IfSome (happening_of said) (λ e. after ≡ next now e)
     → length after.accounts ≡ length now.accounts
 said_many (event.Open account kind session) n now after of acts =

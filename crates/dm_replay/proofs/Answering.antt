@@ -8,7 +8,7 @@ use Rattle.std.specs.declared.result.Result.{Result}
 use Rattle.dm_base.specs.Fields.{hex_text}
 use Rattle.syncml_types.specs.Canonical.{canonical}
 use Rattle.dm_tree.specs.declared.nodes.Stamp.{Stamp}
-use Rattle.dm_machine.specs.declared.kinds.Kind.{Kind}
+use Rattle.dm_machine.specs.declared.kinds.Initiator.{Initiator}
 use Rattle.dm_machine.specs.Machine.{Session, Machine}
 use Rattle.dm_machine.specs.Events.{Answer, clocked, exhausted, clock, opened, loss, loss_answer, sent_in, takes, after}
 use Rattle.dm_machine.specs.Events.{taken_answer, refusal}
@@ -59,7 +59,7 @@ untaken true None other last s t h = cc
 untaken true (Some x) other last s t h = cc
 untaken false o other last s t h = refl
 
-pub exhausted_keeps : (c : Machine) (account : ℕ) (kind : Kind) (number last : ℕ)
+pub exhausted_keeps : (c : Machine) (account : ℕ) (kind : Initiator) (number last : ℕ)
     → answer_now c (opened account kind number) ≡ exhausted last
     → next c (opened account kind number) ≡ c
 unfolding answer_now next taken_answer

@@ -20,11 +20,11 @@ use Rattle.dm_replay.specs.declared.events.Event.{Event}
 use Rattle.dm_replay.specs.declared.events.Event.TheVariants as event
 use Rattle.dm_replay.specs.declared.reading.Halt.{Halt}
 use Rattle.dm_replay.specs.declared.reading.Halt.TheVariants as halt
-use Rattle.dm_replay.specs.declared.reading.Started.{Started}
+use Rattle.dm_replay.specs.declared.reading.TraceStart.{TraceStart}
 use Rattle.dm_replay.specs.Events.{happening_of}
-use Rattle.dm_replay.specs.Trace.{Trace, began, no_events, with_event, trace_of, ids_of}
+use Rattle.dm_replay.specs.Trace.{Trace, began, no_events, with_event, trace_of, servers_of}
 use Rattle.dm_replay.specs.Output.{answer_text, answers_text, begun_answers, answered_text, client_of, PutsTaken}
-use Rattle.dm_replay.specs.From.{OverTaken, OfTaken, PutsOn, PutsHalt, PutsBehind, PutsDueAndHalt}
+use Rattle.dm_replay.specs.From.{OverTaken, OfTaken, PutsDue, PutsHalt, PutsBehind, PutsDueAndHalt}
 use Rattle.dm_replay.specs.From.{GoesOver, PutsEvents, events_at, ending_at, begun_at}
 use Rattle.dm_replay.proofs.Over.{over_then, over_ends, over_counted, of_taken}
 use Rattle.dm_replay.proofs.Whole.{fresh_lines}
@@ -47,7 +47,7 @@ pub record Answered (a b : LinesState) (left rest old new : Option (List ℕ)) (
 -- a front of what is due was put
 pub answered_put : (a b : LinesState) (x y : Option (List ℕ)) (old mid new : Option (List ℕ)) (version : ℕ)
     (ids : List (List ℕ)) (n : ℕ) (c : Machine) (m : ℕ) (now : Machine) (due rest : List ℕ)
-    → Answered a b x y old mid version ids n c m now due → PutsOn mid new due rest (Ok tt)
+    → Answered a b x y old mid version ids n c m now due → PutsDue mid new due rest (Ok tt)
     → Answered a b x y old new version ids n c m now rest
 answered_put a b x y old mid new version ids n c m now due rest f p = record {
   done = f.done ++ p.0;
@@ -159,8 +159,8 @@ due_none old new due none kept = subst (Appends old new) (sym none) (kept_append
 
 -- ---- the whole run
 
-pub client_answers : (s : Started) (c : Machine) (ids : List (List ℕ)) (a : LinesState)
-    (left rest old new : Option (List ℕ)) → c ≡ client_of (told_of s.start) → ids ≡ ids_of s.start.accounts
+pub client_answers : (s : TraceStart) (c : Machine) (ids : List (List ℕ)) (a : LinesState)
+    (left rest old new : Option (List ℕ)) → c ≡ client_of (told_of s.start) → ids ≡ servers_of s.start.accounts
     → PutsEvents c (events_at s.start.version ids s.number) a left rest old new
     → PutsEvents (client_of (told_of s.start)) (trace_of s.number (told_of s.start)) a left rest old new
 client_answers s c ids a left rest old new is are h =

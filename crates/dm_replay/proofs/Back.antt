@@ -18,17 +18,18 @@ use Rattle.dm_exit.specs.declared.exit.Exit.TheVariants as exit
 use Rattle.dm_replay.specs.declared.events.Event.{Event}
 use Rattle.dm_replay.specs.declared.events.Event.TheVariants as event
 use Rattle.dm_replay.specs.Input.{Split, input_of, split, with_byte}
-use Rattle.dm_base.specs.Fields.{parts, is_id, nonce_of, hex_of}
+use Rattle.dm_base.specs.Fields.{parts, is_id, challenge_of, hex_of}
 use Rattle.dm_base.specs.declared.values.Nonce.{Nonce}
 use Rattle.dm_tree.specs.declared.nodes.Stamp.{Stamp}
-use Rattle.dm_machine.specs.declared.kinds.Kind.{Kind}
+use Rattle.dm_machine.specs.declared.kinds.Initiator.{Initiator}
 use Rattle.dm_start.specs.Fields.{clock_in}
 use Rattle.dm_fields.specs.Fields.{begins_with}
-use Rattle.dm_replay.specs.Events.{event_of, kind_of, session_of, place_of, opened_at, opened_by, open_in, msg_by}
+use Rattle.dm_replay.specs.Events.{event_of, kind_of, session_in_text, account_place, opened_at, opened_by, open_in}
+use Rattle.dm_replay.specs.Events.{msg_by}
 use Rattle.dm_replay.specs.Events.{msg_in, act_in, clock_by, clock_event, alone}
 use Rattle.dm_replay.specs.Trace.{Stop, bad, too_long, whole, stopped, began, unbegun, is_long, tail_stop, told_in}
 use Rattle.dm_replay.specs.Trace.{behind_begin, start_line, start_from, no_events, event_line, end_from, events_from}
-use Rattle.dm_replay.specs.Trace.{ids_of}
+use Rattle.dm_replay.specs.Trace.{servers_of}
 use Rattle.dm_replay.specs.Output.{begun_exit, stop_exit, ending_exit, replay_exit}
 use Rattle.dm_replay.specs.Laws.{AreLines, text_of, happening_said, AreEvents, IsWholeTrace, OnlyTracesAreDone}
 use Rattle.dm_replay.proofs.WholeTraces.{of_told}
@@ -114,18 +115,18 @@ opened_goes_on ids [] h = cc
 opened_goes_on ids (a ∷ []) h = cc
 opened_goes_on ids (a ∷ b ∷ []) h = cc
 opened_goes_on ids (a ∷ b ∷ c ∷ []) h = cc
-opened_goes_on ids (a ∷ b ∷ c ∷ d ∷ []) h = opened (kind_of c) (session_of d) h
+opened_goes_on ids (a ∷ b ∷ c ∷ d ∷ []) h = opened (kind_of c) (session_in_text d) h
   where
-    placed : (o : Option ℕ) (kind : Kind) (session : ℕ) → opened_at o kind session ≡ Ok event.End → ⊥
+    placed : (o : Option ℕ) (kind : Initiator) (session : ℕ) → opened_at o kind session ≡ Ok event.End → ⊥
     placed None kind session g = cc
     placed (Some account) kind session g = cc
 
-    known : (c : Bool) (kind : Kind) (session : ℕ)
-        → (if c then opened_at (place_of ids b) kind session else Err reason.Fields) ≡ Ok event.End → ⊥
-    known true kind session g = placed (place_of ids b) kind session g
+    known : (c : Bool) (kind : Initiator) (session : ℕ)
+        → (if c then opened_at (account_place ids b) kind session else Err reason.Fields) ≡ Ok event.End → ⊥
+    known true kind session g = placed (account_place ids b) kind session g
     known false kind session g = cc
 
-    opened : (k : Option Kind) (n : Option ℕ) → opened_by ids b k n ≡ Ok event.End → ⊥
+    opened : (k : Option Initiator) (n : Option ℕ) → opened_by ids b k n ≡ Ok event.End → ⊥
     opened None n g = cc
     opened (Some kind) None g = cc
     opened (Some kind) (Some session) g = known (is_id b) kind session g
@@ -135,7 +136,7 @@ message_goes_on : (fields : List (List ℕ)) → msg_in fields ≡ Ok event.End 
 message_goes_on [] h = cc
 message_goes_on (a ∷ []) h = cc
 message_goes_on (a ∷ b ∷ []) h = cc
-message_goes_on (a ∷ b ∷ c ∷ []) h = read (nonce_of b) (hex_of c) h
+message_goes_on (a ∷ b ∷ c ∷ []) h = read (challenge_of b) (hex_of c) h
   where
     read : (o : Option Nonce) (bytes : Option (List ℕ)) → msg_by o bytes ≡ Ok event.End → ⊥
     read None bytes g = cc
@@ -242,7 +243,7 @@ pub record Beginning (n : ℕ) (s : Section) (lines : List (List ℕ)) (tail : L
   pub are : lines ≡ start ++ behind
   pub tells : lines_after n s start ≡ Ok (telling phase.Begun told)
   pub short : AreShort start
-  pub happenings : Happenings told.version (ids_of told.accounts) behind tail more
+  pub happenings : Happenings told.version (servers_of told.accounts) behind tail more
 
 after_read : (n : ℕ) (s next : Section) (line : List ℕ) (start : List (List ℕ)) → after_line s line ≡ Ok next
     → lines_after n s (line ∷ start) ≡ lines_after (n + 1) next start
@@ -261,7 +262,7 @@ last_read n s next told line lines tail more short is last h = record {
   are = refl;
   tells = after_read n s next line [] is ∙ ap Ok (of_told next told last);
   short = (short, tt);
-  happenings = events_back told.version (ids_of told.accounts) (n + 1) lines tail more h;
+  happenings = events_back told.version (servers_of told.accounts) (n + 1) lines tail more h;
 }
 
 more_read : (n : ℕ) (s next : Section) (line : List ℕ) (lines : List (List ℕ)) (tail : List ℕ) (more : Bool)

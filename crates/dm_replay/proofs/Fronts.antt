@@ -14,13 +14,14 @@ use Rattle.dm_base.specs.Lines.{AskedForMore, IsFeedless, ReadsLine}
 use Rattle.dm_replay.specs.declared.reading.Halt.{Halt}
 use Rattle.dm_replay.specs.declared.reading.Halt.TheVariants as halt
 use Rattle.dm_replay.specs.Input.{Input, input_of, split}
-use Rattle.dm_replay.specs.Trace.{bad, too_long, stopped, tail_stop, whole, end_at}
-use Rattle.dm_replay.specs.From.{OfInput, Between, Leads, stop_at, ending_at, OfStop, HaltsAsking, halt_after}
+use Rattle.dm_replay.specs.Trace.{bad, too_long, stopped, tail_stop, whole, ending_behind}
+use Rattle.dm_replay.specs.From.{OfInput, Between, BeginsWithLine, why_no_line, ending_at, OfStop, HaltsAsking}
+use Rattle.dm_replay.specs.From.{halt_after}
 use Rattle.dm_replay.proofs.Splits.{not_lt, is_lt, input_line, input_cut, input_past, input_led, input_long}
 
 pub line_leads : (a b : Option (List ℕ)) (r r' : ℕ) (line : List ℕ) → ReadsLine r a b line (Ok line_out.Line)
     → r' + (length line + 1) ≡ r → Between (option_map (input_of r) a) (option_map (input_of r') b)
-    (λ i j. Leads line i j)
+    (λ i j. BeginsWithLine line i j)
 line_leads None b r r' line h e = tt
 line_leads (Some xs) None r r' line h e = absurd h.3
 line_leads (Some xs) (Some ys) r r' line h e = (
@@ -42,14 +43,14 @@ tail_short n tail more short =
     (not_lt 8400000 (length tail) short)
 
 end_tail_long : (n : ℕ) (tail : List ℕ) (more : Bool) → 8400000 < length tail
-    → end_at n tail more ≡ stopped (bad n reason.Extra)
+    → ending_behind n tail more ≡ stopped (bad n reason.Extra)
 end_tail_long n tail more long =
     ap (λ c. if c then stopped (bad n reason.Extra) else if more then stopped too_long else if length
     tail == 0 then whole else stopped (bad n reason.Extra))
     (is_lt 8400000 (length tail) long)
 
 end_tail_short : (n : ℕ) (tail : List ℕ) (more : Bool) → length tail ≤ 8400000
-    → end_at n tail more ≡ (if more then stopped too_long else if length tail == 0 then whole else stopped
+    → ending_behind n tail more ≡ (if more then stopped too_long else if length tail == 0 then whole else stopped
     (bad n reason.Extra))
 end_tail_short n tail more short =
     ap (λ c. if c then stopped (bad n reason.Extra) else if more then stopped too_long else if length
@@ -83,7 +84,7 @@ longer : (a b : List ℕ) → 8400000 < length a → 8400000 < length (a ++ b)
 longer a b h = let e = length-append a b in omega (arith, e, h)
 
 stop_long : (n : ℕ) (line : List ℕ) (lines : List (List ℕ)) (tail : List ℕ) (more : Bool) → 8400000 < length line
-    → stop_at n (input_led line lines tail more) ≡ Some (bad n reason.Long)
+    → why_no_line n (input_led line lines tail more) ≡ Some (bad n reason.Long)
 stop_long n line [] tail more long = ap Some (tail_long n (line ++ tail) more (longer line tail long))
 stop_long n line (l ∷ lines) tail more long =
     ap (λ c. if c then Some (bad n reason.Long) else None) (is_lt 8400000 (length (line ++ l)) (longer line l long))
@@ -94,7 +95,7 @@ end_long n line [] tail more long = end_tail_long n (line ++ tail) more (longer 
 end_long n line (l ∷ lines) tail more long = refl
 
 end_cut : (n : ℕ) (tail : List ℕ) → 0 < length tail → length tail ≤ 8400000
-    → end_at n tail false ≡ stopped (bad n reason.Extra)
+    → ending_behind n tail false ≡ stopped (bad n reason.Extra)
 end_cut n [] some short = absurd (omega (arith, some))
 end_cut n (b ∷ tail) some short =
     end_tail_short n (b ∷ tail) false short
@@ -102,9 +103,9 @@ end_cut n (b ∷ tail) some short =
 
 pub bad_stops : (a b : Option (List ℕ)) (r n : ℕ) (last : List ℕ) (why : LineReason)
     → ReadsLine r a b last (Ok (line_out.Bad why))
-    → OfInput (option_map (input_of r) a) (λ i. stop_at n i ≡ Some (bad n why))
+    → OfInput (option_map (input_of r) a) (λ i. why_no_line n i ≡ Some (bad n why))
 bad_stops a b r n last why h =
-    bad_front a b r last why (λ w i. stop_at n i ≡ Some (bad n w))
+    bad_front a b r last why (λ w i. why_no_line n i ≡ Some (bad n w))
     (λ tail some short. ap Some (tail_short n tail false short))
     (λ line lines tail more. stop_long n line lines tail more) h
 
@@ -137,12 +138,12 @@ short_front r xs h = let e = length-take r xs in omega (arith, e, h)
 
 pub error_stops : (a b : Option (List ℕ)) (r n : ℕ) (last : List ℕ) (error : TakeError)
     → ReadsLine r a b last (Err error)
-    → OfInput (option_map (input_of r) a) (λ i. OfStop (halt_after error) (λ stop. stop_at n i ≡ Some stop))
+    → OfInput (option_map (input_of r) a) (λ i. OfStop (halt_after error) (λ stop. why_no_line n i ≡ Some stop))
 error_stops None b r n last error h = tt
 error_stops (Some xs) b r n last take_error.Read h = tt
 error_stops (Some xs) b r n last take_error.Memory h = tt
 error_stops (Some xs) b r n last take_error.TooLong h =
-    ap (stop_at n) (input_past r xs h.feedless h.more)
+    ap (why_no_line n) (input_past r xs h.feedless h.more)
     ∙ ap Some (tail_short n (take r xs) true (short_front r xs h.short))
 
 pub error_behind : (a b : Option (List ℕ)) (r n : ℕ) (last : List ℕ) (error : TakeError)

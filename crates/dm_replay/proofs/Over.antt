@@ -17,7 +17,7 @@ use Rattle.dm_fields.specs.declared.errors.LineError.{LineError}
 use Rattle.dm_fields.specs.declared.errors.LineError.TheVariants as line_error
 use Rattle.dm_start.specs.declared.heads.Head.TheVariants.{First}
 use Rattle.dm_start.specs.declared.telling.Phase.TheVariants as phase
-use Rattle.dm_start.specs.Start.{Setup, Section, opening, telling, after_line, Reads}
+use Rattle.dm_start.specs.Start.{Setup, Section, opening, telling, after_line, ReadsSection}
 use Rattle.dm_replay.specs.declared.events.Event.{Event}
 use Rattle.dm_replay.specs.declared.events.Event.TheVariants as event
 use Rattle.dm_replay.specs.declared.reading.Halt.TheVariants as halt
@@ -25,7 +25,7 @@ use Rattle.dm_replay.specs.Input.{Input, input_of}
 use Rattle.dm_replay.specs.Events.{event_of, is_end}
 use Rattle.dm_replay.specs.Trace.{bad, stopped, began, no_events, event_line, events_from, start_from}
 use Rattle.dm_replay.specs.Output.{begun_answers}
-use Rattle.dm_replay.specs.From.{OverTaken, OfTaken, Leads}
+use Rattle.dm_replay.specs.From.{OverTaken, OfTaken, BeginsWithLine}
 use Rattle.dm_replay.specs.From.{GoesOver, events_at, ending_at, begun_at, halt_after, halt_for}
 use Rattle.dm_replay.proofs.Splits.{input_cut, input_past}
 use Rattle.dm_replay.proofs.Fronts.{line_leads}
@@ -79,7 +79,7 @@ of_taken a (Some xs) z Q R step q = (q.0, q.1, step _ q.2)
 pub line_over : (a b : LinesState) (x y : Option (List ℕ)) (line : List ℕ)
     → ReadsLine (room a) (ahead a x) (ahead b y) line (Ok line_out.Line)
     → CountsTaken x y a.taken b.taken → room b + (length line + 1) ≡ room a
-    → OverTaken a b x y (λ i j. Leads line i j)
+    → OverTaken a b x y (λ i j. BeginsWithLine line i j)
 line_over a b None y line read taken less = tt
 line_over a b (Some xs) None line read taken less = absurd taken.1
 line_over a b (Some xs) (Some ys) line read taken less = (
@@ -154,20 +154,20 @@ abbrev pub SectionOver : LinesState → LinesState → Option (List ℕ) → Opt
 SectionOver a b left rest n s = OverTaken a b left rest (λ i j. begun_at 1 (opening First) i ≡ begun_at n s j)
 
 pub section_goes : (a b c : LinesState) (x y z : Option (List ℕ)) (n : ℕ) (at next : Section) (line looked : List ℕ)
-    → looked ≡ line → Reads (after_line at looked) at next (Ok false)
-    → SectionOver a b x y n at → OverTaken b c y z (λ i j. Leads line i j) → SectionOver a c x z (n + 1) next
+    → looked ≡ line → ReadsSection (after_line at looked) at next (Ok false)
+    → SectionOver a b x y n at → OverTaken b c y z (λ i j. BeginsWithLine line i j) → SectionOver a c x z (n + 1) next
 section_goes a b c x y z n at next line looked is read before leads =
-    over_then a b c x y z (λ i j. begun_at 1 (opening First) i ≡ begun_at n at j) (λ i j. Leads line i j)
+    over_then a b c x y z (λ i j. begun_at 1 (opening First) i ≡ begun_at n at j) (λ i j. BeginsWithLine line i j)
     (λ i j. begun_at 1 (opening First) i ≡ begun_at (n + 1) next j)
     (λ i j k p q. section_more (Some i) (Some j) (Some k) n at next line looked is read p q) before leads
 
 pub section_comes : (a b c : LinesState) (x y z : Option (List ℕ)) (n : ℕ) (at next : Section) (told : Setup)
-    (line looked : List ℕ) → looked ≡ line → Reads (after_line at looked) at next (Ok true)
+    (line looked : List ℕ) → looked ≡ line → ReadsSection (after_line at looked) at next (Ok true)
     → next ≡ telling phase.Begun told
-    → SectionOver a b x y n at → OverTaken b c y z (λ i j. Leads line i j)
+    → SectionOver a b x y n at → OverTaken b c y z (λ i j. BeginsWithLine line i j)
     → OverTaken a c x z (λ i j. begun_at 1 (opening First) i ≡ began (n + 1) told j)
 section_comes a b c x y z n at next told line looked is read last before leads =
-    over_then a b c x y z (λ i j. begun_at 1 (opening First) i ≡ begun_at n at j) (λ i j. Leads line i j)
+    over_then a b c x y z (λ i j. begun_at 1 (opening First) i ≡ begun_at n at j) (λ i j. BeginsWithLine line i j)
     (λ i j. begun_at 1 (opening First) i ≡ began (n + 1) told j)
     (λ i j k p q. section_whole (Some i) (Some j) (Some k) n at next told line looked is read last p q) before leads
 
@@ -186,7 +186,7 @@ no_event : (version : ℕ) (ids : List (List ℕ)) (n : ℕ) (i : Input) → i.l
 no_event version ids n i none = ap (λ lines. (events_from version ids n lines i.tail i.more).events) none
 
 said_next : (version : ℕ) (ids : List (List ℕ)) (n : ℕ) (line looked : List ℕ) (said : Event) (i j : Input)
-    → looked ≡ line → event_of version ids looked ≡ Ok said → Leads line i j
+    → looked ≡ line → event_of version ids looked ≡ Ok said → BeginsWithLine line i j
     → events_at version ids n i ≡ event_line n (Ok said) (ending_at (n + 1) j) (events_at version ids (n + 1) j)
 said_next version ids n line looked said i j is read leads =
     ap (events_at version ids n) leads.0
@@ -197,17 +197,17 @@ said_next version ids n line looked said i j is read leads =
 
 said_over : (a b : LinesState) (x y : Option (List ℕ)) (version : ℕ) (ids : List (List ℕ)) (n : ℕ)
     (line looked : List ℕ) (said : Event) → looked ≡ line → event_of version ids looked ≡ Ok said
-    → OverTaken a b x y (λ i j. Leads line i j)
+    → OverTaken a b x y (λ i j. BeginsWithLine line i j)
     → OverTaken a b x y (λ i j. events_at version ids n i
     ≡ event_line n (Ok said) (ending_at (n + 1) j) (events_at version ids (n + 1) j))
 said_over a b x y version ids n line looked said is read leads =
-    over_as a b x y (λ i j. Leads line i j) (λ i j. events_at version ids n i
+    over_as a b x y (λ i j. BeginsWithLine line i j) (λ i j. events_at version ids n i
     ≡ event_line n (Ok said) (ending_at (n + 1) j) (events_at version ids (n + 1) j))
     (λ i j p. said_next version ids n line looked said i j is read p) leads
 
 pub event_over : (a b : LinesState) (x y : Option (List ℕ)) (version : ℕ) (ids : List (List ℕ)) (n : ℕ)
     (line looked : List ℕ) (said : Event) → looked ≡ line → event_of version ids looked ≡ Ok said
-    → is_end said ≡ false → OverTaken a b x y (λ i j. Leads line i j)
+    → is_end said ≡ false → OverTaken a b x y (λ i j. BeginsWithLine line i j)
     → GoesOver a b x y version ids n (Ok (Some said))
 event_over a b x y version ids n line looked (event.Open account kind session) is read other leads =
     said_over a b x y version ids n line looked _ is read leads
@@ -223,7 +223,7 @@ event_over a b x y version ids n line looked event.End is read other leads = cc
 
 pub end_over : (a b : LinesState) (x y : Option (List ℕ)) (version : ℕ) (ids : List (List ℕ)) (n : ℕ)
     (line looked : List ℕ) (said : Event) → looked ≡ line → event_of version ids looked ≡ Ok said
-    → is_end said ≡ true → OverTaken a b x y (λ i j. Leads line i j) → GoesOver a b x y version ids n (Ok None)
+    → is_end said ≡ true → OverTaken a b x y (λ i j. BeginsWithLine line i j) → GoesOver a b x y version ids n (Ok None)
 end_over a b x y version ids n line looked event.End is read last leads =
     said_over a b x y version ids n line looked event.End is read leads
 end_over a b x y version ids n line looked (event.Open account kind session) is read last leads = cc

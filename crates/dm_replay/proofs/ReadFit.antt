@@ -1,5 +1,6 @@
 -- What bytes are read as is fit, and its numbers are in the ranges of their types.
-use Rattle.std.proofs.Common.{◌≡◌, ◌≤◌, ◌<◌, ◌+◌, ◌*◌, ◌==◌, ℕ, suc, Bool, true, false, cond, List, [], ◌∷◌, ◌++◌, length}
+use Rattle.std.proofs.Common.{◌≡◌, ◌≤◌, ◌<◌, ◌+◌, ◌*◌, ◌==◌, ℕ, suc, Bool, true, false, cond, List, [], ◌∷◌, ◌++◌}
+use Rattle.std.proofs.Common.{length}
 use Rattle.std.proofs.Common.{Option, None, Some, Ok, refl, sym, ap, subst, drop, arith, inl, inr}
 use Rattle.std.proofs.lemmas.List.{length-append, length-drop}
 use Rattle.std.proofs.Math.Nat.{mul-le-mul_left}
@@ -9,12 +10,12 @@ use Rattle.wbxml_tokens.specs.declared.token.Placed.{Placed}
 use Rattle.wbxml_tokens.specs.declared.token.Token.{Token}
 use Rattle.wbxml_tokens.specs.declared.token.Token.TheVariants.{Tag, End, Text, Opaque}
 use Rattle.wbxml_tokens.specs.Fronts.{until_zero, table_string}
-use Rattle.wbxml_tokens.specs.Spelled.{IsPrologue, IsSpelled, SpellsTokens, none, switch, token}
+use Rattle.wbxml_tokens.specs.Spelled.{IsPrologue, SpellsToken, SpellsTokens, none, switch, token}
 use Rattle.syncml_shape.specs.Forest.{spelling}
 use Rattle.syncml_types.specs.Message.{Parts}
 use Rattle.syncml_types.specs.Fitness.{IsFit}
-use Rattle.syncml_grammar.specs.Building.{text_in, text_length}
-use Rattle.syncml_grammar.specs.Reads.{parts_in}
+use Rattle.syncml_grammar.specs.Building.{bytes_of_text, text_length}
+use Rattle.syncml_grammar.specs.Reads.{parts_held}
 use Rattle.syncml_grammar.specs.Taken.{tokens}
 use Rattle.syncml_grammar.proofs.FitReads.{read_is_fit}
 use Rattle.syncml_codec.specs.Ranges.{AreNumbers}
@@ -57,8 +58,8 @@ by_table text size k table is h =
     let whole : 2 * text ≤ (2 + table) * suc (suc k) = omega (arith, h) in
     subst (λ n. 2 * text ≤ (2 + table) * n) (sym is) whole
 
-token_text : (page : ℕ) (table : List ℕ) (t : Token) (first : List ℕ) → IsSpelled page table t first
-    → 2 * text_in t ≤ (2 + length table) * length first
+token_text : (page : ℕ) (table : List ℕ) (t : Token) (first : List ℕ) → SpellsToken page table t first
+    → 2 * bytes_of_text t ≤ (2 + length table) * length first
 token_text page table (Tag e content) first h = omega arith
 token_text page table End first h = omega arith
 token_text page table (Opaque content) first h =
@@ -101,7 +102,7 @@ tokens_text {table} {placed = placed} (switch {bytes = bytes} open_ low rest) =
 tokens_text {table} {page = page} (token {tokens = placed} t first rest bytes open_ spells later is) =
     let size = ap length is in
     let parts = length-append first rest in
-    both_texts (length first) (length rest) (text_in t) (text_length (tokens placed)) (length bytes) (length table)
+    both_texts (length first) (length rest) (bytes_of_text t) (text_length (tokens placed)) (length bytes) (length table)
     (omega (arith, size, parts)) (token_text page table t first spells) (tokens_text later)
 
 table_in_prologue : (table prologue : List ℕ) → IsPrologue table prologue → 2 + length table ≤ length prologue
@@ -140,7 +141,7 @@ spelled_is_fit bytes m s =
     let fit =
     read_is_fit tree reads.0 reads.1 shape.fitting reads.2
     (subst (λ ts. text_length ts ≤ 2147483648) shape.spelled short) in
-    subst (λ (p : Parts). IsFit p.header p.body) (same_parts (parts_in reads.0) fit.1 reads.3) fit.2
+    subst (λ (p : Parts). IsFit p.header p.body) (same_parts (parts_held reads.0) fit.1 reads.3) fit.2
 
 pub read_is_held : (bytes : List ℕ) (m : Parts) → AreBytes bytes → read_of bytes ≡ Ok m
     → IsFit m.header m.body × AreNumbers m

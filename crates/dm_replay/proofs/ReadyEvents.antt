@@ -10,7 +10,7 @@ use Rattle.hex.specs.Hex.{IsBytes, decode_of, decode_sized}
 use Rattle.hex.proofs.HexLemmas.{decode_of-ok, decode_sized-ok, decode_sized-twice}
 use Rattle.wbxml_ints.specs.Multibyte.{AreBytes}
 use Rattle.wbxml_tokens.specs.declared.reason.Refusal.{Refusal}
-use Rattle.dm_base.specs.Fields.{parts, is_id, nonce_of, num_of, hex_of}
+use Rattle.dm_base.specs.Fields.{parts, is_id, challenge_of, num_of, hex_of}
 use Rattle.dm_base.specs.declared.lines.LineReason.{LineReason}
 use Rattle.dm_base.specs.declared.lines.LineReason.TheVariants as reason
 use Rattle.dm_base.specs.declared.values.Nonce.{Nonce}
@@ -18,7 +18,7 @@ use Rattle.syncml_types.specs.Message.{Parts}
 use Rattle.syncml_codec.specs.Decoding.{read_of}
 use Rattle.dm_tree.specs.declared.nodes.Stamp.{Stamp}
 use Rattle.dm_tree.specs.Nodes.{IsStamp}
-use Rattle.dm_machine.specs.declared.kinds.Kind.{Kind}
+use Rattle.dm_machine.specs.declared.kinds.Initiator.{Initiator}
 use Rattle.dm_machine.specs.Machine.{Machine}
 use Rattle.dm_machine.specs.Events.{Event as Happening, clock, opened, message, loss, act}
 use Rattle.dm_machine.specs.Ready.{IsReadyEvent, IsReadyRead}
@@ -26,7 +26,8 @@ use Rattle.dm_fields.specs.Fields.{begins_with}
 use Rattle.dm_start.specs.Fields.{clock_in}
 use Rattle.dm_replay.specs.declared.events.Event.{Event}
 use Rattle.dm_replay.specs.declared.events.Event.TheVariants as event
-use Rattle.dm_replay.specs.Events.{event_of, kind_of, session_by, session_of, place_of, opened_at, opened_by, open_in}
+use Rattle.dm_replay.specs.Events.{event_of, kind_of, session_by, session_in_text, account_place, opened_at, opened_by}
+use Rattle.dm_replay.specs.Events.{open_in}
 use Rattle.dm_replay.specs.Events.{msg_by, msg_in, act_in, clock_by, clock_event, alone, happening_of}
 use Rattle.dm_replay.proofs.ReadFit.{read_is_held}
 use Rattle.dm_replay.proofs.Saying.{is_of}
@@ -64,24 +65,24 @@ session_low : (o : Option ℕ) → IsLow (session_by o)
 session_low None = tt
 session_low (Some n) = number_low n (nat_lt 0 n && nat_lt n (2 ^ 32)) refl
 
-placed_low : (o : Option ℕ) (kind : Kind) (n : ℕ) → n < 2 ^ 32 → InRange (opened_at o kind n)
+placed_low : (o : Option ℕ) (kind : Initiator) (n : ℕ) → n < 2 ^ 32 → InRange (opened_at o kind n)
 placed_low None kind n h = tt
 placed_low (Some account) kind n h = h
 
-opened_low : (ids : List (List ℕ)) (server : List ℕ) (kind : Option Kind) (n : Option ℕ) → IsLow n
+opened_low : (ids : List (List ℕ)) (server : List ℕ) (kind : Option Initiator) (n : Option ℕ) → IsLow n
     → InRange (opened_by ids server kind n)
 opened_low ids server None n h = tt
 opened_low ids server (Some kind) None h = tt
 opened_low ids server (Some kind) (Some n) h =
-    either InRange (is_id server) {x = opened_at (place_of ids server) kind n} {y = Err reason.Fields}
-    (placed_low (place_of ids server) kind n h) tt
+    either InRange (is_id server) {x = opened_at (account_place ids server) kind n} {y = Err reason.Fields}
+    (placed_low (account_place ids server) kind n h) tt
 
 open_low : (ids fields : List (List ℕ)) → InRange (open_in ids fields)
 open_low ids [] = tt
 open_low ids (w ∷ []) = tt
 open_low ids (w ∷ a ∷ []) = tt
 open_low ids (w ∷ a ∷ b ∷ []) = tt
-open_low ids (w ∷ a ∷ b ∷ c ∷ []) = opened_low ids a (kind_of b) (session_of c) (session_low (num_of c))
+open_low ids (w ∷ a ∷ b ∷ c ∷ []) = opened_low ids a (kind_of b) (session_in_text c) (session_low (num_of c))
 open_low ids (w ∷ a ∷ b ∷ c ∷ d ∷ ds) = tt
 
 -- ---- bytes and nonces
@@ -123,7 +124,7 @@ decoded_nonce text (Ok bytes) is =
     record { long = omega (arith, twice, long); bytes_in = λ k l. read.3 k }
 decoded_nonce text (Err e) is = tt
 
-nonce_whole : (text : List ℕ) → OfNonce (nonce_of text)
+nonce_whole : (text : List ℕ) → OfNonce (challenge_of text)
 nonce_whole text = decoded_nonce text (decode_sized text 16) refl
 
 -- ---- a message
@@ -146,7 +147,7 @@ msg_ready : (fields : List (List ℕ)) → InRange (msg_in fields)
 msg_ready [] = tt
 msg_ready (w ∷ []) = tt
 msg_ready (w ∷ a ∷ []) = tt
-msg_ready (w ∷ a ∷ b ∷ []) = told_ready (nonce_of a) (hex_of b) (nonce_whole a) (hex_bytes b)
+msg_ready (w ∷ a ∷ b ∷ []) = told_ready (challenge_of a) (hex_of b) (nonce_whole a) (hex_bytes b)
 msg_ready (w ∷ a ∷ b ∷ c ∷ cs) = tt
 
 -- ---- the others

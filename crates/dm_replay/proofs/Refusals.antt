@@ -16,11 +16,11 @@ use Rattle.dm_replay.specs.Events.{event_of, happening_of}
 use Rattle.dm_replay.specs.Trace.{Stop, bad, too_long, Ending, whole, stopped, Trace, Begun, unbegun, is_long}
 use Rattle.dm_replay.specs.Trace.{tail_stop}
 use Rattle.dm_replay.specs.Trace.{told_in, behind_begin, start_line, start_from, no_events, behind_said, event_line}
-use Rattle.dm_replay.specs.Trace.{end_at, end_from, events_from, ids_of}
+use Rattle.dm_replay.specs.Trace.{ending_behind, end_from, events_from, servers_of}
 use Rattle.dm_replay.specs.Laws.{IsLine, AreLines, text_of}
 use Rattle.dm_replay.specs.Refused.{Reached, in_start, among, behind_end, start_reaches, by_section, event_reaches}
-use Rattle.dm_replay.specs.Refused.{by_event, reached_by, and_then, lines_reach_from, BeginsLong, BeginsWith}
-use Rattle.dm_replay.specs.Refused.{IsRefusedLine, IsExtra, IsRefusedFor, ending_stop}
+use Rattle.dm_replay.specs.Refused.{by_event, reached_by, then_reached, lines_reach_from, BeginsLong, BeginsWith}
+use Rattle.dm_replay.specs.Refused.{IsRefusedLine, IsExtra, IsRefusedNext, ending_stop}
 use Rattle.dm_replay.specs.Refused.{begun_stop, RefusalsAreFirst, RefusalsAreTold}
 use Rattle.dm_replay.proofs.Splits.{split_line, split_lead, split_tail, is_lt, not_lt, with_line}
 use Rattle.dm_replay.proofs.Back.{AreShort, AreFeedless, is_short, joined, feedless, no_feed, nothing_feedless}
@@ -29,7 +29,7 @@ use Rattle.dm_replay.proofs.Back.{AreShort, AreFeedless, is_short, joined, feedl
 abbrev pub stop_from : ℕ → Reached → List (List ℕ) → List ℕ → Bool → Option Stop
 stop_from n (in_start s) lines tail more = begun_stop (start_from n s lines tail more)
 stop_from n (among told) lines tail more =
-    ending_stop (events_from told.version (ids_of told.accounts) n lines tail more).ending
+    ending_stop (events_from told.version (servers_of told.accounts) n lines tail more).ending
 stop_from n behind_end lines tail more = ending_stop (end_from n lines tail more)
 
 -- ---- values
@@ -88,7 +88,7 @@ section_taken (Err why) n next lines tail more h = cc
 
 event_taken : (o : Option Happening) (told : Setup) (n : ℕ) (lines : List (List ℕ)) (tail : List ℕ) (more : Bool)
     → ending_stop (behind_said o (end_from (n + 1) lines tail more)
-    (events_from told.version (ids_of told.accounts) (n + 1) lines tail more)).ending
+    (events_from told.version (servers_of told.accounts) (n + 1) lines tail more)).ending
     ≡ stop_from (n + 1) (event_reaches told o) lines tail more
 event_taken None told n lines tail more = refl
 event_taken (Some e) told n lines tail more = refl
@@ -96,7 +96,7 @@ event_taken (Some e) told n lines tail more = refl
 said_taken : (r : Result Event LineReason) (told : Setup) (n : ℕ) (next : Reached) (lines : List (List ℕ))
     (tail : List ℕ) (more : Bool) → by_event told r ≡ Ok next
     → ending_stop (event_line n r (end_from (n + 1) lines tail more)
-    (events_from told.version (ids_of told.accounts) (n + 1) lines tail more)).ending
+    (events_from told.version (servers_of told.accounts) (n + 1) lines tail more)).ending
     ≡ stop_from (n + 1) next lines tail more
 said_taken (Ok said) told n next lines tail more h =
     event_taken (happening_of said) told n lines tail more
@@ -113,9 +113,9 @@ line_taken (in_start s) next n line lines tail more short h =
     ∙ section_taken (after_line s line) n next lines tail more h
 line_taken (among told) next n line lines tail more short h =
     ap (λ c. ending_stop (if c then no_events (stopped (bad n reason.Long))
-    else event_line n (event_of told.version (ids_of told.accounts) line) (end_from (n + 1) lines tail more)
-    (events_from told.version (ids_of told.accounts) (n + 1) lines tail more)).ending) short
-    ∙ said_taken (event_of told.version (ids_of told.accounts) line) told n next lines tail more h
+    else event_line n (event_of told.version (servers_of told.accounts) line) (end_from (n + 1) lines tail more)
+    (events_from told.version (servers_of told.accounts) (n + 1) lines tail more)).ending) short
+    ∙ said_taken (event_of told.version (servers_of told.accounts) line) told n next lines tail more h
 line_taken behind_end next n line lines tail more short h = cc
 
 section_refused : (r : Result Section LineReason) (n : ℕ) (why : LineReason) (i : Input) (rest : Section → Begun)
@@ -139,10 +139,10 @@ line_refused (in_start s) n why line lines tail more short h =
     (λ p. start_from (n + 1) p lines tail more) h
 line_refused (among told) n why line lines tail more short h =
     ap (λ c. ending_stop (if c then no_events (stopped (bad n reason.Long))
-    else event_line n (event_of told.version (ids_of told.accounts) line) (end_from (n + 1) lines tail more)
-    (events_from told.version (ids_of told.accounts) (n + 1) lines tail more)).ending) short
-    ∙ said_refused (event_of told.version (ids_of told.accounts) line) told n why (end_from (n + 1) lines tail more)
-    (events_from told.version (ids_of told.accounts) (n + 1) lines tail more) h
+    else event_line n (event_of told.version (servers_of told.accounts) line) (end_from (n + 1) lines tail more)
+    (events_from told.version (servers_of told.accounts) (n + 1) lines tail more)).ending) short
+    ∙ said_refused (event_of told.version (servers_of told.accounts) line) told n why (end_from (n + 1) lines tail more)
+    (events_from told.version (servers_of told.accounts) (n + 1) lines tail more) h
 line_refused behind_end n why line lines tail more short h = ap (λ x. Some (bad n x)) (err_same reason.Extra why h)
 
 -- ---- the lines before
@@ -160,7 +160,7 @@ more_taken : (x : Result Reached LineReason) (r next : Reached) (n : ℕ) (line 
     (before behind : List (List ℕ)) (tail : List ℕ) (more : Bool) → IsLine line → reached_by r line ≡ x
     → ((mid : Reached) → lines_reach_from mid before ≡ Ok next
     → stop_from (n + 1) mid (before ++ behind) tail more ≡ stop_from (n + 1 + length before) next behind tail more)
-    → and_then x (λ mid. lines_reach_from mid before) ≡ Ok next
+    → then_reached x (λ mid. lines_reach_from mid before) ≡ Ok next
     → stop_from n r (line ∷ (before ++ behind)) tail more ≡ stop_from (n + suc (length before)) next behind tail more
 more_taken (Ok mid) r next n line before behind tail more is_line is rec h =
     line_taken r mid n line (before ++ behind) tail more (not_long line is_line) is ∙ rec mid h
@@ -198,8 +198,8 @@ stop_of_long (in_start s) n line lines tail more is long =
     (record { lines = lines; tail = tail; more = more }) (λ p. start_from (n + 1) p lines tail more))) long
 stop_of_long (among told) n line lines tail more is long =
     ap (λ c. ending_stop (if c then no_events (stopped (bad n reason.Long))
-    else event_line n (event_of told.version (ids_of told.accounts) line) (end_from (n + 1) lines tail more)
-    (events_from told.version (ids_of told.accounts) (n + 1) lines tail more)).ending) long
+    else event_line n (event_of told.version (servers_of told.accounts) line) (end_from (n + 1) lines tail more)
+    (events_from told.version (servers_of told.accounts) (n + 1) lines tail more)).ending) long
 stop_of_long behind_end n line lines tail more is long = absurd is
 
 tail_is : (c d : Bool) (n : ℕ) (tail : List ℕ) (more : Bool) → is_long tail ≡ c → more ≡ d
@@ -260,7 +260,7 @@ line_stops r n rest more why is h = elim h [
 ]
 
 end_is : (d : Bool) (n : ℕ) (tail : List ℕ) (more : Bool) → is_long tail ≡ false → more ≡ false
-    → (length tail == 0) ≡ d → end_at n tail more ≡ (if d then whole else stopped (bad n reason.Extra))
+    → (length tail == 0) ≡ d → ending_behind n tail more ≡ (if d then whole else stopped (bad n reason.Extra))
 end_is d n tail more short none is =
     ap (λ c. if c then stopped (bad n reason.Extra) else if more then stopped too_long
     else if length tail == 0 then whole else stopped (bad n reason.Extra)) short
@@ -291,7 +291,7 @@ extra_stops n rest more h = elim h [
   ]
 ]
 
-rest_stops : (r : Reached) (n : ℕ) (rest : List ℕ) (more : Bool) (why : LineReason) → IsRefusedFor r rest more why
+rest_stops : (r : Reached) (n : ℕ) (rest : List ℕ) (more : Bool) (why : LineReason) → IsRefusedNext r rest more why
     → stop_from n r (split rest).lines (split rest).tail more ≡ Some (bad n why)
 rest_stops (in_start s) n rest more why h = line_stops (in_start s) n rest more why tt h
 rest_stops (among told) n rest more why h = line_stops (among told) n rest more why tt h
@@ -426,7 +426,7 @@ found_more r next n m line lines tail more why short is f = record {
   short = (is_short line short, f.short);
   number = f.number ∙ behind_one n (length f.before);
   reached = f.reached;
-  taken = ap (λ x. and_then x (λ p. lines_reach_from p f.before)) is ∙ f.taken;
+  taken = ap (λ x. then_reached x (λ p. lines_reach_from p f.before)) is ∙ f.taken;
   front = f.front;
 }
 
@@ -548,7 +548,7 @@ extra_line false line lines tail more is feedless = inr (inr (line, begins_with 
 
 refused_front : (r : Reached) (lines : List (List ℕ)) (tail : List ℕ) (more : Bool) (why : LineReason)
     → AreFeedless lines → IsFeedless tail → Front r lines tail more why
-    → IsRefusedFor r (text_of lines ++ tail) more why
+    → IsRefusedNext r (text_of lines ++ tail) more why
 refused_front (in_start s) [] tail more why are feedless h = tail_of_front (in_start s) tail more why feedless h
 refused_front (among told) [] tail more why are feedless h = tail_of_front (among told) tail more why feedless h
 refused_front behind_end [] tail more why are feedless h = (extra_tail tail more feedless h.0, h.1)

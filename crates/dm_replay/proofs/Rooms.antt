@@ -1,5 +1,6 @@
 -- No message that a replay sends is longer than the room.
-use Rattle.std.proofs.Common.{◌≡◌, ◌≤◌, ◌+◌, ◌==◌, ℕ, Bool, true, false, cond, not, List, [], ◌∷◌, length, Option, None, Some}
+use Rattle.std.proofs.Common.{◌≡◌, ◌≤◌, ◌+◌, ◌==◌, ℕ, Bool, true, false, cond, not, List, [], ◌∷◌, length, Option, None}
+use Rattle.std.proofs.Common.{Some}
 use Rattle.std.proofs.Common.{Ok, Err, refl, sym, ap, subst, ◌∙◌}
 use Rattle.std.proofs.lemmas.List.{length-map}
 use Rattle.std.specs.Prelude.{Result, IfSome, IsSomeAnd, nat_lt}
@@ -16,8 +17,10 @@ use Rattle.dm_machine.specs.declared.kinds.End.TheVariants.{Finished, Aborted, D
 use Rattle.dm_machine.specs.Machine.{Machine, Session}
 use Rattle.dm_machine.specs.Messages.{Outcome, goes_on, ends, begins, ends_update}
 use Rattle.dm_machine.specs.Events.{Event as Happening, Answer, clock, opened, message, loss, act, sent, kept, stale}
-use Rattle.dm_machine.specs.Events.{stranger, exhausted, ended, acted, not_now, is_of, last_of, takes_read, takes, after}
-use Rattle.dm_machine.specs.Events.{taken_answer, refusal, machine_of, outcome_of, outcome_answer, sent_in, repeat_answer}
+use Rattle.dm_machine.specs.Events.{stranger, exhausted, ended, acted, not_now, is_of, last_of, takes_read, takes}
+use Rattle.dm_machine.specs.Events.{after}
+use Rattle.dm_machine.specs.Events.{taken_answer, refusal, outcome_machine, outcome_of, outcome_answer, sent_in}
+use Rattle.dm_machine.specs.Events.{repeat_answer}
 use Rattle.dm_machine.specs.Events.{old_message, message_refusal, read_refusal, loss_answer}
 use Rattle.dm_machine.specs.History.{answer_now, next, kept_in}
 use Rattle.dm_machine.specs.Laws.{IsShort}
@@ -34,7 +37,7 @@ use Rattle.dm_replay.specs.Output.{client_of}
 use Rattle.dm_replay.specs.Room.{KeepsToRoom, AnswersInRoom, AllInRoom, ReplaysKeepToTheRoom}
 use Rattle.dm_replay.specs.Trace.{bad, Ending, stopped, Trace, Begun, began, unbegun, is_long, told_in, behind_begin}
 use Rattle.dm_replay.specs.Trace.{start_line, start_from, no_events, behind_said, event_line, end_from, events_from}
-use Rattle.dm_replay.specs.Trace.{ids_of}
+use Rattle.dm_replay.specs.Trace.{servers_of}
 use Rattle.dm_replay.proofs.ReadyEvents.{said_is_ready}
 use Rattle.dm_replay.proofs.ReadyStarts.{client_is_ready, client_is_short}
 use Rattle.dm_replay.proofs.StartSections.{IsGoodSection, good_line}
@@ -95,7 +98,7 @@ both : (b : Bool) (d c : Machine) (x y : Answer) → IsShort (cond b d c) → (I
 both true d c x y h f g = f h
 both false d c x y h f g = g
 
-outcome_in_room : (o : Outcome) → IsShort (machine_of o) → AnswersInRoom (machine_of o) (outcome_answer o)
+outcome_in_room : (o : Outcome) → IsShort (outcome_machine o) → AnswersInRoom (outcome_machine o) (outcome_answer o)
 outcome_in_room (goes_on d) short = sent_in_room d d.session refl short.sent
 outcome_in_room (ends d end) short = ended_in_room d end d.farewell short.farewell
 
@@ -107,7 +110,7 @@ in_room c (opened account kind number) short then' =
     (sent_in (begins c account kind number).session) (exhausted c.begun) then'
     (λ h. sent_in_room (begins c account kind number) (begins c account kind number).session refl h.sent) tt
 in_room c (message read nonce) short then' =
-    both (takes_read c.session read) (machine_of (outcome_of c read nonce)) c
+    both (takes_read c.session read) (outcome_machine (outcome_of c read nonce)) c
     (outcome_answer (outcome_of c read nonce)) (read_refusal c.session read (kept_in c.session)) then'
     (outcome_in_room (outcome_of c read nonce))
     (refused_in_room c c.session read refl short.sent)
@@ -205,7 +208,7 @@ replays_keep_to_the_room bytes n told input h =
     let i = input_of run_limit bytes in
     let good =
     start_good i.lines 1 n (opening head.First) i.tail i.more told input (record { sound = tt; tells = tt }) h in
-    events_in_room input.lines told.version (ids_of told.accounts) n input.tail input.more (client_of told) (record {
+    events_in_room input.lines told.version (servers_of told.accounts) n input.tail input.more (client_of told) (record {
       many = length-map told.accounts (λ (a : Account). a.server);
       ready = client_is_ready told good;
       short = client_is_short told;

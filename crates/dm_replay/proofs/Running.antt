@@ -20,16 +20,16 @@ use Rattle.dm_replay.specs.declared.reading.Halt.{Halt}
 use Rattle.dm_replay.specs.declared.reading.Halt.TheVariants as halt
 use Rattle.dm_replay.specs.declared.events.Event.{Event}
 use Rattle.dm_replay.specs.declared.events.Event.TheVariants as event
-use Rattle.dm_replay.specs.declared.reading.Started.{Started}
+use Rattle.dm_replay.specs.declared.reading.TraceStart.{TraceStart}
 use Rattle.dm_start.specs.Start.{told_of}
 use Rattle.dm_replay.specs.Input.{Input}
 use Rattle.dm_replay.specs.Events.{happening_of}
-use Rattle.dm_replay.specs.Trace.{Ending, whole, stopped, Trace, no_events, with_event, ids_of}
+use Rattle.dm_replay.specs.Trace.{Ending, whole, stopped, Trace, no_events, with_event, servers_of}
 use Rattle.dm_replay.specs.Output.{answer_text, answers_text, ending_text, ending_exit, tree_and_done}
 use Rattle.dm_texts.specs.Lines.{bad_line}
 use Rattle.dm_replay.specs.Output.{trace_text, client_of}
 use Rattle.dm_replay.specs.From.{OfInput, Between, events_at, OfStop, EndsTrace, PutsHalt}
-use Rattle.dm_replay.specs.From.{PutsOn, PutsBehind, PutsDueAndHalt, Follows, SoFar, GoesOn, EndsEvents}
+use Rattle.dm_replay.specs.From.{PutsDue, PutsBehind, PutsDueAndHalt, Follows, SoFar, GoesOn, EndsEvents}
 use Rattle.dm_replay.specs.From.{HaltCounts}
 
 ends_trace : (v : ℕ) (s : Machine) (t t' : Trace) (old new : Option (List ℕ)) (e : Exit) → t ≡ t'
@@ -75,13 +75,13 @@ keeps_same : (x : Option (List ℕ)) → Keeps x x
 keeps_same None = tt
 keeps_same (Some bytes) = refl
 
-pub nothing_put : (a : Option Input) (s : Started) (old : Option (List ℕ)) → EndsEvents s a old old exit.NoMemory
+pub nothing_put : (a : Option Input) (s : TraceStart) (old : Option (List ℕ)) → EndsEvents s a old old exit.NoMemory
 nothing_put None s old = tt
 nothing_put (Some i) s old = prefix_none old old _ (keeps_same old)
 
-pub client_ends : (a : Option Input) (s : Started) (c : Machine) (ids : List (List ℕ)) (old new : Option (List ℕ))
+pub client_ends : (a : Option Input) (s : TraceStart) (c : Machine) (ids : List (List ℕ)) (old new : Option (List ℕ))
     (e : Exit)
-    → c ≡ client_of (told_of s.start) → ids ≡ ids_of s.start.accounts
+    → c ≡ client_of (told_of s.start) → ids ≡ servers_of s.start.accounts
     → EndsFrom a s.start.version c (events_at s.start.version ids s.number) old new e
     → EndsEvents s a old new e
 client_ends a s c ids old new e is are h =
@@ -119,7 +119,7 @@ so_far_ends (Some i) (Some j) old mid new v ids n s m now due e f h =
 -- a front of what is due was put
 pub so_far_put : (a b : Option Input) (old mid new : Option (List ℕ)) (v : ℕ) (ids : List (List ℕ)) (n : ℕ)
     (s : Machine) (m : ℕ) (now : Machine) (due rest : List ℕ)
-    → SoFar a b old mid v ids n s m now due → PutsOn mid new due rest (Ok tt)
+    → SoFar a b old mid v ids n s m now due → PutsDue mid new due rest (Ok tt)
     → SoFar a b old new v ids n s m now rest
 so_far_put a b old mid new v ids n s m now due rest f p = record {
   done = f.done ++ p.0;

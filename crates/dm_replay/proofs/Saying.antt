@@ -7,14 +7,15 @@ use Rattle.std.specs.declared.result.Result.{Result}
 use Rattle.dm_base.specs.declared.lines.LineReason.{LineReason}
 use Rattle.dm_base.specs.declared.lines.LineReason.TheVariants as reason
 use Rattle.dm_base.specs.declared.values.Nonce.{Nonce}
-use Rattle.dm_base.specs.Fields.{parts, is_id, nonce_of, hex_of}
+use Rattle.dm_base.specs.Fields.{parts, is_id, challenge_of, hex_of}
 use Rattle.dm_tree.specs.declared.nodes.Stamp.{Stamp}
-use Rattle.dm_machine.specs.declared.kinds.Kind.{Kind}
+use Rattle.dm_machine.specs.declared.kinds.Initiator.{Initiator}
 use Rattle.dm_start.specs.Fields.{clock_in}
 use Rattle.dm_fields.specs.Fields.{begins_with}
 use Rattle.dm_replay.specs.declared.events.Event.{Event}
 use Rattle.dm_replay.specs.declared.events.Event.TheVariants as event
-use Rattle.dm_replay.specs.Events.{IsOf, is_end, event_of, kind_of, session_of, place_from, place_of, opened_at}
+use Rattle.dm_replay.specs.Events.{IsEventOf, is_end, event_of, kind_of, session_in_text, place_from, account_place}
+use Rattle.dm_replay.specs.Events.{opened_at}
 use Rattle.dm_replay.specs.Events.{opened_by, open_in, msg_by, msg_in, act_in, clock_by, clock_event, alone}
 
 -- ---- the account that a session is opened with
@@ -41,19 +42,19 @@ opened_among ids [] = tt
 opened_among ids (a ∷ []) = tt
 opened_among ids (a ∷ b ∷ []) = tt
 opened_among ids (a ∷ b ∷ c ∷ []) = tt
-opened_among ids (a ∷ b ∷ c ∷ d ∷ []) = opened (kind_of c) (session_of d)
+opened_among ids (a ∷ b ∷ c ∷ d ∷ []) = opened (kind_of c) (session_in_text d)
   where
-    placed : (o : Option ℕ) (kind : Kind) (session : ℕ) → place_of ids b ≡ o
+    placed : (o : Option ℕ) (kind : Initiator) (session : ℕ) → account_place ids b ≡ o
         → IsAmong (length ids) (opened_at o kind session)
     placed None kind session is = tt
     placed (Some account) kind session is = let less = place_below 0 ids b account is in omega (arith, less)
 
-    known : (c : Bool) (kind : Kind) (session : ℕ)
-        → IsAmong (length ids) (if c then opened_at (place_of ids b) kind session else Err reason.Fields)
-    known true kind session = placed (place_of ids b) kind session refl
+    known : (c : Bool) (kind : Initiator) (session : ℕ)
+        → IsAmong (length ids) (if c then opened_at (account_place ids b) kind session else Err reason.Fields)
+    known true kind session = placed (account_place ids b) kind session refl
     known false kind session = tt
 
-    opened : (k : Option Kind) (n : Option ℕ) → IsAmong (length ids) (opened_by ids b k n)
+    opened : (k : Option Initiator) (n : Option ℕ) → IsAmong (length ids) (opened_by ids b k n)
     opened None n = tt
     opened (Some kind) None = tt
     opened (Some kind) (Some session) = known (is_id b) kind session
@@ -63,7 +64,7 @@ message_among : (n : ℕ) (fields : List (List ℕ)) → IsAmong n (msg_in field
 message_among n [] = tt
 message_among n (a ∷ []) = tt
 message_among n (a ∷ b ∷ []) = tt
-message_among n (a ∷ b ∷ c ∷ []) = read (nonce_of b) (hex_of c)
+message_among n (a ∷ b ∷ c ∷ []) = read (challenge_of b) (hex_of c)
   where
     read : (o : Option Nonce) (bytes : Option (List ℕ)) → IsAmong n (msg_by o bytes)
     read None bytes = tt
@@ -111,7 +112,7 @@ said_among version ids line =
     (version == 2 && begins_with (codes "clock") line) (begins_with (codes "end") line) ids line
 
 pub is_of : (version : ℕ) (ids : List (List ℕ)) (line : List ℕ) (said : Event) → event_of version ids line ≡ Ok said
-    → is_end said ≡ false → IsOf (length ids) said
+    → is_end said ≡ false → IsEventOf (length ids) said
 is_of version ids line (event.Open account kind session) is other =
     subst (IsAmong (length ids)) is (said_among version ids line)
 is_of version ids line (event.Msg nonce bytes) is other = tt

@@ -6,10 +6,10 @@ use Rattle.dm_base.specs.declared.lines.LineReason.{LineReason}
 use Rattle.dm_base.specs.declared.lines.LineReason.TheVariants as reason
 use Rattle.dm_start.specs.declared.heads.Head.TheVariants.{First}
 use Rattle.dm_start.specs.declared.telling.Phase.TheVariants as phase
-use Rattle.dm_start.specs.Start.{Setup, Section, opening, telling, after_line, is_begun, Reads}
+use Rattle.dm_start.specs.Start.{Setup, Section, opening, telling, after_line, is_begun, ReadsSection}
 use Rattle.dm_replay.specs.Input.{Input}
 use Rattle.dm_replay.specs.Trace.{bad, began, unbegun, is_long, start_line, behind_begin, told_in}
-use Rattle.dm_replay.specs.From.{Between, Leads, with_front, begun_at}
+use Rattle.dm_replay.specs.From.{Between, BeginsWithLine, with_front, begun_at}
 
 -- the step of a line that isn't too long
 stepped : (n : ℕ) (s : Section) (line : List ℕ) (j : Input) → is_long line ≡ false
@@ -43,8 +43,8 @@ behind_last n s next told line j short is last =
     (is ∙ ap Ok last)
 
 pub section_more : (a b c : Option Input) (n : ℕ) (at next : Section) (line looked : List ℕ) → looked ≡ line
-    → Reads (after_line at looked) at next (Ok false)
-    → Between a b (λ i j. begun_at 1 (opening First) i ≡ begun_at n at j) → Between b c (λ i j. Leads line i j)
+    → ReadsSection (after_line at looked) at next (Ok false)
+    → Between a b (λ i j. begun_at 1 (opening First) i ≡ begun_at n at j) → Between b c (λ i j. BeginsWithLine line i j)
     → Between a c (λ i j. begun_at 1 (opening First) i ≡ begun_at (n + 1) next j)
 section_more None b c n at next line looked is read before leads = tt
 section_more (Some i) None c n at next line looked is read before leads = absurd before
@@ -55,8 +55,8 @@ section_more (Some i) (Some j) (Some k) n at next line looked is read before lea
 
 pub section_whole : (a b c : Option Input) (n : ℕ) (at next : Section) (told : Setup) (line looked : List ℕ)
     → looked ≡ line
-    → Reads (after_line at looked) at next (Ok true) → next ≡ telling phase.Begun told
-    → Between a b (λ i j. begun_at 1 (opening First) i ≡ begun_at n at j) → Between b c (λ i j. Leads line i j)
+    → ReadsSection (after_line at looked) at next (Ok true) → next ≡ telling phase.Begun told
+    → Between a b (λ i j. begun_at 1 (opening First) i ≡ begun_at n at j) → Between b c (λ i j. BeginsWithLine line i j)
     → Between a c (λ i j. begun_at 1 (opening First) i ≡ began (n + 1) told j)
 section_whole None b c n at next told line looked is read last before leads = tt
 section_whole (Some i) None c n at next told line looked is read last before leads = absurd before

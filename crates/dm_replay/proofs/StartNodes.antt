@@ -20,7 +20,8 @@ use Rattle.dm_tree.proofs.LiveRows.{above-append}
 use Rattle.dm_tree.proofs.FieldEdits.{held_made}
 use Rattle.dm_tree.proofs.NodesKept.{some_node, at_insert, still_insert}
 use Rattle.dm_tree.proofs.Paths.{tree_total}
-use Rattle.dm_start.specs.Growing.{go_on, takes_child, is_open, may_stand, with_one, with_all, may_be_permanent}
+use Rattle.dm_start.specs.Growing.{unless_refused, takes_child, is_open, may_stand, with_one, with_all}
+use Rattle.dm_start.specs.Growing.{may_be_permanent}
 use Rattle.dm_fields.proofs.Told.{allowed, same_ok}
 
 -- ---- a node that comes in, permanent or not
@@ -134,7 +135,7 @@ module _ (clock : Stamp) (stamp : IsStamp clock) where
       }))
 
   first_formed : (e : Path × NewNode) (es : List (Path × NewNode)) (m n : Nodes) (r : Result Nodes LineReason)
-      → AreGood (e ∷ es) → IsWellFormed m → with_one clock m e.0 e.1 ≡ r → go_on r (λ k. with_all clock k es) ≡ Ok n
+      → AreGood (e ∷ es) → IsWellFormed m → with_one clock m e.0 e.1 ≡ r → unless_refused r (λ k. with_all clock k es) ≡ Ok n
       → ((k : Nodes) → IsWellFormed k → with_all clock k es ≡ Ok n → IsWellFormed n) → IsWellFormed n
   first_formed e es m n (Err why) good formed is h rest = absurd (cc)
   first_formed e es m n (Ok k) good formed is h rest =

@@ -7,7 +7,7 @@ use Rattle.dm_base.specs.declared.lines.LineReason.TheVariants as reason
 use Rattle.dm_base.specs.declared.values.Limits.{Limits}
 use Rattle.dm_tree.specs.declared.nodes.Stamp.{Stamp}
 use Rattle.dm_tree.specs.Nodes.{Nodes, first_stamp, IsStamp, IsWellFormed}
-use Rattle.dm_start.specs.declared.heads.Device.{Device}
+use Rattle.dm_start.specs.declared.heads.DeviceInfo.{DeviceInfo}
 use Rattle.dm_start.specs.declared.heads.Head.{Head}
 use Rattle.dm_start.specs.declared.heads.Head.TheVariants as head
 use Rattle.dm_start.specs.declared.telling.Phase.{Phase}
@@ -15,8 +15,9 @@ use Rattle.dm_start.specs.declared.telling.Phase.TheVariants as phase
 use Rattle.dm_start.specs.Fields.{device_in, clock_in}
 use Rattle.dm_fields.specs.Fields.{begins_with, limits_in, account_in}
 use Rattle.dm_start.specs.Growing.{nodes_after}
-use Rattle.dm_start.specs.Start.{Setup, Section, opening, telling, version_in, started, behind_limits, after_opening}
-use Rattle.dm_start.specs.Start.{is_known, with_account, account_line, begin_line, with_nodes, later_line}
+use Rattle.dm_start.specs.Start.{Setup, Section, opening, telling, version_in, accounts_next, behind_limits}
+use Rattle.dm_start.specs.Start.{after_opening}
+use Rattle.dm_start.specs.Start.{is_known, account_added, account_line, begin_line, with_nodes, later_line}
 use Rattle.dm_start.specs.Start.{after_telling, after_line, behind_line, lines_after, section_of_lines}
 use Rattle.dm_start.specs.Soundness.{IsShortDevice, IsSoundHead, IsSoundSection}
 use Rattle.dm_fields.proofs.Told.{said, allowed, passed, same_ok}
@@ -34,14 +35,14 @@ TellsTree (telling p told) = HasTree told
 
 -- ---- the first lines
 
-started_tells : (version : ℕ) (d : Device) (l : Limits) (clock : Stamp) → IsShortDevice d → IsStamp clock
-    → TellsTree (started version d l clock)
+started_tells : (version : ℕ) (d : DeviceInfo) (l : Limits) (clock : Stamp) → IsShortDevice d → IsStamp clock
+    → TellsTree (accounts_next version d l clock)
 started_tells version d l clock short stamp = record { tree = start_formed clock stamp d short; clock = stamp }
 
-behind_tells : (version : ℕ) (d : Device) (l : Limits) → IsShortDevice d → TellsTree (behind_limits version d l)
+behind_tells : (version : ℕ) (d : DeviceInfo) (l : Limits) → IsShortDevice d → TellsTree (behind_limits version d l)
 behind_tells version d l short = by_version (version == 2)
   where
-    by_version : (b : Bool) → TellsTree (cond b (opening (head.Clock d l)) (started version d l first_stamp))
+    by_version : (b : Bool) → TellsTree (cond b (opening (head.Clock d l)) (accounts_next version d l first_stamp))
     by_version true = tt
     by_version false = started_tells version d l first_stamp short first_is_stamp
 
@@ -59,7 +60,7 @@ opening_tells (head.Limits v d) line t sound e =
     subst TellsTree (same_ok _ t s.rest) (behind_tells v d s.value sound.1)
 opening_tells (head.Clock d l) line t sound e =
     let word = allowed (begins_with (codes "clock") line) _ reason.Word t e in
-    let s = said reason.Fields (clock_in (parts line)) (λ clock. Ok (started 2 d l clock)) t word.1 in
+    let s = said reason.Fields (clock_in (parts line)) (λ clock. Ok (accounts_next 2 d l clock)) t word.1 in
     subst TellsTree (same_ok _ t s.rest)
     (started_tells 2 d l s.value sound.0 (clock_is_stamp (parts line) s.value s.is))
 
@@ -68,7 +69,7 @@ opening_tells (head.Clock d l) line t sound e =
 account_tells : (told : Setup) (line : List ℕ) (t : Section) → HasTree told → account_line told line ≡ Ok t
     → TellsTree t
 account_tells told line t has e =
-    let s = said reason.Fields (account_in (parts line)) (with_account told) t e in
+    let s = said reason.Fields (account_in (parts line)) (account_added told) t e in
     let room = nat_lt (length told.accounts) 16 in
     let known = is_known told.accounts s.value.server in
     let may = allowed (room && not known) _ reason.Account t s.rest in

@@ -31,13 +31,13 @@ use Rattle.dm_tree.specs.Nodes.{IsWellFormed}
 use Rattle.dm_tree.specs.Devices.{update_node}
 use Rattle.dm_tree.proofs.NodesKept.{at_insert, here_insert}
 use Rattle.dm_tree.proofs.Paths.{tree_total}
-use Rattle.dm_start.specs.declared.heads.Device.{Device}
-use Rattle.dm_start.specs.declared.node_lines.Leaf.{Leaf}
+use Rattle.dm_start.specs.declared.heads.DeviceInfo.{DeviceInfo}
+use Rattle.dm_start.specs.declared.node_lines.LeafLine.{LeafLine}
 use Rattle.dm_start.specs.Fields.{plain_path, path_read, path_in, only_path, is_leaf_format, leaf_of}
 use Rattle.dm_fields.specs.Fields.{begins_with}
 use Rattle.dm_start.specs.Fields.{leaf_in, acl_in, title_in}
 use Rattle.dm_start.specs.Growing.{value_of, new_node, interior_value, with_one, with_all, start_acl}
-use Rattle.dm_start.specs.Growing.{device_leaf, device_part, bare_tree, start_nodes, update_leaf, update_part}
+use Rattle.dm_start.specs.Growing.{new_device_leaf, device_part, bare_tree, start_nodes, update_leaf, update_part}
 use Rattle.dm_start.specs.Growing.{with_update, changed_at, with_acl_at, is_title, with_title_at, may_be_permanent}
 use Rattle.dm_start.specs.Growing.{with_mark_at, interior_line, with_leaf, leaf_line, acl_line, title_line}
 use Rattle.dm_start.specs.Growing.{permanent_line, update_line, nodes_after}
@@ -122,20 +122,20 @@ forms_more (n ∷ ns) q h k =
 
 -- ---- a leaf that a line tells
 
-record IsLeaf (l : Leaf) : Type 0 where
+record IsLeaf (l : LeafLine) : Type 0 where
   form : list_all has_name_form l.path ≡ true
   format : is_format l.value.format ≡ true
   other : is_node_format l.value.format ≡ false
   media : length l.value.media ≤ 255
 
-some_leaf : (x y : Leaf) → Some x ≡ Some y → x ≡ y
+some_leaf : (x y : LeafLine) → Some x ≡ Some y → x ≡ y
 some_leaf x y h = cc
 
 turned : (b : Bool) → not b ≡ true → b ≡ false
 turned false h = refl
 turned true h = absurd (cc)
 
-leaf_told : (fields : List (List ℕ)) (l : Leaf) → leaf_in fields ≡ Some l → IsLeaf l
+leaf_told : (fields : List (List ℕ)) (l : LeafLine) → leaf_in fields ≡ Some l → IsLeaf l
 leaf_told [] l e = absurd (cc)
 leaf_told (w ∷ []) l e = absurd (cc)
 leaf_told (w ∷ u ∷ []) l e = absurd (cc)
@@ -362,13 +362,13 @@ module _ (clock : Stamp) (stamp : IsStamp clock) where
     );
   }
 
-  told_is_good : (value : List ℕ) → is_short value ≡ true → IsNewNode (device_leaf value)
+  told_is_good : (value : List ℕ) → is_short value ≡ true → IsNewNode (new_device_leaf value)
   told_is_good value short =
       leaf_is_good (value_of (codes "chr") (codes "text/plain") value) true role.ReadOnly
       (text_is_value (codes "chr") value refl refl
       (within_64 (length value) (and_parts (is_word value) (nat_le (length value) 64) short).1))
 
-  device_is_good : (d : Device) → IsShortDevice d → AreGood (device_part d)
+  device_is_good : (d : DeviceInfo) → IsShortDevice d → AreGood (device_part d)
   device_is_good d short = (
     interior_is_good true role.Plain,
     refl,
@@ -391,7 +391,7 @@ module _ (clock : Stamp) (stamp : IsStamp clock) where
     ),
   )
 
-  device_stands : (d : Device) → with_all clock (bare_tree clock) (device_part d) ≡ Ok (start_nodes clock d)
+  device_stands : (d : DeviceInfo) → with_all clock (bare_tree clock) (device_part d) ≡ Ok (start_nodes clock d)
   unfolding start_nodes
   device_stands d =
       simp (
@@ -401,7 +401,7 @@ module _ (clock : Stamp) (stamp : IsStamp clock) where
         len-empty tree_order Node,
       ) refl
 
-  pub start_formed : (d : Device) → IsShortDevice d → IsWellFormed (start_nodes clock d)
+  pub start_formed : (d : DeviceInfo) → IsShortDevice d → IsWellFormed (start_nodes clock d)
   start_formed d short =
       all_formed clock stamp (device_part d) (bare_tree clock) (start_nodes clock d) (device_is_good d short)
       bare_formed (device_stands d)

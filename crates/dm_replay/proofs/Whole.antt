@@ -16,13 +16,13 @@ use Rattle.dm_exit.specs.declared.exit.Exit.TheVariants as exit
 use Rattle.dm_exit.specs.Puts.{Ends}
 use Rattle.dm_replay.specs.declared.reading.Halt.{Halt}
 use Rattle.dm_replay.specs.declared.reading.Halt.TheVariants as halt
-use Rattle.dm_replay.specs.declared.reading.Started.{Started}
+use Rattle.dm_replay.specs.declared.reading.TraceStart.{TraceStart}
 use Rattle.dm_replay.specs.Input.{Input, input_of}
 use Rattle.dm_replay.specs.Trace.{bad, too_long, Trace, Begun, began, unbegun, trace_of}
 use Rattle.dm_replay.specs.Output.{answers_text, ending_text, ending_exit, trace_text, events_text, client_of}
 use Rattle.dm_texts.specs.Lines.{bad_line}
 use Rattle.dm_replay.specs.Output.{begun_text, begun_exit, replay_text, replay_exit, Replays}
-use Rattle.dm_replay.specs.From.{OfInput, seen, begun_at, OfStop, StartsAs, EndsTrace, EndsEvents, PutsHalt}
+use Rattle.dm_replay.specs.From.{OfInput, input_to_come, begun_at, OfStop, StartsAs, EndsTrace, EndsEvents, PutsHalt}
 use Rattle.dm_exit.proofs.Parts.{ends_put, prefix_none, kept_appends}
 
 -- ---- the text by the history is that by the state
@@ -64,27 +64,27 @@ events_replay bytes n told i old new e is h =
 abbrev pub fresh_lines : LinesState
 fresh_lines = record { line = []; pending = []; past = []; taken = 0 }
 
-whole_input : (left : Option (List ℕ)) → seen fresh_lines left ≡ option_map (input_of 67108864) left
+whole_input : (left : Option (List ℕ)) → input_to_come fresh_lines left ≡ option_map (input_of 67108864) left
 whole_input None = refl
 whole_input (Some bytes) = refl
 
-starts_whole : (lines : LinesState) (left : Option (List ℕ)) (b : Option Input) (r : Result Started Halt)
+starts_whole : (lines : LinesState) (left : Option (List ℕ)) (b : Option Input) (r : Result TraceStart Halt)
     → lines ≡ fresh_lines
-    → StartsAs (seen lines left) b 1 (opening First) r
+    → StartsAs (input_to_come lines left) b 1 (opening First) r
     → StartsAs (option_map (input_of 67108864) left) b 1 (opening First) r
 starts_whole lines left b r is h =
-    subst (λ a. StartsAs a b 1 (opening First) r) (ap (λ l. seen l left) is ∙ whole_input left) h
+    subst (λ a. StartsAs a b 1 (opening First) r) (ap (λ l. input_to_come l left) is ∙ whole_input left) h
 
-known_events : (left : Option (List ℕ)) (b : Option Input) (s : Started) (old new : Option (List ℕ)) (e : Exit)
+known_events : (left : Option (List ℕ)) (b : Option Input) (s : TraceStart) (old new : Option (List ℕ)) (e : Exit)
     → StartsAs (option_map (input_of 67108864) left) b 1 (opening First) (Ok s) → EndsEvents s b old new e
     → OfKnown left (λ bytes. Replays bytes old new e)
 known_events None b s old new e is h = tt
 known_events (Some bytes) None s old new e is h = absurd is
 known_events (Some bytes) (Some i) s old new e is h = events_replay bytes s.number (told_of s.start) i old new e is h
 
-pub all_events_replay : (lines : LinesState) (left : Option (List ℕ)) (b : Option Input) (s : Started)
+pub all_events_replay : (lines : LinesState) (left : Option (List ℕ)) (b : Option Input) (s : TraceStart)
     (old new : Option (List ℕ)) (e : Exit) → lines ≡ fresh_lines
-    → StartsAs (seen lines left) b 1 (opening First) (Ok s) → EndsEvents s b old new e
+    → StartsAs (input_to_come lines left) b 1 (opening First) (Ok s) → EndsEvents s b old new e
     → OfKnown left (λ bytes. Replays bytes old new e)
 all_events_replay lines left b s old new e fresh is h =
     known_events left b s old new e (starts_whole lines left b (Ok s) fresh is) h
@@ -111,7 +111,7 @@ known_halts (Some bytes) b h old new e is p = halt_replays bytes h old new e is 
 
 pub all_halts_replay : (lines : LinesState) (left : Option (List ℕ)) (h : Halt) (old new : Option (List ℕ)) (e : Exit)
     → lines ≡ fresh_lines
-    → OfInput (seen lines left) (λ i. OfStop h (λ stop. begun_at 1 (opening First) i ≡ unbegun stop))
+    → OfInput (input_to_come lines left) (λ i. OfStop h (λ stop. begun_at 1 (opening First) i ≡ unbegun stop))
     → PutsHalt h old new e
     → OfKnown left (λ bytes. Replays bytes old new e)
 all_halts_replay lines left h old new e fresh is p =

@@ -19,7 +19,7 @@ use Rattle.dm_base.specs.Fields.{parts}
 use Rattle.dm_replay.specs.Events.{event_of, clock_event}
 use Rattle.dm_replay.specs.Trace.{bad, Ending, whole, stopped, Trace, behind_begin, behind_said, began, unbegun}
 use Rattle.dm_replay.specs.Trace.{is_long, told_in, start_line, start_from, begun_of, no_events, with_event, event_line}
-use Rattle.dm_replay.specs.Trace.{end_from, events_from, ids_of, trace_of}
+use Rattle.dm_replay.specs.Trace.{end_from, events_from, servers_of, trace_of}
 use Rattle.dm_replay.specs.Output.{client_of, begun_text, begun_exit, events_text, ending_exit, replay_text}
 use Rattle.dm_replay.specs.Output.{replay_exit}
 use Rattle.dm_replay.specs.Laws.{IsLine, AreLines, text_of, happening_said, AreEvents, IsWholeTrace}
@@ -180,7 +180,7 @@ trace_passes : (n : ℕ) (lines : List (List ℕ)) (told : Setup) (events : List
     → (f : IsWholeTrace lines told events)
     → trace_of n told (rest_of (f.happenings ++ codes "end" ∷ [])) ≡ record { events = events; ending = whole }
 trace_passes n lines told events f =
-    events_pass told.version (ids_of told.accounts) n f.happenings events f.tells
+    events_pass told.version (servers_of told.accounts) n f.happenings events f.tells
     (lines_behind f.start (f.happenings ++ codes "end" ∷ []) (subst AreLines f.in_order f.are_lines))
 
 pub whole_traces_are_answered : WholeTracesAreAnswered

@@ -26,7 +26,7 @@ use Rattle.dm_exit.specs.Puts.{PutsPart, PutsEnd, Ends}
 use Rattle.dm_replay.specs.declared.events.Event.{Event}
 use Rattle.dm_replay.specs.declared.reading.Halt.{Halt}
 use Rattle.dm_replay.specs.declared.reading.Halt.TheVariants as halt
-use Rattle.dm_replay.specs.declared.reading.Started.{Started}
+use Rattle.dm_replay.specs.declared.reading.TraceStart.{TraceStart}
 use Rattle.dm_replay.specs.Input.{Input, input_of}
 use Rattle.dm_replay.specs.Events.{happening_of}
 use Rattle.dm_replay.specs.Trace.{Stop, bad, too_long, Ending, whole, stopped, Trace, Begun, began, unbegun, is_long}
@@ -37,8 +37,8 @@ use Rattle.dm_replay.specs.Output.{ending_exit, trace_text, client_of, begun_ans
 -- ---- the input to come
 
 -- the input that is to come, where the source tells its bytes
-abbrev pub seen : LinesState → Option (List ℕ) → Option Input
-seen state left = option_map (input_of (room state)) (ahead state left)
+abbrev pub input_to_come : LinesState → Option (List ℕ) → Option Input
+input_to_come state left = option_map (input_of (room state)) (ahead state left)
 
 -- of an input that is told this holds
 abbrev pub OfInput : Option Input → (Input → Type 0) → Type 0
@@ -56,16 +56,16 @@ abbrev pub with_front : List ℕ → Input → Input
 with_front line i = record { lines = line ∷ i.lines; tail = i.tail; more = i.more }
 
 -- the input begins with this line, and loses it
-abbrev pub Leads : List ℕ → Input → Input → Type 0
-Leads line i j = (i ≡ with_front line j) × (is_long line ≡ false)
+abbrev pub BeginsWithLine : List ℕ → Input → Input → Type 0
+BeginsWithLine line i j = (i ≡ with_front line j) × (is_long line ≡ false)
 
 abbrev pub stop_of_front : ℕ → List (List ℕ) → List ℕ → Bool → Option Stop
 stop_of_front n [] tail more = Some (tail_stop n tail more)
 stop_of_front n (line ∷ lines) tail more = if is_long line then Some (bad n reason.Long) else None
 
 -- why there is no line n
-abbrev pub stop_at : ℕ → Input → Option Stop
-stop_at n i = stop_of_front n i.lines i.tail i.more
+abbrev pub why_no_line : ℕ → Input → Option Stop
+why_no_line n i = stop_of_front n i.lines i.tail i.more
 
 -- ---- the bytes that were taken
 
@@ -73,16 +73,16 @@ stop_at n i = stop_of_front n i.lines i.tail i.more
 abbrev pub OverTaken : LinesState → LinesState → Option (List ℕ) → Option (List ℕ) → (Input → Input → Type 0) → Type 0
 OverTaken a b left rest P =
     OfKnown left (λ _. (taken : List ℕ) × Consumes left rest taken
-    × ((more : List ℕ) → Between (seen a (Some (taken ++ more))) (seen b (Some more)) P))
+    × ((more : List ℕ) → Between (input_to_come a (Some (taken ++ more))) (input_to_come b (Some more)) P))
 
 -- this holds of what was taken, as all the input that was to come
 abbrev pub OfTaken : LinesState → Option (List ℕ) → Option (List ℕ) → (Input → Type 0) → Type 0
 OfTaken a left rest P =
-    OfKnown left (λ _. (taken : List ℕ) × Consumes left rest taken × OfInput (seen a (Some taken)) P)
+    OfKnown left (λ _. (taken : List ℕ) × Consumes left rest taken × OfInput (input_to_come a (Some taken)) P)
 
 -- a line leads what comes, whatever stands behind what was taken; where the source failed, that holds no whole line
 abbrev pub LeadsOver : LinesState → LinesState → Option (List ℕ) → Option (List ℕ) → Result (Unit {0}) Halt → Type 0
-LeadsOver a b left rest (Ok u) = OverTaken a b left rest (λ i j. Leads b.line i j)
+LeadsOver a b left rest (Ok u) = OverTaken a b left rest (λ i j. BeginsWithLine b.line i j)
 LeadsOver a b left rest (Err h) = h ≡ halt.Read → OfTaken a left rest (λ i. i.lines ≡ [])
 
 -- ---- the rest of each phase
@@ -131,12 +131,12 @@ halt_for n (line_error.Bad why) = halt.Bad n why
 halt_for n line_error.Memory = halt.Memory
 
 -- the start section from here, by what was read of it: it is whole and line n comes next, or it stops
-abbrev pub StartsAs : Option Input → Option Input → ℕ → Section → Result Started Halt → Type 0
+abbrev pub StartsAs : Option Input → Option Input → ℕ → Section → Result TraceStart Halt → Type 0
 StartsAs a b n s (Ok started) = Between a b (λ i j. begun_at n s i ≡ began started.number (told_of started.start) j)
 StartsAs a b n s (Err h) = OfInput a (λ i. OfStop h (λ stop. begun_at n s i ≡ unbegun stop))
 
 -- the same, whatever comes behind what was taken; where the source failed, that holds nothing to be answered
-abbrev pub StartsOver : LinesState → LinesState → Option (List ℕ) → Option (List ℕ) → ℕ → Section → Result Started Halt
+abbrev pub StartsOver : LinesState → LinesState → Option (List ℕ) → Option (List ℕ) → ℕ → Section → Result TraceStart Halt
     → Type 0
 StartsOver a b left rest n s (Ok started) =
     OverTaken a b left rest (λ i j. begun_at n s i ≡ began started.number (told_of started.start) j)
@@ -177,9 +177,9 @@ EndsAs a n (Err h) = OfInput a (λ i. OfStop h (λ stop. ending_at n i ≡ stopp
 -- ---- what is put
 
 -- a front of what is due was put, and the rest is due; or a part of it was put
-abbrev pub PutsOn : Option (List ℕ) → Option (List ℕ) → List ℕ → List ℕ → Result (Unit {0}) Exit → Type 0
-PutsOn old new due rest (Ok u) = (front : List ℕ) × Appends old new front × (due ≡ front ++ rest)
-PutsOn old new due rest (Err e) = PutsPart old new due e
+abbrev pub PutsDue : Option (List ℕ) → Option (List ℕ) → List ℕ → List ℕ → Result (Unit {0}) Exit → Type 0
+PutsDue old new due rest (Ok u) = (front : List ℕ) × Appends old new front × (due ≡ front ++ rest)
+PutsDue old new due rest (Err e) = PutsPart old new due e
 
 abbrev pub exit_after : Fault → Exit
 exit_after fault.Failed = exit.WriteFault
@@ -190,7 +190,7 @@ abbrev pub EndsTrace : ℕ → Machine → Trace → Option (List ℕ) → Optio
 EndsTrace version c t old new e = Ends (trace_text version c t) (ending_exit t.ending) old new e
 
 -- the rest of a run behind a start section
-abbrev pub EndsEvents : Started → Option Input → Option (List ℕ) → Option (List ℕ) → Exit → Type 0
+abbrev pub EndsEvents : TraceStart → Option Input → Option (List ℕ) → Option (List ℕ) → Exit → Type 0
 EndsEvents s a old new e =
     OfInput a (λ i. EndsTrace s.start.version (client_of (told_of s.start))
     (trace_of s.number (told_of s.start) i) old new e)

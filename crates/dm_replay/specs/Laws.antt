@@ -11,7 +11,7 @@ use Rattle.dm_start.specs.Start.{Setup, telling, section_of_lines}
 use Rattle.dm_exit.specs.declared.exit.Exit.TheVariants as exit
 use Rattle.dm_replay.specs.declared.events.Event.{Event}
 use Rattle.dm_replay.specs.Events.{event_of, happening_of}
-use Rattle.dm_replay.specs.Trace.{ids_of}
+use Rattle.dm_replay.specs.Trace.{servers_of}
 use Rattle.dm_replay.specs.Output.{answers_text, tree_and_done, client_of, replay_text, replay_exit}
 
 -- a line without its line feed
@@ -47,7 +47,7 @@ pub record IsWholeTrace (lines : List (List ℕ)) (told : Setup) (events : List 
   pub in_order : lines ≡ start ++ (happenings ++ codes "end" ∷ [])
   pub are_lines : AreLines lines
   pub begins : section_of_lines start ≡ Ok (telling phase.Begun told)
-  pub tells : AreEvents told.version (ids_of told.accounts) happenings events
+  pub tells : AreEvents told.version (servers_of told.accounts) happenings events
 
 -- the machine's answers to all events, then its tree, then `done`
 abbrev pub whole_text : ℕ → Machine → List Happening → List ℕ

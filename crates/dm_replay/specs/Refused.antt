@@ -10,7 +10,7 @@ use Rattle.dm_start.specs.Start.{Setup, Section, opening, after_line}
 use Rattle.dm_replay.specs.declared.events.Event.{Event}
 use Rattle.dm_replay.specs.Events.{event_of, happening_of}
 use Rattle.dm_replay.specs.Trace.{Stop, bad, Ending, whole, stopped, Begun, began, unbegun, begun_of, trace_of, told_in}
-use Rattle.dm_replay.specs.Trace.{ids_of}
+use Rattle.dm_replay.specs.Trace.{servers_of}
 use Rattle.dm_replay.specs.Laws.{IsLine, AreLines, text_of}
 
 -- how far the lines of a trace have come: in its start section, among its events, or behind its `end`
@@ -41,18 +41,18 @@ by_event told (Err why) = Err why
 -- how far a trace has come behind one more line, or why that is refused; behind `end` no line may stand
 abbrev pub reached_by : Reached → List ℕ → Result Reached LineReason
 reached_by (in_start s) line = by_section (after_line s line)
-reached_by (among told) line = by_event told (event_of told.version (ids_of told.accounts) line)
+reached_by (among told) line = by_event told (event_of told.version (servers_of told.accounts) line)
 reached_by behind_end line = Err reason.Extra
 
 -- ---- the lines before
 
-abbrev pub and_then : Result Reached LineReason → (Reached → Result Reached LineReason) → Result Reached LineReason
-and_then (Ok r) rest = rest r
-and_then (Err why) rest = Err why
+abbrev pub then_reached : Result Reached LineReason → (Reached → Result Reached LineReason) → Result Reached LineReason
+then_reached (Ok r) rest = rest r
+then_reached (Err why) rest = Err why
 
 abbrev pub lines_reach_from : Reached → List (List ℕ) → Result Reached LineReason
 lines_reach_from r [] = Ok r
-lines_reach_from r (line ∷ lines) = and_then (reached_by r line) (λ next. lines_reach_from next lines)
+lines_reach_from r (line ∷ lines) = then_reached (reached_by r line) (λ next. lines_reach_from next lines)
 
 -- how far lines that are all taken come
 abbrev pub lines_reach : List (List ℕ) → Result Reached LineReason
@@ -84,10 +84,10 @@ abbrev pub IsExtra : List ℕ → Bool → Type 0
 IsExtra rest more =
     BeginsLong rest ⊎ ((IsCutThere rest more × (rest ≢ [])) ⊎ ((line : List ℕ) × BeginsWith line rest))
 
-abbrev pub IsRefusedFor : Reached → List ℕ → Bool → LineReason → Type 0
-IsRefusedFor behind_end rest more why = IsExtra rest more × (why ≡ reason.Extra)
-IsRefusedFor (in_start s) rest more why = IsRefusedLine (in_start s) rest more why
-IsRefusedFor (among told) rest more why = IsRefusedLine (among told) rest more why
+abbrev pub IsRefusedNext : Reached → List ℕ → Bool → LineReason → Type 0
+IsRefusedNext behind_end rest more why = IsExtra rest more × (why ≡ reason.Extra)
+IsRefusedNext (in_start s) rest more why = IsRefusedLine (in_start s) rest more why
+IsRefusedNext (among told) rest more why = IsRefusedLine (among told) rest more why
 
 -- line n is the first that is refused: those before it are taken, each within its limit; what a run looks at is these
 -- and the rest
@@ -99,7 +99,7 @@ pub record IsRefusedTrace (bytes : List ℕ) (n : ℕ) (why : LineReason) : Type
   pub number : n ≡ 1 + length before
   pub reached : Reached
   pub taken : lines_reach before ≡ Ok reached
-  pub refused : IsRefusedFor reached rest (nat_lt run_limit (length bytes)) why
+  pub refused : IsRefusedNext reached rest (nat_lt run_limit (length bytes)) why
 
 -- ---- the laws
 

@@ -82,15 +82,15 @@ abbrev pub with_event : Happening → Trace → Trace
 with_event e t = record { events = e ∷ t.events; ending = t.ending }
 
 -- what stands behind the `end` line, which is to be nothing
-abbrev pub end_at : ℕ → List ℕ → Bool → Ending
-end_at n tail more =
+abbrev pub ending_behind : ℕ → List ℕ → Bool → Ending
+ending_behind n tail more =
     if is_long tail then stopped (bad n reason.Extra)
     else if more then stopped too_long
     else if length tail == 0 then whole
     else stopped (bad n reason.Extra)
 
 abbrev pub end_from : ℕ → List (List ℕ) → List ℕ → Bool → Ending
-end_from n [] tail more = end_at n tail more
+end_from n [] tail more = ending_behind n tail more
 end_from n (line ∷ lines) tail more = stopped (bad n reason.Extra)
 
 -- the rest of a trace behind a line that says this, or nothing but that the trace ends
@@ -110,9 +110,9 @@ events_from version ids n (line ∷ lines) tail more =
     else event_line n (event_of version ids line) (end_from (n + 1) lines tail more)
     (events_from version ids (n + 1) lines tail more)
 
-abbrev pub ids_of : List Account → List (List ℕ)
-ids_of accounts = map (λ (a : Account). a.server) accounts
+abbrev pub servers_of : List Account → List (List ℕ)
+servers_of accounts = map (λ (a : Account). a.server) accounts
 
 -- the events behind a start section
 abbrev pub trace_of : ℕ → Setup → Input → Trace
-trace_of n told i = events_from told.version (ids_of told.accounts) n i.lines i.tail i.more
+trace_of n told i = events_from told.version (servers_of told.accounts) n i.lines i.tail i.more

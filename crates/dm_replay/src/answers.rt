@@ -5,14 +5,14 @@ ghost use Rattle.dm_base.specs.Fields.{hex_text};
 ghost use Rattle.syncml_codec.specs.Decoding.{read_of};
 ghost use Rattle.dm_machine.specs.Events.{opened, message as came, loss, act as acts, clock};
 ghost use Rattle.dm_machine.specs.History.{answer_now, next};
-ghost use Rattle.dm_replay.specs.Events.{IsOf, happening_of};
+ghost use Rattle.dm_replay.specs.Events.{IsEventOf, happening_of};
 ghost use Rattle.dm_replay.specs.Output as Spec;
 ghost use Rattle.dm_replay.specs.Output.{answer_line};
 
 use crate::events::Event;
 use dm_base::{Bytes, Memory, Nonce, hex_into};
 use dm_decimals::put_decimal;
-use dm_machine::{End, Kind};
+use dm_machine::{End, Initiator};
 use dm_session::{Acted, Answer, BeginError, Client};
 use dm_texts::refused_line;
 use dm_tree::Stamp;
@@ -67,7 +67,7 @@ fn open(
     alloc: Global,
     client: &mut Client,
     account: usize,
-    kind: Kind,
+    kind: Initiator,
     session: u32,
 ) -> Result<Bytes, Memory>
     requires { account < length client.old.machine.accounts }
@@ -136,7 +136,7 @@ fn set_clock(alloc: Global, client: &mut Client, now: Stamp) -> Result<Bytes, Me
 /// Does what an event says, and gives the line that answers it, without its line feed. After `Memory` the client isn't
 /// to be used again, since the event may have been taken and its answer lost.
 pub fn step(alloc: Global, client: &mut Client, event: &Event) -> Result<Bytes, Memory>
-    requires { IsOf (length client.old.machine.accounts) event.now }
+    requires { IsEventOf (length client.old.machine.accounts) event.now }
     ensures line { IfOk result (λ t. IfSome (happening_of event.now)
         (λ e. t ≡ answer_line (answer_now client.old.machine e))) }
     ensures state { OnOk result (IfSome (happening_of event.now)

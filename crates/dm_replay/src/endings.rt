@@ -8,7 +8,7 @@ ghost use Rattle.dm_exit.specs.Causes.{SourceCause, SinkCause};
 ghost use Rattle.dm_exit.specs.Puts.{PutsPart, PutsEnd, Ends};
 ghost use Rattle.dm_texts.specs.Lines.{bad_line};
 ghost use Rattle.dm_replay.specs.Output.{tree_and_done, ending_text, ending_exit};
-ghost use Rattle.dm_replay.specs.From.{seen, OfInput, ending_at, exit_after, PutsOn, PutsHalt};
+ghost use Rattle.dm_replay.specs.From.{input_to_come, OfInput, ending_at, exit_after, PutsDue, PutsHalt};
 ghost use Rattle.dm_replay.specs.From.{PutsDueAndHalt};
 
 use crate::reading::{Halt, read_end};
@@ -24,7 +24,7 @@ const PIECE: usize = 65_536;
 
 /// Puts the answers that are due: where the source would be asked for more bytes, and where they are many.
 pub(crate) fn put_due<K: Sink>(lines: &Lines, out: &mut K, due: &mut Bytes) -> Result<(), Exit>
-    ensures bytes { PutsOn (K.got out.old) (K.got out.new) due.old due.new result }
+    ensures bytes { PutsDue (K.got out.old) (K.got out.new) due.old due.new result }
     ensures all { OnOk result (IsFeedless lines.now.pending → due.new ≡ []) }
     ensures few { OnOk result (length due.new < 65536) }
     ensures together { OnOk result (HasFeed lines.now.pending → length due.old < 65536 → due.new ≡ due.old) }
@@ -123,7 +123,7 @@ pub(crate) fn put_end<S: Source, K: Sink>(
     number: u64,
 ) -> Exit
     requires limit { lines.old.taken ≤ 67108865 }
-    ensures output { OfInput (seen lines.old (S.left src.old)) (λ i. Ends
+    ensures output { OfInput (input_to_come lines.old (S.left src.old)) (λ i. Ends
         (due.now ++ ending_text version (nodes tree.now.rows) (ending_at number i))
         (ending_exit (ending_at number i)) (K.got out.old) (K.got out.new) result) }
     ensures kind { IsOfText result }

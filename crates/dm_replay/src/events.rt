@@ -4,11 +4,11 @@ ghost use Rattle.dm_base.specs.Fields.{parts};
 ghost use Rattle.dm_replay.specs.Events as Spec;
 ghost use Rattle.dm_replay.specs.Events.{Reads, event_of};
 
-use dm_base::{Bytes, Form, LineReason, List, Memory, Nonce, hex_bytes, is_field, nonce, num};
+use dm_base::{Bytes, FieldForm, LineReason, List, Memory, Nonce, hex_bytes, is_field, nonce, num};
 use dm_fields::{
     BAD_FIELDS, BAD_WORD, LineError, begins_with, four_fields, three_fields, two_fields,
 };
-use dm_machine::Kind;
+use dm_machine::Initiator;
 use dm_start::heads::clock_in;
 use dm_tree::Stamp;
 use std::alloc::Global;
@@ -19,7 +19,7 @@ pub enum Event {
     /// A session begins, with the account of this place.
     Open {
         account: usize,
-        kind: Kind,
+        kind: Initiator,
         session: u32,
     },
     /// The bytes of a message come. A challenge tells the nonce.
@@ -53,13 +53,13 @@ impl Event {
     }
 }
 
-fn kind_of(text: &[u8]) -> Option<Kind>
+fn kind_of(text: &[u8]) -> Option<Initiator>
     ensures { result ≡ Spec.kind_of text.now }
 {
     if text == b"server".as_slice() {
-        Some(Kind::ByServer)
+        Some(Initiator::ByServer)
     } else if text == b"client".as_slice() {
-        Some(Kind::ByClient)
+        Some(Initiator::ByClient)
     } else {
         None
     }
@@ -67,7 +67,7 @@ fn kind_of(text: &[u8]) -> Option<Kind>
 
 // A session's number, 1 to 4,294,967,295.
 fn session_of(text: &[u8]) -> Option<u32>
-    ensures { result ≡ Spec.session_of text.now }
+    ensures { result ≡ Spec.session_in_text text.now }
 {
     let number = num(text)?;
     if 0 < number && number < 1 << 32 {
@@ -79,7 +79,7 @@ fn session_of(text: &[u8]) -> Option<u32>
 
 // Where a server stands among the accounts.
 fn place_of(ids: &List<Bytes>, server: &[u8]) -> Option<usize>
-    ensures { result ≡ Spec.place_of ids.now server.now }
+    ensures { result ≡ Spec.account_place ids.now server.now }
 {
     for at in 0..ids.len() {
         if ids.as_slice()[at].as_slice() == server {
@@ -99,7 +99,7 @@ fn open_in(ids: &List<Bytes>, line: &[u8]) -> Result<Event, LineError>
     let (Some(kind), Some(session)) = (kind_of(kind), session_of(number)) else {
         return Err(BAD_FIELDS);
     };
-    if !is_field(Form::Id, server) {
+    if !is_field(FieldForm::Id, server) {
         return Err(BAD_FIELDS);
     }
     match place_of(ids, server) {

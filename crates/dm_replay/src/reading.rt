@@ -5,8 +5,9 @@ ghost use Rattle.dm_base.specs.Outside.{OfKnown};
 ghost use Rattle.dm_base.specs.Lines.{room, CountsTaken};
 ghost use Rattle.dm_start.specs.declared.heads.Head.TheVariants.{First};
 ghost use Rattle.dm_start.specs.Start.{opening};
-ghost use Rattle.dm_replay.specs.Events.{IsOf};
-ghost use Rattle.dm_replay.specs.From.{seen, Between, OfInput, OfStop, Leads, stop_at, HaltCounts, halt_after};
+ghost use Rattle.dm_replay.specs.Events.{IsEventOf};
+ghost use Rattle.dm_replay.specs.From.{input_to_come, Between, OfInput, OfStop, BeginsWithLine, why_no_line};
+ghost use Rattle.dm_replay.specs.From.{HaltCounts, halt_after};
 ghost use Rattle.dm_replay.specs.From.{halt_for, HaltsAsking, StartsAs, CanBegin, GoesOn, EndsAs};
 ghost use Rattle.dm_replay.specs.From.{LeadsOver, StartsOver, GoesOver, OfTaken};
 ghost use Rattle.dm_replay.specs.declared.reading.Halt.TheVariants as halt;
@@ -31,7 +32,7 @@ pub enum Halt {
 
 /// A start section that was read, and the number of the line behind it.
 #[derive(Drop)]
-pub struct Started {
+pub struct TraceStart {
     pub start: Start,
     pub number: u64,
 }
@@ -58,10 +59,10 @@ pub fn halt_at(number: u64, error: LineError) -> Halt
 
 /// Brings the next line in, which `lines` has then. At the end of the input it is `Cut`.
 pub fn next_line<S: Source>(lines: &mut Lines, src: &mut S, number: u64) -> Result<(), Halt>
-    ensures line { OnOk result (Between (seen lines.old (S.left src.old)) (seen lines.new (S.left src.new))
-        (λ i j. Leads lines.new.line i j)) }
-    ensures halt { IfErr result (λ h. OfInput (seen lines.old (S.left src.old))
-        (λ i. OfStop h (λ stop. stop_at number i ≡ Some stop))) }
+    ensures line { OnOk result (Between (input_to_come lines.old (S.left src.old)) (input_to_come lines.new (S.left src.new))
+        (λ i j. BeginsWithLine lines.new.line i j)) }
+    ensures halt { IfErr result (λ h. OfInput (input_to_come lines.old (S.left src.old))
+        (λ i. OfStop h (λ stop. why_no_line number i ≡ Some stop))) }
     ensures asked { IfErr result (HaltsAsking lines.old.pending) }
     ensures over { LeadsOver lines.old lines.new (S.left src.old) (S.left src.new) result }
     ensures room { OnOk result (room lines.new + (length lines.new.line + 1) ≡ room lines.old) }
@@ -81,9 +82,13 @@ pub fn next_line<S: Source>(lines: &mut Lines, src: &mut S, number: u64) -> Resu
 }
 
 /// Reads the start section, line by line.
-pub fn read_start<S: Source>(alloc: Global, lines: &mut Lines, src: &mut S) -> Result<Started, Halt>
+pub fn read_start<S: Source>(
+    alloc: Global,
+    lines: &mut Lines,
+    src: &mut S,
+) -> Result<TraceStart, Halt>
     requires { room lines.old < 2 ^ 60 }
-    ensures start { StartsAs (seen lines.old (S.left src.old)) (seen lines.new (S.left src.new)) 1
+    ensures start { StartsAs (input_to_come lines.old (S.left src.old)) (input_to_come lines.new (S.left src.new)) 1
         (opening First) result }
     ensures over { StartsOver lines.old lines.new (S.left src.old) (S.left src.new) 1 (opening First) result }
     ensures client { IfOk result (λ s. CanBegin s.start) }
@@ -102,7 +107,7 @@ pub fn read_start<S: Source>(alloc: Global, lines: &mut Lines, src: &mut S) -> R
         match reader.line(lines.line()) {
             Ok(false) => number += 1,
             Ok(true) => {
-                return Ok(Started {
+                return Ok(TraceStart {
                     start: reader.finish(),
                     number: number + 1,
                 });
@@ -114,7 +119,7 @@ pub fn read_start<S: Source>(alloc: Global, lines: &mut Lines, src: &mut S) -> R
 
 /// Reads that nothing stands behind the `end` line. The source isn't asked behind a line that stands there.
 pub fn read_end<S: Source>(lines: &mut Lines, src: &mut S, number: u64) -> Result<(), Halt>
-    ensures ending { EndsAs (seen lines.old (S.left src.old)) number result }
+    ensures ending { EndsAs (input_to_come lines.old (S.left src.old)) number result }
     ensures ended { OnOk result (OfKnown (S.left src.old) (λ _. IsAtEnd (S.left src.new))) }
     ensures asked { IfErr result (HaltsAsking lines.old.pending) }
     ensures none { IfErr result (λ h. h ≡ halt.Read
@@ -148,11 +153,11 @@ pub fn next_event<S: Source>(
     ids: &List<Bytes>,
 ) -> Result<Option<Event>, Halt>
     requires { number < 2 ^ 60 }
-    ensures events { GoesOn (seen lines.old (S.left src.old)) (seen lines.new (S.left src.new)) version
+    ensures events { GoesOn (input_to_come lines.old (S.left src.old)) (input_to_come lines.new (S.left src.new)) version
         ids.now number result }
     ensures over { GoesOver lines.old lines.new (S.left src.old) (S.left src.new) version ids.now number result }
     ensures asked { IfErr result (HaltsAsking lines.old.pending) }
-    ensures account { IfOk result (λ next. IfSome next (λ event. IsOf (length ids.now) event)) }
+    ensures account { IfOk result (λ next. IfSome next (λ event. IsEventOf (length ids.now) event)) }
     ensures room { OnOk result (room lines.new < room lines.old) }
     ensures taken { CountsTaken (S.left src.old) (S.left src.new) lines.old.taken lines.new.taken }
     ensures limit { lines.new.taken ≤ 67108865 }

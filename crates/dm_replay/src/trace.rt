@@ -5,17 +5,17 @@ ghost use Rattle.dm_base.specs.Lines.{room, CountsTaken};
 ghost use Rattle.dm_machine.specs.History.{answer_now, next};
 ghost use Rattle.dm_exit.specs.Answers.{IsOfText, DoneAtEnd};
 ghost use Rattle.dm_exit.specs.Causes.{SourceCause, SinkCause};
-ghost use Rattle.dm_replay.specs.Events.{IsOf, happening_of};
+ghost use Rattle.dm_replay.specs.Events.{IsEventOf, happening_of};
 ghost use Rattle.dm_replay.specs.Trace as Spec;
 ghost use Rattle.dm_replay.specs.Input.{TakesOnePast};
 ghost use Rattle.dm_start.specs.Start.{told_of};
 ghost use Rattle.dm_replay.specs.Output.{Replays, AnswersTaken, answer_text, client_of};
-ghost use Rattle.dm_replay.specs.From.{seen, OfInput, EndsTrace, EndsEvents, PutsEvents, CanBegin, events_at};
+ghost use Rattle.dm_replay.specs.From.{input_to_come, OfInput, EndsTrace, EndsEvents, PutsEvents, CanBegin, events_at};
 
 use crate::answers::step;
 use crate::endings::{put_due, put_due_and_halt, put_end, put_halt};
 use crate::events::Event;
-use crate::reading::{Halt, Started, next_event, read_start};
+use crate::reading::{Halt, TraceStart, next_event, read_start};
 use dm_auth::Account;
 use dm_base::{Bytes, Lines, List, Memory, Sink, Source};
 use dm_exit::Exit;
@@ -24,7 +24,7 @@ use std::alloc::Global;
 
 /// The servers of accounts, in their order.
 pub fn ids_of(alloc: Global, accounts: &List<Account>) -> Result<List<Bytes>, Memory>
-    ensures { IfOk result (λ ids. ids ≡ Spec.ids_of accounts.now) }
+    ensures { IfOk result (λ ids. ids ≡ Spec.servers_of accounts.now) }
 {
     let mut ids = List::new(alloc);
     for at in 0..accounts.len() {
@@ -35,7 +35,7 @@ pub fn ids_of(alloc: Global, accounts: &List<Account>) -> Result<List<Bytes>, Me
 
 // The line of an answer.
 fn line_of(alloc: Global, client: &mut Client, event: &Event) -> Result<Bytes, Memory>
-    requires { IsOf (length client.old.machine.accounts) event.now }
+    requires { IsEventOf (length client.old.machine.accounts) event.now }
     ensures line { IfOk result (λ t. IfSome (happening_of event.now)
         (λ e. t ≡ answer_text (answer_now client.old.machine e))) }
     ensures state { OnOk result (IfSome (happening_of event.now)
@@ -48,7 +48,7 @@ fn line_of(alloc: Global, client: &mut Client, event: &Event) -> Result<Bytes, M
 
 // Does an event, and adds its answer to those that are due, which aren't many.
 fn answer(alloc: Global, client: &mut Client, due: &mut Bytes, event: &Event) -> Result<(), Memory>
-    requires account { IsOf (length client.old.machine.accounts) event.now }
+    requires account { IsEventOf (length client.old.machine.accounts) event.now }
     requires few { length due.old < 65536 }
     ensures due { OnOk result (IfSome (happening_of event.now)
         (λ e. due.new ≡ due.old ++ answer_text (answer_now client.old.machine e))) }
@@ -75,7 +75,7 @@ fn answer_events<S: Source, K: Sink>(
     requires number { first + room lines.old < 2 ^ 60 }
     requires limit { lines.old.taken ≤ 67108865 }
     requires accounts { length ids.now ≡ length client.old.machine.accounts }
-    ensures output { OfInput (seen lines.old (S.left src.old)) (λ i. EndsTrace version client.old.machine
+    ensures output { OfInput (input_to_come lines.old (S.left src.old)) (λ i. EndsTrace version client.old.machine
         (events_at version ids.now first i) (K.got out.old) (K.got out.new) result) }
     ensures answered { result ≡ Exit.ReadFault → PutsEvents client.old.machine (events_at version ids.now first)
         lines.old (S.left src.old) (S.left src.new) (K.got out.old) (K.got out.new) }
@@ -123,12 +123,12 @@ fn answer_all<S: Source, K: Sink>(
     lines: &mut Lines,
     src: &mut S,
     out: &mut K,
-    started: Started,
+    started: TraceStart,
 ) -> Exit
     requires number { started.number + room lines.old < 2 ^ 60 }
     requires limit { lines.old.taken ≤ 67108865 }
     requires client { CanBegin started.start }
-    ensures output { EndsEvents started (seen lines.old (S.left src.old)) (K.got out.old) (K.got out.new) result }
+    ensures output { EndsEvents started (input_to_come lines.old (S.left src.old)) (K.got out.old) (K.got out.new) result }
     ensures answered { result ≡ Exit.ReadFault → PutsEvents (client_of (told_of started.start))
         (Spec.trace_of started.number (told_of started.start))
         lines.old (S.left src.old) (S.left src.new) (K.got out.old) (K.got out.new) }
@@ -139,7 +139,7 @@ fn answer_all<S: Source, K: Sink>(
     ensures source { SourceCause (S.faults src.old) (S.faults src.new) result }
     ensures sink { SinkCause (K.faults out.old) (K.faults out.new) result }
 {
-    let Started { start, number } = started;
+    let TraceStart { start, number } = started;
     let version = start.version;
     let ids = match ids_of(alloc, &start.accounts) {
         Ok(ids) => ids,

@@ -16,17 +16,17 @@ use Rattle.dm_service.specs.Matching.{result_piece, takes_item}
 use Rattle.dm_report.specs.declared.kept.FoundValue.{FoundValue}
 use Rattle.dm_report.specs.declared.kept.Kept.{Kept}
 use Rattle.dm_report.specs.declared.drafts.NewCode.{NewCode}
-use Rattle.dm_report.specs.declared.drafts.Draft.{Draft}
+use Rattle.dm_report.specs.declared.drafts.Findings.{Findings}
 use Rattle.dm_report.specs.Kept.{coded_by}
 use Rattle.dm_report.specs.Receiving.{Comes}
-use Rattle.dm_report.specs.Notes.{Notes, matched_by, on_finding}
+use Rattle.dm_report.specs.Notes.{NotesMatched, matched_by, on_finding}
 use Rattle.dm_report.proofs.ToldLemmas.{told-coded, coded_by-push, told-found}
 
 -- ---- one thing noted
 
-pub notes-code : (d : Draft) (new : List NewCode) (s : Seen) (number code : ℕ)
+pub notes-code : (d : Findings) (new : List NewCode) (s : Seen) (number code : ℕ)
     → new ≡ d.codes ++ record { place = number - 1; code = code } ∷ []
-    → Notes (on_finding (λ x. record x { told = with_code x.told number code })) d (record d { codes = new }) s s
+    → NotesMatched (on_finding (λ x. record x { told = with_code x.told number code })) d (record d { codes = new }) s s
 notes-code d new s number code q = rw q record {
   matched = λ k. rw (
     coded_by-push d.codes (record { place = number - 1; code = code }) k.codes,
@@ -34,10 +34,10 @@ notes-code d new s number code q = rw q record {
   ) refl;
 }
 
-pub notes-status : (sent : List Sent) (status : StatusCmd) (d : Draft) (new : List NewCode) (command : Sent)
+pub notes-status : (sent : List Sent) (status : StatusCmd) (d : Findings) (new : List NewCode) (command : Sent)
     → Some command ≡ find_sent status.msg_ref status.cmd_ref sent → command.counts ≡ true
     → new ≡ d.codes ++ record { place = command.number - 1; code = status.code } ∷ [] → (s : Seen)
-    → Notes (on_finding (λ x. record x { told = takes_status sent x.told status })) d (record d { codes = new }) s s
+    → NotesMatched (on_finding (λ x. record x { told = takes_status sent x.told status })) d (record d { codes = new }) s s
 notes-status sent status d new command e counts q s = record {
   matched = λ k. (notes-code d new s command.number status.code q).matched k
       ∙ told-so (matched_by d s k).finding.told (find_sent status.msg_ref status.cmd_ref sent) e k;
@@ -49,9 +49,9 @@ notes-status sent status d new command e counts q s = record {
         ≡ on_finding (λ (x : Finding). record x { told = coded x.told o status.code }) (matched_by d s k)
     told-so told o p k = rw (← p, counts) refl
 
-pub notes-value : (d : Draft) (new : List FoundValue) (number : ℕ) (value : Step) (what : What)
+pub notes-value : (d : Findings) (new : List FoundValue) (number : ℕ) (value : Step) (what : What)
     → what ≡ Whole value → new ≡ d.found ++ record { place = number - 1; value = value } ∷ [] → (s : Seen)
-    → Notes (on_finding (λ x. record x { told = found_in x.told number what })) d (record d { found = new }) s s
+    → NotesMatched (on_finding (λ x. record x { told = found_in x.told number what })) d (record d { found = new }) s s
 notes-value d new number value what w q s = rw (q, w) record {
   matched = λ k.
       let here : number - 1 ≡ 0 + (number - 1) = omega arith in
@@ -64,8 +64,8 @@ notes-value d new number value what w q s = rw (q, w) record {
 
 -- ---- an Item of Results
 
-pub notes-item : (number : ℕ) (results : ResultsCmd) (item : Item) (d e : Draft) (s t : Seen) (what : What)
-    → Notes (on_finding (λ x. record x { told = found_in x.told number what })) d e t t
+pub notes-item : (number : ℕ) (results : ResultsCmd) (item : Item) (d e : Findings) (s t : Seen) (what : What)
+    → NotesMatched (on_finding (λ x. record x { told = found_in x.told number what })) d e t t
     → Comes s t (result_piece results item) what
-    → Notes (on_finding (λ x. takes_item s.max_obj number results x item)) d e s t
+    → NotesMatched (on_finding (λ x. takes_item s.max_obj number results x item)) d e s t
 notes-item number results item d e s t what n h = record { matched = λ k. n.matched k ∙ rw (h.now, h.is) refl }

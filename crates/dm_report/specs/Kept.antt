@@ -6,7 +6,7 @@ use Rattle.dm_service.specs.Service.{Told}
 use Rattle.dm_report.specs.declared.kept.FoundValue.{FoundValue}
 use Rattle.dm_report.specs.declared.kept.Kept.{Kept}
 use Rattle.dm_report.specs.declared.drafts.NewCode.{NewCode}
-use Rattle.dm_report.specs.declared.drafts.Draft.{Draft}
+use Rattle.dm_report.specs.declared.drafts.Findings.{Findings}
 use Rattle.dm_report.specs.Known.{Known, is_within}
 
 -- the values that the command at a place found
@@ -29,8 +29,8 @@ coded_by [] codes = codes
 coded_by (c ∷ cs) codes = coded_by cs (set codes c.place (Some c.code))
 
 -- what is kept behind a draft
-abbrev pub drafted : Draft → Kept → Kept
-drafted d k = record {
+abbrev pub kept_behind : Findings → Kept → Kept
+kept_behind d k = record {
   codes = coded_by d.codes k.codes;
   found = k.found ++ d.found;
   alerts = k.alerts ++ d.alerts;

@@ -8,7 +8,7 @@ ghost use Rattle.dm_report.specs.Known.{matched_of};
 ghost use Rattle.dm_report.specs.Kept.{known_of};
 ghost use Rattle.dm_report.specs.Receiving.{gathered_of, Comes, HoldsOn};
 ghost use Rattle.dm_report.specs.Sending.{AreCommands};
-ghost use Rattle.dm_report.specs.Notes.{Notes, matched_by, on_finding};
+ghost use Rattle.dm_report.specs.Notes.{NotesMatched, matched_by, on_finding};
 
 use crate::kept::FoundValue;
 use crate::pieces::{kept_alert, result_piece};
@@ -28,7 +28,7 @@ pub(crate) struct NewCode {
 
 /// What the commands of a message tell.
 #[derive(Drop)]
-pub(crate) struct Draft {
+pub(crate) struct Findings {
     pub codes: List<NewCode>,
     pub found: List<FoundValue>,
     pub alerts: List<KeptAlert>,
@@ -46,9 +46,9 @@ fn what_comes(inbox: &mut Inbox, piece: Piece) -> Result<What, Memory>
     Ok(taken.what)
 }
 
-fn note_value(draft: &mut Draft, number: u64, what: What) -> Result<(), Memory>
+fn note_value(draft: &mut Findings, number: u64, what: What) -> Result<(), Memory>
     requires { 0 < number }
-    ensures { OnOk result ((s : Seen) → Notes
+    ensures { OnOk result ((s : Seen) → NotesMatched
         (on_finding (λ x. record x { told = Spec.found_in x.told number what })) draft.old draft.new s s) }
 {
     match what {
@@ -63,14 +63,14 @@ fn note_value(draft: &mut Draft, number: u64, what: What) -> Result<(), Memory>
 
 fn note_item(
     alloc: Global,
-    draft: &mut Draft,
+    draft: &mut Findings,
     inbox: &mut Inbox,
     number: u64,
     results: &ResultsCmd,
     item: &Item,
 ) -> Result<(), Memory>
     requires { 0 < number }
-    ensures ok { OnOk result (Notes
+    ensures ok { OnOk result (NotesMatched
         (on_finding (λ x. Spec.takes_item inbox.old.max_obj number results.now x item.now))
         draft.old draft.new inbox.old inbox.new) }
     ensures held { HoldsOn inbox.old inbox.new }
@@ -82,13 +82,13 @@ fn note_item(
 
 fn note_items(
     alloc: Global,
-    draft: &mut Draft,
+    draft: &mut Findings,
     inbox: &mut Inbox,
     number: u64,
     results: &ResultsCmd,
 ) -> Result<(), Memory>
     requires { 0 < number }
-    ensures ok { OnOk result (Notes
+    ensures ok { OnOk result (NotesMatched
         (on_finding (λ x. Spec.takes_items inbox.old.max_obj number results.now x results.now.items))
         draft.old draft.new inbox.old inbox.new) }
     ensures held { HoldsOn inbox.old inbox.new }
@@ -102,14 +102,14 @@ fn note_items(
 // Results that are for no command of the job aren't gathered.
 fn note_results(
     alloc: Global,
-    draft: &mut Draft,
+    draft: &mut Findings,
     inbox: &mut Inbox,
     sent: &[Sent],
     results: &ResultsCmd,
 ) -> Result<(), Memory>
     requires in_order { AreInOrder sent.now }
     requires numbered { AreCommands sent.now }
-    ensures ok { OnOk result (Notes
+    ensures ok { OnOk result (NotesMatched
         (on_finding (λ x. Spec.takes_results inbox.old.max_obj sent.now x results.now))
         draft.old draft.new inbox.old inbox.new) }
     ensures held { HoldsOn inbox.old inbox.new }
@@ -121,10 +121,10 @@ fn note_results(
 }
 
 // A part that more parts follow has no code.
-fn note_status(draft: &mut Draft, sent: &[Sent], status: &StatusCmd) -> Result<(), Memory>
+fn note_status(draft: &mut Findings, sent: &[Sent], status: &StatusCmd) -> Result<(), Memory>
     requires in_order { AreInOrder sent.now }
     requires numbered { AreCommands sent.now }
-    ensures { OnOk result ((s : Seen) → Notes
+    ensures { OnOk result ((s : Seen) → NotesMatched
         (on_finding (λ x. record x { told = Spec.takes_status sent.now x.told status.now })) draft.old draft.new s s) }
 {
     match find_sent(sent, status.msg_ref, status.cmd_ref) {
@@ -136,8 +136,8 @@ fn note_status(draft: &mut Draft, sent: &[Sent], status: &StatusCmd) -> Result<(
     }
 }
 
-fn note_alert(alloc: Global, draft: &mut Draft, alert: &AlertCmd) -> Result<(), Memory>
-    ensures { OnOk result ((s : Seen) → Notes
+fn note_alert(alloc: Global, draft: &mut Findings, alert: &AlertCmd) -> Result<(), Memory>
+    ensures { OnOk result ((s : Seen) → NotesMatched
         (λ x. record x { alerts = Spec.takes_alert x.alerts alert.now }) draft.old draft.new s s) }
 {
     if alert.code != 1226 {
@@ -150,14 +150,14 @@ fn note_alert(alloc: Global, draft: &mut Draft, alert: &AlertCmd) -> Result<(), 
 
 fn note_command(
     alloc: Global,
-    draft: &mut Draft,
+    draft: &mut Findings,
     inbox: &mut Inbox,
     sent: &[Sent],
     command: &Command,
 ) -> Result<(), Memory>
     requires in_order { AreInOrder sent.now }
     requires numbered { AreCommands sent.now }
-    ensures ok { OnOk result (Notes
+    ensures ok { OnOk result (NotesMatched
         (λ x. Spec.takes_command inbox.old.max_obj sent.now x command.now)
         draft.old draft.new inbox.old inbox.new) }
     ensures held { HoldsOn inbox.old inbox.new }
@@ -173,14 +173,14 @@ fn note_command(
 #[tactic(auto, unfolding(dm_service::specs::Matching::matched))]
 fn note_commands(
     alloc: Global,
-    draft: &mut Draft,
+    draft: &mut Findings,
     inbox: &mut Inbox,
     sent: &[Sent],
     body: &[Command],
 ) -> Result<(), Memory>
     requires in_order { AreInOrder sent.now }
     requires numbered { AreCommands sent.now }
-    ensures ok { OnOk result (Notes
+    ensures ok { OnOk result (NotesMatched
         (λ x. Spec.matched inbox.old.max_obj sent.now x body.now)
         draft.old draft.new inbox.old inbox.new) }
     ensures held { HoldsOn inbox.old inbox.new }
@@ -197,7 +197,7 @@ pub(crate) fn draft_of(
     inbox: &mut Inbox,
     sent: &[Sent],
     body: &[Command],
-) -> Result<Draft, Memory>
+) -> Result<Findings, Memory>
     requires in_order { AreInOrder sent.now }
     requires numbered { AreCommands sent.now }
     ensures ok { IfOk result (λ draft. (k : AKept) → matched_by draft inbox.new k
@@ -205,7 +205,7 @@ pub(crate) fn draft_of(
         (matched_of (known_of k) (gathered_of inbox.old)) body.now) }
     ensures held { HoldsOn inbox.old inbox.new }
 {
-    let mut draft = Draft {
+    let mut draft = Findings {
         codes: List::new(alloc),
         found: List::new(alloc),
         alerts: List::new(alloc),

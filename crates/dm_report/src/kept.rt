@@ -2,9 +2,9 @@
 ghost use Rattle.std.specs.Prelude.{◌≡◌, Some, set, is_some, OnOk, OnErr};
 ghost use Rattle.std.specs.List.{list_all};
 ghost use Rattle.dm_service.specs.Report.{has_code};
-ghost use Rattle.dm_report.specs.Kept.{coded_by, drafted, known_of};
+ghost use Rattle.dm_report.specs.Kept.{coded_by, kept_behind, known_of};
 
-use crate::drafts::{Draft, NewCode};
+use crate::drafts::{Findings, NewCode};
 use dm_base::{List, Memory};
 use dm_service::KeptAlert;
 use syncml_types::Step;
@@ -44,8 +44,8 @@ fn put_codes(codes: &mut List<Option<u32>>, new: &[NewCode])
 }
 
 /// Puts what a message tells to what is kept. After `Memory` all is as before.
-pub(crate) fn put_draft(kept: &mut Kept, draft: Draft) -> Result<(), Memory>
-    ensures ok { OnOk result (kept.new ≡ drafted draft kept.old) }
+pub(crate) fn put_draft(kept: &mut Kept, draft: Findings) -> Result<(), Memory>
+    ensures ok { OnOk result (kept.new ≡ kept_behind draft kept.old) }
     ensures err { OnErr result (kept.new ≡ kept.old) }
 {
     let values = kept.found.len();

@@ -17,7 +17,7 @@ use std::alloc::Global;
 use syncml_types::Step;
 
 fn put_number(out: &mut Bytes, number: u64) -> Result<(), Memory>
-    ensures { OnOk result (out.new ≡ out.old ++ Spec.spaced (decimal number)) }
+    ensures { OnOk result (out.new ≡ out.old ++ Spec.behind_space (decimal number)) }
 {
     out.extend(b" ")?;
     put_decimal(out, number)
@@ -40,7 +40,7 @@ fn put_hex_or_none(out: &mut Bytes, bytes: &Option<Bytes>) -> Result<(), Memory>
 }
 
 fn put_status(out: &mut Bytes, number: u64, code: u32) -> Result<(), Memory>
-    ensures { OnOk result (out.new ≡ out.old ++ Spec.status_line number code) }
+    ensures { OnOk result (out.new ≡ out.old ++ Spec.reported_status number code) }
 {
     out.extend(b"status")?;
     put_number(out, number)?;

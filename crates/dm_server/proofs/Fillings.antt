@@ -9,7 +9,7 @@ use Rattle.dm_pack.specs.declared.filled.Filled.{Filled}
 use Rattle.dm_pack.specs.Entries.{Entry}
 use Rattle.dm_pack.specs.Filling.{Filling, fill, left_after}
 use Rattle.dm_report.specs.Known.{Known, GatheredSoFar}
-use Rattle.dm_service.specs.declared.progress.Progress.{Progress}
+use Rattle.dm_service.specs.declared.progress.ServiceProgress.{ServiceProgress}
 use Rattle.dm_service.specs.declared.sent.Sent.{Sent}
 use Rattle.dm_service.specs.Sending.{header_for, goes_out, carried_on, is_last, runs_in_after, standing_sent, sends}
 use Rattle.dm_service.specs.Service.{Waiting, Service, entries_of}
@@ -18,7 +18,7 @@ use Rattle.dm_server.specs.declared.held.Outbox.{Outbox}
 use Rattle.dm_server.specs.Inside.{at_work, service_of, session_with}
 use Rattle.dm_server.specs.Working.{HasMoreBehind, HasSentMore}
 
-abbrev pub filling_of : Service → Progress → Parts → Filling
+abbrev pub filling_of : Service → ServiceProgress → Parts → Filling
 filling_of v p m = fill (entries_of v.queue) (header_for v p m) p.standing.room p.standing.heard
 
 left-is : (es : List Entry) (header : Header) (room : ℕ) (heard : Bool)
@@ -28,10 +28,10 @@ unfolding fill left_after
 left-is es header room heard = refl
 
 -- how far the session is then
-abbrev pub sent_progress : Progress → Filling → Bool → Progress
+abbrev pub sent_progress : ServiceProgress → Filling → Bool → ServiceProgress
 sent_progress p f over = record p { standing = standing_sent p.standing f; answered = true; is_over = over }
 
-pub sent_is : (job : Job) (run : Run) (p next : Progress) (o now : Outbox) (g : GatheredSoFar) (k : Known)
+pub sent_is : (job : Job) (run : Run) (p next : ServiceProgress) (o now : Outbox) (g : GatheredSoFar) (k : Known)
     (before : Option Parts) (m : Parts) (code : ℕ) (filled : Filled) (runs : Option ℕ) (over : Bool) (f : Filling)
     → f ≡ filling_of (at_work job run p o g k before) p m
     → filled.message ≡ f.message → filled.whole ≡ f.whole → filled.cut ≡ f.cut
@@ -69,10 +69,10 @@ sent_is job run p next o now g k before m code filled runs over f is message who
     runs_of : Filling → Option ℕ
     runs_of x = runs_in_after run.runs_in p.number (out_of x)
 
-    progress_of : Filling → Progress
+    progress_of : Filling → ServiceProgress
     progress_of x = sent_progress p x (is_last v p.standing m code x)
 
-    build : List Waiting → Option ℕ → Progress → List Sent → Parts → Service
+    build : List Waiting → Option ℕ → ServiceProgress → List Sent → Parts → Service
     build q r n ss x =
         service_of job (record run { runs_in = r }) q k
         (Some (record { progress = n; object = g.object; sent = ss })) (Some x)

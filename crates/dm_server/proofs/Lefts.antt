@@ -7,17 +7,17 @@ use Rattle.syncml_types.specs.Message.{Parts}
 use Rattle.dm_job.specs.declared.job.Job.{Job}
 use Rattle.dm_job.specs.declared.job.JobEntry.{JobEntry}
 use Rattle.dm_report.specs.Known.{Known, GatheredSoFar, forgotten_within}
-use Rattle.dm_service.specs.declared.progress.Progress.{Progress}
+use Rattle.dm_service.specs.declared.progress.ServiceProgress.{ServiceProgress}
 use Rattle.dm_service.specs.declared.sent.Sent.{Sent}
 use Rattle.dm_report.specs.Sending.{AreCommands}
 use Rattle.dm_service.specs.Laws.{AreInOrder}
-use Rattle.dm_service.specs.Packages.{is_of_job, forgotten, gives_up, not_sent, put_back, runs_after}
+use Rattle.dm_service.specs.Packages.{is_of_job, forgotten, gives_up, not_sent, package_put_back, runs_after}
 use Rattle.dm_service.specs.Ready.{AreReadyWaiting}
 use Rattle.dm_service.specs.Service.{Waiting, Told, Service}
 use Rattle.dm_server.specs.declared.held.Run.{Run}
 use Rattle.dm_server.specs.declared.held.Outbox.{Outbox}
-use Rattle.dm_server.specs.Inside.{at_work, newest_of, session_with, IsNumberedJob, IsPlace}
-use Rattle.dm_server.specs.Working.{sent_without, Holds, IsRow}
+use Rattle.dm_server.specs.Inside.{at_work, newest_of, session_with, IsNumberedJob, IsWithinJob}
+use Rattle.dm_server.specs.Working.{sent_without, IsSendable, IsRange}
 use Rattle.dm_server.proofs.Rows.{forgotten_is, left_commands, left_in_order, sent_is}
 use Rattle.dm_server.proofs.Runs.{put_back_is}
 use Rattle.dm_server.proofs.Sendable.{others_wait}
@@ -32,9 +32,9 @@ outbox_left queue sent = record { queue = queue; sent = sent }
 abbrev pub known_left : ℕ → ℕ → Known → Known
 known_left first count k = record k { told = forgotten_within first count 1 k.told }
 
-pub given_up_is : (job : Job) (run : Run) (p : Progress) (o : Outbox) (g : GatheredSoFar) (k known : Known)
+pub given_up_is : (job : Job) (run : Run) (p : ServiceProgress) (o : Outbox) (g : GatheredSoFar) (k known : Known)
     (before : Option Parts) (next first count : ℕ) (runs : Option ℕ) (queue : List Waiting) (sent : List Sent)
-    → IsNumberedJob job → IsPlace job run → IsRow (newest_of job.packages run) first count
+    → IsNumberedJob job → IsWithinJob job run → IsRange (newest_of job.packages run) first count
     → next ≡ (if run.queued then run.next - 1 else run.next) → runs ≡ runs_after run.runs_in o.sent sent
     → queue ≡ filter (λ w. not (is_of_job w)) o.queue → sent ≡ sent_without first count o.sent
     → known ≡ known_left first count k
@@ -75,7 +75,7 @@ given_up_is job run p o g k known before next first count runs queue sent number
     waits = filter (λ w. not (is_of_job w)) o.queue
 
     packages : List (List JobEntry)
-    packages = put_back given (drop run.next job.packages)
+    packages = package_put_back given (drop run.next job.packages)
 
     ran : Option ℕ
     ran = runs_after run.runs_in o.sent (not_sent given o.sent)
@@ -92,9 +92,9 @@ place-left ps next true h = omega (arith, h)
 place-left ps next false h = h
 
 pub holds_left : (job : Job) (run : Run) (o : Outbox) (next first count : ℕ) (runs : Option ℕ) (queue : List Waiting)
-    (sent : List Sent) → Holds job run o → next ≡ (if run.queued then run.next - 1 else run.next)
+    (sent : List Sent) → IsSendable job run o → next ≡ (if run.queued then run.next - 1 else run.next)
     → queue ≡ filter (λ w. not (is_of_job w)) o.queue → sent ≡ sent_without first count o.sent
-    → Holds job (run_left next runs) (outbox_left queue sent)
+    → IsSendable job (run_left next runs) (outbox_left queue sent)
 holds_left job run o next first count runs queue sent h next_is queue_is sent_so = record {
   place = record {
     within = subst (λ n. n ≤ length job.packages) (sym next_is)

@@ -15,7 +15,7 @@ use Rattle.dm_service.specs.Packages.{commands_in, forgotten, not_sent}
 use Rattle.dm_service.specs.Ready.{IsReadyEntry, AreReadyPackages}
 use Rattle.dm_service.specs.Service.{Told}
 use Rattle.dm_waiting.specs.View.{IsNumberedEntry}
-use Rattle.dm_server.specs.Working.{sent_without, IsRow, AreInARow}
+use Rattle.dm_server.specs.Working.{sent_without, IsRange, AreInARow}
 use Rattle.dm_server.proofs.Runs.{next_left, other_default}
 
 pub ready_one : (es : List JobEntry) (at : ℕ) (e : JobEntry) → AllByRecursion IsReadyEntry es → at < length es
@@ -123,7 +123,7 @@ newest_ready job next false h = tt
 -- ---- a row
 
 pub some_row : (given : List JobEntry) (e : JobEntry) (count : ℕ) → AreInARow given → Some e ≡ slice_get given 0
-    → count ≡ commands_in given → IsRow given e.number count
+    → count ≡ commands_in given → IsRange given e.number count
 some_row [] e count row is few n = absurd (cc)
 some_row (d ∷ ds) e count row is few n =
     let same : e ≡ d = cc in
@@ -134,13 +134,13 @@ some_row (d ∷ ds) e count row is few n =
 
 -- ---- what is given up
 
-pub forgotten_is : (given : List JobEntry) (first count n : ℕ) (told : List Told) → IsRow given first count
+pub forgotten_is : (given : List JobEntry) (first count n : ℕ) (told : List Told) → IsRange given first count
     → forgotten_within first count n told ≡ forgotten given n told
 forgotten_is given first count n [] row = refl
 forgotten_is given first count n (t ∷ ts) row =
     rw (row n, forgotten_is given first count (n + 1) ts row) refl
 
-pub sent_is : (given : List JobEntry) (first count : ℕ) (sent : List Sent) → IsRow given first count
+pub sent_is : (given : List JobEntry) (first count : ℕ) (sent : List Sent) → IsRange given first count
     → sent_without first count sent ≡ not_sent given sent
 sent_is given first count [] row = refl
 sent_is given first count (s ∷ ss) row = rw (row s.number, sent_is given first count ss row) refl

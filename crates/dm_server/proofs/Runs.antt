@@ -4,7 +4,7 @@ use Rattle.std.proofs.Common.{◌∷◌, drop, length, get_or, refl, sym, ap, �
 use Rattle.std.specs.List.{AllByRecursion}
 use Rattle.dm_job.specs.declared.job.Job.{Job}
 use Rattle.dm_job.specs.declared.job.JobEntry.{JobEntry}
-use Rattle.dm_service.specs.Packages.{put_back}
+use Rattle.dm_service.specs.Packages.{package_put_back}
 
 none-left : {A : Type 0} (n : ℕ) (xs : List A) → length xs ≤ n → drop n xs ≡ []
 none-left zero [] h = refl
@@ -24,7 +24,7 @@ other_default (suc n) (y ∷ ys) x d h = other_default n ys x d (omega (arith, h
 
 -- ---- given up
 
-some-put : (p : List JobEntry) (ps : List (List JobEntry)) → 0 < length p → put_back p ps ≡ p ∷ ps
+some-put : (p : List JobEntry) (ps : List (List JobEntry)) → 0 < length p → package_put_back p ps ≡ p ∷ ps
 some-put [] ps h = absurd (omega (arith, h))
 some-put (e ∷ es) ps h = refl
 
@@ -36,7 +36,7 @@ filled-at (p ∷ ps) (suc n) all h = filled-at ps n all.1 (omega (arith, h))
 
 -- the one that was queued last stands in front again
 back-step : (ps : List (List JobEntry)) (n : ℕ) → AllByRecursion (λ (es : List JobEntry). 0 < length es) ps → 0 < n
-    → n ≤ length ps → drop (n - 1) ps ≡ put_back (get_or ps (n - 1) []) (drop n ps)
+    → n ≤ length ps → drop (n - 1) ps ≡ package_put_back (get_or ps (n - 1) []) (drop n ps)
 back-step ps n all some within =
     let low : n - 1 < length ps = omega (arith, some, within) in
     let same : n - 1 + 1 ≡ n = omega (arith, some) in
@@ -48,6 +48,6 @@ pub put_back_is : (job : Job) (next : ℕ) (queued : Bool)
     → AllByRecursion (λ (es : List JobEntry). 0 < length es) job.packages → next ≤ length job.packages
     → (queued ≡ true → 0 < next)
     → drop (cond queued (next - 1) next) job.packages
-    ≡ put_back (cond queued (get_or job.packages (next - 1) []) []) (drop next job.packages)
+    ≡ package_put_back (cond queued (get_or job.packages (next - 1) []) []) (drop next job.packages)
 put_back_is job next true all within behind = back-step job.packages next all (behind refl) within
 put_back_is job next false all within behind = refl

@@ -10,13 +10,13 @@ use Rattle.dm_ends.specs.declared.farewells.LastMessage.{LastMessage}
 use Rattle.dm_ends.specs.Ready.{IsReadyMessage}
 use Rattle.dm_job.specs.declared.job.Job.{Job}
 use Rattle.dm_job.specs.Sound.{all_entries}
-use Rattle.dm_job.specs.Sound.{IsSound as IsSoundJob}
+use Rattle.dm_job.specs.Sound.{IsSoundJob}
 use Rattle.dm_report.specs.Known.{Known}
-use Rattle.dm_service.specs.declared.progress.Progress.{Progress}
+use Rattle.dm_service.specs.declared.progress.ServiceProgress.{ServiceProgress}
 use Rattle.dm_service.specs.Events as events
 use Rattle.dm_service.specs.Events.{Arrival, number_of, last_of, takes, takes_in, takes_number, after, after_in_session}
 use Rattle.dm_service.specs.Events.{after_number, arrival}
-use Rattle.dm_service.specs.Events.{opens, old_message, old_in, number_refusal, refusal, reply_of, is_answered}
+use Rattle.dm_service.specs.Events.{opens_session, old_message, old_in, number_refusal, refusal, reply_of, is_answered}
 use Rattle.dm_service.specs.Events.{kept_or_ended, taken_answer, sent_or_ended}
 use Rattle.dm_service.specs.History.{answer_now, next, state_from}
 use Rattle.dm_service.specs.Laws.{AreInOrder, sent_in}
@@ -28,16 +28,17 @@ use Rattle.dm_service.specs.Ready.{AreReadyWaiting, IsReadyProgress, IsReadyServ
 use Rattle.dm_service.specs.Service.{Waiting, Session, Service}
 use Rattle.dm_service.proofs.Order.{sent_in_order}
 use Rattle.dm_service.proofs.Stays.{stays_ready}
-use Rattle.dm_server.specs.declared.answers.Answer.{Answer}
-use Rattle.dm_server.specs.declared.answers.Answer.TheVariants as answer
+use Rattle.dm_server.specs.declared.answers.ServerAnswer.{ServerAnswer}
+use Rattle.dm_server.specs.declared.answers.ServerAnswer.TheVariants as answer
 use Rattle.dm_server.specs.declared.coming.Coming.TheVariants as coming
-use Rattle.dm_server.specs.declared.drafts.Draft.{Draft}
+use Rattle.dm_server.specs.declared.drafts.ServerChanges.{ServerChanges}
 use Rattle.dm_server.specs.declared.held.Run.{Run}
 use Rattle.dm_server.specs.declared.held.Plan.{Plan}
-use Rattle.dm_server.specs.declared.held.Session.{Session as Held}
+use Rattle.dm_server.specs.declared.held.PresentSession.{PresentSession as Held}
 use Rattle.dm_server.specs.declared.server.Server.TheInside.{Inside}
 use Rattle.dm_server.specs.Inside.{at_work, message_in, newest_of, queue_in, server_of, service_of, session_in}
-use Rattle.dm_server.specs.Inside.{IsNumberedJob, IsPlace, IsReached, IsSound, IsSpelled, KeepsReply, Stands}
+use Rattle.dm_server.specs.Inside.{IsNumberedJob, IsWithinJob, MessagesLeadTo, IsConsistent, IsSpelled, KeepsReply}
+use Rattle.dm_server.specs.Inside.{Stands}
 use Rattle.dm_server.specs.View.{Tells}
 use Rattle.dm_server.specs.Working.{answer_with, drafted, with_account, CanAccept, ComesAs, IsReply}
 use Rattle.dm_server.proofs.Steps.{if_so, if_not}
@@ -87,7 +88,7 @@ pub greater_comes : (v : Service) (s : Session) (m : Parts) (nonce : List ℕ) (
 greater_comes v s m nonce n e is h =
     let c = comes-to v s m nonce n e is in (
       c.takes_is ∙ greater-takes s.progress.number n (last_of s) m.header.msg s.progress.is_over h,
-      c.after_is ∙ if_not _ (accepts v s m nonce) (opens v n m nonce) (not-same s.progress.number n h),
+      c.after_is ∙ if_not _ (accepts v s m nonce) (opens_session v n m nonce) (not-same s.progress.number n h),
     )
 
 lower-takes : (a n last msg : ℕ) (over : Bool) → n < a
@@ -125,19 +126,19 @@ next_comes v s m nonce n e is h k =
       subst (λ o. IsSomeAnd o (λ (t : Session). (last_of t < m.header.msg)
           × (after v (arrival m nonce) ≡ accepts v t m nonce))) (sym is) (
             is-above (last_of s) m.header.msg s.progress.is_over k,
-            c.after_is ∙ if_so _ (accepts v s m nonce) (opens v n m nonce) (is-same s.progress.number n h),
+            c.after_is ∙ if_so _ (accepts v s m nonce) (opens_session v n m nonce) (is-same s.progress.number n h),
           ),
     )
 
 -- whether it is new, by how far the session is
-pub new_by : (s : Session) (m : Parts) (p : Progress) (msg : ℕ) (b : Bool) → s.progress ≡ p → m.header.msg ≡ msg
+pub new_by : (s : Session) (m : Parts) (p : ServiceProgress) (msg : ℕ) (b : Bool) → s.progress ≡ p → m.header.msg ≡ msg
     → (nat_lt p.standing.last msg && not p.is_over) ≡ b
     → (nat_lt (last_of s) m.header.msg && not s.progress.is_over) ≡ b
 new_by s m p msg b e f h =
-    ap (λ (q : Progress). nat_lt q.standing.last m.header.msg && not q.is_over) e
+    ap (λ (q : ServiceProgress). nat_lt q.standing.last m.header.msg && not q.is_over) e
     ∙ ap (λ n. nat_lt p.standing.last n && not p.is_over) f ∙ h
 
-pub old_comes : (v : Service) (s : Session) (m : Parts) (nonce : List ℕ) (n : ℕ) (a : Answer) → number_of m ≡ Some n
+pub old_comes : (v : Service) (s : Session) (m : Parts) (nonce : List ℕ) (n : ℕ) (a : ServerAnswer) → number_of m ≡ Some n
     → v.session ≡ Some s → s.progress.number ≡ n
     → (nat_lt (last_of s) m.header.msg && not s.progress.is_over) ≡ false
     → (KeepsReply v → Tells a v (old_message s n m (reply_of v))) → ComesAs (coming.Old a) v m nonce
@@ -158,7 +159,7 @@ unfolding next
 next_old v e t = sym (if_not (takes v e) (after v e) v t)
 
 -- the answer, where a message is sent or none is
-reply-is : (w : Service) (d : Draft) (s : Session) (before : Option Parts) → w.session ≡ Some s
+reply-is : (w : Service) (d : ServerChanges) (s : Session) (before : Option Parts) → w.session ≡ Some s
     → s.progress.answered ≡ is_some d.sent → w.sent ≡ option_or (option_map message_in d.sent) before
     → Tells (answer_with d.sent) w (sent_or_ended (reply_of w))
 reply-is w d s before is answered sent = by-sent d.sent refl
@@ -176,7 +177,7 @@ reply-is w d s before is answered sent = by-sent d.sent refl
         subst (λ o. IsSomeAnd o (λ n. sent_or_ended (reply_of w) ≡ events.sent n)) (sym is_m)
         (ap sent_or_ended reply)
 
-pub taken_tells : (v w : Service) (e : Arrival) (d : Draft) (s : Held) (before : Option Parts) → takes v e ≡ true
+pub taken_tells : (v w : Service) (e : Arrival) (d : ServerChanges) (s : Held) (before : Option Parts) → takes v e ≡ true
     → after v e ≡ w → w.session ≡ Some (session_in s) → IsReply s.progress d.sent
     → w.sent ≡ option_or (option_map message_in d.sent) before
     → Tells (answer_with d.sent) w (answer_now v e)
@@ -187,7 +188,7 @@ taken_tells v w e d s before t a is reply sent =
     ∙ ap (λ x. sent_or_ended (reply_of x)) a))
     (reply-is w d (session_in s) before is reply.answered sent)
 
-pub old_tells : (v : Service) (e : Arrival) (a : Answer) → takes v e ≡ false → Tells a v (refusal v e (reply_of v))
+pub old_tells : (v : Service) (e : Arrival) (a : ServerAnswer) → takes v e ≡ false → Tells a v (refusal v e (reply_of v))
     → Tells a v (answer_now v e)
 unfolding answer_now
 old_tells v e a t told = subst (Tells a v) (sym (if_not (takes v e) (taken_answer v e) _ t)) told
@@ -199,7 +200,7 @@ sent-over : (a b : Option LastMessage)
 sent-over None b = refl
 sent-over (Some m) b = refl
 
-pub taken_up : (job : Job) (plan : Plan) (run : Run) (d : Draft) (s : Held) (k : Known) (old sent : Option LastMessage)
+pub taken_up : (job : Job) (plan : Plan) (run : Run) (d : ServerChanges) (s : Held) (k : Known) (old sent : Option LastMessage)
     → plan.job ≡ with_account job (unwrap_or d.account job.account) → run ≡ d.run → sent ≡ option_or d.sent old
     → service_of plan.job run s.outbox.queue k (Some (session_in s)) (option_map message_in sent)
     ≡ drafted job d s k (option_map message_in old)
@@ -213,7 +214,7 @@ taken_up job plan run d s k old sent e f g =
 
 -- ---- what holds of it
 
-pub reached_next : (v w : Service) (e : Arrival) → IsReached v → w ≡ next v e → IsReached w
+pub reached_next : (v w : Service) (e : Arrival) → MessagesLeadTo v → w ≡ next v e → MessagesLeadTo w
 reached_next v w e r is = record {
   job = r.job;
   arrivals = r.arrivals ++ e ∷ [];
@@ -224,7 +225,7 @@ reached_next v w e r is = record {
     one-more u [] = refl
     one-more u (a ∷ es) = one-more (next u a) es
 
-pub order_reached : (v : Service) (s : Session) → IsReached v → v.session ≡ Some s → AreInOrder s.sent
+pub order_reached : (v : Service) (s : Session) → MessagesLeadTo v → v.session ≡ Some s → AreInOrder s.sent
 order_reached v s r is =
     subst (λ o. AreInOrder (sent_in o)) is
     (subst (λ (w : Service). AreInOrder (sent_in w.session)) r.reached (sent_in_order r.job r.arrivals))
@@ -236,18 +237,18 @@ spelled-over : (a b : Option LastMessage) → IfSome a IsSpelled → IfSome b Is
 spelled-over None b h k = k
 spelled-over (Some m) b h k = h
 
-pub sound_draft : (old new : Inside) (d : Draft) (s : Held) (m : Parts) (nonce : List ℕ) → IsSound old
+pub sound_draft : (old new : Inside) (d : ServerChanges) (s : Held) (m : Parts) (nonce : List ℕ) → IsConsistent old
     → new.plan.job ≡ with_account old.plan.job (unwrap_or d.account old.plan.job.account) → new.run ≡ d.run
     → new.session ≡ Some s → new.sent ≡ option_or d.sent old.sent
     → Stands old.plan.job d.run s.outbox s.gathering → IsReply s.progress d.sent
-    → server_of new ≡ next (server_of old) (arrival m nonce) → IsReadyMessage m nonce → IsSound new
+    → server_of new ≡ next (server_of old) (arrival m nonce) → IsReadyMessage m nonce → IsConsistent new
 sound_draft old new d s m nonce h job run session sent stands reply is ready =
     let account : Account = unwrap_or d.account old.plan.job.account in
     let numbered : IsNumberedJob new.plan.job =
     subst IsNumberedJob (sym job) (same-job old.plan.job account h.job) in
-    let place : IsPlace new.plan.job new.run =
-    subst (λ j. IsPlace j new.run) (sym job)
-    (subst (IsPlace (with_account old.plan.job account)) (sym run)
+    let place : IsWithinJob new.plan.job new.run =
+    subst (λ j. IsWithinJob j new.run) (sym job)
+    (subst (IsWithinJob (with_account old.plan.job account)) (sym run)
     (record { within = stands.place.within; behind = stands.place.behind })) in
     let of_session : Stands new.plan.job new.run s.outbox s.gathering = record {
       place = place;
@@ -282,7 +283,7 @@ IsProgressReady s = IsReadyProgress s.progress
 abbrev IsQueueReady : Option Held → Type 0
 IsQueueReady o = AreReadyWaiting (queue_in o)
 
-pub can_follow : (c : Inside) (s : Held) (m : Parts) → IsSound c → c.session ≡ Some s
+pub can_follow : (c : Inside) (s : Held) (m : Parts) → IsConsistent c → c.session ≡ Some s
     → last_of (session_in s) < m.header.msg → CanAccept c.plan.job c.run s m.header.msg
 can_follow c s m h is above =
     let stands = subst (λ o. IfSome o (λ (t : Held). Stands c.plan.job c.run t.outbox t.gathering)) is h.session in
@@ -306,12 +307,12 @@ can_follow c s m h is above =
     }
 
 -- a server that has taken a message
-pub record Taken (old new : Inside) (d : Draft) (m : Parts) (nonce : List ℕ) : Type 0 where
-  pub sound : IsSound new
+pub record Taken (old new : Inside) (d : ServerChanges) (m : Parts) (nonce : List ℕ) : Type 0 where
+  pub sound : IsConsistent new
   pub next_is : server_of new ≡ next (server_of old) (arrival m nonce)
   pub told : Tells (answer_with d.sent) (server_of new) (answer_now (server_of old) (arrival m nonce))
 
-pub taken : (old new : Inside) (d : Draft) (s : Held) (m : Parts) (nonce : List ℕ) → IsSound old
+pub taken : (old new : Inside) (d : ServerChanges) (s : Held) (m : Parts) (nonce : List ℕ) → IsConsistent old
     → IsReadyMessage m nonce
     → new.plan.job ≡ with_account old.plan.job (unwrap_or d.account old.plan.job.account) → new.run ≡ d.run
     → new.session ≡ Some s → new.sent ≡ option_or d.sent old.sent
@@ -329,14 +330,14 @@ taken old new d s m nonce h ready job run session sent stands reply t is =
           (ap (option_map message_in) sent ∙ sent-over d.sent old.sent);
     }
 
-pub told_as : (old new : Inside) (d : Draft) (v : Service) (m : Parts) (nonce : List ℕ) (a : Answer)
+pub told_as : (old new : Inside) (d : ServerChanges) (v : Service) (m : Parts) (nonce : List ℕ) (a : ServerAnswer)
     → Taken old new d m nonce → server_of old ≡ v → a ≡ answer_with d.sent
     → Tells a (server_of new) (answer_now v (arrival m nonce))
 told_as old new d v m nonce a t view e =
     subst (λ x. Tells x (server_of new) (answer_now v (arrival m nonce))) (sym e)
     (subst (λ x. Tells (answer_with d.sent) (server_of new) (answer_now x (arrival m nonce))) view t.told)
 
-at-new : (c new : Inside) (t : Held) (d : Draft)
+at-new : (c new : Inside) (t : Held) (d : ServerChanges)
     → new.plan.job ≡ with_account c.plan.job (unwrap_or d.account c.plan.job.account) → new.run ≡ d.run
     → new.session ≡ Some t → new.sent ≡ option_or d.sent c.sent
     → server_of new ≡ drafted c.plan.job d t new.findings (option_map message_in c.sent)
@@ -365,7 +366,7 @@ at-session c s is =
     ap (λ (o : Option Held). service_of c.plan.job c.run (queue_in o) c.findings (option_map session_in o)
     (option_map message_in c.sent)) (sym is)
 
-pub follow_taken : (c new : Inside) (s t : Held) (d : Draft) (v : Service) (m : Parts) (nonce : List ℕ) → IsSound c
+pub follow_taken : (c new : Inside) (s t : Held) (d : ServerChanges) (v : Service) (m : Parts) (nonce : List ℕ) → IsConsistent c
     → IsReadyMessage m nonce → server_of c ≡ v → c.session ≡ Some s → ComesAs coming.Follows v m nonce
     → new.plan.job ≡ with_account c.plan.job (unwrap_or d.account c.plan.job.account) → new.run ≡ d.run
     → new.session ≡ Some t → new.sent ≡ option_or d.sent c.sent
@@ -381,7 +382,7 @@ follow_taken c new s t d v m nonce h ready view is comes job run session sent st
     ∙ sym (at-new c new t d job run session sent ∙ state
     ∙ ap (λ w. accepts w (session_in s) m nonce) (at-session c s is)))
 
-pub follow_above : (c : Inside) (s : Held) (v : Service) (m : Parts) (nonce : List ℕ) → IsSound c → server_of c ≡ v
+pub follow_above : (c : Inside) (s : Held) (v : Service) (m : Parts) (nonce : List ℕ) → IsConsistent c → server_of c ≡ v
     → c.session ≡ Some s → ComesAs coming.Follows v m nonce → CanAccept c.plan.job c.run s m.header.msg
 follow_above c s v m nonce h view is comes = can_follow c s m h is (followed c s v m nonce view is comes).above
 
@@ -415,8 +416,8 @@ begins_is v w n job queue packages newest runs told alerts session sent =
     ∙ ap (λ x. record (begins v n) { session = x; sent = w.sent }) session
     ∙ ap (λ x. record (begins v n) { sent = x }) sent
 
-pub begin_taken : (c new : Inside) (first t : Held) (begun : Run) (d : Draft) (v : Service) (n : ℕ)
-    (m : Parts) (nonce : List ℕ) → IsSound c → IsReadyMessage m nonce → server_of c ≡ v
+pub begin_taken : (c new : Inside) (first t : Held) (begun : Run) (d : ServerChanges) (v : Service) (n : ℕ)
+    (m : Parts) (nonce : List ℕ) → IsConsistent c → IsReadyMessage m nonce → server_of c ≡ v
     → ComesAs (coming.Begins n) v m nonce
     → session_in first ≡ first_session c.plan.job.account n → first.outbox.queue ≡ []
     → drop begun.next c.plan.job.packages ≡ (if is_some c.run.runs_in then [] else c.plan.job.packages)
@@ -457,7 +458,7 @@ first-is job k commands e many =
 
 pub new_sound : (c : Inside) (commands : ℕ) → IsSoundJob c.plan.job → c.run ≡ first_run → c.session ≡ None
     → c.sent ≡ None → c.findings ≡ first_known commands → commands ≡ commands_in (all_entries c.plan.job.packages)
-    → IsSound c
+    → IsConsistent c
 new_sound c commands sound run session sent known many =
     let is : server_of c ≡ first_service c.plan.job =
     ap (λ r. service_of c.plan.job r (queue_in c.session) c.findings (option_map session_in c.session)
@@ -469,7 +470,7 @@ new_sound c commands sound run session sent known many =
     ∙ first-is c.plan.job c.findings commands known many in
     record {
       job = record { filled = sound.filled; numbered = sound.numbered };
-      place = subst (IsPlace c.plan.job) (sym run) (record { within = omega arith; behind = λ e. absurd (cc) });
+      place = subst (IsWithinJob c.plan.job) (sym run) (record { within = omega arith; behind = λ e. absurd (cc) });
       session = subst (λ o. IfSome o (λ (t : Held). Stands c.plan.job c.run t.outbox t.gathering)) (sym session) tt;
       sent = subst (λ o. IfSome o IsSpelled) (sym sent) tt;
       ready = subst IsReadyService (sym is) (first_is_ready c.plan.job sound);

@@ -26,13 +26,13 @@ use Rattle.syncml_types.specs.Fitness.{IsFit}
 use Rattle.dm_service.proofs.Headers.{header_ready}
 use Rattle.dm_job.specs.declared.job.Job.{Job}
 use Rattle.dm_report.specs.Known.{Known, GatheredSoFar}
-use Rattle.dm_service.specs.declared.progress.Progress.{Progress}
+use Rattle.dm_service.specs.declared.progress.ServiceProgress.{ServiceProgress}
 use Rattle.dm_service.specs.Messages.{first_service, after_status, ended, denies, by_header, accepts}
 use Rattle.dm_service.specs.Sending.{header_for}
 use Rattle.dm_service.specs.Service.{Session, Service}
 use Rattle.dm_server.specs.declared.held.Run.{Run}
 use Rattle.dm_server.specs.declared.held.Outbox.{Outbox}
-use Rattle.dm_server.specs.declared.held.Session.{Session as Held}
+use Rattle.dm_server.specs.declared.held.PresentSession.{PresentSession as Held}
 use Rattle.dm_server.specs.declared.held.ServerWork.{ServerWork}
 use Rattle.dm_server.specs.Inside.{at_work, session_with}
 use Rattle.dm_server.specs.Working.{by_header_after, with_account, CanAccept, CanWork, IsFaultTold, IsReadyWork}
@@ -47,7 +47,7 @@ if_not false x y e = refl
 
 -- ---- a farewell
 
-pub header_fits : (job : Job) (account : Account) (p : Progress) (m : Parts) (header : Header)
+pub header_fits : (job : Job) (account : Account) (p : ServiceProgress) (m : Parts) (header : Header)
     → ((v : Service) → v.job ≡ with_account job account → header ≡ header_for v p m) → IsReadyLimits job.limits
     → IsReadyAccount account → p.number < 2 ^ 32 → p.standing.own + 1 < 2 ^ 32 → IsFit m.header m.body
     → IsReadyHeader header
@@ -56,14 +56,14 @@ header_fits job account p m header is limits named number own fit =
     subst IsReadyHeader (sym (is v refl)) (header_ready v p m limits named number own fit)
 
 -- how far the session is then
-abbrev pub denied_progress : Progress → Progress
+abbrev pub denied_progress : ServiceProgress → ServiceProgress
 denied_progress p = record p {
   standing = record p.standing { own = p.standing.own + 1 };
   answered = true;
   is_over = true;
 }
 
-pub denied_sends : (job : Job) (run : Run) (p : Progress) (o : Outbox) (g : GatheredSoFar) (k : Known)
+pub denied_sends : (job : Job) (run : Run) (p : ServiceProgress) (o : Outbox) (g : GatheredSoFar) (k : Known)
     (before : Option Parts) (m : Parts) (code : ℕ) (nonce : List ℕ) (sent : Parts)
     → sent ≡ farewell (header_for (at_work job run p o g k before) p m) m code nonce
     → at_work job run (denied_progress p) o g k (Some sent)
@@ -108,7 +108,7 @@ code-tells accepted login m =
     (has_twins (body_ids m.body)) (judged_by accepted login m.header.cred)
     (judged-code accepted login.name login.password login.nonce m.header.cred)
 
-pub fault_told : (a : Account) (p : Progress) (m : Parts) (nonce : List ℕ) (code : ℕ)
+pub fault_told : (a : Account) (p : ServiceProgress) (m : Parts) (nonce : List ℕ) (code : ℕ)
     → code ≡ (hears User a p.standing m nonce).code → tells_no_fault code ≡ not (is_some (fault_of m))
 unfolding hears
 fault_told a p m nonce code e = ap tells_no_fault e ∙ code-tells p.standing.accepted _ m
@@ -133,16 +133,16 @@ abort_told m code faultless aborts body e f g h k same =
 
 -- ---- accepted
 
-abbrev heard_of : Job → Progress → Parts → List ℕ → Heard
+abbrev heard_of : Job → ServiceProgress → Parts → List ℕ → Heard
 heard_of job p m nonce = hears User job.account p.standing m nonce
 
-abbrev pub with_standing : Progress → Standing → Progress
+abbrev pub with_standing : ServiceProgress → Standing → ServiceProgress
 with_standing p standing = record p { standing = standing }
 
-abbrev progress_heard : Progress → Heard → Progress
+abbrev progress_heard : ServiceProgress → Heard → ServiceProgress
 progress_heard p h = with_standing p h.standing
 
-pub accepted_is : (job : Job) (run : Run) (p next : Progress) (o : Outbox) (g : GatheredSoFar) (k : Known)
+pub accepted_is : (job : Job) (run : Run) (p next : ServiceProgress) (o : Outbox) (g : GatheredSoFar) (k : Known)
     (before : Option Parts) (m : Parts) (nonce : List ℕ) (account : Account) (status : ℕ) (v : Service)
     → account ≡ (heard_of job p m nonce).account → status ≡ (heard_of job p m nonce).status
     → next ≡ progress_heard p (heard_of job p m nonce)
@@ -184,12 +184,12 @@ can_work w s standing can is e f next =
       packages = can.packages;
       limits = can.limits;
       named = subst IsReadyAccount (sym e) h.account;
-      number = subst (λ (p : Progress). p.number < 2 ^ 32) (sym next) can.number;
-      own = subst (λ (p : Progress). p.standing.own + 1 < 2 ^ 32) (sym next) low;
-      room = subst (λ (p : Progress). (2048 ≤ p.standing.room) × (p.standing.room ≤ 65536)) (sym next) room;
+      number = subst (λ (p : ServiceProgress). p.number < 2 ^ 32) (sym next) can.number;
+      own = subst (λ (p : ServiceProgress). p.standing.own + 1 < 2 ^ 32) (sym next) low;
+      room = subst (λ (p : ServiceProgress). (2048 ≤ p.standing.room) × (p.standing.room ≤ 65536)) (sym next) room;
     }
 
-pub fault_is_told : (job : Job) (p : Progress) (m : Parts) (nonce : List ℕ) (code : ℕ) → IsReadyAccount job.account
+pub fault_is_told : (job : Job) (p : ServiceProgress) (m : Parts) (nonce : List ℕ) (code : ℕ) → IsReadyAccount job.account
     → (2048 ≤ p.standing.room) × (p.standing.room ≤ 65536)
     → code ≡ (heard_of job p m nonce).code → IsFaultTold code m
 fault_is_told job p m nonce code named room e = record {

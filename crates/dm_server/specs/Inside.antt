@@ -10,7 +10,7 @@ use Rattle.dm_job.specs.declared.job.JobEntry.{JobEntry}
 use Rattle.dm_job.specs.Sound.{all_entries, AreNumbered}
 use Rattle.dm_report.specs.Known.{Known, GatheredSoFar}
 use Rattle.dm_report.specs.Sending.{AreCommands}
-use Rattle.dm_service.specs.declared.progress.Progress.{Progress}
+use Rattle.dm_service.specs.declared.progress.ServiceProgress.{ServiceProgress}
 use Rattle.dm_service.specs.Service.{Waiting, Session, Service}
 use Rattle.dm_service.specs.Messages.{first_service}
 use Rattle.dm_service.specs.Events.{Arrival, is_answered}
@@ -18,7 +18,7 @@ use Rattle.dm_service.specs.History.{state_from}
 use Rattle.dm_service.specs.Ready.{IsReadyService}
 use Rattle.dm_server.specs.declared.held.Run.{Run}
 use Rattle.dm_server.specs.declared.held.Outbox.{Outbox}
-use Rattle.dm_server.specs.declared.held.Session.{Session as Held}
+use Rattle.dm_server.specs.declared.held.PresentSession.{PresentSession as Held}
 use Rattle.dm_server.specs.declared.server.Server.TheInside.{Inside}
 
 -- ---- the machine
@@ -44,11 +44,11 @@ service_of job run queue known session sent = record {
   sent = sent;
 }
 
-abbrev pub session_with : Progress → Outbox → GatheredSoFar → Session
+abbrev pub session_with : ServiceProgress → Outbox → GatheredSoFar → Session
 session_with p o g = record { progress = p; object = g.object; sent = o.sent }
 
 -- the machine in a session
-abbrev pub at_work : Job → Run → Progress → Outbox → GatheredSoFar → Known → Option Parts → Service
+abbrev pub at_work : Job → Run → ServiceProgress → Outbox → GatheredSoFar → Known → Option Parts → Service
 at_work job run p o g known sent = service_of job run o.queue known (Some (session_with p o g)) sent
 
 abbrev pub session_in : Held → Session
@@ -75,18 +75,18 @@ pub record IsNumberedJob (job : Job) : Type 0 where
   pub numbered : AreNumbered 1 (all_entries job.packages)
 
 -- a place among the packages; one was queued only where one stands before it
-pub record IsPlace (job : Job) (run : Run) : Type 0 where
+pub record IsWithinJob (job : Job) (run : Run) : Type 0 where
   pub within : run.next ≤ length job.packages
   pub behind : run.queued ≡ true → 0 < run.next
 
 -- what was sent are commands of the job, and no greater value is gathered than the limits say
 pub record Stands (job : Job) (run : Run) (o : Outbox) (g : GatheredSoFar) : Type 0 where
-  pub place : IsPlace job run
+  pub place : IsWithinJob job run
   pub commands : AreCommands o.sent
   pub max_obj : g.max_obj ≡ job.limits.max_obj
 
 -- a state to which messages have led the server of a job
-pub record IsReached (v : Service) : Type 0 where
+pub record MessagesLeadTo (v : Service) : Type 0 where
   pub job : Job
   pub arrivals : List Arrival
   pub reached : state_from (first_service job) arrivals ≡ v
@@ -95,11 +95,11 @@ pub record IsReached (v : Service) : Type 0 where
 abbrev pub KeepsReply : Service → Type 0
 KeepsReply v = is_answered v.session ≡ true → is_some v.sent ≡ true
 
-pub record IsSound (c : Inside) : Type 0 where
+pub record IsConsistent (c : Inside) : Type 0 where
   pub job : IsNumberedJob c.plan.job
-  pub place : IsPlace c.plan.job c.run
+  pub place : IsWithinJob c.plan.job c.run
   pub session : IfSome c.session (λ (s : Held). Stands c.plan.job c.run s.outbox s.gathering)
   pub sent : IfSome c.sent IsSpelled
   pub ready : IsReadyService (server_of c)
-  pub reached : IsReached (server_of c)
+  pub reached : MessagesLeadTo (server_of c)
   pub reply : KeepsReply (server_of c)

@@ -5,11 +5,11 @@ use Rattle.syncml_types.specs.Canonical.{canonical}
 use Rattle.syncml_codec.specs.Decoding.{read_of}
 use Rattle.dm_service.specs.Service.{Service}
 use Rattle.dm_service.specs.Events.{Arrival, Answer as Answered, sent, kept, stale, stranger, refused, ended}
-use Rattle.dm_server.specs.declared.answers.Answer.{Answer}
-use Rattle.dm_server.specs.declared.answers.Answer.TheVariants as answers
+use Rattle.dm_server.specs.declared.answers.ServerAnswer.{ServerAnswer}
+use Rattle.dm_server.specs.declared.answers.ServerAnswer.TheVariants as answers
 
 -- the answer to a message is this one, where Sent and Kept speak of the message sent last
-abbrev pub Tells : Answer → Service → Answered → Type 0
+abbrev pub Tells : ServerAnswer → Service → Answered → Type 0
 Tells answers.Sent v a = IsSomeAnd v.sent (λ m. a ≡ sent m)
 Tells answers.Kept v a = IsSomeAnd v.sent (λ m. a ≡ kept m)
 Tells answers.Stale v a = a ≡ stale

@@ -18,7 +18,7 @@ use Rattle.dm_job.specs.declared.job.JobEntry.{JobEntry}
 use Rattle.dm_job.specs.Sound.{AreNumbered}
 use Rattle.dm_report.specs.Known.{Known, GatheredSoFar, TellsOfJob, is_within}
 use Rattle.dm_report.specs.Sending.{AreCommands}
-use Rattle.dm_service.specs.declared.progress.Progress.{Progress}
+use Rattle.dm_service.specs.declared.progress.ServiceProgress.{ServiceProgress}
 use Rattle.dm_service.specs.declared.sent.Sent.{Sent}
 use Rattle.dm_service.specs.Laws.{AreInOrder}
 use Rattle.dm_service.specs.Packages.{holds_number, next_package}
@@ -27,18 +27,18 @@ use Rattle.dm_service.specs.Sending.{sends}
 use Rattle.dm_service.specs.Ready.{AreReadyPackages, AreReadyWaiting}
 use Rattle.dm_service.specs.Service.{Waiting, Session, Service}
 use Rattle.dm_service.specs.Messages.{answer_waiting, tells, in_session, by_header, accepts}
-use Rattle.dm_service.specs.Events.{last_of, takes, after, opens, refusal, reply_of, arrival}
-use Rattle.dm_server.specs.declared.answers.Answer.{Answer}
-use Rattle.dm_server.specs.declared.answers.Answer.TheVariants as answer
+use Rattle.dm_service.specs.Events.{last_of, takes, after, opens_session, refusal, reply_of, arrival}
+use Rattle.dm_server.specs.declared.answers.ServerAnswer.{ServerAnswer}
+use Rattle.dm_server.specs.declared.answers.ServerAnswer.TheVariants as answer
 use Rattle.dm_server.specs.declared.coming.Coming.{Coming}
 use Rattle.dm_server.specs.declared.coming.Coming.TheVariants as coming
-use Rattle.dm_server.specs.declared.drafts.Next.{Next}
-use Rattle.dm_server.specs.declared.drafts.Draft.{Draft}
+use Rattle.dm_server.specs.declared.drafts.Advance.{Advance}
+use Rattle.dm_server.specs.declared.drafts.ServerChanges.{ServerChanges}
 use Rattle.dm_server.specs.declared.held.Run.{Run}
 use Rattle.dm_server.specs.declared.held.Outbox.{Outbox}
-use Rattle.dm_server.specs.declared.held.Session.{Session as Held}
+use Rattle.dm_server.specs.declared.held.PresentSession.{PresentSession as Held}
 use Rattle.dm_server.specs.declared.held.ServerWork.{ServerWork}
-use Rattle.dm_server.specs.Inside.{at_work, message_in, session_with, IsNumberedJob, IsPlace, IsSpelled, KeepsReply}
+use Rattle.dm_server.specs.Inside.{at_work, message_in, session_with, IsNumberedJob, IsWithinJob, IsSpelled, KeepsReply}
 use Rattle.dm_server.specs.View.{Tells}
 
 abbrev pub with_account : Job → Account → Job
@@ -51,20 +51,20 @@ abbrev pub machine_in : ServerWork → Outbox → GatheredSoFar → Known → Op
 machine_in w o g known before =
     at_work (with_account w.plan.now.job w.account.now) w.run w.progress o g known before
 
-abbrev pub session_of : ServerWork → Outbox → GatheredSoFar → Session
-session_of w o g = session_with w.progress o g
+abbrev pub session_at_work : ServerWork → Outbox → GatheredSoFar → Session
+session_at_work w o g = session_with w.progress o g
 
 -- ---- what a message meets
 
 -- what waits can be sent, and what was sent are commands of the job in their order
-pub record Holds (job : Job) (run : Run) (o : Outbox) : Type 0 where
-  pub place : IsPlace job run
+pub record IsSendable (job : Job) (run : Run) (o : Outbox) : Type 0 where
+  pub place : IsWithinJob job run
   pub queue : AreReadyWaiting o.queue
   pub commands : AreCommands o.sent
   pub order : AreInOrder o.sent
 
 pub record CanWork (w : ServerWork) (o : Outbox) (g : GatheredSoFar) : Type 0 where
-  pub holds : Holds w.plan.now.job w.run o
+  pub holds : IsSendable w.plan.now.job w.run o
   pub max_obj : g.max_obj ≡ w.plan.now.job.limits.max_obj
   pub numbered : IsNumberedJob w.plan.now.job
   pub packages : AreReadyPackages w.plan.now.job.packages
@@ -81,7 +81,7 @@ IsReadyWork w = IsReadyMessage w.message.now w.nonce.now.bytes
 pub record CanQueue (job : Job) (run : Run) (waits : List Waiting) : Type 0 where
   pub numbered : IsNumberedJob job
   pub packages : AreReadyPackages job.packages
-  pub place : IsPlace job run
+  pub place : IsWithinJob job run
   pub queue : AreReadyWaiting waits
 
 -- a message that can be held
@@ -96,7 +96,7 @@ pub record IsFaultTold (code : ℕ) (m : Parts) : Type 0 where
 
 -- a session that can take a message of this MsgID
 pub record CanAccept (job : Job) (run : Run) (s : Held) (msg : ℕ) : Type 0 where
-  pub holds : Holds job run s.outbox
+  pub holds : IsSendable job run s.outbox
   pub max_obj : s.gathering.max_obj ≡ job.limits.max_obj
   pub numbered : IsNumberedJob job
   pub packages : AreReadyPackages job.packages
@@ -109,13 +109,13 @@ pub record CanAccept (job : Job) (run : Run) (s : Held) (msg : ℕ) : Type 0 whe
 -- ---- what it leaves
 
 -- the machine behind a message, where this one was sent last before
-abbrev pub behind : Job → Account → Next → Outbox → GatheredSoFar → Known → Option Parts → Service
-behind job account next o g known before =
+abbrev pub machine_behind : Job → Account → Advance → Outbox → GatheredSoFar → Known → Option Parts → Service
+machine_behind job account next o g known before =
     at_work (with_account job account) next.run next.progress o g known
     (option_or (option_map message_in next.sent) before)
 
-abbrev pub left_by : ServerWork → Next → Outbox → GatheredSoFar → Known → Option Parts → Service
-left_by w next o g known before = behind w.plan.now.job w.account.now next o g known before
+abbrev pub service_behind : ServerWork → Advance → Outbox → GatheredSoFar → Known → Option Parts → Service
+service_behind w next o g known before = machine_behind w.plan.now.job w.account.now next o g known before
 
 -- nothing of what a message may change has changed
 pub record IsAsBefore (o next : Outbox) (g after : GatheredSoFar) (k known : Known) : Type 0 where
@@ -138,7 +138,7 @@ pub record HasMoreBehind (o next : Outbox) (g after : GatheredSoFar) (k known : 
   pub findings : known ≡ k
 
 -- a message is sent exactly where the progress says so, and its bytes spell it
-pub record IsReply (p : Progress) (sent : Option LastMessage) : Type 0 where
+pub record IsReply (p : ServiceProgress) (sent : Option LastMessage) : Type 0 where
   pub answered : p.answered ≡ is_some sent
   pub spelled : IfSome sent IsSpelled
 
@@ -151,12 +151,12 @@ answered_from v s m code =
     sends (next_package (record told { queue = queue }) t.progress.standing) t m code
 
 -- the same, with the account where it is new
-abbrev pub drafted : Job → Draft → Held → Known → Option Parts → Service
+abbrev pub drafted : Job → ServerChanges → Held → Known → Option Parts → Service
 drafted job d s known before =
     at_work (with_account job (unwrap_or d.account job.account)) d.run s.progress s.outbox s.gathering known
     (option_or (option_map message_in d.sent) before)
 
-abbrev pub answer_with : Option LastMessage → Answer
+abbrev pub answer_with : Option LastMessage → ServerAnswer
 answer_with sent = if is_some sent then answer.Sent else answer.Ended
 
 -- the commands of a message that passes tell of the job; those of another tell nothing
@@ -176,8 +176,8 @@ pub record AreInARow (given : List JobEntry) : Type 0 where
   pub numbered : AreNumbered first given
 
 -- so many from the first one on
-abbrev pub IsRow : List JobEntry → ℕ → ℕ → Type 0
-IsRow given first count = (n : ℕ) → holds_number given n ≡ is_within first count n
+abbrev pub IsRange : List JobEntry → ℕ → ℕ → Type 0
+IsRange given first count = (n : ℕ) → holds_number given n ≡ is_within first count n
 
 abbrev pub sent_without : ℕ → ℕ → List Sent → List Sent
 sent_without first count = filter (λ (s : Sent). not (is_within first count s.number))
@@ -187,7 +187,7 @@ sent_without first count = filter (λ (s : Sent). not (is_within first count s.n
 -- the first message of a session, a later one, or one that isn't taken
 abbrev pub ComesAs : Coming → Service → Parts → List ℕ → Type 0
 ComesAs (coming.Begins n) v m nonce =
-    (takes v (arrival m nonce) ≡ true) × (after v (arrival m nonce) ≡ opens v n m nonce)
+    (takes v (arrival m nonce) ≡ true) × (after v (arrival m nonce) ≡ opens_session v n m nonce)
 ComesAs coming.Follows v m nonce =
     (takes v (arrival m nonce) ≡ true)
     × IsSomeAnd v.session (λ (s : Session). (last_of s < m.header.msg)

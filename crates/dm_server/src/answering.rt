@@ -10,13 +10,13 @@ ghost use Rattle.dm_service.specs.Messages.{answer_waiting, answers_message};
 ghost use Rattle.dm_service.specs.Packages.{next_package};
 ghost use Rattle.dm_service.specs.Ready.{AreReadyWaiting};
 ghost use Rattle.dm_service.specs.Service.{Session as ASession};
-ghost use Rattle.dm_server.specs.Inside.{service_of, IsPlace, Stands};
-ghost use Rattle.dm_server.specs.Working.{answered_from, left_by, machine_in, session_of, with_account};
+ghost use Rattle.dm_server.specs.Inside.{service_of, IsWithinJob, Stands};
+ghost use Rattle.dm_server.specs.Working.{answered_from, service_behind, machine_in, session_at_work, with_account};
 ghost use Rattle.dm_server.specs.Working.{CanQueue, CanWork, HasMoreBehind, IsAsBefore, IsReadyBody, IsReadyWork};
 ghost use Rattle.dm_server.specs.Working.{IsReply};
 
 use crate::bodies::answers_to;
-use crate::drafts::Next;
+use crate::drafts::Advance;
 use crate::held::{Outbox, Run, ServerWork};
 use crate::packages::queue_next;
 use crate::sending::send;
@@ -37,7 +37,7 @@ fn queue_behind(work: &ServerWork, queue: &mut WaitingList, code: u32) -> Result
         ≡ next_package (service_of (with_account work.now.plan.now.job account) work.now.run
         (queue.old ++ map answer_waiting (if passing code then command_answers work.now.message.now else []))
         known session sent) work.now.progress.standing) }
-    ensures place { IfOk result (λ next. IsPlace work.now.plan.now.job next) }
+    ensures place { IfOk result (λ next. IsWithinJob work.now.plan.now.job next) }
     ensures queue { OnOk result (AreReadyWaiting queue.new) }
     ensures front { take (length queue.old) queue.new ≡ queue.old }
 {
@@ -54,13 +54,13 @@ fn answer_behind(
     gathering: &mut Gathering,
     findings: &mut Findings,
     code: u32,
-) -> Result<Next, Memory>
+) -> Result<Advance, Memory>
     requires can_work { CanWork work.now outbox.old gathering.old }
     requires message { IsReadyBody work.now.message.now }
     ensures state { IfOk result (λ next. (before : OptionOf Parts)
-        → left_by work.now next outbox.new gathering.new findings.new before
+        → service_behind work.now next outbox.new gathering.new findings.new before
         ≡ answered_from (machine_in work.now outbox.old gathering.old findings.old before)
-        (session_of work.now outbox.old gathering.old) work.now.message.now code) }
+        (session_at_work work.now outbox.old gathering.old) work.now.message.now code) }
     ensures stands { IfOk result (λ next. Stands work.now.plan.now.job next.run outbox.new gathering.new) }
     ensures reply { IfOk result (λ next. IsReply next.progress next.sent) }
     ensures err { OnErr result
@@ -81,13 +81,13 @@ pub(crate) fn answered(
     gathering: &mut Gathering,
     findings: &mut Findings,
     code: u32,
-) -> Result<Next, Memory>
+) -> Result<Advance, Memory>
     requires can_work { CanWork work.now outbox.old gathering.old }
     requires message { IsReadyWork work.now }
     ensures state { IfOk result (λ next. (before : OptionOf Parts)
-        → left_by work.now next outbox.new gathering.new findings.new before
+        → service_behind work.now next outbox.new gathering.new findings.new before
         ≡ answers_message (machine_in work.now outbox.old gathering.old findings.old before)
-        (session_of work.now outbox.old gathering.old) work.now.message.now code work.now.nonce.now.bytes) }
+        (session_at_work work.now outbox.old gathering.old) work.now.message.now code work.now.nonce.now.bytes) }
     ensures stands { IfOk result (λ next. Stands work.now.plan.now.job next.run outbox.new gathering.new) }
     ensures reply { IfOk result (λ next. IsReply next.progress next.sent) }
     ensures err { OnErr result

@@ -3,7 +3,7 @@ use wbxml_tokens::Refusal;
 
 /// What is answered to a message.
 #[derive(Clone, Copy, Debug, PartialEq, Eq)]
-pub enum Answer {
+pub enum ServerAnswer {
     /// It was accepted, and the message that `again` gives answers it.
     Sent,
     /// It has the numbers of the last accepted one, whatever else it has, and the message that `again` gives answered

@@ -2,14 +2,14 @@
 ghost use Rattle.std.specs.Prelude.{◌≡◌, [], false, drop, if◌then◌else◌, is_some};
 ghost use Rattle.dm_ends.specs.Beginning as Ends;
 ghost use Rattle.dm_service.specs.Messages as Spec;
-ghost use Rattle.dm_server.specs.Inside.{newest_of, session_in, IsPlace};
+ghost use Rattle.dm_server.specs.Inside.{newest_of, session_in, IsWithinJob};
 
-use crate::held::{Outbox, Plan, Run, Session};
+use crate::held::{Outbox, Plan, PresentSession, Run};
 use dm_auth::Account;
 use dm_base::List;
 use dm_headers::Standing;
 use dm_report::Gathering;
-use dm_service::Progress;
+use dm_service::ServiceProgress;
 use dm_waiting::WaitingList;
 
 // A client with a name and a password has to show a credential.
@@ -36,13 +36,13 @@ fn first_standing(accepted: bool) -> Standing
 }
 
 /// A session that no message has come to yet.
-pub(crate) fn first_session(plan: &Plan, number: u32) -> Session
+pub(crate) fn first_session(plan: &Plan, number: u32) -> PresentSession
     ensures session { session_in result ≡ Spec.first_session plan.now.job.account number }
     ensures queue { result.outbox.queue ≡ [] }
     ensures max_obj { result.gathering.max_obj ≡ plan.now.job.limits.max_obj }
 {
-    Session {
-        progress: Progress {
+    PresentSession {
+        progress: ServiceProgress {
             number,
             standing: first_standing(!asks_credential(&plan.job.account)),
             answered: false,
@@ -62,7 +62,7 @@ pub(crate) fn begun(plan: &Plan, run: Run) -> Run
         ≡ (if is_some run.runs_in then [] else plan.now.job.packages) }
     ensures newest { newest_of plan.now.job.packages result ≡ [] }
     ensures runs_in { result.runs_in ≡ run.runs_in }
-    ensures place { IsPlace plan.now.job result }
+    ensures place { IsWithinJob plan.now.job result }
 {
     let next = if run.runs_in.is_some() {
         plan.job.packages.len()

@@ -4,7 +4,7 @@ ghost use Rattle.std.specs.List.{list_any};
 ghost use Rattle.dm_atomic.specs.Made.{told};
 ghost use Rattle.dm_headers.specs.Checks.{passes as passing};
 ghost use Rattle.dm_service.specs.Answers as Spec;
-ghost use Rattle.dm_service.specs.Sending as Sending;
+ghost use Rattle.dm_service.specs.Sending;
 
 use dm_atomic::{Origin, answer_each};
 use dm_base::{List, Memory};
@@ -68,7 +68,7 @@ pub(crate) fn answers_to(
 }
 
 fn asks_next(command: &Command) -> bool
-    ensures { result ≡ Sending.asks_next command.now }
+    ensures { result ≡ Sending.is_next_request command.now }
 {
     match command {
         Command::Alert(alert) => alert.code == 1222,
@@ -77,7 +77,7 @@ fn asks_next(command: &Command) -> bool
 }
 
 fn any_asks_next(body: &[Command]) -> bool
-    ensures { result ≡ list_any Sending.asks_next body.now }
+    ensures { result ≡ list_any Sending.is_next_request body.now }
 {
     body.iter().any(|command| asks_next(command))
 }

@@ -7,10 +7,10 @@ ghost use Rattle.dm_server.specs.Inside.{session_in, KeepsReply};
 ghost use Rattle.dm_server.specs.View.{Tells};
 ghost use Rattle.dm_server.specs.Working.{ComesAs};
 
-use crate::answers::Answer;
-use crate::held::Session;
+use crate::answers::ServerAnswer;
+use crate::held::PresentSession;
 use dm_base::num;
-use dm_service::Progress;
+use dm_service::ServiceProgress;
 use syncml_types::Message;
 
 /// What a message is to a server.
@@ -21,7 +21,7 @@ pub(crate) enum Coming {
     /// A new one of the present session.
     Follows,
     /// One that isn't taken.
-    Old(Answer),
+    Old(ServerAnswer),
 }
 
 // The number of a message's session.
@@ -35,14 +35,14 @@ fn number_of(message: &Message) -> Option<u32>
 }
 
 // Whether a message of the present session is new.
-fn is_new(progress: &Progress, msg: u32) -> bool
+fn is_new(progress: &ServiceProgress, msg: u32) -> bool
     ensures { result ≡ (nat_lt progress.now.standing.last msg && not progress.now.is_over) }
 {
     progress.standing.last < msg && !progress.is_over
 }
 
 // What is answered to a message of the present session that isn't new.
-fn answer_again(progress: &Progress, msg: u32) -> Answer
+fn answer_again(progress: &ServiceProgress, msg: u32) -> ServerAnswer
     requires { (nat_lt progress.now.standing.last msg && not progress.now.is_over) ≡ false }
     ensures { (v : Service) (s : ASession) (m : Parts) → v.session ≡ Some s → s.progress ≡ progress.now
         → m.header.msg ≡ msg → KeepsReply v
@@ -50,16 +50,16 @@ fn answer_again(progress: &Progress, msg: u32) -> Answer
 {
     let last = progress.standing.last;
     if msg < last {
-        Answer::Stale
+        ServerAnswer::Stale
     } else if msg == last && progress.answered {
-        Answer::Kept
+        ServerAnswer::Kept
     } else {
-        Answer::Ended
+        ServerAnswer::Ended
     }
 }
 
 // What a message of a numbered session is where one was begun.
-fn coming_to(progress: &Progress, number: u32, msg: u32) -> Coming
+fn coming_to(progress: &ServiceProgress, number: u32, msg: u32) -> Coming
     ensures { (v : Service) (s : ASession) (m : Parts) (nonce : ListOf ℕ) → v.session ≡ Some s
         → s.progress ≡ progress.now → Spec.number_of m ≡ Some number → m.header.msg ≡ msg
         → ComesAs result v m nonce }
@@ -68,7 +68,7 @@ fn coming_to(progress: &Progress, number: u32, msg: u32) -> Coming
         return Coming::Begins(number);
     }
     if number < progress.number {
-        return Coming::Old(Answer::Stale);
+        return Coming::Old(ServerAnswer::Stale);
     }
     if is_new(progress, msg) {
         return Coming::Follows;
@@ -77,12 +77,12 @@ fn coming_to(progress: &Progress, number: u32, msg: u32) -> Coming
 }
 
 /// What a message is to a server with this session.
-pub(crate) fn what_comes(session: &Option<Session>, message: &Message) -> Coming
+pub(crate) fn what_comes(session: &Option<PresentSession>, message: &Message) -> Coming
     ensures { (v : Service) (nonce : ListOf ℕ) → v.session ≡ option_map session_in session.now
         → ComesAs result v message.now nonce }
 {
     let Some(number) = number_of(message) else {
-        return Coming::Old(Answer::Stranger);
+        return Coming::Old(ServerAnswer::Stranger);
     };
     match session {
         None => Coming::Begins(number),

@@ -3,24 +3,24 @@ ghost use Rattle.std.specs.Prelude.{◌≡◌, unwrap_or};
 ghost use Rattle.std.specs.Option.{option_or};
 ghost use Rattle.dm_server.specs.Working.{answer_with, with_account};
 
-use crate::answers::Answer;
+use crate::answers::ServerAnswer;
 use crate::held::{Plan, Run};
 use dm_auth::Account;
 use dm_ends::LastMessage;
 use dm_job::Job;
-use dm_service::Progress;
+use dm_service::ServiceProgress;
 
 /// How far the job and the session are then, and the message that answers, where one does.
 #[derive(Drop)]
-pub(crate) struct Next {
+pub(crate) struct Advance {
     pub run: Run,
-    pub progress: Progress,
+    pub progress: ServiceProgress,
     pub sent: Option<LastMessage>,
 }
 
 /// What is left to be made so once a session has taken a message. The account is told where it is new.
 #[derive(Drop)]
-pub(crate) struct Draft {
+pub(crate) struct ServerChanges {
     pub account: Option<Account>,
     pub run: Run,
     pub sent: Option<LastMessage>,
@@ -34,15 +34,15 @@ fn put_account(job: &mut Job, account: Option<Account>)
     }
 }
 
-fn put_message(sent: &mut Option<LastMessage>, message: Option<LastMessage>) -> Answer
+fn put_message(sent: &mut Option<LastMessage>, message: Option<LastMessage>) -> ServerAnswer
     ensures sent { sent.new ≡ option_or message sent.old }
     ensures answer { result ≡ answer_with message }
 {
     match message {
-        None => Answer::Ended,
+        None => ServerAnswer::Ended,
         Some(message) => {
             *sent = Some(message);
-            Answer::Sent
+            ServerAnswer::Sent
         }
     }
 }
@@ -52,8 +52,8 @@ pub(crate) fn take_up(
     plan: &mut Plan,
     run: &mut Run,
     sent: &mut Option<LastMessage>,
-    draft: Draft,
-) -> Answer
+    draft: ServerChanges,
+) -> ServerAnswer
     ensures plan { plan.new.job ≡ with_account plan.old.job (unwrap_or draft.account plan.old.job.account) }
     ensures run { run.new ≡ draft.run }
     ensures sent { sent.new ≡ option_or draft.sent sent.old }

@@ -4,11 +4,11 @@ ghost use Rattle.std.specs.List.{AllByRecursion};
 ghost use Rattle.syncml_types.specs.Message.{Parts};
 ghost use Rattle.dm_auth.specs.declared.accounts.Account.{Account as AnAccount};
 ghost use Rattle.dm_report.specs.Known.{GatheredSoFar, is_within};
-ghost use Rattle.dm_service.specs.declared.progress.Progress.{Progress as AProgress};
+ghost use Rattle.dm_service.specs.declared.progress.ServiceProgress.{ServiceProgress as AProgress};
 ghost use Rattle.dm_service.specs.Packages.{gives_up, runs_after};
 ghost use Rattle.dm_service.specs.Ready.{IsReadyEntry, AreReadyPackages};
-ghost use Rattle.dm_server.specs.Inside.{at_work, newest_of, session_with, IsNumberedJob, IsPlace};
-ghost use Rattle.dm_server.specs.Working.{with_account, sent_without, Holds, AreInARow, IsRow};
+ghost use Rattle.dm_server.specs.Inside.{at_work, newest_of, session_with, IsNumberedJob, IsWithinJob};
+ghost use Rattle.dm_server.specs.Working.{with_account, sent_without, IsSendable, AreInARow, IsRange};
 
 use crate::held::{Outbox, Plan, Run};
 use crate::packages::commands_in;
@@ -28,7 +28,7 @@ pub(crate) struct Left {
 
 // The package that was queued last in the present session.
 fn newest(plan: &Plan, run: Run) -> &[JobEntry]
-    requires { IsPlace plan.now.job run }
+    requires { IsWithinJob plan.now.job run }
     ensures { result.now ≡ newest_of plan.now.job.packages run }
 {
     if run.queued {
@@ -42,7 +42,7 @@ fn newest(plan: &Plan, run: Run) -> &[JobEntry]
 fn row_of(entries: &[JobEntry]) -> Result<(u64, u64), Memory>
     requires ready { AllByRecursion IsReadyEntry entries.now }
     requires numbered { AreInARow entries.now }
-    ensures { IfOk result (λ row. IsRow entries.now row.0 row.1) }
+    ensures { IfOk result (λ row. IsRange entries.now row.0 row.1) }
 {
     match entries.first() {
         None => Ok((0, 0)),
@@ -100,13 +100,13 @@ pub(crate) fn give_up(
 ) -> Result<Left, Memory>
     requires job { IsNumberedJob plan.now.job }
     requires packages { AreReadyPackages plan.now.job.packages }
-    requires holds { Holds plan.now.job run outbox.now }
+    requires holds { IsSendable plan.now.job run outbox.now }
     ensures given_up { IfOk result (λ left. (account : AnAccount) (p : AProgress) (g : GatheredSoFar)
         (before : OptionOf Parts)
         → at_work (with_account plan.now.job account) left.run p left.outbox g left.findings before
         ≡ gives_up (at_work (with_account plan.now.job account) run p outbox.now g findings.now before)
         (session_with p outbox.now g)) }
-    ensures holds { IfOk result (λ left. Holds plan.now.job left.run left.outbox) }
+    ensures holds { IfOk result (λ left. IsSendable plan.now.job left.run left.outbox) }
 {
     let (first, count) = row_of(newest(plan, run))?;
     let sent = sent_without(plan.alloc, first, count, outbox.sent.as_slice())?;

@@ -8,13 +8,13 @@ use crate::held::Plan;
 use dm_auth::Account;
 use dm_base::{Boxed, Bytes, Memory};
 use dm_headers::{Side, next_header};
-use dm_service::Progress;
+use dm_service::ServiceProgress;
 use std::alloc::Global;
 use syncml_types::{Header, Loc, Message};
 
 // The client, by the Source of the message that is answered.
 fn target_of(alloc: Global, message: &Message) -> Result<Loc, Memory>
-    ensures { IfOk result (λ target. target ≡ Spec.target_of message.now) }
+    ensures { IfOk result (λ target. target ≡ Spec.client_target message.now) }
 {
     let source = &message.header().source.uri;
     let uri = if source.len() > 255 {
@@ -29,7 +29,7 @@ fn target_of(alloc: Global, message: &Message) -> Result<Loc, Memory>
 pub(crate) fn header_for(
     plan: &Plan,
     account: &Account,
-    progress: &Progress,
+    progress: &ServiceProgress,
     message: &Message,
 ) -> Result<Boxed<Header>, Memory>
     requires own { progress.now.standing.own + 1 < 2 ^ 32 }

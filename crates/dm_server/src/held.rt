@@ -3,7 +3,7 @@ use dm_auth::Account;
 use dm_base::{List, Nonce};
 use dm_job::Job;
 use dm_report::Gathering;
-use dm_service::{Progress, Sent};
+use dm_service::{Sent, ServiceProgress};
 use dm_waiting::WaitingList;
 use std::alloc::Global;
 use syncml_types::Message;
@@ -35,8 +35,8 @@ pub(crate) struct Outbox {
 
 /// The present session.
 #[derive(Drop)]
-pub(crate) struct Session {
-    pub progress: Progress,
+pub(crate) struct PresentSession {
+    pub progress: ServiceProgress,
     pub outbox: Outbox,
     pub gathering: Gathering,
 }
@@ -48,7 +48,7 @@ pub(crate) struct ServerWork<'a> {
     pub plan: &'a Plan,
     pub account: &'a Account,
     pub run: Run,
-    pub progress: Progress,
+    pub progress: ServiceProgress,
     pub message: &'a Message,
     pub nonce: &'a Nonce,
 }

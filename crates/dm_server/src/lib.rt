@@ -17,5 +17,5 @@ pub mod server;
 mod taking;
 mod working;
 
-pub use answers::Answer;
+pub use answers::ServerAnswer;
 pub use server::Server;

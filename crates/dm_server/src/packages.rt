@@ -8,7 +8,7 @@ ghost use Rattle.dm_report.specs.Known.{Known as AKnown};
 ghost use Rattle.dm_service.specs.Service.{Session as ASession};
 ghost use Rattle.dm_service.specs.Packages as Spec;
 ghost use Rattle.dm_service.specs.Ready.{IsReadyEntry, AreReadyPackages, AreReadyWaiting};
-ghost use Rattle.dm_server.specs.Inside.{service_of, IsNumberedJob, IsPlace};
+ghost use Rattle.dm_server.specs.Inside.{service_of, IsNumberedJob, IsWithinJob};
 ghost use Rattle.dm_server.specs.Working.{with_account};
 
 use crate::held::{Plan, Run};
@@ -69,13 +69,13 @@ pub(crate) fn queue_next(
 ) -> Result<Run, Memory>
     requires job { IsNumberedJob plan.now.job }
     requires ready { AreReadyPackages plan.now.job.packages }
-    requires place { IsPlace plan.now.job run }
+    requires place { IsWithinJob plan.now.job run }
     requires queue { AreReadyWaiting queue.old }
     ensures ok { IfOk result (λ next. (account : AnAccount) (known : AKnown) (session : OptionOf ASession)
         (sent : OptionOf Parts) → service_of (with_account plan.now.job account) next queue.new known session sent
         ≡ Spec.next_package (service_of (with_account plan.now.job account) run queue.old known session sent)
         standing.now) }
-    ensures place { IfOk result (λ next. IsPlace plan.now.job next) }
+    ensures place { IfOk result (λ next. IsWithinJob plan.now.job next) }
     ensures queue { OnOk result (AreReadyWaiting queue.new) }
     ensures front { take (length queue.old) queue.new ≡ queue.old }
 {

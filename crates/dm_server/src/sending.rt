@@ -11,11 +11,12 @@ ghost use Rattle.dm_service.specs.Service.{Service};
 ghost use Rattle.dm_service.specs.Sending as Spec;
 ghost use Rattle.dm_service.specs.Laws.{AreInOrder};
 ghost use Rattle.dm_server.specs.Inside.{Stands};
-ghost use Rattle.dm_server.specs.Working.{left_by, machine_in, session_of, with_account, CanWork, HasSentMore};
+ghost use Rattle.dm_server.specs.Working.{service_behind, machine_in, session_at_work, with_account, CanWork};
+ghost use Rattle.dm_server.specs.Working.{HasSentMore};
 ghost use Rattle.dm_server.specs.Working.{IsReply, ToldBy};
 
 use crate::bodies::is_done_there;
-use crate::drafts::Next;
+use crate::drafts::Advance;
 use crate::headers::header_for;
 use crate::held::{Outbox, Run, ServerWork};
 use dm_auth::Account;
@@ -24,7 +25,7 @@ use dm_ends::{LastMessage, all_reports};
 use dm_headers::{Standing, passes};
 use dm_pack::{Filled, Tail};
 use dm_report::{Findings, Gathering};
-use dm_service::{Progress, Sent};
+use dm_service::{Sent, ServiceProgress};
 use syncml_types::Message;
 
 // Whether the client told that it accepted the server's credential, where it is shown one.
@@ -50,7 +51,7 @@ fn is_last(work: &ServerWork, code: u32, filled: &Filled) -> bool
 }
 
 // How far the session is once a message was sent.
-fn progress_after(progress: &Progress, tail: Tail, is_over: bool) -> Progress
+fn progress_after(progress: &ServiceProgress, tail: Tail, is_over: bool) -> ServiceProgress
     requires { progress.now.standing.own + 1 < 2 ^ 32 }
     ensures { (f : Filling) → tail ≡ f.tail → result ≡ record progress.now {
       standing = Spec.standing_sent progress.now.standing f;
@@ -63,7 +64,7 @@ fn progress_after(progress: &Progress, tail: Tail, is_over: bool) -> Progress
     if tail == Tail::Final {
         standing.heard = false;
     }
-    Progress {
+    ServiceProgress {
         standing,
         answered: true,
         is_over,
@@ -118,13 +119,13 @@ pub(crate) fn send(
     gathering: &mut Gathering,
     findings: &mut Findings,
     code: u32,
-) -> Result<Next, Memory>
+) -> Result<Advance, Memory>
     requires can_work { CanWork work.now outbox.old gathering.old }
     requires fit { IsFit work.now.message.now.header work.now.message.now.body }
     ensures state { IfOk result (λ next. (before : OptionOf Parts)
-        → left_by work.now next outbox.new gathering.new findings.new before
+        → service_behind work.now next outbox.new gathering.new findings.new before
         ≡ Spec.sends (machine_in work.now outbox.old gathering.new findings.new before)
-        (session_of work.now outbox.old gathering.new) work.now.message.now code) }
+        (session_at_work work.now outbox.old gathering.new) work.now.message.now code) }
     ensures told { IfOk result (λ next. ToldBy (passing code) outbox.old.sent work.now.message.now.body findings.old
         findings.new gathering.old gathering.new) }
     ensures stands { IfOk result (λ next. Stands work.now.plan.now.job next.run outbox.new gathering.new) }
@@ -145,7 +146,7 @@ pub(crate) fn send(
     tell(findings, gathering, outbox, sent, work.message, code)?;
     let is_over = is_last(work, code, &filled);
     outbox.queue.commit(&filled);
-    Ok(Next {
+    Ok(Advance {
         run: Run {
             runs_in: runs_in(work.run, work.progress.number, sent, &outbox.sent),
             ..work.run

@@ -2,7 +2,7 @@
 ghost use Rattle.std.specs.Prelude.{◌≡◌, ◌<◌, false, ℕ, get_or, length, option_map};
 ghost use Rattle.std.specs.Prelude.{IfOk, OnOk, OnErr};
 ghost use Rattle.dm_ends.specs.Ready.{IsReadyMessage};
-ghost use Rattle.dm_job.specs.Sound.{IsSound};
+ghost use Rattle.dm_job.specs.Sound.{IsSoundJob};
 ghost use Rattle.dm_service.specs.Events.{takes, arrival};
 ghost use Rattle.dm_service.specs.History.{answer_now, next};
 ghost use Rattle.dm_service.specs.Messages.{first_service};
@@ -11,11 +11,11 @@ ghost use Rattle.dm_server.specs.View.{Tells, arrival_of, sent_last};
 ghost use Rattle.dm_server.specs.Working.{ComesAs};
 ghost use Rattle.dm_server.specs.declared.coming.Coming.TheVariants as coming;
 
-use crate::answers::Answer;
+use crate::answers::ServerAnswer;
 use crate::beginning::{begun, first_session};
 use crate::coming::{Coming, what_comes};
 use crate::drafts::take_up;
-use crate::held::{Plan, Run, Session};
+use crate::held::{Plan, PresentSession, Run};
 use crate::packages::commands_in_all;
 use crate::working::accept;
 use dm_base::{Bytes, Memory, Nonce};
@@ -37,7 +37,7 @@ pub struct Server {
     plan: Plan,
     run: Run,
     findings: Findings,
-    session: Option<Session>,
+    session: Option<PresentSession>,
     sent: Option<LastMessage>,
 }
 
@@ -46,11 +46,11 @@ impl Model for Server {
 
     ghost Value = { Service };
 
-    ghost use Rattle.dm_server.specs.Inside.{server_of, IsSound};
+    ghost use Rattle.dm_server.specs.Inside.{server_of, IsSoundJob};
 
     ghost view = { server_of };
 
-    ghost invariant = { IsSound };
+    ghost invariant = { IsSoundJob };
 }
 
 // What is known of each nonce.
@@ -62,7 +62,7 @@ fn whole(nonce: Nonce)
 impl Server {
     /// A server with a job that was read, to which no message came yet. The only error is want of memory.
     pub fn new(alloc: Global, job: Job) -> Result<Server, Memory>
-        requires { IsSound job }
+        requires { IsSoundJob job }
         ensures { IfOk result (λ server. server ≡ first_service job) }
     {
         let commands = commands_in_all(job.packages.as_slice())?;
@@ -80,7 +80,12 @@ impl Server {
     }
 
     // The first message of a session.
-    fn begin(&mut self, number: u32, message: &Message, nonce: &Nonce) -> Result<Answer, Memory>
+    fn begin(
+        &mut self,
+        number: u32,
+        message: &Message,
+        nonce: &Nonce,
+    ) -> Result<ServerAnswer, Memory>
         requires comes { ComesAs (coming.Begins number) self.old message.now nonce.now.bytes }
         requires message { IsReadyMessage message.now nonce.now.bytes }
         ensures answer { IfOk result (λ a. Tells a self.new
@@ -103,7 +108,7 @@ impl Server {
     }
 
     // A later message of the session.
-    fn follow(&mut self, message: &Message, nonce: &Nonce) -> Result<Answer, Memory>
+    fn follow(&mut self, message: &Message, nonce: &Nonce) -> Result<ServerAnswer, Memory>
         requires comes { ComesAs coming.Follows self.old message.now nonce.now.bytes }
         requires message { IsReadyMessage message.now nonce.now.bytes }
         ensures answer { IfOk result (λ a. Tells a self.new
@@ -112,7 +117,7 @@ impl Server {
         ensures err { OnErr result (self.new ≡ self.old) }
     {
         let Some(session) = &mut self.session else {
-            return Ok(Answer::Ended);
+            return Ok(ServerAnswer::Ended);
         };
         let draft = accept(
             &self.plan,
@@ -126,7 +131,7 @@ impl Server {
     }
 
     // A message, which is answered and no more where it isn't new.
-    fn take(&mut self, message: &Message, nonce: &Nonce) -> Result<Answer, Memory>
+    fn take(&mut self, message: &Message, nonce: &Nonce) -> Result<ServerAnswer, Memory>
         requires message { IsReadyMessage message.now nonce.now.bytes }
         ensures untaken { takes self.old (arrival message.now nonce.now.bytes) ≡ false → self.new ≡ self.old }
         ensures answer { IfOk result (λ a. Tells a self.new
@@ -144,7 +149,7 @@ impl Server {
     /// Delivers the bytes of a message, which a challenge tells `nonce`. After `Memory` nothing has changed, so the
     /// same bytes may be delivered again. Bytes that aren't taken change nothing: those of no message or of no new one.
     #[tactic(auto, unfolding(dm_service::specs::History::next, dm_service::specs::History::answer_now, dm_service::specs::Events::takes, dm_service::specs::Events::refusal))]
-    pub fn deliver(&mut self, bytes: &[u8], nonce: Nonce) -> Result<Answer, Memory>
+    pub fn deliver(&mut self, bytes: &[u8], nonce: Nonce) -> Result<ServerAnswer, Memory>
         ensures untaken { takes self.old (arrival_of bytes.now nonce.bytes) ≡ false → self.new ≡ self.old }
         ensures answer { IfOk result (λ a. Tells a self.new (answer_now self.old (arrival_of bytes.now nonce.bytes))) }
         ensures ok { OnOk result (self.new ≡ next self.old (arrival_of bytes.now nonce.bytes)) }
@@ -152,7 +157,7 @@ impl Server {
     {
         match decode(self.plan.alloc, bytes) {
             Err(FeedError::Memory) => Err(Memory),
-            Err(FeedError::Refused(refusal)) => Ok(Answer::Refused(refusal)),
+            Err(FeedError::Refused(refusal)) => Ok(ServerAnswer::Refused(refusal)),
             Ok(message) => {
                 // They tell that the message is fit, and the nonce whole.
                 let _ = message.header();

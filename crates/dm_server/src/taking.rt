@@ -5,22 +5,22 @@ ghost use Rattle.dm_service.specs.Service.{Service};
 ghost use Rattle.dm_server.specs.Taking.{core_reply, service_machine};
 ghost use Rattle.dm_server.specs.View.{Tells, sent_last};
 
-use crate::answers::Answer;
+use crate::answers::ServerAnswer;
 use crate::server::Server;
 use dm_base::{Memory, Nonce};
 use dm_core::{Core, ReplyKind};
 
 // The kind of reply that an answer is.
-fn kind_of(answer: Answer) -> ReplyKind
+fn kind_of(answer: ServerAnswer) -> ReplyKind
     ensures { (v : Service) (a : Answered) → Tells answer v a → TellsReply result (sent_last v) (core_reply a) }
 {
     match answer {
-        Answer::Sent => ReplyKind::Message,
-        Answer::Kept => ReplyKind::Message,
-        Answer::Ended => ReplyKind::Over,
-        Answer::Stale => ReplyKind::Bad,
-        Answer::Stranger => ReplyKind::Bad,
-        Answer::Refused(_) => ReplyKind::Bad,
+        ServerAnswer::Sent => ReplyKind::Message,
+        ServerAnswer::Kept => ReplyKind::Message,
+        ServerAnswer::Ended => ReplyKind::Over,
+        ServerAnswer::Stale => ReplyKind::Bad,
+        ServerAnswer::Stranger => ReplyKind::Bad,
+        ServerAnswer::Refused(_) => ReplyKind::Bad,
     }
 }
 

@@ -4,42 +4,43 @@ ghost use Rattle.syncml_types.specs.Message.{Parts};
 ghost use Rattle.dm_auth.specs.declared.accounts.Account.{Account as AnAccount};
 ghost use Rattle.dm_ends.specs.Ready.{IsReadyAccount, IsReadyLimits, IsReadyMessage};
 ghost use Rattle.dm_headers.specs.Checks.{is_denied as denied, passes as passing};
-ghost use Rattle.dm_headers.specs.Standings as Standings;
+ghost use Rattle.dm_headers.specs.Standings;
 ghost use Rattle.dm_job.specs.declared.job.Job.{Job as AJob};
 ghost use Rattle.dm_report.specs.Known.{Known as AKnown, GatheredSoFar};
 ghost use Rattle.dm_service.specs.Messages as Spec;
 ghost use Rattle.dm_service.specs.Packages.{gives_up};
 ghost use Rattle.dm_server.specs.declared.held.Outbox.{Outbox as AnOutbox};
 ghost use Rattle.dm_server.specs.Inside.{at_work, session_in, session_with, Stands};
-ghost use Rattle.dm_server.specs.Working.{behind, by_header_after, drafted, left_by, machine_in, session_of};
+ghost use Rattle.dm_server.specs.Working.{machine_behind, by_header_after, drafted, service_behind, machine_in};
+ghost use Rattle.dm_server.specs.Working.{session_at_work};
 ghost use Rattle.dm_server.specs.Working.{with_account, CanAccept, CanWork, IsAsBefore, IsFaultTold, IsReadyWork};
 ghost use Rattle.dm_server.specs.Working.{IsReply};
 
 use crate::answering::answered;
-use crate::drafts::{Draft, Next};
+use crate::drafts::{Advance, ServerChanges};
 use crate::giving_up::give_up;
 use crate::headers::header_for;
-use crate::held::{Outbox, Plan, Run, ServerWork, Session};
+use crate::held::{Outbox, Plan, PresentSession, Run, ServerWork};
 use dm_auth::Account;
 use dm_base::{Memory, Nonce};
 use dm_ends::{farewell, has_abort};
 use dm_headers::{Heard, Side, hear, is_denied, passes};
 use dm_report::{Findings, Gathering};
-use dm_service::Progress;
+use dm_service::ServiceProgress;
 use syncml_types::Message;
 
 // The session is over without an answer.
-fn ended(run: Run, progress: &Progress) -> Next
+fn ended(run: Run, progress: &ServiceProgress) -> Advance
     ensures state { (job : AJob) (account : AnAccount) (o : AnOutbox) (g : GatheredSoFar) (known : AKnown)
-        (before : OptionOf Parts) → behind job account result o g known before
+        (before : OptionOf Parts) → machine_behind job account result o g known before
         ≡ Spec.ended (at_work (with_account job account) run progress.now o g known before)
         (session_with progress.now o g) }
     ensures run { result.run ≡ run }
     ensures reply { IsReply result.progress result.sent }
 {
-    Next {
+    Advance {
         run,
-        progress: Progress {
+        progress: ServiceProgress {
             answered: false,
             is_over: true,
             ..*progress
@@ -49,15 +50,15 @@ fn ended(run: Run, progress: &Progress) -> Next
 }
 
 // The session is over with a farewell.
-fn denied(work: &ServerWork, code: u32) -> Result<Next, Memory>
+fn denied(work: &ServerWork, code: u32) -> Result<Advance, Memory>
     requires limits { IsReadyLimits work.now.plan.now.job.limits }
     requires account { IsReadyAccount work.now.account.now }
     requires number { work.now.progress.number < 2 ^ 32 }
     requires own { work.now.progress.standing.own + 1 < 2 ^ 32 }
     requires message { IsReadyWork work.now }
     ensures state { IfOk result (λ next. (o : AnOutbox) (g : GatheredSoFar) (known : AKnown) (before : OptionOf Parts)
-        → left_by work.now next o g known before ≡ Spec.denies (machine_in work.now o g known before)
-        (session_of work.now o g) work.now.message.now code work.now.nonce.now.bytes) }
+        → service_behind work.now next o g known before ≡ Spec.denies (machine_in work.now o g known before)
+        (session_at_work work.now o g) work.now.message.now code work.now.nonce.now.bytes) }
     ensures run { IfOk result (λ next. next.run ≡ work.now.run) }
     ensures reply { IfOk result (λ next. IsReply next.progress next.sent) }
 {
@@ -65,9 +66,9 @@ fn denied(work: &ServerWork, code: u32) -> Result<Next, Memory>
     let farewell = farewell(work.plan.alloc, header, work.message, code, work.nonce)?;
     let mut standing = work.progress.standing;
     standing.own += 1;
-    Ok(Next {
+    Ok(Advance {
         run: work.run,
-        progress: Progress {
+        progress: ServiceProgress {
             standing,
             answered: true,
             is_over: true,
@@ -91,15 +92,15 @@ fn by_header(
     gathering: &mut Gathering,
     findings: &mut Findings,
     heard: &Heard,
-) -> Result<Next, Memory>
+) -> Result<Advance, Memory>
     requires can_work { CanWork work.now outbox.old gathering.old }
     requires message { IsReadyWork work.now }
     requires code { IsFaultTold heard.now.code work.now.message.now }
     ensures state { IfOk result (λ next. (before : OptionOf Parts) (h : Standings.Heard)
         → h.code ≡ heard.now.code → h.second ≡ heard.now.second
-        → left_by work.now next outbox.new gathering.new findings.new before
+        → service_behind work.now next outbox.new gathering.new findings.new before
         ≡ Spec.by_header (machine_in work.now outbox.old gathering.old findings.old before)
-        (session_of work.now outbox.old gathering.old) work.now.message.now h work.now.nonce.now.bytes) }
+        (session_at_work work.now outbox.old gathering.old) work.now.message.now h work.now.nonce.now.bytes) }
     ensures stands { IfOk result (λ next. Stands work.now.plan.now.job next.run outbox.new gathering.new) }
     ensures reply { IfOk result (λ next. IsReply next.progress next.sent) }
     ensures err { OnErr result
@@ -122,15 +123,15 @@ fn by_header_anew(
     gathering: &mut Gathering,
     findings: &mut Findings,
     heard: &Heard,
-) -> Result<Next, Memory>
+) -> Result<Advance, Memory>
     requires can_work { CanWork work.now outbox.old gathering.old }
     requires message { IsReadyWork work.now }
     requires code { IsFaultTold heard.now.code work.now.message.now }
     ensures state { IfOk result (λ next. (before : OptionOf Parts) (h : Standings.Heard)
         → h.code ≡ heard.now.code → h.second ≡ heard.now.second
-        → left_by work.now next outbox.new gathering.new findings.new before
+        → service_behind work.now next outbox.new gathering.new findings.new before
         ≡ by_header_after (gives_up (machine_in work.now outbox.old gathering.old findings.old before)
-        (session_of work.now outbox.old gathering.old)) (session_of work.now outbox.old gathering.old)
+        (session_at_work work.now outbox.old gathering.old)) (session_at_work work.now outbox.old gathering.old)
         work.now.message.now h work.now.nonce.now.bytes) }
     ensures stands { IfOk result (λ next. Stands work.now.plan.now.job next.run outbox.new gathering.new) }
     ensures reply { IfOk result (λ next. IsReply next.progress next.sent) }
@@ -162,16 +163,16 @@ fn by_status(
     gathering: &mut Gathering,
     findings: &mut Findings,
     heard: &Heard,
-) -> Result<Next, Memory>
+) -> Result<Advance, Memory>
     requires can_work { CanWork work.now outbox.old gathering.old }
     requires message { IsReadyWork work.now }
     requires code { IsFaultTold heard.now.code work.now.message.now }
     ensures state { IfOk result (λ next. (before : OptionOf Parts) (h : Standings.Heard)
         → h.code ≡ heard.now.code → h.second ≡ heard.now.second
-        → left_by work.now next outbox.new gathering.new findings.new before
+        → service_behind work.now next outbox.new gathering.new findings.new before
         ≡ by_header_after (Spec.after_status (machine_in work.now outbox.old gathering.old findings.old before)
-        (session_of work.now outbox.old gathering.old) failed heard.now.status)
-        (session_of work.now outbox.old gathering.old) work.now.message.now h work.now.nonce.now.bytes) }
+        (session_at_work work.now outbox.old gathering.old) failed heard.now.status)
+        (session_at_work work.now outbox.old gathering.old) work.now.message.now h work.now.nonce.now.bytes) }
     ensures stands { IfOk result (λ next. Stands work.now.plan.now.job next.run outbox.new gathering.new) }
     ensures reply { IfOk result (λ next. IsReply next.progress next.sent) }
     ensures err { OnErr result
@@ -198,11 +199,11 @@ fn renewed_by<'a>(heard: &'a Heard, account: &'a Account) -> &'a Account
 pub(crate) fn accept(
     plan: &Plan,
     run: Run,
-    session: &mut Session,
+    session: &mut PresentSession,
     findings: &mut Findings,
     message: &Message,
     nonce: &Nonce,
-) -> Result<Draft, Memory>
+) -> Result<ServerChanges, Memory>
     requires can_accept { CanAccept plan.now.job run session.old message.now.header.msg }
     requires message { IsReadyMessage message.now nonce.now.bytes }
     ensures state { IfOk result (λ draft. (before : OptionOf Parts)
@@ -226,7 +227,7 @@ pub(crate) fn accept(
         plan,
         account: renewed_by(&heard, &plan.job.account),
         run,
-        progress: Progress {
+        progress: ServiceProgress {
             standing: heard.standing,
             ..session.progress
         },
@@ -242,7 +243,7 @@ pub(crate) fn accept(
         &heard,
     )?;
     session.progress = next.progress;
-    Ok(Draft {
+    Ok(ServerChanges {
         account: heard.account,
         run: next.run,
         sent: next.sent,

@@ -13,10 +13,10 @@ use Rattle.dm_ends.specs.Commands.{alert, is_abort}
 use Rattle.dm_ends.proofs.Distinct.{makes_no_fault}
 use Rattle.dm_service.specs.Service.{Waiting, Session, Service}
 use Rattle.dm_service.specs.Packages.{gives_up}
-use Rattle.dm_service.specs.Sending.{target_of, header_for, sends}
+use Rattle.dm_service.specs.Sending.{client_target, header_for, sends}
 use Rattle.dm_service.specs.Messages.{begins, first_session, ended, denies, after_status, in_session}
 use Rattle.dm_service.specs.Messages.{answers_message, by_header, accepts}
-use Rattle.dm_service.specs.Events.{number_of, takes, opens, after_in_session, after_number, after_read, after}
+use Rattle.dm_service.specs.Events.{number_of, takes, opens_session, after_in_session, after_number, after_read, after}
 use Rattle.dm_service.specs.History.{next}
 use Rattle.dm_service.specs.Laws.{IsFaultless, SendsNoFault}
 use Rattle.dm_service.proofs.Steps.{either}
@@ -32,7 +32,7 @@ sends-none v s m code =
     let next = drop whole es in
     let n = cut header p.standing.room before next in
     let tail = tail_of (next_rest n next) p.standing.heard in
-    makes_no_fault (login_of Server v.job.account) p.standing v.job.limits p.number (target_of m)
+    makes_no_fault (login_of Server v.job.account) p.standing v.job.limits p.number (client_target m)
     (record { uri = v.job.account.server; name = None }) (before ++ next_part n next ++ tail_commands tail)
     (is_final tail)
 
@@ -40,7 +40,7 @@ denies-none : (v : Service) (s : Session) (m : Parts) (code : ℕ) (nonce : List
     → IsFaultless (denies v s m code nonce)
 unfolding denies
 denies-none v s m code nonce =
-    makes_no_fault (login_of Server v.job.account) s.progress.standing v.job.limits s.progress.number (target_of m)
+    makes_no_fault (login_of Server v.job.account) s.progress.standing v.job.limits s.progress.number (client_target m)
     (record { uri = v.job.account.server; name = None })
     (header_answer m.header code nonce ++ alert 1223 None [] ∷ []) true
 
@@ -75,7 +75,7 @@ acts-none : (v : Service) (o : Option Session) (n : ℕ) (m : Parts) (nonce : Li
     → IsFaultless (after_in_session v o n m nonce)
 acts-none v None n m nonce is = accepts-none (begins v n) (first_session v.job.account n) m nonce is
 acts-none v (Some s) n m nonce is =
-    either IsFaultless (s.progress.number == n) (accepts v s m nonce) (opens v n m nonce) (accepts-none v s m nonce is)
+    either IsFaultless (s.progress.number == n) (accepts v s m nonce) (opens_session v n m nonce) (accepts-none v s m nonce is)
     (accepts-none (begins v n) (first_session v.job.account n) m nonce is)
 
 as-none : (v : Service) (o : Option ℕ) (m : Parts) (nonce : List ℕ) → IsFaultless v

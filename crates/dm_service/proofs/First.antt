@@ -7,11 +7,11 @@ use Rattle.dm_base.specs.Fields.{is_id, is_short}
 use Rattle.dm_fields.specs.Fields.{are_limits}
 use Rattle.dm_ends.specs.Ready.{IsReadyLimits}
 use Rattle.dm_job.specs.declared.job.JobEntry.{JobEntry}
-use Rattle.dm_job.specs.Sound.{IsEntry, all_entries}
+use Rattle.dm_job.specs.Sound.{CanBeSent, all_entries}
 use Rattle.dm_service.specs.Ready.{IsReadyEntry}
 use Rattle.dm_service.specs.Laws.{FirstIsReady}
 
-entries-ready : (es : List JobEntry) → AllByRecursion IsEntry es → AllByRecursion IsReadyEntry es
+entries-ready : (es : List JobEntry) → AllByRecursion CanBeSent es → AllByRecursion IsReadyEntry es
 entries-ready [] h = tt
 entries-ready (e ∷ es) h = (h.0.ready, entries-ready es h.1)
 

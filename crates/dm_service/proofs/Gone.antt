@@ -22,7 +22,7 @@ use Rattle.dm_service.specs.declared.sent.Carried.{Carried}
 use Rattle.dm_service.specs.declared.sent.Sent.{Sent}
 use Rattle.dm_service.specs.Service.{Waiting, Session, Service}
 use Rattle.dm_service.specs.Packages.{commands_in, is_of_job, job_waiting, queues_package, next_package, holds_number}
-use Rattle.dm_service.specs.Packages.{not_sent, put_back, runs_after, gives_up}
+use Rattle.dm_service.specs.Packages.{not_sent, package_put_back, runs_after, gives_up}
 use Rattle.dm_service.specs.Answers.{command_answers}
 use Rattle.dm_service.specs.Sending.{header_for, goes_out, carried_on, sends, runs_in_after}
 use Rattle.dm_service.specs.Messages.{ended, denies, answer_waiting, after_status, tells, queues_answers, session_or}
@@ -269,7 +269,7 @@ pub record Holds (n : ℕ) (v : Service) : Type 0 where
   pub once : Once n v session
 
 put-back-weighs : (f : ℕ → ℕ) (p : List JobEntry) (ps : List (List JobEntry))
-    → weigh_entries f (all_entries (put_back p ps)) ≡ weigh_entries f p + weigh_entries f (all_entries ps)
+    → weigh_entries f (all_entries (package_put_back p ps)) ≡ weigh_entries f p + weigh_entries f (all_entries ps)
 put-back-weighs f [] ps = omega arith
 put-back-weighs f (e ∷ es) ps = entries-append f (e ∷ es) (all_entries ps)
 

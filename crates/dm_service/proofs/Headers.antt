@@ -15,9 +15,9 @@ use Rattle.dm_pack.proofs.Ready.{IsText}
 use Rattle.dm_ends.specs.Ready.{IsReadyAccount, IsReadyLimits}
 use Rattle.dm_ends.proofs.Texts.{literal, decimal_text, short_text}
 use Rattle.dm_ends.proofs.Headers.{own_ready, cred_own}
-use Rattle.dm_service.specs.declared.progress.Progress.{Progress}
+use Rattle.dm_service.specs.declared.progress.ServiceProgress.{ServiceProgress}
 use Rattle.dm_service.specs.Service.{Service}
-use Rattle.dm_service.specs.Sending.{target_of, header_for}
+use Rattle.dm_service.specs.Sending.{client_target, header_for}
 
 loc-text : (l : Loc) → loc_texts is_text l ≡ true → is_text l.uri ≡ true
 unfolding loc_texts
@@ -32,18 +32,18 @@ short-target : (uri : List ℕ) (long : Bool) → nat_lt 255 (length uri) ≡ lo
 short-target uri true h text = literal 255 (codes "device") refl (omega arith)
 short-target uri false h text = record { text = text; few = ltb-false 255 (length uri) h }
 
-target-text : (m : Parts) → IsFit m.header m.body → IsText 255 (target_of m).uri
+target-text : (m : Parts) → IsFit m.header m.body → IsText 255 (client_target m).uri
 target-text m fit =
     short-target m.header.source.uri (nat_lt 255 (length m.header.source.uri)) refl
     (source-text m.header (and_parts _ _ fit.texts).0)
 
-pub header_ready : (v : Service) (p : Progress) (m : Parts) → IsReadyLimits v.job.limits → IsReadyAccount v.job.account
+pub header_ready : (v : Service) (p : ServiceProgress) (m : Parts) → IsReadyLimits v.job.limits → IsReadyAccount v.job.account
     → p.number < 2 ^ 32 → p.standing.own + 1 < 2 ^ 32 → IsFit m.header m.body → IsReadyHeader (header_for v p m)
 unfolding next_header
 header_ready v p m limits account number own fit =
     let object = limits.max_obj in
     let a = v.job.account in
-    own_ready v.job.limits (decimal p.number) (p.standing.own + 1) (target_of m).uri a.server None _
+    own_ready v.job.limits (decimal p.number) (p.standing.own + 1) (client_target m).uri a.server None _
     (record {
       max_msg = limits.max_msg;
       max_obj = omega (arith, object);

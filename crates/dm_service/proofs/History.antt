@@ -5,7 +5,7 @@ use Rattle.std.proofs.Common.{◌∷◌, ◌++◌, refl, sym, ap, subst, ◌∙�
 use Rattle.std.specs.Prelude.{Option, Result, Ok, Err}
 use Rattle.syncml_types.specs.Message.{Parts}
 use Rattle.wbxml_tokens.specs.declared.reason.Refusal.{Refusal}
-use Rattle.dm_ends.specs.Commands.{is_number}
+use Rattle.dm_ends.specs.Commands.{is_same_number}
 use Rattle.dm_service.specs.Service.{Session, Service}
 use Rattle.dm_service.specs.Events.{Arrival, number_of, last_of, takes_in, takes_number, takes_read, takes, after}
 use Rattle.dm_service.specs.Events.{taken_answer, reply_of, sent_or_ended, kept_or_ended, old_in, stale, ended}
@@ -70,7 +70,7 @@ above-more (Some s) n msg (Some x) k last (inr a) h (inr b) =
     inr (a.0 ∙ sym h.0 ∙ b.0, omega (arith, f, g, i))
 
 other-message : (m : Parts) (n : ℕ) (p : Option Session) (k last : ℕ) → number_of m ≡ Some n → IsAt n m.header.msg p
-    → IsAbove p k last → (is_number (number_of m) k && m.header.msg == last) ≡ false
+    → IsAbove p k last → (is_same_number (number_of m) k && m.header.msg == last) ≡ false
 other-message m n None k last e h b = absurd h
 other-message m n (Some x) k last e h (inl b) =
     rw e (let f = h.0 in let g : n < k = omega (arith, b, f) in by (n == k) (m.header.msg == last) refl g)
@@ -88,7 +88,7 @@ other-message m n (Some x) k last e h (inr b) =
     by false false i l = refl
 
 same-message : (m : Parts) (n : ℕ) (x : Session) → number_of m ≡ Some n → IsAt n m.header.msg (Some x)
-    → (is_number (number_of m) x.progress.number && m.header.msg == last_of x) ≡ true
+    → (is_same_number (number_of m) x.progress.number && m.header.msg == last_of x) ≡ true
 same-message m n x e h = rw (e, h.0, h.1) (let a : (n == n) ≡ true = grind arith in
     let b : (m.header.msg == m.header.msg) ≡ true = grind arith in rw (a, b) refl)
 
@@ -101,7 +101,7 @@ unfolding taken_answer
 answer-back s e = sent-back (reply_of (after s e))
 
 reads-read : (e : Arrival) (m : Parts) (k last : ℕ) (b : Bool) → e.read ≡ Ok m
-    → (is_number (number_of m) k && m.header.msg == last) ≡ b → reads_as e.read k last ≡ b
+    → (is_same_number (number_of m) k && m.header.msg == last) ≡ b → reads_as e.read k last ≡ b
 reads-read e m k last b f g = rw f g
 
 step-known : (s : Service) (e : Arrival) (es : List Arrival) (x : Session)

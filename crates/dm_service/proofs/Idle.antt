@@ -20,14 +20,16 @@ use Rattle.dm_job.specs.declared.job.JobEntry.{JobEntry}
 use Rattle.dm_service.specs.declared.sent.Carried.{Carried}
 use Rattle.dm_service.specs.declared.sent.Sent.{Sent}
 use Rattle.dm_service.specs.Service.{Waiting, Session, Service}
-use Rattle.dm_service.specs.Packages.{is_of_job, queues_package, next_package, not_sent, put_back, runs_after, gives_up}
+use Rattle.dm_service.specs.Packages.{is_of_job, queues_package, next_package, not_sent, package_put_back, runs_after}
+use Rattle.dm_service.specs.Packages.{gives_up}
 use Rattle.dm_service.specs.Answers.{command_answers}
 use Rattle.dm_service.specs.Sending.{header_for, rest_holds, goes_out, carried_on, runs_in_after, sends}
 use Rattle.dm_service.specs.Messages.{first_service, first_session, begins, ended, denies, answer_waiting, after_status}
 use Rattle.dm_service.specs.Messages.{tells, queues_answers, in_session, answers_message, by_header, accepts}
-use Rattle.dm_service.specs.Events.{Arrival, number_of, takes, opens, after_in_session, after_number, after_read, after}
+use Rattle.dm_service.specs.Events.{Arrival, number_of, takes, opens_session, after_in_session, after_number}
+use Rattle.dm_service.specs.Events.{after_read, after}
 use Rattle.dm_service.specs.History.{next, state_from}
-use Rattle.dm_service.specs.Laws.{StaysInSession, JobKeepsItsSession, number_in}
+use Rattle.dm_service.specs.Laws.{StaysInSession, JobKeepsItsSession, session_number}
 use Rattle.dm_service.proofs.Steps.{either}
 use Rattle.dm_service.proofs.Gone.{found}
 
@@ -164,7 +166,7 @@ given-idle o v s [] left w t e f g h = rests-as o v w s t e f h
 given-idle o v s (x ∷ xs) [] w t e f g h = tt
 given-idle o v s (x ∷ xs) (y ∷ ys) w t e f g h = rests-as o v w s t e f h
 
-back-none : (p : List JobEntry) (ps : List (List JobEntry)) → p ≡ [] → ps ≡ [] → put_back p ps ≡ []
+back-none : (p : List JobEntry) (ps : List (List JobEntry)) → p ≡ [] → ps ≡ [] → package_put_back p ps ≡ []
 back-none p ps e f = rw (e, f) refl
 
 sent-none : (p : List JobEntry) (ss : List Sent) → ss ≡ [] → not_sent p ss ≡ []
@@ -392,7 +394,7 @@ record Taken (o : Option ℕ) (w : Service) : Type 0 where
   number : ℕ
   goes : Goes o number w
 
-opens-goes : (v : Service) (n : ℕ) (m : Parts) (nonce : List ℕ) → Taken v.runs_in (opens v n m nonce)
+opens-goes : (v : Service) (n : ℕ) (m : Parts) (nonce : List ℕ) → Taken v.runs_in (opens_session v n m nonce)
 opens-goes v n m nonce = record {
   number = n;
   goes = accepts-goes (begins v n) (first_session v.job.account n) m nonce (begins-idle v n v.runs_in refl);
@@ -402,7 +404,7 @@ acts-goes : (v : Service) (o : Option Session) (n : ℕ) (m : Parts) (nonce : Li
     → Taken v.runs_in (after_in_session v o n m nonce)
 acts-goes v None n m nonce h = opens-goes v n m nonce
 acts-goes v (Some s) n m nonce h =
-    either (Taken v.runs_in) (s.progress.number == n) (accepts v s m nonce) (opens v n m nonce)
+    either (Taken v.runs_in) (s.progress.number == n) (accepts v s m nonce) (opens_session v n m nonce)
     (record { number = s.progress.number; goes = accepts-goes v s m nonce h }) (opens-goes v n m nonce)
 
 -- the state goes on idle, and the job stays in its session
@@ -419,7 +421,7 @@ moved None n k w s f g e m = absurd (cc)
 moved (Some j) n k w s f g e (inl m) = inl (m ∙ e)
 moved (Some j) n k w s f g e (inr m) =
     let is : j ≡ k = cc in
-    inr (m.1, ap number_in f ∙ ap Some (g ∙ sym m.0 ∙ is))
+    inr (m.1, ap session_number f ∙ ap Some (g ∙ sym m.0 ∙ is))
 
 taken-steps : (v w : Service) → Taken v.runs_in w → Steps v w
 taken-steps v w t =

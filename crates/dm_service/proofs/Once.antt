@@ -9,7 +9,8 @@ use Rattle.dm_pack.specs.Filling.{next_rest}
 use Rattle.dm_service.specs.declared.sent.Carried.{Carried}
 use Rattle.dm_service.specs.declared.sent.Sent.{Sent}
 use Rattle.dm_service.specs.Service.{Waiting}
-use Rattle.dm_service.specs.Sending.{in_a_row, last_alone, rest_holds, but_the_last, part_holds, goes_out, carried_on}
+use Rattle.dm_service.specs.Sending.{in_a_row, last_part_sent, rest_holds, but_the_last, part_holds, goes_out}
+use Rattle.dm_service.specs.Sending.{carried_on}
 
 -- ---- what a list of sent commands weighs
 
@@ -55,7 +56,7 @@ pub waiting_append : (f : ℕ → ℕ) (vs ws : List Waiting)
 waiting_append f [] ws = omega arith
 waiting_append f (v ∷ vs) ws = let rest = waiting_append f vs ws in omega (arith, rest)
 
-ends-weigh : (f : ℕ → ℕ) (msg command : ℕ) (c : Carried) → weigh f (last_alone msg command c) ≡ weigh_ends f c
+ends-weigh : (f : ℕ → ℕ) (msg command : ℕ) (c : Carried) → weigh f (last_part_sent msg command c) ≡ weigh_ends f c
 ends-weigh f msg command c = by (nat_lt 1 c.count)
   where
     by : (b : Bool) → f c.first + weigh f (cond b
@@ -112,7 +113,7 @@ first-weighs f msg command first (suc (suc n)) some =
     (ap (λ x. weigh f (but_the_last (in_a_row msg (command + 1) (first + 1) (suc n))) + x) (sym e) ∙ rest) refl
 
 -- nothing of a later part counts
-later-weighs : (f : ℕ → ℕ) (msg command : ℕ) (c : Carried) → weigh f (part_holds (last_alone msg command c)) ≡ 0
+later-weighs : (f : ℕ → ℕ) (msg command : ℕ) (c : Carried) → weigh f (part_holds (last_part_sent msg command c)) ≡ 0
 later-weighs f msg command c = let none = by (nat_lt 1 c.count) in omega (arith, none)
   where
     by : (b : Bool) → weigh f (but_the_last (cond b

@@ -29,12 +29,13 @@ use Rattle.dm_service.specs.declared.sent.Sent.{Sent}
 use Rattle.dm_service.specs.Service.{Waiting, Session, Service}
 use Rattle.dm_service.specs.Packages.{is_of_job, job_waiting, queues_package, next_package, holds_number, gives_up}
 use Rattle.dm_service.specs.Answers.{command_answers}
-use Rattle.dm_service.specs.Sending.{header_for, in_a_row, last_alone, rest_holds, not_counting, but_the_last}
+use Rattle.dm_service.specs.Sending.{header_for, in_a_row, last_part_sent, rest_holds, not_counting, but_the_last}
 use Rattle.dm_service.specs.Sending.{part_holds}
 use Rattle.dm_service.specs.Sending.{goes_out, carried_on, sends}
 use Rattle.dm_service.specs.Messages.{first_service, first_session, begins, ended, denies, answer_waiting, after_status}
 use Rattle.dm_service.specs.Messages.{tells, queues_answers, in_session, answers_message, by_header, accepts}
-use Rattle.dm_service.specs.Events.{Arrival, number_of, takes, opens, after_in_session, after_number, after_read, after}
+use Rattle.dm_service.specs.Events.{Arrival, number_of, takes, opens_session, after_in_session, after_number}
+use Rattle.dm_service.specs.Events.{after_read, after}
 use Rattle.dm_service.specs.History.{next, state_from}
 use Rattle.dm_service.specs.Laws.{IsSentBefore, AreInOrder, sent_in, SentInOrder}
 use Rattle.dm_service.proofs.Steps.{either}
@@ -118,7 +119,7 @@ row-order msg command number (suc n) = (
   row-order msg (command + 1) (number + 1) n,
 )
 
-ends-from : (msg command : ℕ) (c : Carried) → AllByRecursion (IsFrom msg command) (last_alone msg command c)
+ends-from : (msg command : ℕ) (c : Carried) → AllByRecursion (IsFrom msg command) (last_part_sent msg command c)
 ends-from msg command c = by (nat_lt 1 c.count)
   where
     by : (b : Bool) → AllByRecursion (IsFrom msg command)
@@ -128,7 +129,7 @@ ends-from msg command c = by (nat_lt 1 c.count)
     by false = ((refl, omega arith), tt)
 
 ends-to : (msg command : ℕ) (c : Carried)
-    → AllByRecursion (IsUpTo msg (command + size_of true (Some c))) (last_alone msg command c)
+    → AllByRecursion (IsUpTo msg (command + size_of true (Some c))) (last_part_sent msg command c)
 ends-to msg command c = by (nat_lt 1 c.count)
   where
     by : (b : Bool) → AllByRecursion (IsUpTo msg (command + cond b 2 1))
@@ -137,7 +138,7 @@ ends-to msg command c = by (nat_lt 1 c.count)
     by true = ((refl, omega arith), ((refl, omega arith), tt))
     by false = ((refl, omega arith), tt)
 
-ends-order : (msg command : ℕ) (c : Carried) → AreInOrder (last_alone msg command c)
+ends-order : (msg command : ℕ) (c : Carried) → AreInOrder (last_part_sent msg command c)
 ends-order msg command c = by (nat_lt 1 c.count)
   where
     by : (b : Bool) → AreInOrder
@@ -494,7 +495,7 @@ Comes v (Some s) = Ordered v s
 holds-comes : (v : Service) → Holds v → Comes v v.session
 holds-comes v h = subst (λ o. Comes v o) (sym h.is_it) h.ordered
 
-opens-ordered : (v : Service) (n : ℕ) (m : Parts) (nonce : List ℕ) → Holds (opens v n m nonce)
+opens-ordered : (v : Service) (n : ℕ) (m : Parts) (nonce : List ℕ) → Holds (opens_session v n m nonce)
 opens-ordered v n m nonce =
     accepts-ordered (begins v n) (first_session v.job.account n) m nonce (record { order = tt; own = tt; wide = tt })
 
@@ -502,7 +503,7 @@ acts-ordered : (v : Service) (o : Option Session) (n : ℕ) (m : Parts) (nonce :
     → Holds (after_in_session v o n m nonce)
 acts-ordered v None n m nonce h = opens-ordered v n m nonce
 acts-ordered v (Some s) n m nonce h =
-    either Holds (s.progress.number == n) (accepts v s m nonce) (opens v n m nonce) (accepts-ordered v s m nonce h)
+    either Holds (s.progress.number == n) (accepts v s m nonce) (opens_session v n m nonce) (accepts-ordered v s m nonce h)
     (opens-ordered v n m nonce)
 
 as-ordered : (v : Service) (o : Option ℕ) (m : Parts) (nonce : List ℕ) → Comes v v.session

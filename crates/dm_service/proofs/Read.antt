@@ -32,11 +32,12 @@ use Rattle.dm_service.specs.Packages.{commands_in}
 use Rattle.dm_service.specs.Sending.{sends}
 use Rattle.dm_service.specs.Messages.{first_service, first_session, begins, ended, denies, after_status, matched_in}
 use Rattle.dm_service.specs.Messages.{with_matched, in_session, answers_message, by_header, accepts}
-use Rattle.dm_service.specs.Events.{Arrival, number_of, takes, opens, after_in_session, after_number, after_read, after}
+use Rattle.dm_service.specs.Events.{Arrival, number_of, takes, opens_session, after_in_session, after_number}
+use Rattle.dm_service.specs.Events.{after_read, after}
 use Rattle.dm_service.specs.History.{next, state_from}
 use Rattle.dm_service.specs.Pieces.{still_sent, is_read, pieces_for, pieces_of, pieces_in, pieces_read, pieces_first}
 use Rattle.dm_service.specs.Pieces.{pieces_with, pieces_as, pieces_told, pieces_behind}
-use Rattle.dm_service.specs.Laws.{sent_in, IsFound, found_at, IsRead, ValuesAreRead}
+use Rattle.dm_service.specs.Laws.{sent_in, IsFound, found_at, IsResultRead, ValuesAreRead}
 use Rattle.dm_service.proofs.Steps.{either}
 use Rattle.dm_service.proofs.Gone.{found}
 use Rattle.dm_service.proofs.Codes.{still_within}
@@ -129,10 +130,10 @@ has-gathers max ps None h = tt
 has-gathers max ps (Some s) h = h
 
 first-gathers : (max : ℕ) (v : Service) (n : ℕ) (m : Parts) (nonce : List ℕ) → v.job.limits.max_obj ≡ max
-    → Gathers max (pieces_first v n m nonce) (opens v n m nonce).session
+    → Gathers max (pieces_first v n m nonce) (opens_session v n m nonce).session
 first-gathers max v n m nonce limit =
-    has-gathers max (pieces_first v n m nonce) (opens v n m nonce).session
-    (subst (λ (i : ℕ). Has (gather_all i Nothing (pieces_first v n m nonce)) (opens v n m nonce).session) limit
+    has-gathers max (pieces_first v n m nonce) (opens_session v n m nonce).session
+    (subst (λ (i : ℕ). Has (gather_all i Nothing (pieces_first v n m nonce)) (opens_session v n m nonce).session) limit
     (accepts-has (begins v n) (first_session v.job.account n) m nonce))
 
 later-gathers : (max : ℕ) (v : Service) (s : Session) (ps : List Piece) (m : Parts) (nonce : List ℕ)
@@ -154,7 +155,7 @@ acts-gathers max v (Some s) ps n m nonce limit h = by (s.progress.number == n)
   where
     by : (b : Bool)
         → Gathers max (cond b (ps ++ pieces_read v s m nonce) (pieces_first v n m nonce))
-        (cond b (accepts v s m nonce) (opens v n m nonce)).session
+        (cond b (accepts v s m nonce) (opens_session v n m nonce)).session
     by true = later-gathers max v s ps m nonce limit h
     by false = first-gathers max v n m nonce limit
 
@@ -168,7 +169,7 @@ acts-limits : (v : Service) (o : Option Session) (n : ℕ) (m : Parts) (nonce : 
     → SameLimits v (after_in_session v o n m nonce)
 acts-limits v None n m nonce = limit-stays (begins v n) (first_session v.job.account n) m nonce
 acts-limits v (Some s) n m nonce =
-    either (SameLimits v) (s.progress.number == n) (accepts v s m nonce) (opens v n m nonce) (limit-stays v s m nonce)
+    either (SameLimits v) (s.progress.number == n) (accepts v s m nonce) (opens_session v n m nonce) (limit-stays v s m nonce)
     (limit-stays (begins v n) (first_session v.job.account n) m nonce)
 
 as-sound : (max : ℕ) (v : Service) (ps : List Piece) (o : Option ℕ) (m : Parts) (nonce : List ℕ) → Sound max ps v
@@ -289,7 +290,7 @@ accepts-reads v s m nonce ps place value h k = by (values_are_found v s m nonce 
 
 -- nothing was sent before the first message of a session, so no Results are for it
 opens-reads : (v : Service) (o : Option Session) (n : ℕ) (m : Parts) (nonce : List ℕ) (place : ℕ) (value : Step)
-    → Contains (found_at (opens v n m nonce).told place) value → Comes v o (pieces_first v n m nonce) m place value
+    → Contains (found_at (opens_session v n m nonce).told place) value → Comes v o (pieces_first v n m nonce) m place value
 opens-reads v o n m nonce place value h =
     by (accepts-reads (begins v n) (first_session v.job.account n) m nonce [] place value refl h)
   where
@@ -309,7 +310,7 @@ acts-reads : (max : ℕ) (v : Service) (o : Option Session) (n : ℕ) (m : Parts
 acts-reads max v None n m nonce ps place value limit g h = opens-reads v None n m nonce place value h
 acts-reads max v (Some s) n m nonce ps place value limit g h = by (s.progress.number == n) h
   where
-    by : (b : Bool) → Contains (found_at (cond b (accepts v s m nonce) (opens v n m nonce)).told place) value
+    by : (b : Bool) → Contains (found_at (cond b (accepts v s m nonce) (opens_session v n m nonce)).told place) value
         → Comes v (Some s) (cond b (ps ++ pieces_read v s m nonce) (pieces_first v n m nonce)) m place value
     by true h =
         accepts-reads v s m nonce ps place value (g ∙ ap (λ (i : ℕ). gather_all i Nothing ps) (sym limit)) h
@@ -344,7 +345,7 @@ read-reads max v (Ok m) nonce ps place value s h = by (as-reads max v (number_of
 
 is-read : (max : ℕ) (v : Service) (ps : List Piece) (e : Arrival) (es : List Arrival) (place : ℕ) (value : Step)
     → v.job.limits.max_obj ≡ max → takes v e ≡ true → Tells v ps e.read e.nonce place value
-    → Contains (found_at v.told place) value ⊎ IsRead max v ps (e ∷ es) place value
+    → Contains (found_at v.told place) value ⊎ IsResultRead max v ps (e ∷ es) place value
 is-read max v ps e es place value limit t (inl h) = inl h
 is-read max v ps e es place value limit t (inr (m, read, r)) =
     inr (record {
@@ -374,17 +375,17 @@ is-read max v ps e es place value limit t (inr (m, read, r)) =
 
 next-reads : (max : ℕ) (v : Service) (ps : List Piece) (e : Arrival) (es : List Arrival) (place : ℕ) (value : Step)
     → Sound max ps v → Contains (found_at (next v e).told place) value
-    → Contains (found_at v.told place) value ⊎ IsRead max v ps (e ∷ es) place value
+    → Contains (found_at v.told place) value ⊎ IsResultRead max v ps (e ∷ es) place value
 unfolding next after
 next-reads max v ps e es place value s h = by (takes v e) refl h
   where
     by : (b : Bool) → takes v e ≡ b → Contains (found_at (cond b (after_read v e.read e.nonce) v).told place) value
-        → Contains (found_at v.told place) value ⊎ IsRead max v ps (e ∷ es) place value
+        → Contains (found_at v.told place) value ⊎ IsResultRead max v ps (e ∷ es) place value
     by true t h = is-read max v ps e es place value s.limit t (read-reads max v e.read e.nonce ps place value s h)
     by false t h = inl h
 
 later-read : (max : ℕ) (v : Service) (ps : List Piece) (e : Arrival) (es : List Arrival) (place : ℕ) (value : Step)
-    → IsRead max (next v e) (pieces_behind v ps e) es place value → IsRead max v ps (e ∷ es) place value
+    → IsResultRead max (next v e) (pieces_behind v ps e) es place value → IsResultRead max v ps (e ∷ es) place value
 later-read max v ps e es place value r = record {
   done = e ∷ r.done;
   message = r.message;
@@ -410,13 +411,13 @@ later-read max v ps e es place value r = record {
 
 all-read : (max : ℕ) (v : Service) (ps : List Piece) (es : List Arrival) (place : ℕ) (value : Step) → Sound max ps v
     → Contains (found_at (state_from v es).told place) value
-    → Contains (found_at v.told place) value ⊎ IsRead max v ps es place value
+    → Contains (found_at v.told place) value ⊎ IsResultRead max v ps es place value
 all-read max v ps [] place value s h = inl h
 all-read max v ps (e ∷ es) place value s h =
     by (all-read max (next v e) (pieces_behind v ps e) es place value (next-sound max v ps e s) h)
   where
-    by : Contains (found_at (next v e).told place) value ⊎ IsRead max (next v e) (pieces_behind v ps e) es place value
-        → Contains (found_at v.told place) value ⊎ IsRead max v ps (e ∷ es) place value
+    by : Contains (found_at (next v e).told place) value ⊎ IsResultRead max (next v e) (pieces_behind v ps e) es place value
+        → Contains (found_at v.told place) value ⊎ IsResultRead max v ps (e ∷ es) place value
     by (inl h) = next-reads max v ps e es place value s h
     by (inr r) = inr (later-read max v ps e es place value r)
 
@@ -430,12 +431,12 @@ pub values_are_read : ValuesAreRead
 values_are_read job es place value h =
     by (all-read job.limits.max_obj (first_service job) [] es place value (record { limit = refl; gathers = tt }) h)
   where
-    none : Contains [] value → IsRead job.limits.max_obj (first_service job) [] es place value
+    none : Contains [] value → IsResultRead job.limits.max_obj (first_service job) [] es place value
     none (k, l, e) = absurd (omega (arith, l))
 
     by : Contains (found_at (first_service job).told place) value
-        ⊎ IsRead job.limits.max_obj (first_service job) [] es place value
-        → IsRead job.limits.max_obj (first_service job) [] es place value
+        ⊎ IsResultRead job.limits.max_obj (first_service job) [] es place value
+        → IsResultRead job.limits.max_obj (first_service job) [] es place value
     by (inl h) =
         none (subst (λ (l : List Step). Contains l value)
         (ap (λ (t : Told). t.found) (untold-at (commands_in (all_entries job.packages)) place)) h)

@@ -10,7 +10,8 @@ use Rattle.dm_job.specs.declared.job.JobEntry.{JobEntry}
 use Rattle.dm_job.specs.Sound.{all_entries, AreNumbered}
 use Rattle.dm_service.specs.Service.{Session, Service}
 use Rattle.dm_service.specs.Messages.{first_service, first_session, begins, accepts}
-use Rattle.dm_service.specs.Events.{Arrival, number_of, takes, opens, after_in_session, after_number, after_read, after}
+use Rattle.dm_service.specs.Events.{Arrival, number_of, takes, opens_session, after_in_session, after_number}
+use Rattle.dm_service.specs.Events.{after_read, after}
 use Rattle.dm_service.specs.History.{next, state_from}
 use Rattle.dm_service.specs.Laws.{times_sent, sent_in, SendsOnce, IsOfRun, RunsInOneSession}
 use Rattle.dm_service.proofs.Steps.{either}
@@ -49,7 +50,7 @@ acts-once n v None number m nonce e h =
     accepts_once n (begins v number) (first_session v.job.account number) m nonce
     (begins-once n v number (job-of n v h))
 acts-once n v (Some s) number m nonce e h =
-    either (Holds n) (s.progress.number == number) (accepts v s m nonce) (opens v number m nonce)
+    either (Holds n) (s.progress.number == number) (accepts v s m nonce) (opens_session v number m nonce)
     (accepts_once n v s m nonce (sound-in n v s e h))
     (accepts_once n (begins v number) (first_session v.job.account number) m nonce
     (begins-once n v number (job-of n v h)))

@@ -30,12 +30,13 @@ use Rattle.dm_ends.proofs.Texts.{known_number}
 use Rattle.dm_job.specs.declared.job.JobEntry.{JobEntry}
 use Rattle.dm_job.specs.Sound.{all_entries}
 use Rattle.dm_service.specs.Service.{Waiting, Session, Service}
-use Rattle.dm_service.specs.Packages.{is_of_job, job_waiting, queues_package, next_package, put_back, gives_up}
+use Rattle.dm_service.specs.Packages.{is_of_job, job_waiting, queues_package, next_package, package_put_back, gives_up}
 use Rattle.dm_service.specs.Answers.{code_for, answers_command, answers_all, command_answers}
 use Rattle.dm_service.specs.Sending.{header_for, carried_on, sends}
 use Rattle.dm_service.specs.Messages.{first_session, begins, ended, denies, answer_waiting, after_status, tells}
 use Rattle.dm_service.specs.Messages.{queues_answers, in_session, answers_message, by_header, accepts}
-use Rattle.dm_service.specs.Events.{Arrival, number_of, in_range, takes_in, takes_number, takes_read, takes, opens}
+use Rattle.dm_service.specs.Events.{Arrival, number_of, in_range, takes_in, takes_number, takes_read, takes}
+use Rattle.dm_service.specs.Events.{opens_session}
 use Rattle.dm_service.specs.Events.{after_in_session, after_number, after_read, after, last_of}
 use Rattle.dm_service.specs.History.{next}
 use Rattle.dm_service.specs.Ready.{IsReadyEntry, AreReadyPackages, AreReadyWaiting, IsReadyProgress, IsReadyService}
@@ -89,7 +90,7 @@ others-ready (w ∷ ws) h =
     others-step w (filter (λ w. not (is_of_job w)) ws) (not (is_of_job w)) h.0 (others-ready ws h.1)
 
 put-back-ready : (p : List JobEntry) (ps : List (List JobEntry)) → AllByRecursion IsReadyEntry p → AreReadyPackages ps
-    → AreReadyPackages (put_back p ps)
+    → AreReadyPackages (package_put_back p ps)
 put-back-ready [] ps h k = k
 put-back-ready (e ∷ es) ps h k = both IsReadyEntry (e ∷ es) (all_entries ps) h k
 
@@ -392,7 +393,7 @@ low-number None n e = absurd (cc)
 low-number (Some k) n e = range-low k n (nat_lt 0 k) (nat_lt k (2 ^ 32)) refl e
 
 opens-done : (v : Service) (n : ℕ) (m : Parts) (nonce : List ℕ) → n < 2 ^ 32 → IsReadyMessage m nonce → IsReadyService v
-    → Done (opens v n m nonce)
+    → Done (opens_session v n m nonce)
 opens-done v n m nonce low is ready =
     let some = known_number m is.fit in
     accepts-done (begins v n) (first_session v.job.account n) m nonce is (record {
@@ -418,7 +419,7 @@ acts-done v None n m nonce e low h is ready k = opens-done v n m nonce low is re
 acts-done v (Some s) n m nonce e low h is ready k =
     same-or-new (s.progress.number == n) refl
   where
-    same-or-new : (b : Bool) → (s.progress.number == n) ≡ b → Done (cond b (accepts v s m nonce) (opens v n m nonce))
+    same-or-new : (b : Bool) → (s.progress.number == n) ≡ b → Done (cond b (accepts v s m nonce) (opens_session v n m nonce))
     same-or-new true f =
         let above = taken-msg s n m f h in
         let own = k.own in

@@ -10,14 +10,14 @@ use Rattle.dm_headers.specs.declared.standings.Standing.{Standing}
 use Rattle.dm_headers.specs.Checks.{fault_of, is_denied, passes}
 use Rattle.dm_headers.specs.Standings.{Heard, hears}
 use Rattle.dm_ends.specs.Commands.{is_abort, session_of}
-use Rattle.dm_service.specs.declared.progress.Progress.{Progress}
+use Rattle.dm_service.specs.declared.progress.ServiceProgress.{ServiceProgress}
 use Rattle.dm_service.specs.Service.{Session, Service}
 use Rattle.dm_service.specs.Packages.{gives_up, next_package}
 use Rattle.dm_service.specs.Sending.{sends}
 use Rattle.dm_service.specs.Messages.{first_session, begins, ended, denies, after_status, tells, queues_answers}
 use Rattle.dm_service.specs.Messages.{in_session, session_or, answers_message, by_header, accepts}
 use Rattle.dm_service.specs.Events.{Arrival, in_range, number_of, last_of, takes_in, takes_number, takes_read, takes}
-use Rattle.dm_service.specs.Events.{opens}
+use Rattle.dm_service.specs.Events.{opens_session}
 use Rattle.dm_service.specs.Events.{after_in_session, after_number, after_read, after}
 
 -- ---- the session of a machine
@@ -33,7 +33,7 @@ IsAbove None n msg = Unit {0}
 IsAbove (Some s) n msg = (s.progress.number < n) ⊎ ((s.progress.number ≡ n) × (last_of s < msg))
 
 -- a machine whose session has come as far as this
-abbrev pub Stands : Progress → Option Session → Type 0
+abbrev pub Stands : ServiceProgress → Option Session → Type 0
 Stands p None = ⊥
 Stands p (Some x) = x.progress ≡ p
 
@@ -54,7 +54,7 @@ status-stands v s failed status h =
     (gives-stands v s) h
 
 -- the session that a machine has
-session-stands : (p : Progress) (o : Option Session) (s : Session) → Stands p o → (session_or o s).progress ≡ p
+session-stands : (p : ServiceProgress) (o : Option Session) (s : Session) → Stands p o → (session_or o s).progress ≡ p
 session-stands p None s h = absurd h
 session-stands p (Some x) s h = h
 
@@ -81,7 +81,7 @@ answers-at v s m code nonce n msg h e f =
     let t = in_session told s in
     let p : t.progress ≡ s.progress = session-stands s.progress told.session s (tells-stands v s m code h) in
     sends-at (next_package (queues_answers told m code nonce) t.progress.standing) t m code n msg
-    (ap (λ (q : Progress). q.number) p ∙ e) (ap (λ (q : Progress). q.standing.last) p ∙ f)
+    (ap (λ (q : ServiceProgress). q.number) p ∙ e) (ap (λ (q : ServiceProgress). q.standing.last) p ∙ f)
 
 header-at : (v : Service) (s : Session) (m : Parts) (h : Heard) (nonce : List ℕ) (n msg : ℕ)
     → Stands s.progress v.session
@@ -110,8 +110,8 @@ accepts_at v s m nonce =
     let x = in_session w t in
     let p : x.progress ≡ t.progress = session-stands t.progress w.session t k in
     header-at w x m h nonce s.progress.number m.header.msg (stay w.session t k)
-    (ap (λ (q : Progress). q.number) p)
-    (ap (λ (q : Progress). q.standing.last) p ∙ heard-last v s.progress.standing m nonce)
+    (ap (λ (q : ServiceProgress). q.number) p)
+    (ap (λ (q : ServiceProgress). q.standing.last) p ∙ heard-last v s.progress.standing m nonce)
   where
     stay : (o : Option Session) (t : Session) → Stands t.progress o → Stands (session_or o t).progress o
     stay None t h = absurd h
@@ -159,7 +159,7 @@ acts-at v None n m nonce = accepts_at (begins v n) (first_session v.job.account 
 acts-at v (Some s) n m nonce = by (s.progress.number == n) refl
   where
     by : (b : Bool) → (s.progress.number == n) ≡ b
-        → IsAt n m.header.msg (cond b (accepts v s m nonce) (opens v n m nonce)).session
+        → IsAt n m.header.msg (cond b (accepts v s m nonce) (opens_session v n m nonce)).session
     by true e = let f : s.progress.number ≡ n = grind (arith, e) in
         subst (λ k. IsAt k m.header.msg (accepts v s m nonce).session) f (accepts_at v s m nonce)
     by false e = accepts_at (begins v n) (first_session v.job.account n) m nonce

@@ -60,12 +60,12 @@ takes v e = takes_read v e.read
 
 -- ---- what a message does that is taken
 
-abbrev pub opens : Service → ℕ → Parts → List ℕ → Service
-opens v n m nonce = accepts (begins v n) (first_session v.job.account n) m nonce
+abbrev pub opens_session : Service → ℕ → Parts → List ℕ → Service
+opens_session v n m nonce = accepts (begins v n) (first_session v.job.account n) m nonce
 
 abbrev pub after_in_session : Service → Option Session → ℕ → Parts → List ℕ → Service
-after_in_session v None n m nonce = opens v n m nonce
-after_in_session v (Some s) n m nonce = if s.progress.number == n then accepts v s m nonce else opens v n m nonce
+after_in_session v None n m nonce = opens_session v n m nonce
+after_in_session v (Some s) n m nonce = if s.progress.number == n then accepts v s m nonce else opens_session v n m nonce
 
 abbrev pub after_number : Service → Option ℕ → Parts → List ℕ → Service
 after_number v None m nonce = v

@@ -3,7 +3,7 @@ use Rattle.std.specs.Prelude.{◌==◌, ◌&&◌, ℕ, Bool, false, if◌then◌
 use Rattle.std.specs.Prelude.{Result, Ok, Err}
 use Rattle.syncml_types.specs.Message.{Parts}
 use Rattle.wbxml_tokens.specs.declared.reason.Refusal.{Refusal}
-use Rattle.dm_ends.specs.Commands.{is_number}
+use Rattle.dm_ends.specs.Commands.{is_same_number}
 use Rattle.dm_service.specs.Service.{Service}
 use Rattle.dm_service.specs.Events.{Arrival, Answer, sent, number_of, takes, after, taken_answer, reply_of, refusal}
 
@@ -26,7 +26,7 @@ message_sent other = None
 
 -- a message of this session and MsgID
 abbrev pub reads_as : Result Parts Refusal → ℕ → ℕ → Bool
-reads_as (Ok m) session msg = is_number (number_of m) session && m.header.msg == msg
+reads_as (Ok m) session msg = is_same_number (number_of m) session && m.header.msg == msg
 reads_as (Err refusal) session msg = false
 
 -- what the first coming of a message was answered with, among messages that are taken

@@ -21,7 +21,7 @@ use Rattle.syncml_types.specs.declared.command.Command.{Command}
 use Rattle.syncml_types.specs.declared.command.Command.TheVariants as command
 use Rattle.dm_headers.specs.Checks.{fault_of, passes}
 use Rattle.dm_job.specs.declared.job.Job.{Job}
-use Rattle.dm_job.specs.Sound.{all_entries, AreNumbered, IsSound}
+use Rattle.dm_job.specs.Sound.{all_entries, AreNumbered, IsSoundJob}
 use Rattle.dm_service.specs.declared.sent.KeptAlert.{KeptAlert}
 use Rattle.dm_service.specs.declared.sent.Sent.{Sent}
 use Rattle.dm_service.specs.Service.{Told, Session, Service}
@@ -116,13 +116,13 @@ abbrev pub RunsInOneSession : Type 0
 RunsInOneSession = (job : Job) (es : List Arrival) → AreNumbered 1 (all_entries job.packages)
     → IsOfRun (state_from (first_service job) es).runs_in (state_from (first_service job) es).session
 
-abbrev pub number_in : Option Session → Option ℕ
-number_in None = None
-number_in (Some s) = Some s.progress.number
+abbrev pub session_number : Option Session → Option ℕ
+session_number None = None
+session_number (Some s) = Some s.progress.number
 
 -- the job runs in this session, or its package was given up there
 abbrev pub StaysInSession : ℕ → Service → Type 0
-StaysInSession n v = (v.runs_in ≡ Some n) ⊎ ((v.runs_in ≡ None) × (number_in v.session ≡ Some n))
+StaysInSession n v = (v.runs_in ≡ Some n) ⊎ ((v.runs_in ≡ None) × (session_number v.session ≡ Some n))
 
 -- a job that runs in a session stays there, so later sessions are sent nothing of it
 abbrev pub JobKeepsItsSession : Type 0
@@ -192,7 +192,7 @@ ValuesAreFound = (v : Service) (s : Session) (m : Parts) (nonce : List ℕ) (pla
 -- with an Item by whose piece this value came whole: it is what gathering makes of that piece behind all that were read
 -- in the session before it. So it is put together from that piece and all earlier ones of the same object, which is a
 -- matter of their Source, and not of the commands that the Results are for.
-pub record IsRead (max : ℕ) (v : Service) (ps : List Piece) (es : List Arrival) (place : ℕ) (value : Step)
+pub record IsResultRead (max : ℕ) (v : Service) (ps : List Piece) (es : List Arrival) (place : ℕ) (value : Step)
     : Type 0 where
   pub done : List Arrival
   pub message : Arrival
@@ -220,7 +220,7 @@ pub record IsRead (max : ℕ) (v : Service) (ps : List Piece) (es : List Arrival
 abbrev pub ValuesAreRead : Type 0
 ValuesAreRead = (job : Job) (es : List Arrival) (place : ℕ) (value : Step)
     → Contains (found_at (state_from (first_service job) es).told place) value
-    → IsRead job.limits.max_obj (first_service job) [] es place value
+    → IsResultRead job.limits.max_obj (first_service job) [] es place value
 
 -- what is kept of a command that is a generic alert, Type and Data of its first Item; of any other command nothing
 abbrev pub generic_alert : Command → List KeptAlert
@@ -249,7 +249,7 @@ SendsNoFault = (v : Service) (e : Arrival) → IsFaultless v → IsFaultless (ne
 
 -- a server of a job that was read has nothing to send but what can be sent
 abbrev pub FirstIsReady : Type 0
-FirstIsReady = (job : Job) → IsSound job → IsReadyService (first_service job)
+FirstIsReady = (job : Job) → IsSoundJob job → IsReadyService (first_service job)
 
 -- what is made can be sent, so a machine stays one that has nothing else to send
 abbrev pub StaysReady : Type 0

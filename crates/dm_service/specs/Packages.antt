@@ -50,9 +50,9 @@ forgotten given n (t ∷ ts) = (if holds_number given n then untold else t) ∷ 
 abbrev pub not_sent : List JobEntry → List Sent → List Sent
 not_sent given sent = filter (λ (s : Sent). not (holds_number given s.number)) sent
 
-abbrev pub put_back : List JobEntry → List (List JobEntry) → List (List JobEntry)
-put_back [] ps = ps
-put_back (e ∷ es) ps = (e ∷ es) ∷ ps
+abbrev pub package_put_back : List JobEntry → List (List JobEntry) → List (List JobEntry)
+package_put_back [] ps = ps
+package_put_back (e ∷ es) ps = (e ∷ es) ∷ ps
 
 -- the job doesn't run in this session, where commands were sent in it and none of them is left; where none was sent,
 -- it runs where it ran
@@ -69,7 +69,7 @@ gives_up v s =
     let left = not_sent v.newest s.sent in
     record v {
       queue = filter (λ w. not (is_of_job w)) v.queue;
-      packages = put_back v.newest v.packages;
+      packages = package_put_back v.newest v.packages;
       newest = [];
       runs_in = runs_after v.runs_in s.sent left;
       told = forgotten v.newest 1 v.told;

@@ -6,7 +6,7 @@ use Rattle.dm_pack.specs.Entries.{IsReady, whole_entry}
 use Rattle.dm_ends.specs.Ready.{IsReadyAccount, IsReadyLimits, IsReadyRead}
 use Rattle.dm_job.specs.declared.job.JobEntry.{JobEntry}
 use Rattle.dm_job.specs.Sound.{all_entries}
-use Rattle.dm_service.specs.declared.progress.Progress.{Progress}
+use Rattle.dm_service.specs.declared.progress.ServiceProgress.{ServiceProgress}
 use Rattle.dm_service.specs.Service.{Waiting, Session, Service}
 use Rattle.dm_service.specs.Events.{Arrival}
 
@@ -20,7 +20,7 @@ abbrev pub AreReadyWaiting : List Waiting → Type 0
 AreReadyWaiting = AllByRecursion (λ (w : Waiting). IsReady w.entry)
 
 -- the numbers are those of their types, and each message that was sent answers another one
-pub record IsReadyProgress (p : Progress) : Type 0 where
+pub record IsReadyProgress (p : ServiceProgress) : Type 0 where
   pub number : p.number < 2 ^ 32
   pub last : p.standing.last < 2 ^ 32
   pub own : p.standing.own ≤ p.standing.last

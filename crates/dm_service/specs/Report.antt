@@ -10,11 +10,11 @@ use Rattle.syncml_types.specs.declared.command.Step.{Step}
 use Rattle.dm_service.specs.declared.sent.KeptAlert.{KeptAlert}
 use Rattle.dm_service.specs.Service.{Told, Service}
 
-abbrev pub spaced : List ℕ → List ℕ
-spaced text = codes " " ++ text
+abbrev pub behind_space : List ℕ → List ℕ
+behind_space text = codes " " ++ text
 
 abbrev pub hex_field : Option (List ℕ) → List ℕ
-hex_field bytes = spaced (hex_text (unwrap_or bytes []))
+hex_field bytes = behind_space (hex_text (unwrap_or bytes []))
 
 -- URI FORMAT TYPE VALUE
 abbrev pub result_line : Step → List ℕ
@@ -23,8 +23,8 @@ result_line found =
     ++ hex_field (Some found.value)
     ++ line_feed
 
-abbrev pub status_line : ℕ → ℕ → List ℕ
-status_line number code = codes "status" ++ spaced (decimal number) ++ spaced (decimal code) ++ line_feed
+abbrev pub reported_status : ℕ → ℕ → List ℕ
+reported_status number code = codes "status" ++ behind_space (decimal number) ++ behind_space (decimal code) ++ line_feed
 
 -- of the commands from this number on
 abbrev pub told_text : ℕ → List Told → List ℕ
@@ -33,7 +33,7 @@ told_text number (t ∷ ts) = told_lines number t.code t.found (told_text (numbe
   where
     told_lines : ℕ → Option ℕ → List Step → List ℕ → List ℕ
     told_lines number None found later = []
-    told_lines number (Some code) found later = status_line number code ++ flat_map result_line found ++ later
+    told_lines number (Some code) found later = reported_status number code ++ flat_map result_line found ++ later
 
 -- TYPE VALUE
 abbrev pub alert_line : KeptAlert → List ℕ
@@ -50,4 +50,4 @@ state_word v =
 
 unfoldable pub report_text : Service → List ℕ
 report_text v =
-    told_text 1 v.told ++ flat_map alert_line v.alerts ++ codes "state" ++ spaced (state_word v) ++ line_feed
+    told_text 1 v.told ++ flat_map alert_line v.alerts ++ codes "state" ++ behind_space (state_word v) ++ line_feed

@@ -16,7 +16,7 @@ use Rattle.dm_headers.specs.Headers.{next_header}
 use Rattle.dm_pack.specs.Entries.{Entry}
 use Rattle.dm_pack.specs.Filling.{Filling, fill, is_final}
 use Rattle.dm_ends.specs.Commands.{is_report}
-use Rattle.dm_service.specs.declared.progress.Progress.{Progress}
+use Rattle.dm_service.specs.declared.progress.ServiceProgress.{ServiceProgress}
 use Rattle.dm_service.specs.declared.sent.Carried.{Carried}
 use Rattle.dm_service.specs.declared.sent.Sent.{Sent}
 use Rattle.dm_service.specs.Service.{Waiting, Session, Service}
@@ -24,16 +24,16 @@ use Rattle.dm_service.specs.Service.{Waiting, Session, Service}
 -- ---- the header
 
 -- the client, by the Source of the message that is answered
-abbrev pub target_of : Parts → Loc
-target_of m = record {
+abbrev pub client_target : Parts → Loc
+client_target m = record {
   uri = if nat_lt 255 (length m.header.source.uri) then codes "device" else m.header.source.uri;
   name = None;
 }
 
-abbrev pub header_for : Service → Progress → Parts → Header
+abbrev pub header_for : Service → ServiceProgress → Parts → Header
 header_for v p m =
     next_header (login_of Server v.job.account) p.standing v.job.limits p.number
-    (target_of m) (record { uri = v.job.account.server; name = None })
+    (client_target m) (record { uri = v.job.account.server; name = None })
 
 -- ---- the commands of the job that it holds
 
@@ -44,8 +44,8 @@ in_a_row msg command number (suc n) =
     record { msg = msg; command = command; number = number; counts = true } ∷ in_a_row msg (command + 1) (number + 1) n
 
 -- a later part holds the command itself, or the container and its last member alone
-abbrev pub last_alone : ℕ → ℕ → Carried → List Sent
-last_alone msg command c =
+abbrev pub last_part_sent : ℕ → ℕ → Carried → List Sent
+last_part_sent msg command c =
     record { msg = msg; command = command; number = c.first; counts = true }
     ∷ (if nat_lt 1 c.count
     then record { msg = msg; command = command + 1; number = c.first + c.count - 1; counts = true } ∷ [] else [])
@@ -54,7 +54,7 @@ last_alone msg command c =
 abbrev pub rest_holds : ℕ → ℕ → Bool → Option Carried → List Sent
 rest_holds msg command begun None = []
 rest_holds msg command false (Some c) = in_a_row msg command c.first c.count
-rest_holds msg command true (Some c) = last_alone msg command c
+rest_holds msg command true (Some c) = last_part_sent msg command c
 
 abbrev pub not_counting : Sent → Sent
 not_counting s = record s { counts = false }
@@ -87,13 +87,13 @@ carried_on (e ∷ es) (w ∷ ws) = record w { entry = e } ∷ carried_on es ws
 -- ---- the end of a session
 
 -- Alert 1222, which asks for the next message
-abbrev pub asks_next : Command → Bool
-asks_next (command.Alert a) = a.code == 1222
-asks_next other = false
+abbrev pub is_next_request : Command → Bool
+is_next_request (command.Alert a) = a.code == 1222
+is_next_request other = false
 
 -- nothing waits at the client: its package is at its end, or it asks for the next message
 abbrev pub is_done_there : Parts → ℕ → Bool
-is_done_there m code = m.last || (passes code && list_any asks_next m.body)
+is_done_there m code = m.last || (passes code && list_any is_next_request m.body)
 
 -- the client told in the session that it accepted the server's credential, where it is shown one
 abbrev pub is_welcome : Account → Standing → Bool

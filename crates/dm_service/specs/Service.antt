@@ -6,7 +6,7 @@ use Rattle.dm_objects.specs.declared.object.Object.{Object}
 use Rattle.dm_pack.specs.Entries.{Entry}
 use Rattle.dm_job.specs.declared.job.Job.{Job}
 use Rattle.dm_job.specs.declared.job.JobEntry.{JobEntry}
-use Rattle.dm_service.specs.declared.progress.Progress.{Progress}
+use Rattle.dm_service.specs.declared.progress.ServiceProgress.{ServiceProgress}
 use Rattle.dm_service.specs.declared.sent.Carried.{Carried}
 use Rattle.dm_service.specs.declared.sent.KeptAlert.{KeptAlert}
 use Rattle.dm_service.specs.declared.sent.Sent.{Sent}
@@ -26,7 +26,7 @@ pub record Told : Type 0 where
   pub found : List Step
 
 pub record Session : Type 0 where
-  pub progress : Progress
+  pub progress : ServiceProgress
   -- the value that is being gathered from Results
   pub object : Object
   -- the commands of the job that were sent in it, in order

@@ -6,5 +6,5 @@ pub mod laws;
 pub mod progress;
 pub mod sent;
 
-pub use progress::Progress;
+pub use progress::ServiceProgress;
 pub use sent::{Carried, KeptAlert, Sent};

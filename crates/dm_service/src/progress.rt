@@ -3,7 +3,7 @@ use dm_headers::Standing;
 
 /// How far a session has come.
 #[derive(Clone, Copy, Debug, PartialEq, Eq)]
-pub struct Progress {
+pub struct ServiceProgress {
     /// The number that its messages have as SessionID.
     pub number: u32,
     pub standing: Standing,

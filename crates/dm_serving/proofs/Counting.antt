@@ -1,5 +1,6 @@
 -- How many connections a run asks for.
-use Rattle.std.proofs.Common.{◌≡◌, ◌∙◌, ◌≤◌, ◌+◌, ◌++◌, ℕ, List, [], ◌∷◌, inl, inr, ap, Ok, Err, Result, arith, length, length-append}
+use Rattle.std.proofs.Common.{◌≡◌, ◌∙◌, ◌≤◌, ◌+◌, ◌++◌, ℕ, List, [], ◌∷◌, inl, inr, ap, Ok, Err, Result, arith, length}
+use Rattle.std.proofs.Common.{length-append}
 use Rattle.dm_base.specs.declared.outside.Fault.{Fault}
 use Rattle.dm_base.specs.declared.outside.Fault.TheVariants as fault
 use Rattle.dm_core.specs.Machines.{CoreMachine}
@@ -8,18 +9,19 @@ use Rattle.dm_outside.specs.Doors.{Doorway, Visit, missed, accept_count}
 use Rattle.dm_service.specs.Messages.{first_service}
 use Rattle.dm_server.specs.Taking.{service_machine}
 use Rattle.dm_serving.specs.Visits.{Serving, serving_reached}
-use Rattle.dm_serving.specs.Turns.{Outside, visited_by, listened_at, serving_at, IsCutBy, AllCame, OneMissed, OneCut, RunDoes}
+use Rattle.dm_serving.specs.Turns.{DoorAndNonces, visited_by, listened_at, serving_at, IsCutBy, AllCame, OneMissed}
+use Rattle.dm_serving.specs.Turns.{OneCut, ServingDoes}
 use Rattle.dm_serving.specs.Laws.{FewAreAccepted, AllAreAccepted, OnceListens}
 
 visited_count : (s : Doorway) (vs : List Visit) → accept_count (visited_by s vs) ≡ accept_count s + length vs
 visited_count s vs = let long = length-append s.log vs in omega (arith, long)
 
-came_count : {S : Type 0} (m : CoreMachine S) (count : ℕ) (c d : S) (s t : Outside) → AllCame m count c d s t
+came_count : {S : Type 0} (m : CoreMachine S) (count : ℕ) (c d : S) (s t : DoorAndNonces) → AllCame m count c d s t
     → accept_count t.door ≡ accept_count s.door + count
 came_count m count c d s t came =
     ap accept_count came.door ∙ visited_count s.door came.visits ∙ ap (λ n. accept_count s.door + n) came.all
 
-missed_count : {S : Type 0} (m : CoreMachine S) (count : ℕ) (c : S) (s t : Outside) → OneMissed m count c s t
+missed_count : {S : Type 0} (m : CoreMachine S) (count : ℕ) (c : S) (s t : DoorAndNonces) → OneMissed m count c s t
     → accept_count t.door ≤ accept_count s.door + count
 missed_count m count c s t o =
     let all = ap accept_count o.door ∙ visited_count s.door (o.visits ++ missed ∷ []) in
@@ -32,7 +34,7 @@ cut_short m g [] h = omega arith
 cut_short m g (v ∷ []) h = omega arith
 cut_short m g (v ∷ w ∷ vs) h = absurd h
 
-cut_count : {S : Type 0} (m : CoreMachine S) (count : ℕ) (c : S) (s t : Outside) → OneCut m count c s t
+cut_count : {S : Type 0} (m : CoreMachine S) (count : ℕ) (c : S) (s t : DoorAndNonces) → OneCut m count c s t
     → accept_count t.door ≤ accept_count s.door + count
 cut_count m count c s t o =
     let all = ap accept_count o.door ∙ visited_count s.door (o.visits ++ o.cut) in
@@ -41,15 +43,15 @@ cut_count m count c s t o =
     let fewer = o.fewer in
     omega (arith, all, long, short, fewer)
 
-run_count : {S : Type 0} (m : CoreMachine S) (address : List ℕ) (count : ℕ) (c d : S) (r : Result (Unit {0}) Fault) (s t : Outside)
-    → RunDoes m address count c d r s t → accept_count t.door ≤ accept_count s.door + count
+run_count : {S : Type 0} (m : CoreMachine S) (address : List ℕ) (count : ℕ) (c d : S) (r : Result (Unit {0}) Fault) (s t : DoorAndNonces)
+    → ServingDoes m address count c d r s t → accept_count t.door ≤ accept_count s.door + count
 run_count m address count c d (Ok u) s t run =
     let all = came_count m count c d (listened_at s address) t run in omega (arith, all)
 run_count m address count c d (Err fault.Failed) s t (inl h) =
-    let all = ap (λ (o : Outside). accept_count o.door) h.1 in omega (arith, all)
+    let all = ap (λ (o : DoorAndNonces). accept_count o.door) h.1 in omega (arith, all)
 run_count m address count c d (Err fault.Failed) s t (inr o) = missed_count m count c (listened_at s address) t o
 run_count m address count c d (Err fault.Memory) s t (inl h) =
-    let all = ap (λ (o : Outside). accept_count o.door) h in omega (arith, all)
+    let all = ap (λ (o : DoorAndNonces). accept_count o.door) h in omega (arith, all)
 run_count m address count c d (Err fault.Memory) s t (inr o) = cut_count m count c (listened_at s address) t o
 
 pub few_are_accepted : FewAreAccepted
@@ -65,23 +67,23 @@ all_are_accepted w job old new s t d = came_count service_machine w.count (first
 
 -- ---- how often it listens
 
-once : (s t : Outside) (address : List ℕ) (vs : List Visit) → t.door ≡ visited_by (listened_at s address).door vs
+once : (s t : DoorAndNonces) (address : List ℕ) (vs : List Visit) → t.door ≡ visited_by (listened_at s address).door vs
     → length t.door.listened ≤ length s.door.listened + 1
 once s t address vs h =
     let all = ap (λ (w : Doorway). length w.listened) h in
     let long = length-append s.door.listened (address ∷ []) in
     omega (arith, all, long)
 
-run_once : {S : Type 0} (m : CoreMachine S) (address : List ℕ) (count : ℕ) (c d : S) (r : Result (Unit {0}) Fault) (s t : Outside)
-    → RunDoes m address count c d r s t → length t.door.listened ≤ length s.door.listened + 1
+run_once : {S : Type 0} (m : CoreMachine S) (address : List ℕ) (count : ℕ) (c d : S) (r : Result (Unit {0}) Fault) (s t : DoorAndNonces)
+    → ServingDoes m address count c d r s t → length t.door.listened ≤ length s.door.listened + 1
 run_once m address count c d (Ok u) s t run = once s t address run.visits run.door
 run_once m address count c d (Err fault.Failed) s t (inl h) =
-    let all = ap (λ (o : Outside). length o.door.listened) h.1 in
+    let all = ap (λ (o : DoorAndNonces). length o.door.listened) h.1 in
     let long = length-append s.door.listened (address ∷ []) in
     omega (arith, all, long)
 run_once m address count c d (Err fault.Failed) s t (inr o) = once s t address (o.visits ++ missed ∷ []) o.door
 run_once m address count c d (Err fault.Memory) s t (inl h) =
-    let all = ap (λ (o : Outside). length o.door.listened) h in omega (arith, all)
+    let all = ap (λ (o : DoorAndNonces). length o.door.listened) h in omega (arith, all)
 run_once m address count c d (Err fault.Memory) s t (inr o) = once s t address (o.visits ++ o.cut) o.door
 
 pub once_listens : OnceListens

@@ -7,8 +7,10 @@ use Rattle.dm_base.specs.declared.outside.Fault.TheVariants as fault
 use Rattle.dm_core.specs.Machines.{CoreMachine}
 use Rattle.dm_outside.specs.Doors.{Doorway, Visit, missed}
 use Rattle.dm_outside.specs.Told.{IfTold}
-use Rattle.dm_serving.specs.Visits.{Brought, Serving, reply_to, serving_behind, replies, serving_reached, IsVisit, AreVisits, IsCutVisit}
-use Rattle.dm_serving.specs.Turns.{Outside, visited_by, serving_at, IsTurn, IsCutTurn, TurnDoes, AllCame, OneMissed, OneCut, AllDo}
+use Rattle.dm_serving.specs.Visits.{Brought, Serving, reply_to, serving_behind, replies, serving_reached, IsVisit}
+use Rattle.dm_serving.specs.Visits.{AreVisits, IsCutVisit}
+use Rattle.dm_serving.specs.Turns.{DoorAndNonces, visited_by, serving_at, IsTurn, IsCutTurn, VisitDoes, AllCame}
+use Rattle.dm_serving.specs.Turns.{OneMissed, OneCut, AllDo}
 
 -- ---- what is told, step by step
 
@@ -64,7 +66,7 @@ visited_none s = ap (λ xs. record s { log = xs }) (sym (append-nil s.log))
 
 -- ---- all so far
 
-pub first_came : {S : Type 0} (m : CoreMachine S) (c : S) (s : Outside) → AllCame m 0 c c s s
+pub first_came : {S : Type 0} (m : CoreMachine S) (c : S) (s : DoorAndNonces) → AllCame m 0 c c s s
 first_came m c s = record {
   visits = [];
   brought = [];
@@ -77,7 +79,7 @@ first_came m c s = record {
 door_then : (s t u : Doorway) (vs ws : List Visit) → t ≡ visited_by s vs → u ≡ visited_by t ws → u ≡ visited_by s (vs ++ ws)
 door_then s t u vs ws a b = b ∙ ap (λ d. visited_by d ws) a ∙ visited_then s vs ws
 
-pub one_came : {S : Type 0} (m : CoreMachine S) (n : ℕ) (c d e : S) (s t u : Outside) → AllCame m n c d s t → IsTurn m d e t u
+pub one_came : {S : Type 0} (m : CoreMachine S) (n : ℕ) (c d e : S) (s t u : DoorAndNonces) → AllCame m n c d s t → IsTurn m d e t u
     → AllCame m (n + 1) c e s u
 one_came m n c d e s t u far turn =
     let g = serving_at c s.nonces in
@@ -95,19 +97,19 @@ one_came m n c d e s t u far turn =
       behind = turn.behind ∙ ap (λ w. serving_behind m w turn.brought) far.behind ∙ sym (reached_more m g far.brought turn.brought);
     }
 
-pub one_missed : {S : Type 0} (m : CoreMachine S) (n count : ℕ) (c d e : S) (s t u : Outside) → n < count → AllCame m n c d s t
-    → TurnDoes m d e (Err fault.Failed) t u → OneMissed m count c s u
+pub one_missed : {S : Type 0} (m : CoreMachine S) (n count : ℕ) (c d e : S) (s t u : DoorAndNonces) → n < count → AllCame m n c d s t
+    → VisitDoes m d e (Err fault.Failed) t u → OneMissed m count c s u
 one_missed m n count c d e s t u low far turn = record {
   visits = far.visits;
   brought = far.brought;
   answered = far.answered;
   fewer = subst (λ k. k < count) (sym far.all) low;
-  door = door_then s.door t.door u.door far.visits (missed ∷ []) far.door (ap (λ (o : Outside). o.door) turn);
-  nonces = ap (λ (o : Outside). o.nonces) turn ∙ ap (λ (w : Serving _). w.nonces) far.behind;
+  door = door_then s.door t.door u.door far.visits (missed ∷ []) far.door (ap (λ (o : DoorAndNonces). o.door) turn);
+  nonces = ap (λ (o : DoorAndNonces). o.nonces) turn ∙ ap (λ (w : Serving _). w.nonces) far.behind;
 }
 
 -- memory was wanting before a connection came
-cut_before : {S : Type 0} (m : CoreMachine S) (n count : ℕ) (c d : S) (s t u : Outside) → n < count → AllCame m n c d s t → u ≡ t
+cut_before : {S : Type 0} (m : CoreMachine S) (n count : ℕ) (c d : S) (s t u : DoorAndNonces) → n < count → AllCame m n c d s t → u ≡ t
     → OneCut m count c s u
 cut_before m n count c d s t u low far same = record {
   visits = far.visits;
@@ -116,11 +118,11 @@ cut_before m n count c d s t u low far same = record {
   answered = far.answered;
   last = tt;
   fewer = subst (λ k. k < count) (sym far.all) low;
-  door = ap (λ (o : Outside). o.door) same ∙ far.door ∙ ap (visited_by s.door) (sym (append-nil far.visits));
-  nonces = ap (λ (o : Outside). o.nonces) same ∙ ap (λ (w : Serving _). w.nonces) far.behind;
+  door = ap (λ (o : DoorAndNonces). o.door) same ∙ far.door ∙ ap (visited_by s.door) (sym (append-nil far.visits));
+  nonces = ap (λ (o : DoorAndNonces). o.nonces) same ∙ ap (λ (w : Serving _). w.nonces) far.behind;
 }
 
-cut_in : {S : Type 0} (m : CoreMachine S) (n count : ℕ) (c d : S) (s t u : Outside) → n < count → AllCame m n c d s t → IsCutTurn m d t u
+cut_in : {S : Type 0} (m : CoreMachine S) (n count : ℕ) (c d : S) (s t u : DoorAndNonces) → n < count → AllCame m n c d s t → IsCutTurn m d t u
     → OneCut m count c s u
 cut_in m n count c d s t u low far turn = record {
   visits = far.visits;
@@ -133,13 +135,13 @@ cut_in m n count c d s t u low far turn = record {
   nonces = turn.nonces ∙ ap (λ (w : Serving _). drop 1 w.nonces) far.behind;
 }
 
-pub one_cut : {S : Type 0} (m : CoreMachine S) (n count : ℕ) (c d e : S) (s t u : Outside) → n < count → AllCame m n c d s t
-    → TurnDoes m d e (Err fault.Memory) t u → OneCut m count c s u
+pub one_cut : {S : Type 0} (m : CoreMachine S) (n count : ℕ) (c d e : S) (s t u : DoorAndNonces) → n < count → AllCame m n c d s t
+    → VisitDoes m d e (Err fault.Memory) t u → OneCut m count c s u
 one_cut m n count c d e s t u low far (inl same) = cut_before m n count c d s t u low far same
 one_cut m n count c d e s t u low far (inr turn) = cut_in m n count c d s t u low far turn
 
 -- by the answer of a turn that ended the run
-pub one_ended : {S : Type 0} (m : CoreMachine S) (n count : ℕ) (c d e : S) (f : Fault) → n < count → (s t u : Outside)
-    → AllCame m n c d s t → TurnDoes m d e (Err f) t u → AllDo m count c e (Err f) s u
+pub one_ended : {S : Type 0} (m : CoreMachine S) (n count : ℕ) (c d e : S) (f : Fault) → n < count → (s t u : DoorAndNonces)
+    → AllCame m n c d s t → VisitDoes m d e (Err f) t u → AllDo m count c e (Err f) s u
 one_ended m n count c d e fault.Failed low s t u far turn = one_missed m n count c d e s t u low far turn
 one_ended m n count c d e fault.Memory low s t u far turn = one_cut m n count c d e s t u low far turn

@@ -1,5 +1,6 @@
 -- How a run that serves ends.
-use Rattle.std.proofs.Common.{◌≡◌, ◌≢◌, ◌∙◌, ◌+◌, ◌++◌, ◌<◌, ◌≤◌, ℕ, List, inl, inr, refl, sym, ap, subst, Ok, Err, Result, Some, None}
+use Rattle.std.proofs.Common.{◌≡◌, ◌≢◌, ◌∙◌, ◌+◌, ◌++◌, ◌<◌, ◌≤◌, ℕ, List, inl, inr, refl, sym, ap, subst, Ok, Err}
+use Rattle.std.proofs.Common.{Result, Some, None}
 use Rattle.std.proofs.Common.{length, arith, length-append, append-nil}
 use Rattle.std.proofs.KnownBytes.{Appends-nil}
 use Rattle.std.specs.Prelude.{⊤}
@@ -22,19 +23,20 @@ use Rattle.dm_exit.specs.declared.exit.Exit.{Exit}
 use Rattle.dm_exit.specs.declared.exit.Exit.TheVariants as exit
 use Rattle.dm_exit.specs.Causes.{SourceCause, DoorCause}
 use Rattle.dm_exit.specs.Puts.{PutsPart, PutsEnd}
-use Rattle.dm_serving.specs.Turns.{Outside, RunDoes}
-use Rattle.dm_serving.specs.Serves.{serving_text, RunsServer, JobDoes, IsOfJob, InputDoes, TextDoes, Serves, IsBeforeDoor}
+use Rattle.dm_serving.specs.Turns.{DoorAndNonces, ServingDoes}
+use Rattle.dm_serving.specs.Serves.{serving_text, RunsServer, JobDoes, IsOfJob, InputDoes, TextDoes, Serves}
+use Rattle.dm_serving.specs.Serves.{IsBeforeDoor}
 use Rattle.dm_serving.proofs.Gathering.{told_same, told_as}
 
 -- ---- behind the door
 
-part_does : (w : ServeWords) (job : Job) (d : Service) (old new : Option (List ℕ)) (e : Exit) (s t : Outside)
+part_does : (w : ServeWords) (job : Job) (d : Service) (old new : Option (List ℕ)) (e : Exit) (s t : DoorAndNonces)
     → RunsServer w job d (Ok tt) s t → PutsPart old new (serving_text d) e → JobDoes w job old new e s t
 part_does w job d old new exit.WriteFault s t run part = (d, run, part)
 part_does w job d old new exit.NoMemory s t run part = inl (d, run, part)
 part_does w job d old new other s t run part = absurd part
 
-report_does : (w : ServeWords) (job : Job) (d : Service) (old new : Option (List ℕ)) (e : Exit) (s t : Outside)
+report_does : (w : ServeWords) (job : Job) (d : Service) (old new : Option (List ℕ)) (e : Exit) (s t : DoorAndNonces)
     → PutsEnd (serving_text d) exit.Done old new e → RunsServer w job d (Ok tt) s t → JobDoes w job old new e s t
 report_does w job d old new e s t put run =
     elim put [
@@ -42,37 +44,37 @@ report_does w job d old new e s t put run =
       | inr part ↦ part_does w job d old new e s t run part
     ]
 
-abbrev RunsFrom : ServeWords → List ℕ → Service → Service → Result (Unit {0}) Fault → Outside → Outside → Type 0
-RunsFrom w address c d r s t = RunDoes service_machine address w.count c d r s t
+abbrev RunsFrom : ServeWords → List ℕ → Service → Service → Result (Unit {0}) Fault → DoorAndNonces → DoorAndNonces → Type 0
+RunsFrom w address c d r s t = ServingDoes service_machine address w.count c d r s t
 
 -- the run began at the address of the words, with the server of the job
-from_job : (w : ServeWords) (job : Job) (address : List ℕ) (c d : Service) (r : Result (Unit {0}) Fault) (o p : Option Outside)
+from_job : (w : ServeWords) (job : Job) (address : List ℕ) (c d : Service) (r : Result (Unit {0}) Fault) (o p : Option DoorAndNonces)
     → address ≡ w.address → c ≡ first_service job → IfTold o p (RunsFrom w address c d r) → IfTold o p (RunsServer w job d r)
 from_job w job address c d r o p at first run =
     subst (λ x. IfTold o p (RunsFrom w w.address x d r)) first (subst (λ a. IfTold o p (RunsFrom w a c d r)) at run)
 
-pub report_told : (w : ServeWords) (job : Job) (address : List ℕ) (c d : Service) (o p : Option Outside)
+pub report_told : (w : ServeWords) (job : Job) (address : List ℕ) (c d : Service) (o p : Option DoorAndNonces)
     (old new : Option (List ℕ)) (e : Exit) → address ≡ w.address → c ≡ first_service job
     → PutsEnd (serving_text d) exit.Done old new e → IfTold o p (RunsFrom w address c d (Ok tt)) → IfTold o p (JobDoes w job old new e)
 report_told w job address c d o p old new e at first put run =
     told_as o p (RunsServer w job d (Ok tt)) (JobDoes w job old new e) (λ s t r. report_does w job d old new e s t put r)
     (from_job w job address c d (Ok tt) o p at first run)
 
-pub door_failed : (w : ServeWords) (job : Job) (address : List ℕ) (c d : Service) (f : Fault) (o p : Option Outside)
+pub door_failed : (w : ServeWords) (job : Job) (address : List ℕ) (c d : Service) (f : Fault) (o p : Option DoorAndNonces)
     (old : Option (List ℕ)) → address ≡ w.address → c ≡ first_service job → f ≡ fault.Failed
     → IfTold o p (RunsFrom w address c d (Err f)) → IfTold o p (JobDoes w job old old exit.DoorFault)
 door_failed w job address c d f o p old at first is run =
     told_as o p (RunsServer w job d (Err fault.Failed)) (JobDoes w job old old exit.DoorFault) (λ s t r. (r, Appends-nil old))
     (from_job w job address c d (Err fault.Failed) o p at first (subst (λ x. IfTold o p (RunsFrom w address c d (Err x))) is run))
 
-pub memory_wanting : (w : ServeWords) (job : Job) (address : List ℕ) (c d : Service) (f : Fault) (o p : Option Outside)
+pub memory_wanting : (w : ServeWords) (job : Job) (address : List ℕ) (c d : Service) (f : Fault) (o p : Option DoorAndNonces)
     (old : Option (List ℕ)) → address ≡ w.address → c ≡ first_service job → f ≡ fault.Memory
     → IfTold o p (RunsFrom w address c d (Err f)) → IfTold o p (JobDoes w job old old exit.NoMemory)
 memory_wanting w job address c d f o p old at first is run =
     told_as o p (RunsServer w job d (Err fault.Memory)) (JobDoes w job old old exit.NoMemory) (λ s t r. inr (r, Appends-nil old))
     (from_job w job address c d (Err fault.Memory) o p at first (subst (λ x. IfTold o p (RunsFrom w address c d (Err x))) is run))
 
-pub never_begun : (w : ServeWords) (job : Job) (o : Option Outside) (old : Option (List ℕ))
+pub never_begun : (w : ServeWords) (job : Job) (o : Option DoorAndNonces) (old : Option (List ℕ))
     → IfTold o o (JobDoes w job old old exit.NoMemory)
 never_begun w job o old = told_same o (JobDoes w job old old exit.NoMemory) (λ s. inr (inl refl, Appends-nil old))
 
@@ -111,17 +113,17 @@ not_before other job before = before
 
 -- ---- the input
 
-pub job_served : (w : ServeWords) (text : List ℕ) (job : Job) (before after : Option Outside) (old new : Option (List ℕ)) (e : Exit)
+pub job_served : (w : ServeWords) (text : List ℕ) (job : Job) (before after : Option DoorAndNonces) (old new : Option (List ℕ)) (e : Exit)
     → job_of text ≡ Ok job → IsOfJob e → IfTold before after (JobDoes w job old new e) → TextDoes w text before after old new e
 job_served w text job before after old new e is kind does =
     inr (subst (λ r. InputDoes w r before after old new e) (sym is) (kind, does))
 
-pub refused_told : (w : ServeWords) (text : List ℕ) (n : ℕ) (why : LineReason) (before : Option Outside) (old new : Option (List ℕ)) (e : Exit)
+pub refused_told : (w : ServeWords) (text : List ℕ) (n : ℕ) (why : LineReason) (before : Option DoorAndNonces) (old new : Option (List ℕ)) (e : Exit)
     → job_of text ≡ Err (n, why) → PutsEnd (bad_line n why) exit.BadInput old new e → TextDoes w text before before old new e
 refused_told w text n why before old new e is put =
     inr (subst (λ r. InputDoes w r before before old new e) (sym is) (refl, put))
 
-pub text_wanting : (w : ServeWords) (text : List ℕ) (before : Option Outside) (old : Option (List ℕ))
+pub text_wanting : (w : ServeWords) (text : List ℕ) (before : Option DoorAndNonces) (old : Option (List ℕ))
     → TextDoes w text before before old old exit.NoMemory
 text_wanting w text before old = inl (refl, (refl, Appends-nil old))
 
@@ -140,14 +142,14 @@ put_unread text old new exit.TooLong x (inl put) = cc
 put_unread text old new exit.TooLong x (inr part) = part
 put_unread text old new other x h = x
 
-input_unread : (w : ServeWords) (r : Result Job (ℕ × LineReason)) (before after : Option Outside) (old new : Option (List ℕ)) (e : Exit)
+input_unread : (w : ServeWords) (r : Result Job (ℕ × LineReason)) (before after : Option DoorAndNonces) (old new : Option (List ℕ)) (e : Exit)
     → IsUnread e → InputDoes w r before after old new e → ⊥
 input_unread w (Ok job) before after old new exit.ReadFault x d = d.0
 input_unread w (Ok job) before after old new exit.TooLong x d = d.0
 input_unread w (Ok job) before after old new other x d = x
 input_unread w (Err why) before after old new e x d = put_unread (bad_line why.0 why.1) old new e x d.1
 
-text_unread : (w : ServeWords) (text : List ℕ) (before after : Option Outside) (old new : Option (List ℕ)) (e : Exit)
+text_unread : (w : ServeWords) (text : List ℕ) (before after : Option DoorAndNonces) (old new : Option (List ℕ)) (e : Exit)
     → IsUnread e → TextDoes w text before after old new e → ⊥
 text_unread w text before after old new e x (inl none) = subst IsUnread none.0 x
 text_unread w text before after old new e x (inr d) = input_unread w (job_of text) before after old new e x d
@@ -157,16 +159,16 @@ source_by before now exit.ReadFault read same = absurd (read tt)
 source_by before now e read same = same
 
 -- where the input was read to its end, its source didn't fail
-pub source_kept : (w : ServeWords) (text : List ℕ) (o p : Option Outside) (old new : Option (List ℕ)) (before now : ℕ) (e : Exit)
+pub source_kept : (w : ServeWords) (text : List ℕ) (o p : Option DoorAndNonces) (old new : Option (List ℕ)) (before now : ℕ) (e : Exit)
     → TextDoes w text o p old new e → now ≡ before → SourceCause before now e
 source_kept w text o p old new before now e d same = source_by before now e (λ x. text_unread w text o p old new e x d) same
 
-only_input : (w : ServeWords) (text : List ℕ) (before after : Option Outside) (old new : Option (List ℕ)) (e : Exit)
+only_input : (w : ServeWords) (text : List ℕ) (before after : Option DoorAndNonces) (old new : Option (List ℕ)) (e : Exit)
     → e ≢ exit.NoMemory → TextDoes w text before after old new e → InputDoes w (job_of text) before after old new e
 only_input w text before after old new e other (inl none) = absurd (other none.0)
 only_input w text before after old new e other (inr d) = d
 
-served : (w : ServeWords) (bytes : List ℕ) (before after : Option Outside) (old new : Option (List ℕ)) (e : Exit)
+served : (w : ServeWords) (bytes : List ℕ) (before after : Option DoorAndNonces) (old new : Option (List ℕ)) (e : Exit)
     → length bytes ≤ 67108864 → TextDoes w bytes before after old new e → Serves w bytes before after old new e
 served w bytes before after old new exit.TooLong short d =
     absurd (text_unread w bytes before after old new exit.TooLong tt d)
@@ -182,7 +184,7 @@ taken_is : (bytes : List ℕ) (left : Option (List ℕ)) (input : List ℕ) → 
 taken_is bytes None input taken end = absurd taken
 taken_is bytes (Some ys) input taken end = taken ∙ ap (λ l. input ++ l) end ∙ append-nil input
 
-pub all_served : (w : ServeWords) (left rest : Option (List ℕ)) (input text : List ℕ) (before after : Option Outside)
+pub all_served : (w : ServeWords) (left rest : Option (List ℕ)) (input text : List ℕ) (before after : Option DoorAndNonces)
     (old new : Option (List ℕ)) (e : Exit) → TakesAll left rest 67108864 (Ok input) → text ≡ input
     → TextDoes w text before after old new e → OfKnown left (λ bytes. Serves w bytes before after old new e)
 all_served w None rest input text before after old new e took is d = tt
@@ -198,17 +200,17 @@ longer bytes (Some ys) input long taken =
     let parts = length-append input ys in
     omega (arith, long, whole, parts)
 
-pub too_long : (w : ServeWords) (left rest : Option (List ℕ)) (before : Option Outside) (old : Option (List ℕ))
+pub too_long : (w : ServeWords) (left rest : Option (List ℕ)) (before : Option DoorAndNonces) (old : Option (List ℕ))
     → TakesAll left rest 67108864 (Err take_error.TooLong) → OfKnown left (λ bytes. Serves w bytes before before old old exit.TooLong)
 too_long w None rest before old took = tt
 too_long w (Some bytes) rest before old took = (longer bytes rest took.0 took.1 took.2, (refl, Appends-nil old))
 
-pub unread : (w : ServeWords) (left : Option (List ℕ)) (before : Option Outside) (old : Option (List ℕ))
+pub unread : (w : ServeWords) (left : Option (List ℕ)) (before : Option DoorAndNonces) (old : Option (List ℕ))
     → OfKnown left (λ bytes. Serves w bytes before before old old exit.ReadFault)
 unread w None before old = tt
 unread w (Some bytes) before old = (refl, Appends-nil old)
 
-pub unread_wanting : (w : ServeWords) (left : Option (List ℕ)) (before : Option Outside) (old : Option (List ℕ))
+pub unread_wanting : (w : ServeWords) (left : Option (List ℕ)) (before : Option DoorAndNonces) (old : Option (List ℕ))
     → OfKnown left (λ bytes. Serves w bytes before before old old exit.NoMemory)
 unread_wanting w None before old = tt
 unread_wanting w (Some bytes) before old = inl (refl, (refl, Appends-nil old))

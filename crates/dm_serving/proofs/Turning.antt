@@ -9,13 +9,14 @@ use Rattle.dm_heads.specs.declared.errors.HttpError.{HttpError}
 use Rattle.dm_heads.specs.declared.errors.HttpError.TheVariants as error
 use Rattle.dm_core.specs.Machines.{CoreMachine}
 use Rattle.dm_http.specs.Posts.{StreamCounts}
-use Rattle.dm_http.specs.Serves.{Serves}
+use Rattle.dm_http.specs.Serves.{ServesOne}
 use Rattle.dm_outside.specs.Calls.{Closed, closed_conn}
 use Rattle.dm_outside.specs.Doors.{Doorway, Visit, visited, Accepts, DoorCloses, HasVisitor, IsEmpty, let_in, seen_off}
 use Rattle.dm_outside.specs.Told.{IfTold}
 use Rattle.dm_outside.specs.Updates.{GivesNonce, first_nonce}
 use Rattle.dm_serving.specs.Visits.{core_after}
-use Rattle.dm_serving.specs.Turns.{Outside, outside_of, visited_by, serving_at, IsTurn, TurnDoes, IsOver, EndsRun}
+use Rattle.dm_serving.specs.Turns.{DoorAndNonces, door_and_nonces, visited_by, serving_at, IsTurn, VisitDoes, IsServed}
+use Rattle.dm_serving.specs.Turns.{EndsRun}
 use Rattle.dm_serving.proofs.Visiting.{IsAnswered, answered, cut_by}
 
 -- ---- who is out
@@ -68,7 +69,7 @@ empty_missed left got fault.Memory (Some s) (Some t) empty d = ap (λ (w : Doorw
 
 pub not_let_in : {S C : Type 0} (m : CoreMachine S) (c : S) (left got : C → Option (List ℕ)) (f : Fault) (told0 told1 : Option Doorway)
     (rest : Option (List (List ℕ))) → Accepts {C = C} told0 told1 left got (Err f)
-    → IfTold (outside_of told0 rest) (outside_of told1 rest) (TurnDoes m c c (Err f))
+    → IfTold (door_and_nonces told0 rest) (door_and_nonces told1 rest) (VisitDoes m c c (Err f))
 not_let_in m c left got f None None rest d = tt
 not_let_in m c left got f None (Some t) rest d = absurd d
 not_let_in m c left got f (Some s) None rest d = absurd d
@@ -80,12 +81,12 @@ not_let_in m c left got fault.Memory (Some s) (Some t) (Some ns) d = inl (ap (λ
 
 -- a connection was let in, something was done with it, and it was given back
 let_through : {C : Type 0} (left got : C → Option (List ℕ)) (takes puts : C → ℕ) (c0 c1 : C) (nonce : List ℕ)
-    (told0 told1 told2 : Option Doorway) (left0 left1 : Option (List (List ℕ))) (P : Outside → Outside → Type 0)
+    (told0 told1 told2 : Option Doorway) (left0 left1 : Option (List (List ℕ))) (P : DoorAndNonces → DoorAndNonces → Type 0)
     → IsEmpty told0 → Accepts told0 told1 left got (Ok c0) → GivesNonce left0 left1 nonce
     → DoorCloses told1 told2 (closed_conn left got takes puts c1)
-    → ((s u : Outside) (held : List ℕ) → left c0 ≡ Some held → got c0 ≡ Some [] → nonce ≡ first_nonce s.nonces
+    → ((s u : DoorAndNonces) (held : List ℕ) → left c0 ≡ Some held → got c0 ≡ Some [] → nonce ≡ first_nonce s.nonces
     → u.nonces ≡ drop 1 s.nonces → u.door ≡ visited_by s.door (visited held (closed_conn left got takes puts c1) ∷ []) → P s u)
-    → IfTold (outside_of told0 left0) (outside_of told2 left1) P
+    → IfTold (door_and_nonces told0 left0) (door_and_nonces told2 left1) P
 let_through left got takes puts c0 c1 nonce None None None left0 left1 P empty d n k h = tt
 let_through left got takes puts c0 c1 nonce None None (Some u) left0 left1 P empty d n k h = absurd k
 let_through left got takes puts c0 c1 nonce None (Some t) told2 left0 left1 P empty d n k h = absurd d
@@ -102,7 +103,7 @@ let_through left got takes puts c0 c1 nonce (Some s) (Some t) (Some u) (Some ns)
 abbrev ServesAt : {S : Type 0} → CoreMachine S → List ℕ → S → S → Option (List ℕ) → Option (List ℕ) → Option (List ℕ)
     → Option (List ℕ) → Result (Unit {0}) HttpError → Type 0
 ServesAt m nonce c d left0 got0 left got r =
-    Serves m nonce (record { left = left0; got = got0; core = c }) (record { left = left; got = got; core = d }) r
+    ServesOne m nonce (record { left = left0; got = got0; core = c }) (record { left = left; got = got; core = d }) r
 
 at_first : {S : Type 0} (m : CoreMachine S) (c d : S) (nonce first : List ℕ) (held : List ℕ) (left0 got0 left got : Option (List ℕ))
     (r : Result (Unit {0}) HttpError) → left0 ≡ Some held → got0 ≡ Some [] → nonce ≡ first
@@ -117,7 +118,7 @@ counts_first : (t0 t p0 p : ℕ) (r : Result (Unit {0}) HttpError) → (t0 ≡ 0
 counts_first t0 t p0 p r fresh counts =
     subst (λ k. StreamCounts 0 t k p r) fresh.1 (subst (λ k. StreamCounts k t p0 p r) fresh.0 counts)
 
-made_turn : {S : Type 0} (m : CoreMachine S) (c d : S) (s u : Outside) (v : Visit) → IsAnswered m (serving_at c s.nonces) d v
+made_turn : {S : Type 0} (m : CoreMachine S) (c d : S) (s u : DoorAndNonces) (v : Visit) → IsAnswered m (serving_at c s.nonces) d v
     → u.nonces ≡ drop 1 s.nonces → u.door ≡ visited_by s.door (v ∷ []) → IsTurn m c d s u
 made_turn m c d s u v a gone came = record {
   visit = v;
@@ -129,10 +130,10 @@ made_turn m c d s u v a gone came = record {
 
 let_in_answered : {S C : Type 0} (m : CoreMachine S) (c d : S) (left got : C → Option (List ℕ)) (takes puts : C → ℕ) (c0 c1 : C)
     (nonce : List ℕ) (r : Result (Unit {0}) HttpError) (told0 told1 told2 : Option Doorway) (left0 left1 : Option (List (List ℕ)))
-    (u : Unit {0}) → IsOver r → IsEmpty told0 → Accepts told0 told1 left got (Ok c0) → (takes c0 ≡ 0) × (puts c0 ≡ 0)
+    (u : Unit {0}) → IsServed r → IsEmpty told0 → Accepts told0 told1 left got (Ok c0) → (takes c0 ≡ 0) × (puts c0 ≡ 0)
     → GivesNonce left0 left1 nonce → ServesAt m nonce c d (left c0) (got c0) (left c1) (got c1) r
     → StreamCounts (takes c0) (takes c1) (puts c0) (puts c1) r → DoorCloses told1 told2 (closed_conn left got takes puts c1)
-    → IfTold (outside_of told0 left0) (outside_of told2 left1) (TurnDoes m c d (Ok u))
+    → IfTold (door_and_nonces told0 left0) (door_and_nonces told2 left1) (VisitDoes m c d (Ok u))
 let_in_answered m c d left got takes puts c0 c1 nonce r told0 told1 told2 left0 left1 u over empty came fresh given serves counts closed =
     let_through left got takes puts c0 c1 nonce told0 told1 told2 left0 left1 (IsTurn m c d) empty came given closed
     (λ s t held holds new is gone seen. made_turn m c d s t (visited held (closed_conn left got takes puts c1))
@@ -145,9 +146,9 @@ let_in_cut : {S C : Type 0} (m : CoreMachine S) (c d : S) (left got : C → Opti
     → Accepts told0 told1 left got (Ok c0) → GivesNonce left0 left1 nonce
     → ServesAt m nonce c d (left c0) (got c0) (left c1) (got c1) (Err error.Memory)
     → DoorCloses told1 told2 (closed_conn left got takes puts c1)
-    → IfTold (outside_of told0 left0) (outside_of told2 left1) (TurnDoes m c d (Err fault.Memory))
+    → IfTold (door_and_nonces told0 left0) (door_and_nonces told2 left1) (VisitDoes m c d (Err fault.Memory))
 let_in_cut m c d left got takes puts c0 c1 nonce told0 told1 told2 left0 left1 empty came given serves closed =
-    let_through left got takes puts c0 c1 nonce told0 told1 told2 left0 left1 (TurnDoes m c d (Err fault.Memory)) empty came given closed
+    let_through left got takes puts c0 c1 nonce told0 told1 told2 left0 left1 (VisitDoes m c d (Err fault.Memory)) empty came given closed
     (λ s t held holds new is gone seen. inr (record {
       visit = visited held (closed_conn left got takes puts c1);
       cut = cut_by m c d s.nonces held (left c1) (got c1) (takes c1 + puts c1)
@@ -162,7 +163,7 @@ pub turned : {S C : Type 0} (m : CoreMachine S) (c d : S) (left got : C → Opti
     (left0 left1 : Option (List (List ℕ))) → EndsRun r out → IsEmpty told0 → Accepts told0 told1 left got (Ok c0)
     → (takes c0 ≡ 0) × (puts c0 ≡ 0) → GivesNonce left0 left1 nonce → ServesAt m nonce c d (left c0) (got c0) (left c1) (got c1) r
     → StreamCounts (takes c0) (takes c1) (puts c0) (puts c1) r → DoorCloses told1 told2 (closed_conn left got takes puts c1)
-    → IfTold (outside_of told0 left0) (outside_of told2 left1) (TurnDoes m c d out)
+    → IfTold (door_and_nonces told0 left0) (door_and_nonces told2 left1) (VisitDoes m c d out)
 turned m c d left got takes puts c0 c1 nonce r (Ok u) told0 told1 told2 left0 left1 ends empty came fresh given serves counts closed =
     let_in_answered m c d left got takes puts c0 c1 nonce r told0 told1 told2 left0 left1 u ends empty came fresh given serves counts closed
 turned m c d left got takes puts c0 c1 nonce r (Err fault.Failed) told0 told1 told2 left0 left1 ends empty came fresh given serves counts closed =

@@ -1,5 +1,6 @@
 -- What an exchange makes of a connection that was let in.
-use Rattle.std.proofs.Common.{◌≡◌, ◌<◌, ◌+◌, ◌⊎◌, ℕ, zero, suc, Bool, true, false, cond, leb, List, [], inl, inr, refl, sym, ap, subst, ◌∙◌}
+use Rattle.std.proofs.Common.{◌≡◌, ◌<◌, ◌+◌, ◌⊎◌, ℕ, zero, suc, Bool, true, false, cond, leb, List, [], inl, inr, refl}
+use Rattle.std.proofs.Common.{sym, ap, subst, ◌∙◌}
 use Rattle.std.proofs.Common.{Ok, Err, Result, Some, None, arith, length, take, append-nil}
 use Rattle.std.specs.declared.option.Option.{Option}
 use Rattle.std.specs.Io.KnownBytes.{Appends, Consumes, IsAtEnd, Keeps}
@@ -20,12 +21,14 @@ use Rattle.dm_heads.proofs.MoreBytes.{left_if, not_leb, given, refused}
 use Rattle.dm_core.specs.Machines.{CoreMachine}
 use Rattle.dm_http.specs.Posts.{PutsBeginning, StreamCounts}
 use Rattle.dm_http.specs.Replies.{refusal_reply}
-use Rattle.dm_http.specs.Serves.{ExchangeState, RefusesRequest, AnswersRequest, StopsTaking, StopsReplying, StopsRefusing, Serves, reply_for}
+use Rattle.dm_http.specs.Serves.{ExchangeState, RefusesRequest, AnswersRequest, StopsTaking, StopsReplying}
+use Rattle.dm_http.specs.Serves.{StopsRefusing, ServesOne, reply_for}
 use Rattle.dm_outside.specs.Calls.{Closed}
 use Rattle.dm_outside.specs.Doors.{Visit, visited}
 use Rattle.dm_outside.specs.Updates.{first_nonce}
-use Rattle.dm_serving.specs.Visits.{Brought, asked, nothing, Serving, reply_to, core_after, HoldsRequest, IsEnough, IsVisit, GotBeginning, IsCutVisit}
-use Rattle.dm_serving.specs.Turns.{serving_at, IsOver}
+use Rattle.dm_serving.specs.Visits.{Brought, asked, nothing, Serving, reply_to, core_after, HoldsRequest, IsEnough}
+use Rattle.dm_serving.specs.Visits.{IsVisit, GotBeginning, IsCutVisit}
+use Rattle.dm_serving.specs.Turns.{serving_at, IsServed}
 
 -- ---- what was taken holds no whole request
 
@@ -191,10 +194,10 @@ replied_visit m c d nonces held left got f none x =
     (asked x.0, whole held f got left (given x.0) (asked x.0) (reply_for m (first_nonce nonces) c x.0) none x.1.0 (λ taken h. h) x.2, x.1.1)
 
 pub answered : {S : Type 0} (m : CoreMachine S) (c d : S) (nonces : List (List ℕ)) (held : List ℕ) (left got : Option (List ℕ))
-    (t p : ℕ) (r : Result (Unit {0}) HttpError) → IsOver r
-    → Serves m (first_nonce nonces) (exchange_at (Some held) (Some []) c) (exchange_at left got d) r → StreamCounts 0 t 0 p r
+    (t p : ℕ) (r : Result (Unit {0}) HttpError) → IsServed r
+    → ServesOne m (first_nonce nonces) (exchange_at (Some held) (Some []) c) (exchange_at left got d) r → StreamCounts 0 t 0 p r
     → IsAnswered m (serving_at c nonces) d (visited held (closed_as (t + p) got left))
-unfolding Serves StreamCounts
+unfolding ServesOne StreamCounts
 answered m c d nonces held left got t p (Ok u) over serves counts =
     replied_visit m c d nonces held left got (t + p) (none_failed 0 t 0 p refl refl counts) serves
 answered m c d nonces held left got t p (Err error.Failed) over serves counts =
@@ -209,9 +212,9 @@ answered m c d nonces held left got t p (Err error.Cut) over serves counts =
 answered m c d nonces held left got t p (Err (error.NotOk code)) over serves counts = absurd serves
 
 pub cut_by : {S : Type 0} (m : CoreMachine S) (c d : S) (nonces : List (List ℕ)) (held : List ℕ) (left got : Option (List ℕ)) (f : ℕ)
-    → Serves m (first_nonce nonces) (exchange_at (Some held) (Some []) c) (exchange_at left got d) (Err error.Memory)
+    → ServesOne m (first_nonce nonces) (exchange_at (Some held) (Some []) c) (exchange_at left got d) (Err error.Memory)
     → IsCutVisit m (serving_at c nonces) (visited held (closed_as f got left))
-unfolding Serves
+unfolding ServesOne
 cut_by m c d nonces held left got f (inl x) = inl (got_none got x.1)
 cut_by m c d nonces held left got f (inr (inl x)) =
     let w = x.1.0 in

@@ -6,14 +6,14 @@ ghost use Rattle.dm_exit.specs.Answers.{DoneAtEnd};
 ghost use Rattle.dm_exit.specs.Causes.{SourceCause, SinkCause, DoorCause};
 ghost use Rattle.dm_exit.specs.Puts.{PutsEnd};
 ghost use Rattle.dm_exit.specs.declared.exit.Exit.TheVariants as exit;
-ghost use Rattle.dm_job.specs.Sound.{IsSound};
+ghost use Rattle.dm_job.specs.Sound.{IsSoundJob};
 ghost use Rattle.dm_job.specs.declared.job.Job.{Job as AJob};
 ghost use Rattle.dm_outside.specs.Doors.{IsEmpty};
 ghost use Rattle.dm_outside.specs.Told.{IfTold};
 ghost use Rattle.dm_service.specs.Messages.{first_service};
-ghost use Rattle.dm_texts.specs.Lines as Lines;
+ghost use Rattle.dm_texts.specs.Lines;
 ghost use Rattle.dm_serving.specs.Serves.{serving_text, IsBeforeDoor, IsOfJob, IsOfServe, JobDoes, TextDoes, Serves};
-ghost use Rattle.dm_serving.specs.Turns.{outside_of};
+ghost use Rattle.dm_serving.specs.Turns.{door_and_nonces};
 
 use crate::turns::listen_and_answer;
 use dm_base::{Bytes, Fault, LineReason, Memory, RUN_LIMIT, Sink, Source, TakeError, take_all};
@@ -73,7 +73,7 @@ fn run_server<K: Sink, P: Door, N: Nonces>(
     requires empty { IsEmpty (P.told door.old) }
     ensures empty { IsEmpty (P.told door.new) }
     ensures does { (job : AJob) → server.old ≡ first_service job
-        → IfTold (outside_of (P.told door.old) (N.left nonces.old)) (outside_of (P.told door.new) (N.left nonces.new))
+        → IfTold (door_and_nonces (P.told door.old) (N.left nonces.old)) (door_and_nonces (P.told door.new) (N.left nonces.new))
         (JobDoes words.now job (K.got out.old) (K.got out.new) result) }
     ensures kind { IsOfJob result }
     ensures sink { SinkCause (K.faults out.old) (K.faults out.new) result }
@@ -97,10 +97,10 @@ fn serve_job<K: Sink, P: Door, N: Nonces>(
     nonces: &mut N,
 ) -> Exit
     requires empty { IsEmpty (P.told door.old) }
-    requires sound { IsSound job }
+    requires sound { IsSoundJob job }
     ensures empty { IsEmpty (P.told door.new) }
-    ensures does { IfTold (outside_of (P.told door.old) (N.left nonces.old))
-        (outside_of (P.told door.new) (N.left nonces.new))
+    ensures does { IfTold (door_and_nonces (P.told door.old) (N.left nonces.old))
+        (door_and_nonces (P.told door.new) (N.left nonces.new))
         (JobDoes words.now job (K.got out.old) (K.got out.new) result) }
     ensures kind { IsOfJob result }
     ensures sink { SinkCause (K.faults out.old) (K.faults out.new) result }
@@ -126,8 +126,8 @@ fn serve_text<K: Sink, P: Door, N: Nonces>(
 ) -> Exit
     requires empty { IsEmpty (P.told door.old) }
     ensures empty { IsEmpty (P.told door.new) }
-    ensures does { TextDoes words.now text.now (outside_of (P.told door.old) (N.left nonces.old))
-        (outside_of (P.told door.new) (N.left nonces.new)) (K.got out.old) (K.got out.new) result }
+    ensures does { TextDoes words.now text.now (door_and_nonces (P.told door.old) (N.left nonces.old))
+        (door_and_nonces (P.told door.new) (N.left nonces.new)) (K.got out.old) (K.got out.new) result }
     ensures untouched { IsBeforeDoor result → (door.new ≡ door.old) × (nonces.new ≡ nonces.old) }
     ensures kind { IsOfServe result }
     ensures sink { SinkCause (K.faults out.old) (K.faults out.new) result }
@@ -165,7 +165,7 @@ pub fn serve<S: Source, K: Sink, P: Door, N: Nonces>(
     requires empty { IsEmpty (P.told door.old) }
     ensures empty { IsEmpty (P.told door.new) }
     ensures serves { OfKnown (S.left src.old) (λ bytes. Serves words.now bytes
-        (outside_of (P.told door.old) (N.left nonces.old)) (outside_of (P.told door.new) (N.left nonces.new))
+        (door_and_nonces (P.told door.old) (N.left nonces.old)) (door_and_nonces (P.told door.new) (N.left nonces.new))
         (K.got out.old) (K.got out.new) result) }
     ensures untouched { IsBeforeDoor result → (door.new ≡ door.old) × (nonces.new ≡ nonces.old) }
     ensures ended { DoneAtEnd (S.left src.old) (S.left src.new) result }

@@ -3,7 +3,7 @@ ghost use Rattle.std.specs.Prelude.{◌≡◌};
 ghost use Rattle.dm_base.specs.Outside.{PutCounts};
 ghost use Rattle.dm_outside.specs.Doors.{IsEmpty};
 ghost use Rattle.dm_outside.specs.Told.{IfTold};
-ghost use Rattle.dm_serving.specs.Turns.{outside_of, TurnDoes, EndsRun, AllDo, RunDoes};
+ghost use Rattle.dm_serving.specs.Turns.{door_and_nonces, VisitDoes, EndsRun, AllDo, ServingDoes};
 
 use dm_base::Fault;
 use dm_core::Core;
@@ -30,8 +30,8 @@ fn answer_one<X: Core, P: Door, N: Nonces>(
 ) -> Result<(), Fault>
     requires empty { IsEmpty (P.told door.old) }
     ensures empty { IsEmpty (P.told door.new) }
-    ensures turn { IfTold (outside_of (P.told door.old) (N.left nonces.old))
-        (outside_of (P.told door.new) (N.left nonces.new)) (TurnDoes X.machine core.old core.new result) }
+    ensures turn { IfTold (door_and_nonces (P.told door.old) (N.left nonces.old))
+        (door_and_nonces (P.told door.new) (N.left nonces.new)) (VisitDoes X.machine core.old core.new result) }
     ensures count { PutCounts (P.faults door.old) (P.faults door.new) result }
 {
     let mut conn = door.accept()?;
@@ -53,8 +53,8 @@ pub fn answer_all<X: Core, P: Door, N: Nonces>(
 ) -> Result<(), Fault>
     requires empty { IsEmpty (P.told door.old) }
     ensures empty { IsEmpty (P.told door.new) }
-    ensures turns { IfTold (outside_of (P.told door.old) (N.left nonces.old))
-        (outside_of (P.told door.new) (N.left nonces.new)) (AllDo X.machine count core.old core.new result) }
+    ensures turns { IfTold (door_and_nonces (P.told door.old) (N.left nonces.old))
+        (door_and_nonces (P.told door.new) (N.left nonces.new)) (AllDo X.machine count core.old core.new result) }
     ensures count { PutCounts (P.faults door.old) (P.faults door.new) result }
 {
     for _ in 0..count {
@@ -78,9 +78,9 @@ pub fn listen_and_answer<X: Core, P: Door, N: Nonces>(
 ) -> Result<(), Fault>
     requires empty { IsEmpty (P.told door.old) }
     ensures empty { IsEmpty (P.told door.new) }
-    ensures run { IfTold (outside_of (P.told door.old) (N.left nonces.old))
-        (outside_of (P.told door.new) (N.left nonces.new))
-        (RunDoes X.machine address.now count core.old core.new result) }
+    ensures run { IfTold (door_and_nonces (P.told door.old) (N.left nonces.old))
+        (door_and_nonces (P.told door.new) (N.left nonces.new))
+        (ServingDoes X.machine address.now count core.old core.new result) }
     ensures count { PutCounts (P.faults door.old) (P.faults door.new) result }
 {
     match door.listen(address) {

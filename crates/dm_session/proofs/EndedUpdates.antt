@@ -19,8 +19,8 @@ use Rattle.dm_machine.specs.Ready.{IsReadyMachine}
 use Rattle.dm_machine.proofs.StaysReady.{stays_ready}
 use Rattle.dm_machine.proofs.Steady.{stays_steady}
 use Rattle.dm_session.specs.declared.rest.Rest.{Rest}
-use Rattle.dm_session.specs.Inside.{machine_of, whole_client, IsSound}
-use Rattle.dm_session.specs.View.{Whole as Seen}
+use Rattle.dm_session.specs.Inside.{machine_of, whole_client, IsConsistent}
+use Rattle.dm_session.specs.View.{WholeMachine as Seen}
 use Rattle.dm_session.proofs.Clients.{same_client, steady_of}
 
 -- ---- nothing has changed
@@ -54,8 +54,8 @@ module _ (e f : Engine) (q : List Entry) (r : Rest) (results : List UpdateResult
       same_client e f q q (with_results r results) w k refl
       ∙ ap (λ x. whole_client (record { engine = e; queue = q; rest = with_results r x })) is
 
-  pub still_sound : IsSound (record { engine = e; queue = q; rest = r }) → max_obj_of f ≡ max_obj_of e → IsSoundEngine f
-      → past_of f ≡ past_of e → LeavesNone f → IsSound (record { engine = f; queue = q; rest = with_results r results })
+  pub still_sound : IsConsistent (record { engine = e; queue = q; rest = r }) → max_obj_of f ≡ max_obj_of e → IsSoundEngine f
+      → past_of f ≡ past_of e → LeavesNone f → IsConsistent (record { engine = f; queue = q; rest = with_results r results })
   still_sound s m sound past none_left = record {
     goes_on = record {
       engine = sound;
@@ -96,8 +96,8 @@ module _ (e f : Engine) (q : List Entry) (r : Rest) (results : List UpdateResult
   unfolding next
   ended_next = acts_so ∙ next_if _ (machine_of e q r) (after (machine_of e q r) (act ok)) takes_it
 
-  pub ended_sound : IsSound (record { engine = e; queue = q; rest = r }) → max_obj_of f ≡ max_obj_of e → IsSoundEngine f
-      → past_of f ≡ no_past → LeavesNone f → IsSound (record { engine = f; queue = q; rest = with_results r results })
+  pub ended_sound : IsConsistent (record { engine = e; queue = q; rest = r }) → max_obj_of f ≡ max_obj_of e → IsSoundEngine f
+      → past_of f ≡ no_past → LeavesNone f → IsConsistent (record { engine = f; queue = q; rest = with_results r results })
   ended_sound s m sound settled none_left = record {
     goes_on = record {
       engine = sound;

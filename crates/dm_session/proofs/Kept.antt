@@ -19,7 +19,7 @@ use Rattle.dm_session.specs.declared.client.Client.TheInside.{Inside}
 use Rattle.dm_session.specs.declared.rest.Rest.{Rest}
 use Rattle.dm_session.specs.declared.rest.Session.{Session}
 use Rattle.dm_session.specs.Inside.{machine_of, session_in, whole_client}
-use Rattle.dm_session.specs.View.{Whole}
+use Rattle.dm_session.specs.View.{WholeMachine}
 use Rattle.dm_session.specs.Stays.{body_covers, read_covers, engine_in}
 
 -- ---- the commands of a body
@@ -42,9 +42,9 @@ stay_settled c v w x e = subst (StayBut c v) (sym e)
 
 -- ---- a client
 
-pub seen_stay : (c : Path → Bool) (i : Inside) (old : Whole) (w : AllOf) → whole_client i ≡ old
+pub seen_stay : (c : Path → Bool) (i : Inside) (old : WholeMachine) (w : AllOf) → whole_client i ≡ old
     → StayBut c (whole_of i.engine) w → StayBut c (engine_in old) w
-seen_stay c i old w e = subst (λ (x : Whole). StayBut c (engine_in x) w) e
+seen_stay c i old w e = subst (λ (x : WholeMachine). StayBut c (engine_in x) w) e
 
 pub read_stay : (read : Result Parts Refusal) (m : Parts) (v w : AllOf) → read ≡ Ok m → StayBut (body_covers m.body) v w
     → StayBut (read_covers read) v w
@@ -54,11 +54,11 @@ pub kept_self : (c : Path → Bool) (i : Ids) → KeepIdsBut c i i
 kept_self c i p id there u = there
 
 -- where no group was open, a node keeps its number in the tree
-pub kept_seen : (c : Path → Bool) (i : Inside) (old : Whole) (w : AllOf) → whole_client i ≡ old
+pub kept_seen : (c : Path → Bool) (i : Inside) (old : WholeMachine) (w : AllOf) → whole_client i ≡ old
     → StayBut c (engine_in old) w → old.machine.engine.group ≡ None → KeepIdsBut c old.ids w.ids
 kept_seen c i old w e stay closed =
     stay_closed c (engine_in old) w
-    (subst (λ (x : Whole). x.machine.engine.group ≡ None → x.base_ids ≡ None) e (base_closed i.engine) closed) stay
+    (subst (λ (x : WholeMachine). x.machine.engine.group ≡ None → x.base_ids ≡ None) e (base_closed i.engine) closed) stay
 
 -- an update ends where no session is open
 pub not_open : (e : Engine) (q : List Entry) (r : Rest) (ok : Bool) → takes (machine_of e q r) (act ok) ≡ true

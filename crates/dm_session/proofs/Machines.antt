@@ -18,12 +18,12 @@ use Rattle.dm_atomic.specs.Made.{told}
 use Rattle.dm_atomic.specs.Run.{State, Next, abandoned}
 use Rattle.dm_atomic.specs.Engine.{state_of}
 use Rattle.dm_atomic.specs.Updates.{clock_of}
-use Rattle.dm_machine.specs.declared.kinds.Kind.{Kind}
+use Rattle.dm_machine.specs.declared.kinds.Initiator.{Initiator}
 use Rattle.dm_machine.specs.declared.kinds.End.TheVariants.{Finished, Aborted}
 use Rattle.dm_machine.specs.declared.progress.Progress.{Progress}
 use Rattle.dm_machine.specs.Machine.{Machine}
 use Rattle.dm_machine.specs.Sending.{header_from, moved_on, sends}
-use Rattle.dm_machine.specs.Messages.{Outcome, goes_on, ends, Waits, waits_after, queued_again, first_standing}
+use Rattle.dm_machine.specs.Messages.{Outcome, goes_on, ends, Waits, waits_after, queued_again, opening_standing}
 use Rattle.dm_machine.specs.Messages.{first_progress, closed, finished, is_over, answered, run_of, execute}
 use Rattle.dm_session.specs.declared.rest.Rest.{Rest}
 use Rattle.dm_session.specs.declared.rest.Session.{Session as Held}
@@ -142,21 +142,21 @@ account_put accounts at account (Some next) d is low = refl
 
 -- ---- a session that begins
 
-abbrev pub started : ℕ → Kind → ℕ → ℕ → Progress
+abbrev pub started : ℕ → Initiator → ℕ → ℕ → Progress
 started account kind number n = record {
   number = number;
   account = account;
   kind = kind;
-  standing = first_standing;
+  standing = opening_standing;
   opening_at = 0;
   opening_left = n;
 }
 
-abbrev begun_by : Machine → List Entry → ℕ → Kind → ℕ → ℕ → Account → Machine
+abbrev begun_by : Machine → List Entry → ℕ → Initiator → ℕ → ℕ → Account → Machine
 begun_by c q account kind number n a =
     sends (record c { queue = q }) (started account kind number n) a
 
-pub begun_machine : (c : Machine) (account : ℕ) (kind : Kind) (number n : ℕ) (a b : Account) (q first : List Entry)
+pub begun_machine : (c : Machine) (account : ℕ) (kind : Initiator) (number n : ℕ) (a b : Account) (q first : List Entry)
     → q ≡ first → n ≡ length q → a ≡ b
     → begun_by c q account kind number n a
     ≡ sends (record c { queue = first }) (first_progress account kind number first) b

@@ -22,7 +22,7 @@ use Rattle.dm_machine.specs.declared.progress.UpdateResult.{UpdateResult}
 use Rattle.dm_machine.specs.Machine.{Machine}
 use Rattle.dm_machine.specs.Ready.{IsCorrelator, IsDevice, IsReadyAccount, IsReadyLimits, IsReadyState, IsReadyMachine}
 use Rattle.dm_session.specs.declared.rest.Rest.{Rest}
-use Rattle.dm_session.specs.Inside.{machine_of, IsSound}
+use Rattle.dm_session.specs.Inside.{machine_of, IsConsistent}
 
 abbrev new_machine : Limits → Stamp → State → List Entry → List Account → List UpdateResult → Machine
 new_machine limits clock s q accounts results = record {
@@ -90,7 +90,7 @@ module _ (e : Engine) (q : List Entry) (alloc : Global) (limits : Limits) (place
 
   pub new_sound : IsSoundEngine e → past_of e ≡ no_past → LeavesNone e → IsReadyLimits limits → IsStamp clock
       → IsDevice m → AllByRecursion IsReadyAccount accounts
-      → IsSound (record { engine = e; queue = q; rest = new_rest alloc limits place accounts results })
+      → IsConsistent (record { engine = e; queue = q; rest = new_rest alloc limits place accounts results })
   new_sound sound settled none_left ready stamp device accounts_ready = record {
     goes_on = record {
       engine = sound;

@@ -38,8 +38,8 @@ use Rattle.dm_session.specs.declared.drafts.Next as drafts
 use Rattle.dm_session.specs.declared.drafts.Next.TheVariants as ends_with
 use Rattle.dm_session.specs.declared.rest.Rest.{Rest}
 use Rattle.dm_session.specs.Inside.{machine_of}
-use Rattle.dm_session.specs.Working.{outcome, rest_behind, account_behind, HeardAs, Ran}
-use Rattle.dm_session.specs.Working.{told as told_rest}
+use Rattle.dm_session.specs.Working.{outcome, rest_behind, account_behind, HeardAs, Executed}
+use Rattle.dm_session.specs.Working.{rest_told as told_rest}
 use Rattle.dm_session.proofs.Machines.{moved_by, account_put, closed_machine, engine_moved, answered_goes_on}
 use Rattle.dm_session.proofs.Machines.{answered_ends}
 
@@ -53,7 +53,7 @@ pub ran_executes : (c : Machine) (a : Account) (m : Parts) (code : ℕ) (e : Eng
     (out made : List Command) → passes code ≡ true → c.engine ≡ state_of e → c.clock ≡ clock_of e
     → c.limits.max_obj ≡ max_obj_of e → out ≡ [] → caller ≡ a.server
     → Gives (quiet_after m (run_all (running e caller) (origin_of m) (state_of e) m.body)) s out made
-    → Ran (run_of c a m code) s made
+    → Executed (run_of c a m code) s made
 unfolding execute
 ran_executes c a m code e s caller out made p i k l none who g = all (passes code) p
   where
@@ -67,7 +67,7 @@ ran_executes c a m code e s caller out made p i k l none who g = all (passes cod
         ∙ ap (λ x. executed a m c.clock x (state_of e)) (sym l)
         ∙ ap (executed a m c.clock c.limits.max_obj) (sym i)
 
-    all : (b : Bool) → b ≡ true → Ran (cond b (execute c a m) (quietly c.engine)) s made
+    all : (b : Bool) → b ≡ true → Executed (cond b (execute c a m) (quietly c.engine)) s made
     all true h = record {
       state_is = given.state_is ∙ ap (λ (n : Next). n.state) same;
       made_is = given.told_is ∙ ap (λ x. x ++ told (executed a m (clock_of e) (max_obj_of e) (state_of e)).made) none

@@ -23,7 +23,7 @@ use Rattle.dm_atomic.specs.Made.{told}
 use Rattle.dm_machine.specs.declared.progress.Progress.{Progress}
 use Rattle.dm_machine.specs.Machine.{Machine}
 use Rattle.dm_machine.specs.Messages.{Waits, queued_again, run_of}
-use Rattle.dm_machine.specs.declared.kinds.Kind.{Kind}
+use Rattle.dm_machine.specs.declared.kinds.Initiator.{Initiator}
 use Rattle.dm_machine.specs.Opening.{alert, opening, first_package}
 use Rattle.dm_machine.specs.Sending.{header_from}
 use Rattle.dm_machine.specs.Ready.{IsDevice, IsReadyAccount, IsReadyLimits, IsReadyMachine, IsReadyMessage}
@@ -84,13 +84,13 @@ own_header_ready e r m p a h t is limits device account number own =
 
 -- ---- the first package
 
-pub opening_waits : (e : Engine) (r : Rest) (kind : Kind) (first : List Command) (m : Nodes) (q : List Entry) → q ≡ []
+pub opening_waits : (e : Engine) (r : Rest) (kind : Initiator) (first : List Command) (m : Nodes) (q : List Entry) → q ≡ []
     → m ≡ (state_of e).tree → first ≡ opening kind r.results m
     → q ++ map whole_entry first ≡ first_package (machine_of e [] r) kind
 opening_waits e r kind first m q none t is =
     ap (λ x. x ++ map whole_entry first) none ∙ ap (map whole_entry) (is ∙ ap (opening kind r.results) t)
 
-pub opening_ready : (e : Engine) (r : Rest) (kind : Kind) (waiting : List Entry)
+pub opening_ready : (e : Engine) (r : Rest) (kind : Initiator) (waiting : List Entry)
     → waiting ≡ first_package (machine_of e [] r) kind → IsDevice (state_of e).tree → AreReadyResults r.results
     → AllByRecursion IsReady waiting
 opening_ready e r kind waiting is device results =

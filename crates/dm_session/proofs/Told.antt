@@ -9,15 +9,15 @@ use Rattle.dm_tree.specs.Nodes.{Path, Nodes}
 use Rattle.dm_tree.specs.Devices.{device_path, value_at}
 use Rattle.dm_atomic.specs.Made.{source_item}
 use Rattle.dm_machine.specs.declared.progress.UpdateResult.{UpdateResult}
-use Rattle.dm_machine.specs.Opening.{meta_of, device_item, result_alert}
+use Rattle.dm_machine.specs.Opening.{typed_meta, device_item, result_alert}
 
 pub device_item_is : (m : Nodes) (name uri value : List ℕ) (path : Path) (meta : Meta) → path ≡ device_path name
-    → uri ≡ printed_path path → value ≡ value_at m path → meta ≡ meta_of (codes "chr") (codes "text/plain")
+    → uri ≡ printed_path path → value ≡ value_at m path → meta ≡ typed_meta (codes "chr") (codes "text/plain")
     → source_item uri (Some meta) (Some value) ≡ device_item m name
 device_item_is m name uri value path meta p u v t =
     ap (λ x. source_item x (Some meta) (Some value)) (u ∙ ap printed_path p)
     ∙ ap (λ x. source_item (printed_path (device_path name)) (Some x) (Some value)) t
-    ∙ ap (λ x. source_item (printed_path (device_path name)) (Some (meta_of (codes "chr") (codes "text/plain")))
+    ∙ ap (λ x. source_item (printed_path (device_path name)) (Some (typed_meta (codes "chr") (codes "text/plain")))
     (Some x))
     (v ∙ ap (value_at m) p)
 

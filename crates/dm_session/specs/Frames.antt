@@ -13,7 +13,7 @@ use Rattle.dm_atomic.specs.Stays.{StayBut}
 use Rattle.dm_atomic.specs.Updates.{clock_of, max_obj_of}
 use Rattle.dm_machine.specs.Ready.{IsDevice, IsReadyAccount, IsReadyLimits, IsReadyProgress}
 use Rattle.dm_session.specs.declared.work.ClientWork.{ClientWork}
-use Rattle.dm_session.specs.Inside.{machine_of, CanGoOn}
+use Rattle.dm_session.specs.Inside.{machine_of, CanWorkOn}
 
 -- what an engine keeps: its clock, the size of its largest objects, the number of each node that isn't covered, the way
 -- back to a mark, and what holds of it
@@ -35,7 +35,7 @@ pub record CanAnswer (e : Engine) (w : ClientWork) : Type 0 where
 
 -- a message whose header was heard can be worked
 pub record CanWork (e : Engine) (q : List Entry) (w : ClientWork) : Type 0 where
-  pub goes_on : CanGoOn e q w.rest.now
+  pub goes_on : CanWorkOn e q w.rest.now
   pub progress : IsReadyProgress (machine_of e q w.rest.now) w.progress
   pub account : IsReadyAccount w.account.now
   pub own : w.progress.standing.own + 1 < 2 ^ 32

@@ -13,7 +13,7 @@ use Rattle.dm_machine.specs.Ready.{IsReadyMachine}
 use Rattle.dm_session.specs.declared.rest.Session.{Session as Held}
 use Rattle.dm_session.specs.declared.rest.Rest.{Rest}
 use Rattle.dm_session.specs.declared.client.Client.TheInside.{Inside}
-use Rattle.dm_session.specs.View.{Whole}
+use Rattle.dm_session.specs.View.{WholeMachine}
 
 abbrev pub session_in : Held → Session
 session_in s = record { progress = s.progress; sent = s.sent.message }
@@ -36,7 +36,7 @@ machine_of e q r = record {
   farewell = option_map message_in r.farewell;
 }
 
-abbrev pub whole_client : Inside → Whole
+abbrev pub whole_client : Inside → WholeMachine
 whole_client c = record {
   machine = machine_of c.engine c.queue c.rest;
   ids = (whole_of c.engine).ids;
@@ -48,13 +48,13 @@ abbrev pub IsSpelled : LastMessage → Type 0
 IsSpelled s = s.bytes ≡ canonical s.message
 
 -- what holds of a machine whose engine can go on
-pub record CanGoOn (e : Engine) (q : List Entry) (r : Rest) : Type 0 where
+pub record CanWorkOn (e : Engine) (q : List Entry) (r : Rest) : Type 0 where
   pub engine : IsSoundEngine e
   pub max_obj : max_obj_of e ≡ r.limits.max_obj
   pub ready : IsReadyMachine (machine_of e q r)
 
-pub record IsSound (c : Inside) : Type 0 where
-  pub goes_on : CanGoOn c.engine c.queue c.rest
+pub record IsConsistent (c : Inside) : Type 0 where
+  pub goes_on : CanWorkOn c.engine c.queue c.rest
   pub sent : IfSome c.rest.session (λ (s : Held). IsSpelled s.sent)
   pub farewell : IfSome c.rest.farewell IsSpelled
   -- nothing is known of what stood before, so nothing piles up

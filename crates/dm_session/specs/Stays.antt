@@ -7,7 +7,7 @@ use Rattle.syncml_types.specs.Message.{Parts}
 use Rattle.dm_tree.specs.Nodes.{Path}
 use Rattle.dm_atomic.specs.Marks.{Whole as AllOf}
 use Rattle.dm_atomic.specs.Stays.{covers}
-use Rattle.dm_session.specs.View.{Whole}
+use Rattle.dm_session.specs.View.{WholeMachine}
 
 -- paths that the commands of a body cover
 abbrev pub body_covers : List Command → Path → Bool
@@ -19,5 +19,5 @@ read_covers (Ok m) p = body_covers m.body p
 read_covers (Err refusal) p = false
 
 -- a client's tree with its numbers, as its engine has them
-abbrev pub engine_in : Whole → AllOf
+abbrev pub engine_in : WholeMachine → AllOf
 engine_in w = record { state = w.machine.engine; ids = w.ids; base_ids = w.base_ids }

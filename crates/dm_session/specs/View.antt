@@ -16,7 +16,7 @@ use Rattle.dm_session.specs.declared.answers.Acted.{Acted}
 use Rattle.dm_session.specs.declared.answers.Acted.TheVariants as acts
 
 -- its machine, and the numbers of its tree's nodes, also of those before an open group
-pub record Whole : Type 0 where
+pub record WholeMachine : Type 0 where
   pub machine : Machine
   pub ids : Ids
   pub base_ids : Option Ids

@@ -3,7 +3,7 @@ use Rattle.std.specs.Prelude.{◌≡◌, ◌+◌, ℕ, List, [], ◌++◌, lengt
 use Rattle.std.specs.Option.{option_or, option_to_list}
 use Rattle.dm_auth.specs.declared.accounts.Account.{Account}
 use Rattle.dm_headers.specs.declared.hearing.Heard.{Heard}
-use Rattle.dm_headers.specs.Standings as Standings
+use Rattle.dm_headers.specs.Standings
 use Rattle.syncml_types.specs.declared.command.Command.{Command}
 use Rattle.dm_pack.specs.Entries.{Entry, whole_entry}
 use Rattle.dm_atomic.specs.Made.{told as told_of}
@@ -22,12 +22,12 @@ use Rattle.dm_session.specs.declared.rest.Rest.{Rest}
 use Rattle.dm_session.specs.declared.rest.Session.{Session}
 use Rattle.dm_session.specs.declared.drafts.Next.{Next}
 use Rattle.dm_session.specs.declared.drafts.Next.TheVariants as next
-use Rattle.dm_session.specs.declared.drafts.Draft.{Draft}
+use Rattle.dm_session.specs.declared.drafts.ClientChanges.{ClientChanges}
 use Rattle.dm_session.specs.Inside.{IsSpelled}
 
 -- with other accounts and another RespURI
-abbrev pub told : Rest → List Account → Option (List ℕ) → Rest
-told r accounts uri = record r { accounts = accounts; resp_uri = uri }
+abbrev pub rest_told : Rest → List Account → Option (List ℕ) → Rest
+rest_told r accounts uri = record r { accounts = accounts; resp_uri = uri }
 
 -- what waits with a Status in front and what was made behind
 abbrev pub waiting_with : Option Command → List Entry → List Command → List Entry
@@ -64,9 +64,9 @@ account_behind accounts at None = accounts
 account_behind accounts at (Some account) = set accounts at account
 
 -- the whole: the RespURI, the account at its place, and what comes next
-abbrev pub drafted : Rest → ℕ → Draft → Rest
+abbrev pub drafted : Rest → ℕ → ClientChanges → Rest
 drafted r at d =
-    rest_behind (told r (account_behind r.accounts at d.account) (option_or d.resp_uri r.resp_uri)) d.next
+    rest_behind (rest_told r (account_behind r.accounts at d.account) (option_or d.resp_uri r.resp_uri)) d.next
 
 abbrev pub answer_of : Next → Answer
 answer_of (next.GoesOn session) = answers.Sent
@@ -89,6 +89,6 @@ pub record HeardAs (heard : Heard) (account : Account) (h : Standings.Heard) : T
   pub account_is : h.account ≡ account
 
 -- what was executed: the state behind it, and the entries that tell it
-pub record Ran (run : Running.Next) (state : State) (made : List Command) : Type 0 where
+pub record Executed (run : Running.Next) (state : State) (made : List Command) : Type 0 where
   pub state_is : state ≡ run.state
   pub made_is : made ≡ told_of run.made

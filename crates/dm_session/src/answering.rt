@@ -6,7 +6,7 @@ ghost use Rattle.std.specs.List.{AllByRecursion, list_all};
 ghost use Rattle.std.specs.Option.{option_to_list};
 ghost use Rattle.dm_auth.specs.declared.accounts.Account.{Account as AnAccount};
 ghost use Rattle.dm_headers.specs.Checks.{passes as passing};
-ghost use Rattle.dm_headers.specs.Standings as Standings;
+ghost use Rattle.dm_headers.specs.Standings;
 ghost use Rattle.dm_tree.specs.Devices.{IsUpdateInOrder};
 ghost use Rattle.dm_pack.specs.Entries.{whole_entry, IsReady};
 ghost use Rattle.dm_atomic.specs.Engine.{state_of, IsSoundEngine};
@@ -22,8 +22,8 @@ ghost use Rattle.dm_machine.specs.Ready.{IsReadyMessage};
 ghost use Rattle.dm_session.specs.Frames.{CanAnswer, CanWork, KeepsBut};
 ghost use Rattle.dm_session.specs.Inside.{machine_of, IsSpelled};
 ghost use Rattle.dm_session.specs.Stays.{body_covers};
-ghost use Rattle.dm_session.specs.Working.{told, outcome, rest_behind, waiting_with, behind_status};
-ghost use Rattle.dm_session.specs.Working.{IsNextSpelled, HeardAs, Ran};
+ghost use Rattle.dm_session.specs.Working.{rest_told, outcome, rest_behind, waiting_with, behind_status};
+ghost use Rattle.dm_session.specs.Working.{IsNextSpelled, HeardAs, Executed};
 
 use crate::drafts::Next;
 use crate::ending::close;
@@ -77,8 +77,8 @@ fn answer(
     requires can_answer { CanAnswer engine.now work.now }
     requires ready { AllByRecursion IsReady (waiting_with status queue.old made) }
     ensures state { IfOk result (λ session. (accounts : ListOf AnAccount) (uri : OptionOf (ListOf ℕ))
-        → machine_of engine.now queue.new (record (told work.now.rest.now accounts uri) { session = Some session })
-        ≡ sends (machine_of engine.now (waiting_with status queue.old made) (told work.now.rest.now accounts uri))
+        → machine_of engine.now queue.new (record (rest_told work.now.rest.now accounts uri) { session = Some session })
+        ≡ sends (machine_of engine.now (waiting_with status queue.old made) (rest_told work.now.rest.now accounts uri))
         (behind_status work.now.progress status) work.now.account.now) }
     ensures spelled { IfOk result (λ session. IsSpelled session.sent) }
     ensures err { OnErr result (queue.new ≡ queue.old) }
@@ -156,7 +156,7 @@ fn run(
     requires sound { IsSoundEngine engine.old }
     ensures ran { IfOk result (λ made. (c : AMachine) → c.engine ≡ state_of engine.old → c.clock ≡ clock_of engine.old
         → c.limits.max_obj ≡ max_obj_of engine.old
-        → Ran (Spec.run_of c account.now message code) (state_of engine.new) made) }
+        → Executed (Spec.run_of c account.now message code) (state_of engine.new) made) }
     ensures keeps { KeepsBut (body_covers message.body) engine.old engine.new }
 {
     if !passes(code) {
@@ -180,9 +180,9 @@ fn answer_again(
     requires can_answer { CanAnswer engine.now (record work.now { progress = again.1 }) }
     requires ready { AllByRecursion IsReady (waiting_with status again.0 made) }
     ensures state { IfOk result (λ next. (accounts : ListOf AnAccount) (uri : OptionOf (ListOf ℕ))
-        → outcome (machine_of engine.now queue.new (rest_behind (told work.now.rest.now accounts uri) next)) next
+        → outcome (machine_of engine.now queue.new (rest_behind (rest_told work.now.rest.now accounts uri) next)) next
         ≡ goes_on (sends (machine_of engine.now (waiting_with status again.0 made)
-        (told work.now.rest.now accounts uri)) (behind_status again.1 status) work.now.account.now)) }
+        (rest_told work.now.rest.now accounts uri)) (behind_status again.1 status) work.now.account.now)) }
     ensures spelled { IfOk result IsNextSpelled }
     ensures err { OnErr result (queue.new ≡ queue.old) }
 {
@@ -208,11 +208,11 @@ fn answer_or_end(
     requires can_answer { CanAnswer engine.old work.now }
     requires ready { AllByRecursion IsReady (waiting_with status queue.old made) }
     ensures state { IfOk result (λ next. (accounts : ListOf AnAccount) (uri : OptionOf (ListOf ℕ))
-        → outcome (machine_of engine.new queue.new (rest_behind (told work.now.rest.now accounts uri) next)) next
+        → outcome (machine_of engine.new queue.new (rest_behind (rest_told work.now.rest.now accounts uri) next)) next
         ≡ (if nothing_more && length (queue.old ++ map whole_entry made) == 0
-        then ends (Spec.finished (machine_of engine.old queue.old (told work.now.rest.now accounts uri))) Finished
+        then ends (Spec.finished (machine_of engine.old queue.old (rest_told work.now.rest.now accounts uri))) Finished
         else goes_on (sends (machine_of engine.old (waiting_with status queue.old made)
-        (told work.now.rest.now accounts uri)) (behind_status work.now.progress status) work.now.account.now))) }
+        (rest_told work.now.rest.now accounts uri)) (behind_status work.now.progress status) work.now.account.now))) }
     ensures spelled { IfOk result IsNextSpelled }
     ensures err { OnErr result (queue.new ≡ queue.old) }
     ensures keeps { KeepsBut none_moved engine.old engine.new }
@@ -241,11 +241,11 @@ pub(crate) fn answered(
     ensures state { IfOk result (λ next. (accounts : ListOf AnAccount) (uri : OptionOf (ListOf ℕ)) (p : AProgress)
         (h : Standings.Heard) → HeardAs heard.now work.now.account.now h
         → record p { standing = h.standing } ≡ work.now.progress
-        → outcome (machine_of engine.new queue.new (rest_behind (told work.now.rest.now accounts uri) next)) next
-        ≡ Spec.answered (machine_of engine.old queue.old (told work.now.rest.now accounts uri))
-        (Spec.waits_after (machine_of engine.old queue.old (told work.now.rest.now accounts uri)) p h) message h
+        → outcome (machine_of engine.new queue.new (rest_behind (rest_told work.now.rest.now accounts uri) next)) next
+        ≡ Spec.answered (machine_of engine.old queue.old (rest_told work.now.rest.now accounts uri))
+        (Spec.waits_after (machine_of engine.old queue.old (rest_told work.now.rest.now accounts uri)) p h) message h
         nonce.now.bytes
-        (Spec.run_of (machine_of engine.old queue.old (told work.now.rest.now accounts uri)) h.account message
+        (Spec.run_of (machine_of engine.old queue.old (rest_told work.now.rest.now accounts uri)) h.account message
         h.code)) }
     ensures spelled { IfOk result IsNextSpelled }
     ensures err { OnErr result (queue.new ≡ queue.old) }

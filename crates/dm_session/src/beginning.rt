@@ -16,7 +16,7 @@ use crate::sending::{send, session_after};
 use dm_atomic::Engine;
 use dm_base::Memory;
 use dm_headers::Standing;
-use dm_machine::{Kind, Progress};
+use dm_machine::{Initiator, Progress};
 use dm_pack::Queue;
 
 // Before a message of either end: the first package is the client's, and ends with its first Final.
@@ -36,7 +36,7 @@ pub(crate) fn open(
     engine: &Engine,
     rest: &Rest,
     account: usize,
-    kind: Kind,
+    kind: Initiator,
     number: u32,
 ) -> Result<(Queue, Session), Memory>
     requires limits { IsReadyLimits rest.now.limits }

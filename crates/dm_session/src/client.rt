@@ -31,7 +31,7 @@ use crate::working::accept;
 use dm_atomic::{Engine, Started};
 use dm_auth::Account;
 use dm_base::{Bytes, Limits, List, Memory, Nonce};
-use dm_machine::{Kind, UpdateResult};
+use dm_machine::{Initiator, UpdateResult};
 use dm_pack::Queue;
 use dm_tree::{Stamp, Tree};
 use std::alloc::Global;
@@ -144,7 +144,7 @@ impl Client {
     /// Begins a session with the account at a place. A session that is open is over then: what waits in it and what is
     /// unfinished is given up. `Exhausted` comes exactly where the number isn't above the last one begun, which is
     /// told, and takes no memory. After any error all is as before.
-    pub fn begin(&mut self, account: usize, kind: Kind, session: u32) -> Result<(), BeginError>
+    pub fn begin(&mut self, account: usize, kind: Initiator, session: u32) -> Result<(), BeginError>
         requires { account < length self.old.machine.accounts }
         ensures answer { Begins result self.new.machine (answer_now self.old.machine (opened account kind session)) }
         ensures memory { IsErrOf result error.Memory → takes self.old.machine (opened account kind session) ≡ true }

@@ -19,7 +19,7 @@ pub(crate) enum Next {
 
 /// What a message makes of a client. The RespURI and the account are told where they are new.
 #[derive(Drop)]
-pub(crate) struct Draft {
+pub(crate) struct ClientChanges {
     pub resp_uri: Option<Bytes>,
     pub account: Option<Account>,
     pub next: Next,
@@ -83,12 +83,12 @@ impl Rest {
     }
 
     /// Makes it so, for the account at a place. It takes no memory.
-    pub(crate) fn take_up(&mut self, at: usize, draft: Draft) -> Answer
+    pub(crate) fn take_up(&mut self, at: usize, draft: ClientChanges) -> Answer
         requires { at < length self.old.accounts }
         ensures rest { self.new ≡ drafted self.old at draft }
         ensures answer { result ≡ Spec.answer_of draft.next }
     {
-        let Draft {
+        let ClientChanges {
             resp_uri,
             account,
             next,

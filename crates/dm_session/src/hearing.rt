@@ -1,7 +1,8 @@
 // Whether a message is new, and what is answered where it isn't.
 ghost use Rattle.std.specs.Prelude.{◌≡◌, true, false, Ok as Good, List as ListOf, ℕ, option_map, IfNone, IfSome};
 ghost use Rattle.dm_machine.specs.Machine.{Machine as AMachine};
-ghost use Rattle.dm_machine.specs.Events.{message as came, takes, refusal, session_of as session_number, is_number};
+ghost use Rattle.dm_machine.specs.Events.{message as came, takes, refusal, session_of as session_number};
+ghost use Rattle.dm_machine.specs.Events.{is_same_number};
 ghost use Rattle.dm_machine.specs.History.{kept_in};
 ghost use Rattle.dm_session.specs.Inside.{session_in};
 ghost use Rattle.dm_session.specs.View.{Tells};
@@ -13,7 +14,7 @@ use syncml_types::Message;
 
 // Whether a message is of the session of a number.
 fn is_of(message: &Message, number: u32) -> bool
-    ensures { result ≡ is_number (session_number message.now) number }
+    ensures { result ≡ is_same_number (session_number message.now) number }
 {
     match num(message.header().session.as_slice()) {
         None => false,

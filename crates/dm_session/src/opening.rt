@@ -9,23 +9,23 @@ ghost use Rattle.dm_machine.specs.Opening as Spec;
 use crate::device::{device_path, printed, update_uri, value_at};
 use dm_base::{Boxed, Bytes, List, Memory};
 use dm_ends::alert;
-use dm_machine::{Kind, UpdateResult};
+use dm_machine::{Initiator, UpdateResult};
 use dm_tree::Tree;
 use std::alloc::Global;
 use syncml_types::copies::copy_bytes;
 use syncml_types::{Command, Item, Loc, Meta, Plain, Verb};
 
-fn kind_code(kind: Kind) -> u32
+fn kind_code(kind: Initiator) -> u32
     ensures { result ≡ Spec.kind_code kind }
 {
     match kind {
-        Kind::ByServer => 1200,
-        Kind::ByClient => 1201,
+        Initiator::ByServer => 1200,
+        Initiator::ByClient => 1201,
     }
 }
 
 fn meta_of(alloc: Global, format: &[u8], media: &[u8]) -> Result<Boxed<Meta>, Memory>
-    ensures { IfOk result (λ meta. meta ≡ Spec.meta_of format.now media.now) }
+    ensures { IfOk result (λ meta. meta ≡ Spec.typed_meta format.now media.now) }
 {
     let meta = Meta {
         format: Some(Bytes::of_slice(alloc, format)?),
@@ -151,7 +151,7 @@ fn device_told(alloc: Global, tree: &Tree) -> Result<Command, Memory>
 pub(crate) fn opening(
     alloc: Global,
     tree: &Tree,
-    kind: Kind,
+    kind: Initiator,
     results: &List<UpdateResult>,
 ) -> Result<List<Command>, Memory>
     requires { IsUpdateInOrder (nodes tree.now.rows) }

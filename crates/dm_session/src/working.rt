@@ -2,19 +2,19 @@
 ghost use Rattle.std.specs.Prelude.{◌≡◌, ◌<◌, ◌^◌, List as ListOf, ℕ, Option as OptionOf, set, unwrap_or};
 ghost use Rattle.std.specs.Prelude.{IfOk, OnErr};
 ghost use Rattle.dm_auth.specs.declared.accounts.Account.{Account as AnAccount};
-ghost use Rattle.dm_headers.specs.Standings as Standings;
+ghost use Rattle.dm_headers.specs.Standings;
 ghost use Rattle.dm_atomic.specs.Engine.{state_of};
 ghost use Rattle.dm_machine.specs.declared.progress.Progress.{Progress as AProgress};
 ghost use Rattle.dm_machine.specs.Machine.{Machine as AMachine};
 ghost use Rattle.dm_machine.specs.Messages as Spec;
 ghost use Rattle.dm_machine.specs.Ready.{IsReadyMessage, IsReadyProgress};
 ghost use Rattle.dm_session.specs.Frames.{CanAnswer, CanWork, KeepsBut};
-ghost use Rattle.dm_session.specs.Inside.{machine_of, IsSpelled, CanGoOn};
+ghost use Rattle.dm_session.specs.Inside.{machine_of, IsSpelled, CanWorkOn};
 ghost use Rattle.dm_session.specs.Stays.{body_covers};
-ghost use Rattle.dm_session.specs.Working.{told, outcome, rest_behind, drafted, IsNextSpelled, HeardAs};
+ghost use Rattle.dm_session.specs.Working.{rest_told, outcome, rest_behind, drafted, IsNextSpelled, HeardAs};
 
 use crate::answering::answered;
-use crate::drafts::{Draft, Next};
+use crate::drafts::{ClientChanges, Next};
 use crate::ending::close;
 use crate::headers::header_from;
 use crate::rest::Rest;
@@ -75,8 +75,8 @@ fn by_header(
         (h : Standings.Heard) → HeardAs heard.now work.now.account.now h
         → record p { standing = h.standing } ≡ work.now.progress
         → outcome (machine_of engine.new queue.new
-        (rest_behind (told work.now.rest.now (set accounts p.account work.now.account.now) uri) next)) next
-        ≡ Spec.by_header (machine_of engine.old queue.old (told work.now.rest.now accounts uri)) p message
+        (rest_behind (rest_told work.now.rest.now (set accounts p.account work.now.account.now) uri) next)) next
+        ≡ Spec.by_header (machine_of engine.old queue.old (rest_told work.now.rest.now accounts uri)) p message
         nonce.now.bytes h) }
     ensures spelled { IfOk result IsNextSpelled }
     ensures err { OnErr result (queue.new ≡ queue.old) }
@@ -114,8 +114,8 @@ pub(crate) fn accept(
     progress: &Progress,
     message: Message,
     nonce: &Nonce,
-) -> Result<Draft, Memory>
-    requires goes_on { CanGoOn engine.old queue.old rest.now }
+) -> Result<ClientChanges, Memory>
+    requires goes_on { CanWorkOn engine.old queue.old rest.now }
     requires progress { IsReadyProgress (machine_of engine.old queue.old rest.now) progress.now }
     requires message { IsReadyMessage message nonce.now.bytes }
     ensures state { IfOk result
@@ -128,7 +128,7 @@ pub(crate) fn accept(
     let resp_uri = copy_bytes(rest.alloc, &message.header().resp_uri)?;
     if progress.standing.own == u32::MAX {
         close(engine, queue);
-        return Ok(Draft {
+        return Ok(ClientChanges {
             resp_uri,
             account: None,
             next: Next::Ends(End::Aborted, None),
@@ -152,7 +152,7 @@ pub(crate) fn accept(
         },
     };
     let next = by_header(engine, queue, &work, message, nonce, &heard)?;
-    Ok(Draft {
+    Ok(ClientChanges {
         resp_uri,
         account: heard.account,
         next,

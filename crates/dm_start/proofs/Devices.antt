@@ -26,8 +26,9 @@ use Rattle.dm_tree.proofs.Devices.{update_is_found}
 use Rattle.dm_tree.proofs.DeviceTrees.{changed_keeps_device, added_keeps_device}
 use Rattle.dm_tree.proofs.NodesKept.{at_insert, here_insert, still_insert}
 use Rattle.dm_tree.proofs.Paths.{tree_total}
-use Rattle.dm_start.specs.declared.heads.Device.{Device}
-use Rattle.dm_start.specs.Growing.{go_on, new_node, is_open, may_stand, with_one, with_all, device_leaf, interior_value}
+use Rattle.dm_start.specs.declared.heads.DeviceInfo.{DeviceInfo}
+use Rattle.dm_start.specs.Growing.{unless_refused, new_node, is_open, may_stand, with_one, with_all, new_device_leaf}
+use Rattle.dm_start.specs.Growing.{interior_value}
 use Rattle.dm_start.specs.Growing.{start_acl, start_nodes, update_leaf, update_part, with_update, changed_at}
 use Rattle.dm_start.specs.Soundness.{IsShortDevice}
 use Rattle.dm_fields.proofs.Told.{said, allowed, passed, same_ok}
@@ -88,10 +89,10 @@ past : (m : Nodes) (p q : Path) (new node : Node) → eq_by_cmp tree_order q p �
     → get (insert m p new) q ≡ Some node
 past m p q new node other there = get-insert tree_total m p new q ∙ rw other there
 
-leaf_plain : (clock : Stamp) (value : List ℕ) → IsPlainText (made clock (device_leaf value))
+leaf_plain : (clock : Stamp) (value : List ℕ) → IsPlainText (made clock (new_device_leaf value))
 leaf_plain clock value = record { update = refl; text = plain_type }
 
-module _ (clock : Stamp) (d : Device) where
+module _ (clock : Stamp) (d : DeviceInfo) where
   all_plain : AllPlainText (start_nodes clock d)
   unfolding start_nodes
   all_plain =
@@ -103,33 +104,33 @@ module _ (clock : Stamp) (d : Device) where
       (one_more empty [] (counted (root_node start_acl) 0 clock)
       (record { update = refl; text = no_type }) nothing_there))))))
 
-  leaf : (name value : List ℕ) → get (start_nodes clock d) (device_path name) ≡ Some (made clock (device_leaf value))
+  leaf : (name value : List ℕ) → get (start_nodes clock d) (device_path name) ≡ Some (made clock (new_device_leaf value))
       → is_short value ≡ true → IsDeviceLeaf (start_nodes clock d) name
   leaf name value there short = record {
-    node = made clock (device_leaf value);
+    node = made clock (new_device_leaf value);
     stands = record { there = there; kind = refl; permanent = refl; role_is = refl };
     format = refl;
     media = refl;
     short = short;
   }
 
-  at_lang : get (start_nodes clock d) (device_path (codes "Lang")) ≡ Some (made clock (device_leaf d.lang))
+  at_lang : get (start_nodes clock d) (device_path (codes "Lang")) ≡ Some (made clock (new_device_leaf d.lang))
   unfolding start_nodes
   at_lang = here_insert _ _ _
 
-  at_dm_v : get (start_nodes clock d) (device_path (codes "DmV")) ≡ Some (made clock (device_leaf d.dm_v))
+  at_dm_v : get (start_nodes clock d) (device_path (codes "DmV")) ≡ Some (made clock (new_device_leaf d.dm_v))
   unfolding start_nodes
   at_dm_v = past _ _ _ _ _ refl (here_insert _ _ _)
 
-  at_model : get (start_nodes clock d) (device_path (codes "Mod")) ≡ Some (made clock (device_leaf d.model))
+  at_model : get (start_nodes clock d) (device_path (codes "Mod")) ≡ Some (made clock (new_device_leaf d.model))
   unfolding start_nodes
   at_model = past _ _ _ _ _ refl (past _ _ _ _ _ refl (here_insert _ _ _))
 
-  at_man : get (start_nodes clock d) (device_path (codes "Man")) ≡ Some (made clock (device_leaf d.man))
+  at_man : get (start_nodes clock d) (device_path (codes "Man")) ≡ Some (made clock (new_device_leaf d.man))
   unfolding start_nodes
   at_man = past _ _ _ _ _ refl (past _ _ _ _ _ refl (past _ _ _ _ _ refl (here_insert _ _ _)))
 
-  at_dev_id : get (start_nodes clock d) (device_path (codes "DevId")) ≡ Some (made clock (device_leaf d.dev_id))
+  at_dev_id : get (start_nodes clock d) (device_path (codes "DevId")) ≡ Some (made clock (new_device_leaf d.dev_id))
   unfolding start_nodes
   at_dev_id = past _ _ _ _ _ refl (past _ _ _ _ _ refl (past _ _ _ _ _ refl (past _ _ _ _ _ refl (here_insert _ _ _))))
 
@@ -175,7 +176,7 @@ one_came clock e es m n free rest = (free, rest)
 
 first_came : (clock : Stamp) (e : Path × NewNode) (es : List (Path × NewNode)) (m n : Nodes)
     (r : Result Nodes LineReason)
-    → with_one clock m e.0 e.1 ≡ r → go_on r (λ k. with_all clock k es) ≡ Ok n
+    → with_one clock m e.0 e.1 ≡ r → unless_refused r (λ k. with_all clock k es) ≡ Ok n
     → ((k : Nodes) → with_all clock k es ≡ Ok n → Came clock k es n) → Came clock m (e ∷ es) n
 first_came clock e es m n (Err why) is rest each = absurd (cc)
 first_came clock e es m n (Ok k) is rest each =

@@ -21,16 +21,16 @@ use Rattle.dm_tree.proofs.Paths.{Ends, ends, none, last}
 use Rattle.dm_tree.proofs.LiveRows.{last_name-append}
 use Rattle.dm_fields.specs.declared.errors.LineError.{LineError}
 use Rattle.dm_fields.specs.declared.errors.LineError.TheVariants as line_error
-use Rattle.dm_start.specs.declared.node_lines.Leaf.{Leaf}
+use Rattle.dm_start.specs.declared.node_lines.LeafLine.{LeafLine}
 use Rattle.dm_start.specs.Fields.{leaf_in}
-use Rattle.dm_start.specs.Growing.{or_fields, new_node, takes_child, is_open, with_one, with_all, go_on}
+use Rattle.dm_start.specs.Growing.{or_fields, new_node, takes_child, is_open, with_one, with_all, unless_refused}
 use Rattle.dm_fields.specs.Refusing.{or_refused}
 use Rattle.dm_start.specs.Growing.{leaf_line, with_leaf, update_part, with_update, with_mark_at, changed_at}
 use Rattle.dm_undo.specs.declared.entries.Entry.{Entry}
 use Rattle.dm_undo.specs.Journals.{Journal}
 use Rattle.dm_undo.specs.Sound.{AreAllHeld, IsSound}
 use Rattle.dm_undo.specs.Trees.{maps_of, tree_at}
-use Rattle.dm_start.specs.Laying.{ParksNone, Stays, IsOutside, IsSpot, GoesBackTo}
+use Rattle.dm_start.specs.Laying.{ParksNone, LeavesTreeAsIs, IsOutside, IsSpot, GoesBackTo}
 use Rattle.dm_fields.specs.Refusing.{Refuses}
 use Rattle.dm_start.proofs.Spots.{not_within, free_below}
 
@@ -47,7 +47,7 @@ device_is_within wanted (line_error.Bad why) h =
     absurd (let within : is_within_limits (codes "DevInfo" ∷ []) ≡ true = refl in let out = h.0 in cc)
 device_is_within wanted line_error.Memory h = tt
 
-pub itself : (t : Tree) → Stays t t
+pub itself : (t : Tree) → LeavesTreeAsIs t t
 itself t = record { nodes_are = refl; clock = refl; parked = λ clear. clear }
 
 -- ---- a spot
@@ -94,7 +94,7 @@ path_used {X = X} (Some y) x next e = let same : y ≡ x = same_value y x e in a
 not_more : (n : ℕ) → n ≤ 4194304 → nat_le n 4194304 ≡ true
 not_more n h = grind (arith, nat_tests)
 
-pub leaf_laid : (clock : Stamp) (m : Nodes) (fields : List (List ℕ)) (leaf : Leaf) (node : NewNode)
+pub leaf_laid : (clock : Stamp) (m : Nodes) (fields : List (List ℕ)) (leaf : LeafLine) (node : NewNode)
     → or_fields (leaf_in fields) ≡ Ok leaf
     → length leaf.value.bytes ≤ 4194304 → node ≡ new_node false leaf.value false role.Plain
     → with_one clock m leaf.path node ≡ leaf_line clock m fields
@@ -152,7 +152,7 @@ module _ {clock : Stamp} {m : Nodes} {whole rest : List (Path × NewNode)} {t : 
     clock_is = one.1.0 ∙ on.clock_is;
     rest_is =
         on.rest_is
-        ∙ ap (λ r. go_on r (λ n. with_all clock n rest))
+        ∙ ap (λ r. unless_refused r (λ n. with_all clock n rest))
         (ap (λ c. with_one c (nodes t.rows) p new) (sym on.clock_is)
         ∙ ap (λ q. with_one t.clock (nodes t.rows) q new) (sym same) ∙ one.0);
   }
@@ -161,7 +161,7 @@ module _ {clock : Stamp} {m : Nodes} {whole rest : List (Path × NewNode)} {t : 
       → Refuses (with_all clock m whole) e
   stops q (line_error.Bad why) same h =
       on.rest_is
-      ∙ ap (λ r. go_on r (λ n. with_all clock n rest))
+      ∙ ap (λ r. unless_refused r (λ n. with_all clock n rest))
       (ap (λ c. with_one c (nodes t.rows) p new) (sym on.clock_is)
       ∙ ap (λ q. with_one t.clock (nodes t.rows) q new) (sym same) ∙ h)
   stops q line_error.Memory same h = tt
@@ -169,7 +169,7 @@ module _ {clock : Stamp} {m : Nodes} {whole rest : List (Path × NewNode)} {t : 
   pub goes_out : (e : LineError) → IsOutside p e → Refuses (with_all clock m whole) e
   goes_out (line_error.Bad why) h =
       on.rest_is
-      ∙ ap (λ r. go_on r (λ n. with_all clock n rest))
+      ∙ ap (λ r. unless_refused r (λ n. with_all clock n rest))
       (not_within clock (nodes t.rows) p new h.0 ∙ ap (λ w. Err w) (sym h.1))
   goes_out line_error.Memory h = tt
 

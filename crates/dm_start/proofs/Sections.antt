@@ -10,13 +10,13 @@ use Rattle.dm_base.specs.declared.lines.LineReason.TheVariants as reason
 use Rattle.dm_auth.specs.declared.accounts.Account.{Account}
 use Rattle.dm_tree.specs.Nodes.{first_stamp}
 use Rattle.dm_fields.specs.declared.errors.LineError.{LineError}
-use Rattle.dm_start.specs.declared.heads.Device.{Device}
+use Rattle.dm_start.specs.declared.heads.DeviceInfo.{DeviceInfo}
 use Rattle.dm_start.specs.declared.heads.Head.{Head}
 use Rattle.dm_start.specs.declared.heads.Head.TheVariants as head
 use Rattle.dm_start.specs.Fields.{device_in, clock_in}
 use Rattle.dm_fields.specs.Fields.{begins_with, limits_in}
-use Rattle.dm_start.specs.Start.{Section, opening, version_in, started, behind_limits, after_opening, after_line}
-use Rattle.dm_start.specs.Start.{is_begun, is_known, Reads}
+use Rattle.dm_start.specs.Start.{Section, opening, version_in, accounts_next, behind_limits, after_opening, after_line}
+use Rattle.dm_start.specs.Start.{is_begun, is_known, ReadsSection}
 use Rattle.dm_fields.specs.Refusing.{Refuses}
 use Rattle.dm_fields.proofs.Told.{said, allowed, same_ok, some_if}
 use Rattle.dm_start.specs.Laws.{AreApart}
@@ -44,7 +44,7 @@ five true true false d e h = absurd (cc)
 five true true true false e h = absurd (cc)
 five true true true true false h = absurd (cc)
 
-pub is_short_device : (fields : List (List ℕ)) (d : Device) → device_in fields ≡ Some d → IsShortDevice d
+pub is_short_device : (fields : List (List ℕ)) (d : DeviceInfo) → device_in fields ≡ Some d → IsShortDevice d
 is_short_device [] d e = absurd (cc)
 is_short_device (w ∷ []) d e = absurd (cc)
 is_short_device (w ∷ a ∷ []) d e = absurd (cc)
@@ -57,7 +57,7 @@ is_short_device (w ∷ a ∷ b ∷ c ∷ g ∷ h ∷ []) d e =
     let same : record { dev_id = a; man = b; model = c; dm_v = g; lang = h } ≡ d = some_device _ d told.1 in
     subst IsShortDevice same (record { dev_id = all.0; man = all.1; model = all.2; dm_v = all.3; lang = all.4 })
   where
-    some_device : (x y : Device) → Some x ≡ Some y → x ≡ y
+    some_device : (x y : DeviceInfo) → Some x ≡ Some y → x ≡ y
     some_device x y q = cc
 is_short_device (w ∷ a ∷ b ∷ c ∷ g ∷ h ∷ i ∷ rest) d e = absurd (cc)
 
@@ -85,10 +85,10 @@ apart_push (a ∷ rest) b apart unknown =
 
 -- ---- the first lines don't end a section
 
-behind_goes_on : (version : ℕ) (d : Device) (l : Limits) → is_begun (behind_limits version d l) ≡ false
+behind_goes_on : (version : ℕ) (d : DeviceInfo) (l : Limits) → is_begun (behind_limits version d l) ≡ false
 behind_goes_on version d l = by_version (version == 2)
   where
-    by_version : (b : Bool) → is_begun (cond b (opening (head.Clock d l)) (started version d l first_stamp)) ≡ false
+    by_version : (b : Bool) → is_begun (cond b (opening (head.Clock d l)) (accounts_next version d l first_stamp)) ≡ false
     by_version true = refl
     by_version false = refl
 
@@ -106,7 +106,7 @@ opening_goes_on (head.Limits v d) line t e =
     ap is_begun (sym (same_ok _ t s.rest)) ∙ behind_goes_on v d s.value
 opening_goes_on (head.Clock d l) line t e =
     let word = allowed (begins_with (codes "clock") line) _ reason.Word t e in
-    let s = said reason.Fields (clock_in (parts line)) (λ clock. Ok (started 2 d l clock)) t word.1 in
+    let s = said reason.Fields (clock_in (parts line)) (λ clock. Ok (accounts_next 2 d l clock)) t word.1 in
     ap is_begun (sym (same_ok _ t s.rest))
 
 pub opening_line : (h : Head) (line : List ℕ) → after_line (opening h) line ≡ after_opening h line
@@ -116,18 +116,18 @@ opening_line h line = refl
 -- ---- what a line is answered
 
 module _ (read : Result Section LineReason) (old new : Section) where
-  pub when_read : (r : Result Bool LineError) → Reads read old new r → OnOk r (read ≡ Ok new)
+  pub when_read : (r : Result Bool LineError) → ReadsSection read old new r → OnOk r (read ≡ Ok new)
   when_read (Ok last) h = h.0
   when_read (Err e) h = tt
 
-  pub when_last : (r : Result Bool LineError) → Reads read old new r → IfOk r (λ last. last ≡ is_begun new)
+  pub when_last : (r : Result Bool LineError) → ReadsSection read old new r → IfOk r (λ last. last ≡ is_begun new)
   when_last (Ok last) h = h.1
   when_last (Err e) h = tt
 
-  pub when_bad : (r : Result Bool LineError) → Reads read old new r → IfErr r (Refuses read)
+  pub when_bad : (r : Result Bool LineError) → ReadsSection read old new r → IfErr r (Refuses read)
   when_bad (Ok last) h = tt
   when_bad (Err e) h = h.0
 
-  pub when_err : (r : Result Bool LineError) → Reads read old new r → OnErr r (new ≡ old)
+  pub when_err : (r : Result Bool LineError) → ReadsSection read old new r → OnErr r (new ≡ old)
   when_err (Ok last) h = tt
   when_err (Err e) h = h.1

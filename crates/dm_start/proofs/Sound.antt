@@ -18,10 +18,10 @@ use Rattle.dm_tree.specs.Nodes.{Path, Nodes, with_acl, with_mark, with_title, fi
 use Rattle.dm_tree.specs.Devices.{IsDeviceTree, IsText, StaysAlike}
 use Rattle.dm_tree.proofs.BareDevices.{no_type}
 use Rattle.dm_fields.specs.declared.errors.LineError.{LineError}
-use Rattle.dm_start.specs.declared.heads.Device.{Device}
+use Rattle.dm_start.specs.declared.heads.DeviceInfo.{DeviceInfo}
 use Rattle.dm_start.specs.declared.heads.Head.{Head}
 use Rattle.dm_start.specs.declared.heads.Head.TheVariants as head
-use Rattle.dm_start.specs.declared.node_lines.Leaf.{Leaf}
+use Rattle.dm_start.specs.declared.node_lines.LeafLine.{LeafLine}
 use Rattle.dm_start.specs.declared.telling.Phase.{Phase}
 use Rattle.dm_start.specs.declared.telling.Phase.TheVariants as phase
 use Rattle.dm_start.specs.Fields.{path_in, leaf_of, leaf_in, is_leaf_format, only_path, acl_in, title_in}
@@ -31,12 +31,13 @@ use Rattle.dm_fields.specs.Fields.{limits_in, account_in, are_limits}
 use Rattle.dm_start.specs.Growing.{new_node, interior_value, with_one, with_update, changed_at, with_acl_at, is_title}
 use Rattle.dm_start.specs.Growing.{with_title_at, may_be_permanent, with_mark_at, interior_line, with_leaf, leaf_line}
 use Rattle.dm_start.specs.Growing.{acl_line, title_line, permanent_line, update_line, nodes_after}
-use Rattle.dm_start.specs.Start.{Setup, Section, opening, telling, version_in, started, behind_limits, after_opening}
-use Rattle.dm_start.specs.Start.{is_known, with_account, account_line, begin_line, with_nodes, later_line}
-use Rattle.dm_start.specs.Start.{after_telling, after_line, behind_line, lines_after, Reads}
+use Rattle.dm_start.specs.Start.{Setup, Section, opening, telling, version_in, accounts_next, behind_limits}
+use Rattle.dm_start.specs.Start.{after_opening}
+use Rattle.dm_start.specs.Start.{is_known, account_added, account_line, begin_line, with_nodes, later_line}
+use Rattle.dm_start.specs.Start.{after_telling, after_line, behind_line, lines_after, ReadsSection}
 use Rattle.dm_start.specs.Laws.{IsStart, StartsAreSound}
 use Rattle.dm_fields.specs.Fields.{IsAccount}
-use Rattle.dm_start.specs.Soundness.{IsKept, IsShortDevice, IsSoundHead, IsSoundPhase, IsSoundSection}
+use Rattle.dm_start.specs.Soundness.{IsToldSoFar, IsShortDevice, IsSoundHead, IsSoundPhase, IsSoundSection}
 use Rattle.dm_start.proofs.Sections.{is_version}
 use Rattle.dm_fields.proofs.Told.{said, allowed, passed, same_ok, some_if}
 use Rattle.dm_start.proofs.Sections.{is_short_device, all_push, apart_push}
@@ -63,7 +64,7 @@ module _ (clock : Stamp) (m n : Nodes) (device : IsDeviceTree m) where
       (λ p. with_one clock m p (new_node true interior_value false role.Plain)) n e in
       added_device clock m s.value (new_node true interior_value false role.Plain) n s.rest refl no_type device
 
-  leaf_text : (fields : List (List ℕ)) (l : Leaf) → leaf_in fields ≡ Some l → IsText l.value.media
+  leaf_text : (fields : List (List ℕ)) (l : LeafLine) → leaf_in fields ≡ Some l → IsText l.value.media
   leaf_text [] l e = absurd (cc)
   leaf_text (w ∷ []) l e = absurd (cc)
   leaf_text (w ∷ u ∷ []) l e = absurd (cc)
@@ -73,7 +74,7 @@ module _ (clock : Stamp) (m n : Nodes) (device : IsDeviceTree m) where
       let told = some_if (is_leaf_format f && is_word t) (leaf_of (path_in u) f t (hex_of b)) l e in
       by_parts (and_parts (is_leaf_format f) (is_word t) told.0).1 (path_in u) (hex_of b) told.1
     where
-      some_leaf : (x y : Leaf) → Some x ≡ Some y → x ≡ y
+      some_leaf : (x y : LeafLine) → Some x ≡ Some y → x ≡ y
       some_leaf x y h = cc
 
       by_parts : is_word t ≡ true → (p : Option Path) (v : Option (List ℕ)) → leaf_of p f t v ≡ Some l
@@ -81,7 +82,7 @@ module _ (clock : Stamp) (m n : Nodes) (device : IsDeviceTree m) where
       by_parts word None v h = absurd (cc)
       by_parts word (Some p) None h = absurd (cc)
       by_parts word (Some p) (Some v) h =
-          subst (λ (x : Leaf). IsText x.value.media) (some_leaf _ l h) (word_is_text t word)
+          subst (λ (x : LeafLine). IsText x.value.media) (some_leaf _ l h) (word_is_text t word)
   leaf_text (w ∷ u ∷ f ∷ t ∷ b ∷ x ∷ rest) l e = absurd (cc)
 
   after_leaf : (fields : List (List ℕ)) → leaf_line clock m fields ≡ Ok n → IsDeviceTree n
@@ -138,8 +139,8 @@ module _ (clock : Stamp) (m n : Nodes) (device : IsDeviceTree m) where
 
 -- ---- what is kept from line to line
 
-sound_start : (version : ℕ) (d : Device) (l : Limits) (clock : Stamp) → (version ≡ 1) ⊎ (version ≡ 2) → IsShortDevice d
-    → are_limits l.max_msg l.max_obj ≡ true → IsSoundSection (started version d l clock)
+sound_start : (version : ℕ) (d : DeviceInfo) (l : Limits) (clock : Stamp) → (version ≡ 1) ⊎ (version ≡ 2) → IsShortDevice d
+    → are_limits l.max_msg l.max_obj ≡ true → IsSoundSection (accounts_next version d l clock)
 sound_start version d l clock known short within = record {
   version = known;
   limits = within;
@@ -149,12 +150,12 @@ sound_start version d l clock known short within = record {
   device = start_is_device clock d short;
 }
 
-behind : (version : ℕ) (d : Device) (l : Limits) → (version ≡ 1) ⊎ (version ≡ 2) → IsShortDevice d
+behind : (version : ℕ) (d : DeviceInfo) (l : Limits) → (version ≡ 1) ⊎ (version ≡ 2) → IsShortDevice d
     → are_limits l.max_msg l.max_obj ≡ true
     → IsSoundSection (behind_limits version d l)
 behind version d l known short within = by_version (version == 2)
   where
-    by_version : (b : Bool) → IsSoundSection (cond b (opening (head.Clock d l)) (started version d l first_stamp))
+    by_version : (b : Bool) → IsSoundSection (cond b (opening (head.Clock d l)) (accounts_next version d l first_stamp))
     by_version true = (short, within)
     by_version false = sound_start version d l first_stamp known short within
 
@@ -173,7 +174,7 @@ sound_opening (head.Limits v d) line t sound e =
     subst IsSoundSection (same_ok _ t s.rest) (behind v d s.value sound.0 sound.1 (in_limits (parts line) s.value s.is))
 sound_opening (head.Clock d l) line t sound e =
     let word = allowed (begins_with (codes "clock") line) _ reason.Word t e in
-    let s = said reason.Fields (clock_in (parts line)) (λ clock. Ok (started 2 d l clock)) t word.1 in
+    let s = said reason.Fields (clock_in (parts line)) (λ clock. Ok (accounts_next 2 d l clock)) t word.1 in
     subst IsSoundSection (same_ok _ t s.rest) (sound_start 2 d l s.value (inr refl) sound.0 sound.1)
 
 -- ---- accounts
@@ -185,10 +186,10 @@ not_true : (b : Bool) → not b ≡ true → b ≡ false
 not_true false h = refl
 not_true true h = absurd (cc)
 
-sound_account : (told : Setup) (line : List ℕ) (t : Section) → IsKept told → account_line told line ≡ Ok t
+sound_account : (told : Setup) (line : List ℕ) (t : Section) → IsToldSoFar told → account_line told line ≡ Ok t
     → IsSoundSection t
 sound_account told line t kept e =
-    let s = said reason.Fields (account_in (parts line)) (with_account told) t e in
+    let s = said reason.Fields (account_in (parts line)) (account_added told) t e in
     let room = nat_lt (length told.accounts) 16 in
     let known = is_known told.accounts s.value.server in
     let may = allowed (room && not known) _ reason.Account t s.rest in
@@ -205,7 +206,7 @@ sound_account told line t kept e =
 
 -- ---- the lines behind them
 
-grown : (told : Setup) (r : Result Nodes LineReason) (t : Section) → IsKept told → 0 < length told.accounts
+grown : (told : Setup) (r : Result Nodes LineReason) (t : Section) → IsToldSoFar told → 0 < length told.accounts
     → ((n : Nodes) → r ≡ Ok n → IsDeviceTree n) → with_nodes told r ≡ Ok t → IsSoundSection t
 grown told (Err why) t kept some device e = absurd (cc)
 grown told (Ok n) t kept some device e =
@@ -221,7 +222,7 @@ grown told (Ok n) t kept some device e =
       some,
     )
 
-sound_later : (told : Setup) (line : List ℕ) (t : Section) → IsKept told → 0 < length told.accounts
+sound_later : (told : Setup) (line : List ℕ) (t : Section) → IsToldSoFar told → 0 < length told.accounts
     → later_line told line ≡ Ok t → IsSoundSection t
 sound_later told line t kept some e = by_word (begins_with (codes "begin") line) e
   where
@@ -260,7 +261,7 @@ sound_line (telling p told) line t sound e = sound_telling p told line t sound e
 
 -- whatever a line is answered, the section stays sound
 pub sound_read : (s : Section) (line : List ℕ) (t : Section) (r : Result Bool LineError) → IsSoundSection s
-    → Reads (after_line s line) s t r → IsSoundSection t
+    → ReadsSection (after_line s line) s t r → IsSoundSection t
 sound_read s line t (Ok last) sound h = sound_line s line t sound h.0
 sound_read s line t (Err e) sound h = subst IsSoundSection (sym h.1) sound
 

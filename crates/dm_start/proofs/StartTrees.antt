@@ -12,13 +12,13 @@ use Rattle.dm_tree.specs.Rows.{Tree, nodes}
 use Rattle.dm_tree.proofs.Paths.{tree_total}
 use Rattle.dm_fields.specs.declared.errors.LineError.{LineError}
 use Rattle.dm_fields.specs.declared.errors.LineError.TheVariants as line_error
-use Rattle.dm_start.specs.declared.heads.Device.{Device}
+use Rattle.dm_start.specs.declared.heads.DeviceInfo.{DeviceInfo}
 use Rattle.dm_start.specs.declared.telling.Phase.TheVariants as phase
 use Rattle.dm_start.specs.Growing.{with_all, bare_tree, device_part, start_nodes}
 use Rattle.dm_fields.specs.Refusing.{Refuses}
-use Rattle.dm_start.specs.Start.{Section, telling, started, told_of}
+use Rattle.dm_start.specs.Start.{Section, telling, accounts_next, told_of}
 
-pub device_stands : (clock : Stamp) (d : Device)
+pub device_stands : (clock : Stamp) (d : DeviceInfo)
     → with_all clock (bare_tree clock) (device_part d) ≡ Ok (start_nodes clock d)
 unfolding start_nodes
 device_stands clock d =
@@ -29,15 +29,15 @@ device_stands clock d =
       len-empty tree_order Node,
     ) refl
 
-pub never_refused : (clock : Stamp) (d : Device) (wanted : Result Section LineReason) (e : LineError)
+pub never_refused : (clock : Stamp) (d : DeviceInfo) (wanted : Result Section LineReason) (e : LineError)
     → Refuses (with_all clock (bare_tree clock) (device_part d)) e → Refuses wanted e
 never_refused clock d wanted (line_error.Bad why) said = absurd (let stands = device_stands clock d in cc)
 never_refused clock d wanted line_error.Memory said = tt
 
-pub started_is : (version : ℕ) (d : Device) (limits : Limits) (clock : Stamp) (accounts : List Account) (tree : Tree)
+pub started_is : (version : ℕ) (d : DeviceInfo) (limits : Limits) (clock : Stamp) (accounts : List Account) (tree : Tree)
     → accounts ≡ []
     → with_all clock (bare_tree clock) (device_part d) ≡ Ok (nodes tree.rows) → tree.clock ≡ clock
-    → started version d limits clock
+    → accounts_next version d limits clock
     ≡ telling phase.Accounts (told_of (record { version = version; limits = limits; accounts = accounts; tree = tree }))
 started_is version d limits clock accounts tree none said at =
     let same : start_nodes clock d ≡ nodes tree.rows = same_ok _ _ (sym (device_stands clock d) ∙ said) in

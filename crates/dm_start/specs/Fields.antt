@@ -14,8 +14,8 @@ use Rattle.dm_uri.specs.Reading.{parse_of}
 use Rattle.dm_auth.specs.declared.accounts.Account.{Account}
 use Rattle.dm_tree.specs.declared.nodes.Stamp.{Stamp}
 use Rattle.dm_tree.specs.Nodes.{Path, is_format, is_node_format}
-use Rattle.dm_start.specs.declared.heads.Device.{Device}
-use Rattle.dm_start.specs.declared.node_lines.Leaf.{Leaf}
+use Rattle.dm_start.specs.declared.heads.DeviceInfo.{DeviceInfo}
+use Rattle.dm_start.specs.declared.node_lines.LeafLine.{LeafLine}
 
 -- ---- one field
 
@@ -49,7 +49,7 @@ is_leaf_format text = is_format text && not (is_node_format text)
 -- ---- the fields of a line, its word first
 
 -- `device SHORT SHORT SHORT SHORT SHORT`
-abbrev pub device_in : List (List ℕ) → Option Device
+abbrev pub device_in : List (List ℕ) → Option DeviceInfo
 device_in (word ∷ dev_id ∷ man ∷ model ∷ dm_v ∷ lang ∷ []) =
     if is_short dev_id && is_short man && is_short model && is_short dm_v && is_short lang
     then Some (record { dev_id = dev_id; man = man; model = model; dm_v = dm_v; lang = lang })
@@ -66,14 +66,14 @@ abbrev pub only_path : List (List ℕ) → Option Path
 only_path (word ∷ uri ∷ []) = path_in uri
 only_path other = None
 
-abbrev pub leaf_of : Option Path → List ℕ → List ℕ → Option (List ℕ) → Option Leaf
+abbrev pub leaf_of : Option Path → List ℕ → List ℕ → Option (List ℕ) → Option LeafLine
 leaf_of None format media bytes = None
 leaf_of (Some p) format media None = None
 leaf_of (Some p) format media (Some bytes) =
     Some (record { path = p; value = record { format = format; media = media; bytes = bytes } })
 
 -- `leaf URI FORMAT WORD HEX`
-abbrev pub leaf_in : List (List ℕ) → Option Leaf
+abbrev pub leaf_in : List (List ℕ) → Option LeafLine
 leaf_in (word ∷ uri ∷ format ∷ media ∷ bytes ∷ []) =
     if is_leaf_format format && is_word media then leaf_of (path_in uri) format media (hex_of bytes) else None
 leaf_in other = None

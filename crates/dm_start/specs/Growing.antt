@@ -21,8 +21,8 @@ use Rattle.dm_tree.specs.declared.nodes.Stamp.{Stamp}
 use Rattle.dm_tree.specs.declared.nodes.Value.{Value}
 use Rattle.dm_tree.specs.Nodes.{Path, Nodes, above, made, root_node, counted, with_acl, with_mark, with_title}
 use Rattle.dm_tree.specs.Devices.{device_path, update_node}
-use Rattle.dm_start.specs.declared.heads.Device.{Device}
-use Rattle.dm_start.specs.declared.node_lines.Leaf.{Leaf}
+use Rattle.dm_start.specs.declared.heads.DeviceInfo.{DeviceInfo}
+use Rattle.dm_start.specs.declared.node_lines.LeafLine.{LeafLine}
 use Rattle.dm_fields.specs.Refusing.{or_refused}
 use Rattle.dm_start.specs.Fields.{only_path, leaf_in, acl_in, title_in}
 use Rattle.dm_fields.specs.Fields.{begins_with}
@@ -64,14 +64,14 @@ may_stand m p permanent = is_open m p permanent && is_within_limits p && not (le
 abbrev pub with_one : Stamp → Nodes → Path → NewNode → Result Nodes LineReason
 with_one clock m p new = if may_stand m p new.permanent then Ok (insert m p (made clock new)) else Err reason.Tree
 
-abbrev pub go_on : {X Y : Type 0} → Result X LineReason → (X → Result Y LineReason) → Result Y LineReason
-go_on (Ok x) next = next x
-go_on (Err why) next = Err why
+abbrev pub unless_refused : {X Y : Type 0} → Result X LineReason → (X → Result Y LineReason) → Result Y LineReason
+unless_refused (Ok x) next = next x
+unless_refused (Err why) next = Err why
 
 -- with new nodes, which come in one after another; where one may not, none does
 abbrev pub with_all : Stamp → Nodes → List (Path × NewNode) → Result Nodes LineReason
 with_all clock m [] = Ok m
-with_all clock m (e ∷ es) = go_on (with_one clock m e.0 e.1) (λ n. with_all clock n es)
+with_all clock m (e ∷ es) = unless_refused (with_one clock m e.0 e.1) (λ n. with_all clock n es)
 
 -- ---- the tree before the first line that tells of it
 
@@ -79,18 +79,18 @@ with_all clock m (e ∷ es) = go_on (with_one clock m e.0 e.1) (λ n. with_all c
 abbrev pub start_acl : Entries
 start_acl = record { add = Some Everybody; delete = None; exec = None; get = Some Everybody; replace = None }
 
-abbrev pub device_leaf : List ℕ → NewNode
-device_leaf value = new_node false (text_value value) true role.ReadOnly
+abbrev pub new_device_leaf : List ℕ → NewNode
+new_device_leaf value = new_node false (text_value value) true role.ReadOnly
 
 -- `./DevInfo`, and what the device tells in it
-abbrev pub device_part : Device → List (Path × NewNode)
+abbrev pub device_part : DeviceInfo → List (Path × NewNode)
 device_part d =
     (codes "DevInfo" ∷ [], new_node true interior_value true role.Plain)
-    ∷ (device_path (codes "DevId"), device_leaf d.dev_id)
-    ∷ (device_path (codes "Man"), device_leaf d.man)
-    ∷ (device_path (codes "Mod"), device_leaf d.model)
-    ∷ (device_path (codes "DmV"), device_leaf d.dm_v)
-    ∷ (device_path (codes "Lang"), device_leaf d.lang)
+    ∷ (device_path (codes "DevId"), new_device_leaf d.dev_id)
+    ∷ (device_path (codes "Man"), new_device_leaf d.man)
+    ∷ (device_path (codes "Mod"), new_device_leaf d.model)
+    ∷ (device_path (codes "DmV"), new_device_leaf d.dm_v)
+    ∷ (device_path (codes "Lang"), new_device_leaf d.lang)
     ∷ []
 
 abbrev pub all_inserted : Stamp → Nodes → List (Path × NewNode) → Nodes
@@ -101,7 +101,7 @@ abbrev pub bare_tree : Stamp → Nodes
 bare_tree clock = insert empty [] (counted (root_node start_acl) 0 clock)
 
 -- the root and the device's information, each node with the clock as its stamp
-unfoldable pub start_nodes : Stamp → Device → Nodes
+unfoldable pub start_nodes : Stamp → DeviceInfo → Nodes
 start_nodes clock d = all_inserted clock (bare_tree clock) (device_part d)
 
 -- ---- the update part
@@ -154,7 +154,7 @@ interior_line clock m fields =
     or_refused reason.Fields (only_path fields)
     (λ p. with_one clock m p (new_node true interior_value false role.Plain))
 
-abbrev pub with_leaf : Stamp → Nodes → Leaf → Result Nodes LineReason
+abbrev pub with_leaf : Stamp → Nodes → LeafLine → Result Nodes LineReason
 with_leaf clock m leaf =
     if nat_le (length leaf.value.bytes) object_limit
     then with_one clock m leaf.path (new_node false leaf.value false role.Plain)

@@ -13,7 +13,7 @@ use Rattle.dm_undo.specs.Trees.{Maps, tree_at}
 use Rattle.dm_fields.specs.declared.errors.LineError.{LineError}
 use Rattle.dm_fields.specs.declared.errors.LineError.TheVariants as line_error
 use Rattle.dm_fields.specs.Refusing.{Refuses}
-use Rattle.dm_start.specs.declared.new_nodes.Spot.{Spot}
+use Rattle.dm_start.specs.declared.new_nodes.NodePlace.{NodePlace}
 use Rattle.dm_start.specs.Growing.{is_open}
 
 -- where nothing was parked, nothing is
@@ -21,7 +21,7 @@ abbrev pub ParksNone : Tree → Tree → Type 0
 ParksNone old new = IsNoneParked old.rows → IsNoneParked new.rows
 
 -- the nodes and the clock are as they were, and nothing is left over
-pub record Stays (old new : Tree) : Type 0 where
+pub record LeavesTreeAsIs (old new : Tree) : Type 0 where
   pub nodes_are : nodes new.rows ≡ nodes old.rows
   pub clock : new.clock ≡ old.clock
   pub parked : ParksNone old new
@@ -29,18 +29,18 @@ pub record Stays (old new : Tree) : Type 0 where
 -- the tree is the wanted one, and nothing is left over; an error leaves all
 abbrev pub Lays : {T : Type 0} → Result Nodes LineReason → Tree → Tree → Result T LineError → Type 0
 Lays wanted old new (Ok x) = (wanted ≡ Ok (nodes new.rows)) × ((new.clock ≡ old.clock) × ParksNone old new)
-Lays wanted old new (Err e) = Refuses wanted e × Stays old new
+Lays wanted old new (Err e) = Refuses wanted e × LeavesTreeAsIs old new
 
 -- what is said, seen so, is the wanted thing
 abbrev pub SaysAs : {X Y : Type 0} → (X → Y) → Result Y LineReason → Result X LineError → Type 0
 SaysAs view wanted (Ok x) = wanted ≡ Ok (view x)
 SaysAs view wanted (Err e) = Refuses wanted e
 
-abbrev pub Says : {X : Type 0} → Result X LineReason → Result X LineError → Type 0
-Says wanted result = SaysAs (λ x. x) wanted result
+abbrev pub AnswersWanted : {X : Type 0} → Result X LineReason → Result X LineError → Type 0
+AnswersWanted wanted result = SaysAs (λ x. x) wanted result
 
 -- where a new node at p comes
-pub record IsSpot (rows : List Row) (p : Path) (permanent : Bool) (spot : Spot) : Type 0 where
+pub record IsSpot (rows : List Row) (p : Path) (permanent : Bool) (spot : NodePlace) : Type 0 where
   pub path : p ≡ path_of rows spot.parent ++ spot.name ∷ []
   pub live : IsLive rows spot.parent
   pub interior : (node_of rows spot.parent).interior ≡ true

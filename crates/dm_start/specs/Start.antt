@@ -10,15 +10,15 @@ use Rattle.dm_auth.specs.declared.accounts.Account.{Account}
 use Rattle.dm_tree.specs.declared.nodes.Stamp.{Stamp}
 use Rattle.dm_tree.specs.Nodes.{Nodes, first_stamp}
 use Rattle.dm_tree.specs.Rows.{nodes as nodes_of}
-use Rattle.dm_start.specs.declared.heads.Device.{Device}
+use Rattle.dm_start.specs.declared.heads.DeviceInfo.{DeviceInfo}
 use Rattle.dm_start.specs.declared.heads.Head.{Head}
 use Rattle.dm_start.specs.declared.heads.Head.TheVariants as head
 use Rattle.dm_fields.specs.declared.errors.LineError.{LineError}
 use Rattle.dm_start.specs.declared.telling.Phase.{Phase}
 use Rattle.dm_start.specs.declared.telling.Phase.TheVariants as phase
 use Rattle.dm_start.specs.declared.telling.Start.{Start}
-use Rattle.dm_start.specs.declared.reader.Place.{Place}
-use Rattle.dm_start.specs.declared.reader.Place.TheVariants as place
+use Rattle.dm_start.specs.declared.reader.SectionPlace.{SectionPlace}
+use Rattle.dm_start.specs.declared.reader.SectionPlace.TheVariants as place
 use Rattle.dm_start.specs.Fields.{device_in, clock_in}
 use Rattle.dm_fields.specs.Fields.{begins_with, limits_in, account_in}
 use Rattle.dm_start.specs.Growing.{start_nodes, nodes_after}
@@ -49,8 +49,8 @@ version_in line =
     else None
 
 -- the accounts come next
-abbrev pub started : ℕ → Device → Limits → Stamp → Section
-started version d limits clock = telling phase.Accounts (record {
+abbrev pub accounts_next : ℕ → DeviceInfo → Limits → Stamp → Section
+accounts_next version d limits clock = telling phase.Accounts (record {
   version = version;
   limits = limits;
   accounts = [];
@@ -59,9 +59,9 @@ started version d limits clock = telling phase.Accounts (record {
 })
 
 -- in version 2 the clock is told; in version 1 it is the first stamp
-abbrev pub behind_limits : ℕ → Device → Limits → Section
+abbrev pub behind_limits : ℕ → DeviceInfo → Limits → Section
 behind_limits version d limits =
-    if version == 2 then opening (head.Clock d limits) else started version d limits first_stamp
+    if version == 2 then opening (head.Clock d limits) else accounts_next version d limits first_stamp
 
 -- a line that begins with this word, where no other may stand
 abbrev pub only : List ℕ → List ℕ → Result Section LineReason → Result Section LineReason
@@ -76,7 +76,7 @@ after_opening (head.Limits v d) line =
     (or_refused reason.Fields (limits_in (parts line)) (λ limits. Ok (behind_limits v d limits)))
 after_opening (head.Clock d limits) line =
     only (codes "clock") line
-    (or_refused reason.Fields (clock_in (parts line)) (λ clock. Ok (started 2 d limits clock)))
+    (or_refused reason.Fields (clock_in (parts line)) (λ clock. Ok (accounts_next 2 d limits clock)))
 
 -- ---- the lines behind them
 
@@ -84,14 +84,14 @@ abbrev pub is_known : List Account → List ℕ → Bool
 is_known accounts server = list_any (λ (a : Account). bytes_eq a.server server) accounts
 
 -- at most 16 accounts, each server once
-abbrev pub with_account : Setup → Account → Result Section LineReason
-with_account told account =
+abbrev pub account_added : Setup → Account → Result Section LineReason
+account_added told account =
     if nat_lt (length told.accounts) 16 && not (is_known told.accounts account.server)
     then Ok (telling phase.Accounts (record told { accounts = told.accounts ++ account ∷ [] }))
     else Err reason.Account
 
 abbrev pub account_line : Setup → List ℕ → Result Section LineReason
-account_line told line = or_refused reason.Fields (account_in (parts line)) (with_account told)
+account_line told line = or_refused reason.Fields (account_in (parts line)) (account_added told)
 
 -- `begin`
 abbrev pub begin_line : Setup → List ℕ → Result Section LineReason
@@ -147,7 +147,7 @@ told_of start = record {
   clock = start.tree.clock;
 }
 
-abbrev pub section_at : Place → Section
+abbrev pub section_at : SectionPlace → Section
 section_at (place.Opening h) = opening h
 section_at (place.Telling p start) = telling p (told_of start)
 
@@ -159,11 +159,11 @@ is_begun (telling phase.Nodes told) = false
 is_begun (telling phase.Begun told) = true
 
 -- what a line is answered: whether it was the last; a line that is refused, and want of memory, leave all
-abbrev pub Reads : Result Section LineReason → Section → Section → Result Bool LineError → Type 0
-Reads read old new (Ok last) = (read ≡ Ok new) × (last ≡ is_begun new)
-Reads read old new (Err e) = Refuses read e × (new ≡ old)
+abbrev pub ReadsSection : Result Section LineReason → Section → Section → Result Bool LineError → Type 0
+ReadsSection read old new (Ok last) = (read ≡ Ok new) × (last ≡ is_begun new)
+ReadsSection read old new (Err e) = Refuses read e × (new ≡ old)
 
 -- a line behind the first ones is answered by how far the section has come
-abbrev pub Tells : Result Section LineReason → Start → Start → Result Phase LineError → Type 0
-Tells wanted old new (Ok p) = wanted ≡ Ok (telling p (told_of new))
-Tells wanted old new (Err e) = Refuses wanted e × (told_of new ≡ told_of old)
+abbrev pub TellsPhase : Result Section LineReason → Start → Start → Result Phase LineError → Type 0
+TellsPhase wanted old new (Ok p) = wanted ≡ Ok (telling p (told_of new))
+TellsPhase wanted old new (Err e) = Refuses wanted e × (told_of new ≡ told_of old)

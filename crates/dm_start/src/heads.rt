@@ -6,14 +6,14 @@ ghost use Rattle.dm_start.specs.Start.{version_in as version_of_line};
 
 use crate::forms::stamp_in;
 use crate::shorts::ShortText;
-use dm_base::{Form, Limits, Memory, is_field};
+use dm_base::{FieldForm, Limits, Memory, is_field};
 use dm_fields::{six_fields, two_fields};
 use dm_tree::Stamp;
 use std::alloc::Global;
 
 /// What a device tells of itself: the five leaves of `./DevInfo`.
 #[derive(Drop)]
-pub struct Device {
+pub struct DeviceInfo {
     pub dev_id: ShortText,
     pub man: ShortText,
     pub model: ShortText,
@@ -27,15 +27,15 @@ pub enum Head {
     First,
     /// `device`, in a section of this version.
     Device(u8),
-    Limits(u8, Device),
+    Limits(u8, DeviceInfo),
     /// `clock`, in version 2 alone.
-    Clock(Device, Limits),
+    Clock(DeviceInfo, Limits),
 }
 
 fn is_short(text: &[u8]) -> bool
     ensures { result ≡ is_short text.now }
 {
-    is_field(Form::Short, text)
+    is_field(FieldForm::Short, text)
 }
 
 fn are_short(a: &[u8], b: &[u8], c: &[u8], d: &[u8], e: &[u8]) -> bool
@@ -58,7 +58,7 @@ pub(crate) fn version_in(line: &[u8]) -> Option<u8>
 }
 
 /// What the fields of a `device` line say.
-pub(crate) fn device_in(alloc: Global, line: &[u8]) -> Result<Option<Device>, Memory>
+pub(crate) fn device_in(alloc: Global, line: &[u8]) -> Result<Option<DeviceInfo>, Memory>
     ensures { IfOk result (λ device. device ≡ Spec.device_in (parts line.now)) }
 {
     let Some((_, dev_id, man, model, dm_v, lang)) = six_fields(line) else {
@@ -67,7 +67,7 @@ pub(crate) fn device_in(alloc: Global, line: &[u8]) -> Result<Option<Device>, Me
     if !are_short(dev_id, man, model, dm_v, lang) {
         return Ok(None);
     }
-    Ok(Some(Device {
+    Ok(Some(DeviceInfo {
         dev_id: ShortText::of_slice(alloc, dev_id)?,
         man: ShortText::of_slice(alloc, man)?,
         model: ShortText::of_slice(alloc, model)?,
@@ -84,12 +84,12 @@ pub fn clock_in(line: &[u8]) -> Option<Stamp>
     stamp_in(stamp)
 }
 
-impl Device {
+impl DeviceInfo {
     /// An equal device.
-    pub(crate) fn copy(&self, alloc: Global) -> Result<Device, Memory>
+    pub(crate) fn copy(&self, alloc: Global) -> Result<DeviceInfo, Memory>
         ensures { IfOk result (λ copy. copy ≡ self.now) }
     {
-        Ok(Device {
+        Ok(DeviceInfo {
             dev_id: self.dev_id.copy(alloc)?,
             man: self.man.copy(alloc)?,
             model: self.model.copy(alloc)?,

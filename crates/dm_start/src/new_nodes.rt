@@ -17,7 +17,7 @@ use std::alloc::Global;
 
 /// Where a new node comes.
 #[derive(Drop)]
-pub(crate) struct Spot {
+pub(crate) struct NodePlace {
     pub parent: NodeId,
     pub name: Name,
 }
@@ -73,7 +73,7 @@ fn takes_child(permanent: bool, above: View) -> bool
 }
 
 // Where the node at a path would come. None comes exactly where none may come there, limits and room aside.
-fn spot_of(tree: &Tree, path: Path, permanent: bool) -> Option<Spot>
+fn spot_of(tree: &Tree, path: Path, permanent: bool) -> Option<NodePlace>
     ensures { MatchOption result (IsNoSpot tree.now.rows path permanent) (IsSpot tree.now.rows path permanent) }
 {
     // Its contract says that the root is there.
@@ -87,7 +87,7 @@ fn spot_of(tree: &Tree, path: Path, permanent: bool) -> Option<Spot>
     if tree.child(parent, &name).is_some() {
         return None;
     }
-    Some(Spot { parent, name })
+    Some(NodePlace { parent, name })
 }
 
 /// Adds a node at a path. What is answered takes it back.

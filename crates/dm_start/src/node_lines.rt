@@ -4,18 +4,18 @@ ghost use Rattle.dm_base.specs.Fields.{parts, hex_of};
 ghost use Rattle.dm_uri.specs.Names.{is_within_limits};
 ghost use Rattle.dm_tree.specs.Rows.{nodes};
 ghost use Rattle.dm_acl.specs.Reading.{parse_of as parse_acl};
-ghost use Rattle.dm_start.specs.Fields as Fields;
+ghost use Rattle.dm_start.specs.Fields;
 ghost use Rattle.dm_start.specs.Fields.{is_leaf_format as is_of_leaf};
 ghost use Rattle.dm_start.specs.Growing as Spec;
 ghost use Rattle.dm_start.specs.Growing.{nodes_after as tree_after};
-ghost use Rattle.dm_start.specs.Laying.{Lays, Says};
+ghost use Rattle.dm_start.specs.Laying.{Lays, AnswersWanted};
 
 use crate::forms::{is_leaf_format, path_in};
 use crate::new_nodes::{add, interior_node, new_node};
 use crate::updates::add_update;
 use dm_acl::laws::lists_that_are_read_are_short;
 use dm_acl::{Acl, AclError};
-use dm_base::{Bytes, Form, Memory, OBJECT_LIMIT, hex_bytes, is_field};
+use dm_base::{Bytes, FieldForm, Memory, OBJECT_LIMIT, hex_bytes, is_field};
 use dm_fields::{
     BAD_FIELDS, BAD_TREE, BAD_WORD, LineError, begins_with, five_fields, three_fields, two_fields,
 };
@@ -28,14 +28,14 @@ const TITLE_LIMIT: usize = 255;
 
 /// A leaf that a line tells, and where it is to stand.
 #[derive(Drop)]
-pub struct Leaf {
+pub struct LeafLine {
     pub path: Path,
     pub value: Value,
 }
 
 // The path in a line of a word and a URI.
 fn only_path(alloc: Global, line: &[u8]) -> Result<Path, LineError>
-    ensures path { Says (Spec.or_fields (Fields.only_path (parts line.now))) result }
+    ensures path { AnswersWanted (Spec.or_fields (Fields.only_path (parts line.now))) result }
     ensures within { IfOk result (λ path. IsTrue (is_within_limits path)) }
 {
     let Some((_, uri)) = two_fields(line) else {
@@ -75,22 +75,22 @@ fn value_in(
     }))
 }
 
-fn leaf_in(alloc: Global, line: &[u8]) -> Result<Leaf, LineError>
-    ensures leaf { Says (Spec.or_fields (Fields.leaf_in (parts line.now))) result }
+fn leaf_in(alloc: Global, line: &[u8]) -> Result<LeafLine, LineError>
+    ensures leaf { AnswersWanted (Spec.or_fields (Fields.leaf_in (parts line.now))) result }
     ensures within { IfOk result (λ leaf. IsTrue (is_within_limits leaf.path)) }
     ensures forms { IfOk result (λ leaf. IsTrue (is_of_leaf leaf.value.format) × (length leaf.value.media ≤ 255)) }
 {
     let Some((_, uri, format, media, bytes)) = five_fields(line) else {
         return Err(BAD_FIELDS);
     };
-    if !is_leaf_format(format) || !is_field(Form::Word, media) {
+    if !is_leaf_format(format) || !is_field(FieldForm::Word, media) {
         return Err(BAD_FIELDS);
     }
     let Some(path) = path_in(alloc, uri)? else {
         return Err(BAD_FIELDS);
     };
     match value_in(alloc, format, media, bytes)? {
-        Some(value) => Ok(Leaf { path, value }),
+        Some(value) => Ok(LeafLine { path, value }),
         None => Err(BAD_FIELDS),
     }
 }
@@ -131,7 +131,7 @@ fn acl_line(alloc: Global, tree: &mut Tree, line: &[u8]) -> Result<(), LineError
     let Some((_, uri, text)) = three_fields(line) else {
         return Err(BAD_FIELDS);
     };
-    if !is_field(Form::Word, text) {
+    if !is_field(FieldForm::Word, text) {
         return Err(BAD_FIELDS);
     }
     match path_in(alloc, uri)? {

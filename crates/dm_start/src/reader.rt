@@ -8,10 +8,10 @@ ghost use Rattle.dm_start.specs.Laying.{SaysAs};
 ghost use Rattle.dm_fields.specs.Refusing.{Refuses};
 ghost use Rattle.dm_start.specs.Soundness.{HasNoneParked};
 ghost use Rattle.dm_start.specs.Start as Spec;
-ghost use Rattle.dm_start.specs.Start.{after_line as section_after, section_at, told_of, is_begun, Reads};
+ghost use Rattle.dm_start.specs.Start.{after_line as section_after, section_at, told_of, is_begun, ReadsSection};
 ghost use Rattle.dm_start.specs.Laws.{IsStart};
 
-use crate::heads::{Device, Head, clock_in, device_in, version_in};
+use crate::heads::{DeviceInfo, Head, clock_in, device_in, version_in};
 use crate::start_trees::start_tree;
 use crate::telling::{Phase, Start, after_telling};
 use dm_base::{Limits, List};
@@ -22,7 +22,7 @@ use std::marker::Model;
 
 /// Which line comes next, with what those before it told.
 #[derive(Drop)]
-pub enum Place {
+pub enum SectionPlace {
     Opening(Head),
     Telling(Phase, Start),
 }
@@ -31,11 +31,11 @@ pub enum Place {
 #[derive(Drop)]
 pub struct StartReader {
     alloc: Global,
-    place: Place,
+    place: SectionPlace,
 }
 
 impl Model for StartReader {
-    ghost use Rattle.dm_start.specs.declared.reader.Place.{Place};
+    ghost use Rattle.dm_start.specs.declared.reader.SectionPlace.{Place};
     ghost use Rattle.dm_start.specs.Start.{section_at};
     ghost use Rattle.dm_start.specs.Soundness.{IsSoundSection, HasNoneParked};
 
@@ -53,14 +53,14 @@ const FIRST_STAMP: Stamp = Stamp {
 fn started(
     alloc: Global,
     version: u8,
-    device: &Device,
+    device: &DeviceInfo,
     limits: Limits,
     clock: Stamp,
-) -> Result<Place, LineError>
-    ensures read { SaysAs section_at (Ok (Spec.started version device.now limits clock)) result }
+) -> Result<SectionPlace, LineError>
+    ensures read { SaysAs section_at (Ok (Spec.accounts_next version device.now limits clock)) result }
     ensures parked { IfOk result HasNoneParked }
 {
-    Ok(Place::Telling(
+    Ok(SectionPlace::Telling(
         Phase::Accounts,
         Start {
             version,
@@ -71,17 +71,17 @@ fn started(
     ))
 }
 
-fn after_first(line: &[u8]) -> Result<Place, LineError>
+fn after_first(line: &[u8]) -> Result<SectionPlace, LineError>
     ensures read { SaysAs section_at (Spec.after_opening head.First line.now) result }
     ensures parked { IfOk result HasNoneParked }
 {
     match version_in(line) {
-        Some(version) => Ok(Place::Opening(Head::Device(version))),
+        Some(version) => Ok(SectionPlace::Opening(Head::Device(version))),
         None => Err(BAD_WORD),
     }
 }
 
-fn after_device(alloc: Global, version: u8, line: &[u8]) -> Result<Place, LineError>
+fn after_device(alloc: Global, version: u8, line: &[u8]) -> Result<SectionPlace, LineError>
     ensures read { SaysAs section_at (Spec.after_opening (head.Device version) line.now) result }
     ensures parked { IfOk result HasNoneParked }
 {
@@ -89,7 +89,7 @@ fn after_device(alloc: Global, version: u8, line: &[u8]) -> Result<Place, LineEr
         return Err(BAD_WORD);
     }
     match device_in(alloc, line)? {
-        Some(device) => Ok(Place::Opening(Head::Limits(version, device))),
+        Some(device) => Ok(SectionPlace::Opening(Head::Limits(version, device))),
         None => Err(BAD_FIELDS),
     }
 }
@@ -97,14 +97,14 @@ fn after_device(alloc: Global, version: u8, line: &[u8]) -> Result<Place, LineEr
 fn behind_limits(
     alloc: Global,
     version: u8,
-    device: &Device,
+    device: &DeviceInfo,
     limits: Limits,
-) -> Result<Place, LineError>
+) -> Result<SectionPlace, LineError>
     ensures read { SaysAs section_at (Ok (Spec.behind_limits version device.now limits)) result }
     ensures parked { IfOk result HasNoneParked }
 {
     if version == 2 {
-        Ok(Place::Opening(Head::Clock(device.copy(alloc)?, limits)))
+        Ok(SectionPlace::Opening(Head::Clock(device.copy(alloc)?, limits)))
     } else {
         started(alloc, version, device, limits, FIRST_STAMP)
     }
@@ -113,9 +113,9 @@ fn behind_limits(
 fn after_limits(
     alloc: Global,
     version: u8,
-    device: &Device,
+    device: &DeviceInfo,
     line: &[u8],
-) -> Result<Place, LineError>
+) -> Result<SectionPlace, LineError>
     ensures read { SaysAs section_at (Spec.after_opening (head.Limits version device.now) line.now) result }
     ensures parked { IfOk result HasNoneParked }
 {
@@ -130,10 +130,10 @@ fn after_limits(
 
 fn after_clock(
     alloc: Global,
-    device: &Device,
+    device: &DeviceInfo,
     limits: Limits,
     line: &[u8],
-) -> Result<Place, LineError>
+) -> Result<SectionPlace, LineError>
     ensures read { SaysAs section_at (Spec.after_opening (head.Clock device.now limits) line.now) result }
     ensures parked { IfOk result HasNoneParked }
 {
@@ -146,7 +146,7 @@ fn after_clock(
     }
 }
 
-fn after_opening(alloc: Global, opening: &Head, line: &[u8]) -> Result<Place, LineError>
+fn after_opening(alloc: Global, opening: &Head, line: &[u8]) -> Result<SectionPlace, LineError>
     ensures read { SaysAs section_at (Spec.after_opening opening.now line.now) result }
     ensures parked { IfOk result HasNoneParked }
 {
@@ -159,19 +159,19 @@ fn after_opening(alloc: Global, opening: &Head, line: &[u8]) -> Result<Place, Li
 }
 
 #[tactic(auto, unfolding(crate::specs::Start::after_line))]
-fn after_line(alloc: Global, place: &mut Place, line: &[u8]) -> Result<bool, LineError>
+fn after_line(alloc: Global, place: &mut SectionPlace, line: &[u8]) -> Result<bool, LineError>
     requires { is_begun (section_at place.old) ≡ false }
-    ensures read { Reads (section_after (section_at place.old) line.now) (section_at place.old) (section_at place.new)
+    ensures read { ReadsSection (section_after (section_at place.old) line.now) (section_at place.old) (section_at place.new)
         result }
     ensures parked { HasNoneParked place.old → HasNoneParked place.new }
 {
     match place {
-        Place::Opening(opening) => {
+        SectionPlace::Opening(opening) => {
             let next = after_opening(alloc, opening, line)?;
             *place = next;
             Ok(false)
         }
-        Place::Telling(phase, start) => {
+        SectionPlace::Telling(phase, start) => {
             *phase = after_telling(alloc, *phase, start, line)?;
             Ok(*phase == Phase::Begun)
         }
@@ -185,7 +185,7 @@ impl StartReader {
     {
         StartReader {
             alloc,
-            place: Place::Opening(Head::First),
+            place: SectionPlace::Opening(Head::First),
         }
     }
 
@@ -196,7 +196,7 @@ impl StartReader {
     {
         StartReader {
             alloc,
-            place: Place::Opening(Head::Device(version)),
+            place: SectionPlace::Opening(Head::Device(version)),
         }
     }
 
@@ -224,8 +224,8 @@ impl StartReader {
         ensures parked { IsNoneParked result.tree.rows }
     {
         match self.place {
-            Place::Telling(_, start) => start,
-            Place::Opening(_) => unreachable!(),
+            SectionPlace::Telling(_, start) => start,
+            SectionPlace::Opening(_) => unreachable!(),
         }
     }
 }

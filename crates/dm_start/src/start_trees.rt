@@ -7,7 +7,7 @@ ghost use Rattle.dm_tree.specs.Rows.{nodes, IsNoneParked};
 ghost use Rattle.dm_start.specs.Growing as Spec;
 ghost use Rattle.dm_start.specs.Laying.{Lays, Lengthens, SaysAs};
 
-use crate::heads::Device;
+use crate::heads::DeviceInfo;
 use crate::new_nodes::{add, below, interior_node, new_node, value_of};
 use crate::shorts::ShortText;
 use dm_acl::Acl;
@@ -59,7 +59,7 @@ fn add_device_leaf(
 ) -> Result<(), LineError>
     requires name { IsTrue (is_name name.now) }
     ensures { Lays (Spec.with_one tree.old.clock (nodes tree.old.rows) (device_path name.now)
-        (Spec.device_leaf text.now)) tree.old tree.new result }
+        (Spec.new_device_leaf text.now)) tree.old tree.new result }
 {
     let path = below(alloc, &device_node(alloc)?, name)?;
     let value = value_of(alloc, b"chr", b"text/plain", text.as_slice())?;
@@ -69,7 +69,11 @@ fn add_device_leaf(
 }
 
 /// The tree with the root and the device's information, each node with the clock as its stamp.
-pub(crate) fn start_tree(alloc: Global, clock: Stamp, device: &Device) -> Result<Tree, LineError>
+pub(crate) fn start_tree(
+    alloc: Global,
+    clock: Stamp,
+    device: &DeviceInfo,
+) -> Result<Tree, LineError>
     ensures nodes { SaysAs (λ tree. nodes tree.rows)
         (Spec.with_all clock (Spec.bare_tree clock) (Spec.device_part device.now)) result }
     ensures parked { IfOk result (λ tree. IsNoneParked tree.rows) }

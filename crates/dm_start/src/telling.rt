@@ -1,7 +1,7 @@
 // The lines behind the first ones: accounts, what tells of the tree, and `begin`.
 ghost use Rattle.dm_start.specs.Laying.{ParksNone};
 ghost use Rattle.dm_start.specs.Start as Spec;
-ghost use Rattle.dm_start.specs.Start.{told_of, Tells};
+ghost use Rattle.dm_start.specs.Start.{told_of, TellsPhase};
 
 use crate::accounts::is_known;
 use crate::node_lines::nodes_after;
@@ -33,7 +33,7 @@ pub enum Phase {
 const ACCOUNT_LIMIT: usize = 16;
 
 fn account_line(alloc: Global, start: &mut Start, line: &[u8]) -> Result<Phase, LineError>
-    ensures told { Tells (Spec.account_line (told_of start.old) line.now) start.old start.new result }
+    ensures told { TellsPhase (Spec.account_line (told_of start.old) line.now) start.old start.new result }
     ensures parked { ParksNone start.old.tree start.new.tree }
 {
     let Some(account) = account_in(alloc, line)? else {
@@ -49,7 +49,7 @@ fn account_line(alloc: Global, start: &mut Start, line: &[u8]) -> Result<Phase, 
 }
 
 fn later_line(alloc: Global, start: &mut Start, line: &[u8]) -> Result<Phase, LineError>
-    ensures told { Tells (Spec.later_line (told_of start.old) line.now) start.old start.new result }
+    ensures told { TellsPhase (Spec.later_line (told_of start.old) line.now) start.old start.new result }
     ensures parked { ParksNone start.old.tree start.new.tree }
 {
     if !begins_with(b"begin", line) {
@@ -70,7 +70,7 @@ pub(crate) fn after_telling(
     start: &mut Start,
     line: &[u8],
 ) -> Result<Phase, LineError>
-    ensures told { Tells (Spec.after_telling phase (told_of start.old) line.now) start.old start.new result }
+    ensures told { TellsPhase (Spec.after_telling phase (told_of start.old) line.now) start.old start.new result }
     ensures parked { ParksNone start.old.tree start.new.tree }
 {
     match phase {

@@ -25,11 +25,13 @@ pub use Rattle.std.specs.FinMap.Entries.{below_all}
 pub use Rattle.dm_acl.specs.declared.values.Entries.{Entries}
 pub use Rattle.dm_uri.specs.Names.{is_within_limits, is_name, joined, printed_path}
 pub use Rattle.dm_tree.specs.Devices.{is_role, is_of_update, update_node, has_role, is_update_node}
-pub use Rattle.dm_tree.specs.Edits.{attached_as, with_node, with_name, without_content, new_row, emptied, rekeyed, fits}
+pub use Rattle.dm_tree.specs.Edits.{attached_as, with_node, with_name, without_content, new_row, emptied, rekeyed}
+pub use Rattle.dm_tree.specs.Edits.{paths_fit}
 pub use Rattle.dm_tree.specs.Edits.{pruned, renamed}
 pub use Rattle.dm_tree.specs.Fields.{with_field}
 pub use Rattle.dm_tree.specs.Index.{IsIndex, ChildList, IsSized, no_children, children_at, IsChildList, IsPlace, IsPut}
-pub use Rattle.dm_tree.specs.Index.{IsInOrder, IsPlacePast, IsTaken, is_named_before, is_parked_below, parked_below}
+pub use Rattle.dm_tree.specs.Index.{IsInOrder, IsPlacePast, CanBeTakenOut, is_named_before, is_parked_below}
+pub use Rattle.dm_tree.specs.Index.{parked_below}
 pub use Rattle.dm_tree.specs.Nodes.{Path, tree_order, Nodes, above, is_below, IsRoot, IsStamp, IsNode, IsChildOf}
 pub use Rattle.dm_tree.specs.Nodes.{changed, last_name, counted}
 pub use Rattle.dm_tree.specs.Notes.{GoesAlike, TakesEditBack}
@@ -38,7 +40,7 @@ pub use Rattle.dm_tree.specs.Order.{next_sibling}
 pub use Rattle.dm_tree.specs.Reuse.{IsFreeRow, IsUsed, IsClear, IsLeftOver, freed, IsPlaced}
 unfoldable pub use Rattle.dm_tree.specs.Rows.{nodes, ids}
 pub use Rattle.dm_tree.specs.Rows.{row_at, path_of, IsTree, blank, IsShaped, IsLive, node_of, path_below, Tree, walk}
-pub use Rattle.dm_tree.specs.Rows.{IsParkedTop, ids_below, IsRow, placed, with_nodes}
+pub use Rattle.dm_tree.specs.Rows.{IsParkedTop, ids_below, IsRow, placed, nodes_at_paths}
 pub use Rattle.dm_tree.specs.Undos.{flipped, row_of, Fits, turned, TakesBack, IsInserted, IsHeld, IsReadyChange}
 pub use Rattle.dm_tree.specs.Undos.{all_flipped}
 pub use Rattle.dm_tree.specs.Walks.{least_child, deciding_row, child_of, find_from, is_later_child, next_past, path_up}

@@ -3,7 +3,7 @@ use Rattle.dm_tree.specs.declared.rows.Change.TheVariants as change
 use Rattle.dm_tree.proofs.Common.{◌≡◌, ℕ, zero, suc, ◌<◌, ◌≤◌, false, List, length, Some, refl, sym, ◌∙◌, ap, subst}
 use Rattle.dm_tree.proofs.Common.{arith, length-set, is_within_limits, Row, Path, IsRoot, row_at, node_of, path_below}
 use Rattle.dm_tree.proofs.Common.{ids_below, ids, nodes, IsShaped, IsRow, IsTree, IsLive, IsParkedTop, path_of}
-use Rattle.dm_tree.proofs.Common.{attached_as, pruned, IsTaken, TakesEditBack, TakesBack}
+use Rattle.dm_tree.proofs.Common.{attached_as, pruned, CanBeTakenOut, TakesEditBack, TakesBack}
 use Rattle.dm_tree.proofs.NodeEdits.{each_set, of_both}
 use Rattle.dm_tree.proofs.SubtreeCuts.{still_attached, shaped-detached, cut, ids-detached, nodes-detached}
 use Rattle.dm_tree.proofs.LiveRows.{len-nodes, live_at}
@@ -63,7 +63,7 @@ tree-out rows tree k z l before = record {
 
 -- what holds where a row of the tree is taken out
 pub record IsCut (rows : List Row) (k : ℕ) : Type 0 where
-  pub taken : IsTaken rows k
+  pub taken : CanBeTakenOut rows k
   pub tree : IsTree (attached_as rows k false)
   pub nodes : nodes (attached_as rows k false) ≡ pruned (nodes rows) (path_of rows k)
   pub ids : ids (attached_as rows k false) ≡ pruned (ids rows) (path_of rows k)

@@ -5,7 +5,7 @@ use Rattle.dm_tree.proofs.Common.{length, get_or, refl, sym, ◌∙◌, ap, subs
 use Rattle.dm_tree.proofs.Common.{set, length-set, get_or-set_same}
 use Rattle.dm_tree.proofs.Common.{get_or_default, Node, Row, Change, blank, row_at, node_of, IsShaped, IsParkedTop}
 use Rattle.dm_tree.proofs.Common.{attached_as, with_node, with_name, emptied, without_content, ChildList}
-use Rattle.dm_tree.proofs.Common.{children_at, parked_below, IsChildList, IsIndex, IsPut, IsTaken}
+use Rattle.dm_tree.proofs.Common.{children_at, parked_below, IsChildList, IsIndex, IsPut, CanBeTakenOut}
 use Rattle.dm_tree.proofs.Common.{IsSized, Fits, row_of, flipped, set-set}
 use Rattle.dm_tree.proofs.RowCounts.{LieAlike, sized-alike, alike-with_node, alike-with_name}
 use Rattle.dm_tree.proofs.RowPaths.{attached_row}
@@ -74,7 +74,7 @@ index-set rows k r was l e p a g n =
 
 -- ---- taken out, renamed and put in again
 
-module _ (rows out renamed : List Row) (k : ℕ) (name : List ℕ) (taken : IsTaken rows k)
+module _ (rows out renamed : List Row) (k : ℕ) (name : List ℕ) (taken : CanBeTakenOut rows k)
     (first : out ≡ attached_as rows k false) (second : renamed ≡ with_name out k name (node_of out k)) where
   abbrev r : Row
   r = record (row_at rows k) { attached = false; name = name }

@@ -6,7 +6,8 @@ use Rattle.dm_tree.proofs.Common.{get_or, refl, sym, ◌∙◌, ap, subst, arith
 use Rattle.dm_tree.proofs.Common.{set, length-set, and_parts, cases_Bool, false_from_ne_true, nat_tests}
 use Rattle.dm_tree.proofs.Common.{get_or-set_same, get_or-set_other, get_or_past, get_or_default, Row, blank, row_at}
 use Rattle.dm_tree.proofs.Common.{IsShaped, attached_as, ChildList, no_children, children_at, is_parked_below}
-use Rattle.dm_tree.proofs.Common.{parked_below, IsInOrder, IsChildList, IsIndex, IsPlace, IsPut, IsTaken, set-get_or}
+use Rattle.dm_tree.proofs.Common.{parked_below, IsInOrder, IsChildList, IsIndex, IsPlace, IsPut, CanBeTakenOut}
+use Rattle.dm_tree.proofs.Common.{set-get_or}
 use Rattle.dm_tree.proofs.Common.{set-set}
 use Rattle.dm_tree.proofs.Paths.{below_or_not, same_or_not}
 use Rattle.dm_tree.proofs.RowPaths.{same_number}
@@ -321,7 +322,7 @@ module _ (rows : List Row) (id : ℕ) (put : IsPut rows id) where
       (put_children (row_at rows id).parent refl (children_at index (row_at rows id).parent)
       (h.each (row_at rows id).parent parent_inside) place at)
 
-pub taken_index : (rows : List Row) (index : List ChildList) (id : ℕ) → IsTaken rows id → IsIndex rows index
+pub taken_index : (rows : List Row) (index : List ChildList) (id : ℕ) → CanBeTakenOut rows id → IsIndex rows index
     → (place : ℕ) → IsPlace rows (children_at index (row_at rows id).parent).ids (row_at rows id).name place
     → IsIndex (attached_as rows id false)
     (set index (row_at rows id).parent (taken_list (children_at index (row_at rows id).parent) place))

@@ -6,7 +6,7 @@ use Rattle.dm_tree.proofs.Common.{◌≡◌, ◌∙◌, ℕ, ◌<◌, ◌∷◌,
 use Rattle.dm_tree.proofs.Common.{refl, sym, ap, arith, Node, Row, blank, row_at, node_of, nodes, ids}
 use Rattle.dm_tree.proofs.Common.{path_of, IsTree, IsLive, IsParkedTop, with_node, with_name, attached_as}
 use Rattle.dm_tree.proofs.Common.{without_content, ChildList, no_children, children_at, IsChildList, IsIndex}
-use Rattle.dm_tree.proofs.Common.{IsTaken, set, get_or-set_same, set-get_or, Entries, set-set}
+use Rattle.dm_tree.proofs.Common.{CanBeTakenOut, set, get_or-set_same, set-get_or, Entries, set-set}
 use Rattle.dm_tree.proofs.SubtreeCuts.{live_attached}
 use Rattle.dm_tree.proofs.LiveRows.{stay_live}
 use Rattle.dm_tree.proofs.RootTree.{root_row, not_attached}
@@ -113,7 +113,7 @@ root-index name acl = record { same = refl; each = one }
 -- ---- which row may be taken out
 
 pub may_take : (rows : List Row) → IsTree rows → (k : ℕ) → IsLive rows k → (node_of rows k).permanent ≡ false
-    → IsTaken rows k
+    → CanBeTakenOut rows k
 may_take rows tree k live removable =
     let z = isnt_root rows tree k removable in
     let l = live_row rows tree.shape k live in

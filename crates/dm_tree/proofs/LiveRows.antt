@@ -9,7 +9,8 @@ use Rattle.dm_tree.proofs.Common.{◌≡◌, ℕ, zero, suc, ◌<◌, true, fals
 use Rattle.dm_tree.proofs.Common.{Option, None, Some, refl, sym, ◌∙◌, ap, subst, arith, and_from, get_or_default}
 use Rattle.dm_tree.proofs.Common.{list_all, get, len, contains_key, from_entries, len-insert, get-from_entries, is_name}
 use Rattle.dm_tree.proofs.Common.{is_within_limits, Node, Row, Path, tree_order, above, last_name, IsChildOf, IsNode}
-use Rattle.dm_tree.proofs.Common.{blank, row_at, node_of, walk, path_below, placed, ids_below, with_nodes, ids, nodes}
+use Rattle.dm_tree.proofs.Common.{blank, row_at, node_of, walk, path_below, placed, ids_below, nodes_at_paths, ids}
+use Rattle.dm_tree.proofs.Common.{nodes}
 use Rattle.dm_tree.proofs.Common.{Tree, IsShaped, IsTree, IsLive, path_of, path_up}
 use Rattle.dm_tree.proofs.Paths.{tree_total, same_ends, not_empty}
 use Rattle.dm_tree.proofs.RowPaths.{attached_row, up_from, at_bottom, at_top, one_row, depth_is, not_zero, same_number}
@@ -86,16 +87,16 @@ module _ (rows : List Row) (shape : IsShaped rows) where
           absurd (omega (arith, there.1, one_row rows shape _ _ 0 i n p there.0 e))
 
   len-upto : (n : ℕ)
-      → len (from_entries {R = tree_order} (with_nodes rows (ids_below rows 0 n))) ≡ length (ids_below rows 0 n)
+      → len (from_entries {R = tree_order} (nodes_at_paths rows (ids_below rows 0 n))) ≡ length (ids_below rows 0 n)
   len-upto zero = len-empty tree_order Node
   len-upto (suc n) = by_place (len-upto n) (path_below rows 0 n) refl
     where
       before : List (Path × Node)
-      before = with_nodes rows (ids_below rows 0 n)
+      before = nodes_at_paths rows (ids_below rows 0 n)
 
       by_place : len (from_entries {R = tree_order} before) ≡ length (ids_below rows 0 n)
           → (o : Option Path) → path_below rows 0 n ≡ o
-          → len (from_entries {R = tree_order} (with_nodes rows (placed o n (ids_below rows 0 n))))
+          → len (from_entries {R = tree_order} (nodes_at_paths rows (placed o n (ids_below rows 0 n))))
           ≡ length (placed o n (ids_below rows 0 n))
       by_place less None e = less
       by_place less (Some p) e =

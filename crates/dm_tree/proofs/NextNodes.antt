@@ -5,7 +5,7 @@ use Rattle.std.specs.Option.{option_or}
 use Rattle.std.specs.Ordering.{ordering_then}
 use Rattle.std.specs.Cmp.{both_ways}
 use Rattle.std.proofs.lemmas.Bool.{not-true}
-use Rattle.dm_tree.specs.Walks.{comes_after, next_row}
+use Rattle.dm_tree.specs.Walks.{comes_after, next_on_walk}
 use Rattle.dm_tree.proofs.Common.{◌≡◌, ℕ, zero, suc, ◌+◌, ◌<◌, Bool, true, false, nat_eq, List, [], ◌∷◌, ◌++◌, length}
 use Rattle.dm_tree.proofs.Common.{drop, Option, None, Some, refl, sym, ◌∙◌, ap, ◌⊎◌, inl, inr, arith, length-append}
 use Rattle.dm_tree.proofs.Common.{append_assoc, append-nil, take, get, keys, and_from, and_parts, cases_Bool}
@@ -304,7 +304,7 @@ module _ (rows : List Row) (shape : IsShaped rows) where
 
   pub shows_next : (top k : ℕ) → IsLive rows top → IsLive rows k → is_below (path_of rows top) (path_of rows k) ≡ true
       → (past : Bool)
-      → Shows rows (next_row rows top k past) (next_below (nodes rows) (path_of rows top) (path_of rows k) past)
+      → Shows rows (next_on_walk rows top k past) (next_below (nodes rows) (path_of rows top) (path_of rows k) past)
   shows_next top k tl kl b true = past-is top tl (row_at rows k).depth k kl refl b
   shows_next top k tl kl b false =
       seek k kl None _ _ (below_seeks rows (path_of rows top) (path_of rows k) b) _

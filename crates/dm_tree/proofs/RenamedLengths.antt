@@ -7,7 +7,8 @@ use Rattle.dm_tree.proofs.Common.{◌≡◌, ℕ, zero, suc, ◌+◌, ◌-◌, �
 use Rattle.dm_tree.proofs.Common.{length, Option, Some, refl, sym, ◌∙◌, ap, arith, inl, inr, length-append, ◌&&◌, not}
 use Rattle.dm_tree.proofs.Common.{filter, nat_le, nat_lt, if◌then◌else◌, list_all, option_map_or, get, keys, cases_Bool}
 use Rattle.dm_tree.proofs.Common.{nat_tests, printed_path, joined, Node, Row, Path, Nodes, is_below, row_at, node_of}
-use Rattle.dm_tree.proofs.Common.{walk, path_below, nodes, IsShaped, IsTree, IsLive, path_of, with_name, rekeyed, fits}
+use Rattle.dm_tree.proofs.Common.{walk, path_below, nodes, IsShaped, IsTree, IsLive, path_of, with_name, rekeyed}
+use Rattle.dm_tree.proofs.Common.{paths_fit}
 use Rattle.dm_tree.proofs.Common.{behind, below}
 use Rattle.dm_tree.proofs.MapKeys.{all_keys, keys_all}
 use Rattle.dm_tree.proofs.NodeEdits.{each_set, live_row}
@@ -98,7 +99,7 @@ then_fits p name q = nat_le (length (printed_path (rekeyed p name q))) 255
 
 -- the other paths keep to the limit as it is
 pub below_decides : (rows : List Row) → IsTree rows → (p : Path) (name : List ℕ)
-    → list_all (then_fits p name) (below (nodes rows) p) ≡ fits (nodes rows) p name
+    → list_all (then_fits p name) (below (nodes rows) p) ≡ paths_fit (nodes rows) p name
 below_decides rows tree p name =
     all_filtered (then_fits p name) (is_below p) (keys (nodes rows)) ∙ all_agree (nodes rows) _ _ (λ q x e.
     elim (cases_Bool (is_below p q)) [
@@ -120,7 +121,7 @@ module _ (rows : List Row) (tree : IsTree rows) (k : ℕ) (live : IsLive rows k)
   all_fit = list_all (then_fits (path_of rows k) name)
 
   -- those from the row k on are all of them
-  pub all_to_come : all_fit (still_to_come rows k (Some k)) ≡ fits (nodes rows) (path_of rows k) name
+  pub all_to_come : all_fit (still_to_come rows k (Some k)) ≡ paths_fit (nodes rows) (path_of rows k) name
   all_to_come =
       ap all_fit (sym (below-is (nodes rows) (path_of rows k) (node_of rows k) (node_there rows tree.shape k live)))
       ∙ below_decides rows tree (path_of rows k) name

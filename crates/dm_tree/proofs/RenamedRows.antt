@@ -13,7 +13,7 @@ use Rattle.dm_tree.proofs.Common.{get_or-set_other, length-take, Node, Row, Path
 use Rattle.dm_tree.proofs.Common.{node_of, walk, path_below, ids, nodes, IsShaped, IsLive, path_of, with_name, rekeyed}
 use Rattle.dm_tree.proofs.Common.{renamed, ◌+◌, ◌%◌, ◌^◌, subst, ◌&&◌, nat_le, IfSome, list_all, length-set, and_from}
 use Rattle.dm_tree.proofs.Common.{and_parts, is_name, printed_path, is_within_limits, Stamp, changed, IsChildOf, IsRoot}
-use Rattle.dm_tree.proofs.Common.{IsStamp, placed, ids_below, IsRow, IsTree, fits, flipped, turned, Change}
+use Rattle.dm_tree.proofs.Common.{IsStamp, placed, ids_below, IsRow, IsTree, paths_fit, flipped, turned, Change}
 use Rattle.dm_tree.proofs.Paths.{not_empty, equal_below, below_longer, below_last, below_none, below_self}
 use Rattle.dm_tree.proofs.PathOrder.{not_below_shorter}
 use Rattle.dm_tree.proofs.MapKeys.{moved_from, moved_to, keys_all}
@@ -213,7 +213,7 @@ pub record MayRename (rows : List Row) (k : ℕ) (name : List ℕ) (clock : Stam
   pub live : IsLive rows k
   pub removable : (node_of rows k).permanent ≡ false
   pub free : IfSome (get (ids rows) (above (path_of rows k) ++ name ∷ [])) (λ other. other ≡ k)
-  pub fits : fits (nodes rows) (path_of rows k) name ≡ true
+  pub fits : paths_fit (nodes rows) (path_of rows k) name ≡ true
   pub named : is_name name ≡ true
   pub stamp : IsStamp clock
 

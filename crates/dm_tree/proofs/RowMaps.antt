@@ -4,7 +4,7 @@ use Rattle.dm_tree.proofs.Common.{◌≡◌, ◌≢◌, ℕ, zero, suc, ◌<◌,
 use Rattle.dm_tree.proofs.Common.{refl, sym, ◌∙◌, ap, arith, ◌⊎◌, inl, inr, cases_Bool, false_from_ne_true}
 use Rattle.dm_tree.proofs.Common.{get_or_past, unwrap_or, eq_by_cmp, FinMap, get, get-from_entries, get-insert}
 use Rattle.dm_tree.proofs.Common.{same_map, option_map, Node, Row, Path, tree_order, blank, row_at, node_of, path_below}
-use Rattle.dm_tree.proofs.Common.{placed, ids_below, with_nodes, ids, nodes, IsShaped, IsLive, path_of}
+use Rattle.dm_tree.proofs.Common.{placed, ids_below, nodes_at_paths, ids, nodes, IsShaped, IsLive, path_of}
 use Rattle.dm_tree.proofs.MapKeys.{tied}
 use Rattle.dm_tree.proofs.Paths.{below_or_not, path_or_not, same_or_not, same_path, tree_exact, tree_total}
 pub use Rattle.dm_tree.proofs.RowPaths.{some_of}
@@ -16,7 +16,7 @@ unfolding ids nodes
 get_ids rows q = get-from_entries tree_total _ q
 
 pub find-with_nodes : (rows : List Row) (q : Path) (es : List (Path × ℕ))
-    → find tree_order q (with_nodes rows es) ≡ option_map (λ k. (row_at rows k).node) (find tree_order q es)
+    → find tree_order q (nodes_at_paths rows es) ≡ option_map (λ k. (row_at rows k).node) (find tree_order q es)
 find-with_nodes rows q [] = refl
 find-with_nodes rows q (e ∷ es) = elim (cases_Bool (eq_by_cmp tree_order q e.0)) [
   | inl is ↦ rw is refl

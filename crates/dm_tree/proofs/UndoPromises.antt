@@ -1,6 +1,6 @@
 -- What an edit promises of its Undo, and what a discard leaves to the others.
 use Rattle.dm_tree.specs.declared.rows.Change.TheVariants as change
-use Rattle.dm_tree.specs.Notes.{IsFresh, Begins, held_by}
+use Rattle.dm_tree.specs.Notes.{IsFresh, BeginsClear, held_by}
 use Rattle.dm_tree.proofs.Common.{nodes, ids, ◌≡◌, ℕ, ◌<◌, true, false, List, length, refl, sym, ◌∙◌, ap, subst, arith}
 use Rattle.dm_tree.proofs.Common.{inl, inr, None, Some, length-set, get_or-set_other, Row, Change}
 use Rattle.dm_tree.proofs.Common.{blank, row_at, IsTree, IsLive, IsParkedTop, emptied, attached_as, without_content}
@@ -69,7 +69,7 @@ out-flipped rows u l none at out =
 
 -- what it becomes takes out no row, so none that is new
 new-turned : (rows : List Row) (u : Change) → held_by u ≡ None
-    → IsFresh rows (turned rows u) × Begins rows (flipped rows u) (turned rows u)
+    → IsFresh rows (turned rows u) × BeginsClear rows (flipped rows u) (turned rows u)
 new-turned rows (change.PutIn k) none = absurd (cc)
 new-turned rows u none = (tt, tt)
 

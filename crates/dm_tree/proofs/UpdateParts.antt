@@ -1,5 +1,5 @@
 -- What keeps its permanent nodes alike keeps the update part.
-use Rattle.dm_tree.specs.Devices.{Stands, HasUpdate, HasNoUpdate, IsUpdateInOrder, StaysForUpdate, KeepsUpdate}
+use Rattle.dm_tree.specs.Devices.{IsPermanentAt, HasUpdate, HasNoUpdate, IsUpdateInOrder, StaysForUpdate, KeepsUpdate}
 use Rattle.dm_tree.specs.Laws.{ChangedKeepsUpdate, AddedKeepsUpdate, PrunedKeepsUpdate, RenamedKeepsUpdate}
 use Rattle.dm_tree.proofs.Common.{◌≡◌, Bool, false, refl, sym, ◌∙◌, ap, inl, inr, false_from_ne_true, get, Node, Role}
 use Rattle.dm_tree.proofs.Common.{Path, Nodes, is_of_update}
@@ -7,8 +7,8 @@ use Rattle.dm_tree.proofs.NodesKept.{Was, Keeps, some_node, keeps_changed, keeps
 
 module _ (alike : Node → Node → Type 0) (stays : (x y : Node) → alike x y → StaysForUpdate x y) (m n : Nodes)
     (keeps : Keeps alike m n) where
-  pub stands : (q : Path) (interior : Bool) (r : Role) (x : Node) → Stands m q interior r x
-      → (y : Node) × Stands n q interior r y × alike x y
+  pub stands : (q : Path) (interior : Bool) (r : Role) (x : Node) → IsPermanentAt m q interior r x
+      → (y : Node) × IsPermanentAt n q interior r y × alike x y
   stands q interior r x s =
       let still = keeps.still q x s.there s.permanent in
       let stay = stays x still.new still.alike in (
@@ -23,7 +23,7 @@ module _ (alike : Node → Node → Type 0) (stays : (x y : Node) → alike x y 
       )
 
   moved_nowhere : {r : Path} {interior : Bool} {k : Role} (q : Path) (y : Node) (w : Was m q y) (x : Node)
-      → Stands m r interior k x → w.at ≡ r → q ≡ r
+      → IsPermanentAt m r interior k x → w.at ≡ r → q ≡ r
   moved_nowhere q y w x s e =
       let same : x ≡ w.old = some_node x w.old (sym s.there ∙ ap (get m) (sym e) ∙ w.there) in
       sym (w.unmoved (rw same at s.permanent)) ∙ e

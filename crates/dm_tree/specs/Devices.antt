@@ -78,7 +78,7 @@ abbrev pub is_update_state : List ℕ → Bool
 is_update_state text = list_any (bytes_eq text) (codes "10" ∷ codes "50" ∷ codes "60" ∷ codes "70" ∷ codes "100" ∷ [])
 
 -- a permanent node of this kind and role stands at the path
-pub record Stands (m : Nodes) (p : Path) (interior : Bool) (role : Role) (node : Node) : Type 0 where
+pub record IsPermanentAt (m : Nodes) (p : Path) (interior : Bool) (role : Role) (node : Node) : Type 0 where
   pub there : get m p ≡ Some node
   pub kind : node.interior ≡ interior
   pub permanent : node.permanent ≡ true
@@ -89,9 +89,9 @@ pub record HasUpdate (m : Nodes) (p : Path) : Type 0 where
   pub update : Node
   pub data_node : Node
   pub state : Node
-  pub update_stands : Stands m (p ++ codes "Update" ∷ []) true role.UpdateNode update
-  pub data_stands : Stands m (p ++ codes "Update" ∷ codes "PkgData" ∷ []) false role.PkgData data_node
-  pub state_stands : Stands m (p ++ codes "State" ∷ []) false role.State state
+  pub update_stands : IsPermanentAt m (p ++ codes "Update" ∷ []) true role.UpdateNode update
+  pub data_stands : IsPermanentAt m (p ++ codes "Update" ∷ codes "PkgData" ∷ []) false role.PkgData data_node
+  pub state_stands : IsPermanentAt m (p ++ codes "State" ∷ []) false role.State state
   pub state_is : IsTrue (is_update_state state.value.bytes)
   pub alone : (q : Path) (node : Node) → get m q ≡ Some node → is_of_update node.role ≡ true
       → (q ≡ p ++ codes "Update" ∷ [])
@@ -127,7 +127,7 @@ device_id m = value_at m (device_path (codes "DevId"))
 -- such a leaf is permanent and only read, a text of 1 to 64 bytes of 21 to 7E
 pub record IsDeviceLeaf (m : Nodes) (name : List ℕ) : Type 0 where
   pub node : Node
-  pub stands : Stands m (device_path name) false role.ReadOnly node
+  pub stands : IsPermanentAt m (device_path name) false role.ReadOnly node
   pub format : node.value.format ≡ codes "chr"
   pub media : node.value.media ≡ codes "text/plain"
   pub short : IsTrue (is_short node.value.bytes)

@@ -70,8 +70,8 @@ pub record StayRenamed (old new : List Row) (p : Path) (name : List ℕ) : Type 
   pub path : (k : ℕ) → IsLive old k → path_of new k ≡ rekeyed p name (path_of old k)
 
 -- every path then has at most 255 bytes in print
-abbrev pub fits : Nodes → Path → List ℕ → Bool
-fits m p name = list_all (λ q. nat_le (length (printed_path (rekeyed p name q))) 255) (keys m)
+abbrev pub paths_fit : Nodes → Path → List ℕ → Bool
+paths_fit m p name = list_all (λ q. nat_le (length (printed_path (rekeyed p name q))) 255) (keys m)
 
 -- ---- what nobody holds any more
 

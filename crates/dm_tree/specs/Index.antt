@@ -74,7 +74,7 @@ pub record IsPut (rows : List Row) (id : ℕ) : Type 0 where
   pub shaped : IsShaped (attached_as rows id true)
 
 -- a row that may be taken out
-pub record IsTaken (rows : List Row) (id : ℕ) : Type 0 where
+pub record CanBeTakenOut (rows : List Row) (id : ℕ) : Type 0 where
   pub inside : id < length rows
   pub below_root : 0 < id
   pub attached : (row_at rows id).attached ≡ true

@@ -39,14 +39,14 @@ IsFresh rows (change.Title k title verno stamp) = ⊤
 IsFresh rows (change.Name k name verno stamp) = ⊤
 
 -- and nothing that was in use lies below it
-abbrev pub Begins : List Row → List Row → Change → Type 0
-Begins old new (change.TakeOut k) = (j : ℕ) → IsUsed old j → IsClear new k j
-Begins old new (change.PutIn k) = ⊤
-Begins old new (change.Value k value verno stamp) = ⊤
-Begins old new (change.Bytes k bytes verno stamp) = ⊤
-Begins old new (change.Acl k acl verno stamp) = ⊤
-Begins old new (change.Title k title verno stamp) = ⊤
-Begins old new (change.Name k name verno stamp) = ⊤
+abbrev pub BeginsClear : List Row → List Row → Change → Type 0
+BeginsClear old new (change.TakeOut k) = (j : ℕ) → IsUsed old j → IsClear new k j
+BeginsClear old new (change.PutIn k) = ⊤
+BeginsClear old new (change.Value k value verno stamp) = ⊤
+BeginsClear old new (change.Bytes k bytes verno stamp) = ⊤
+BeginsClear old new (change.Acl k acl verno stamp) = ⊤
+BeginsClear old new (change.Title k title verno stamp) = ⊤
+BeginsClear old new (change.Name k name verno stamp) = ⊤
 
 -- the top of the subtree that an Undo holds
 abbrev pub held_by : Change → Option ℕ
@@ -72,7 +72,7 @@ pub record TakesEditBack (undo : Change) (old new : List Row) : Type 0 where
   pub apart : (k : ℕ) → IsParkedTop old k → IsClear new k (row_of undo)
   pub clear : (k j : ℕ) → IsParkedTop old k → IsUsed old j → IsClear old k j → IsClear new k j
   pub fresh : IsFresh old undo
-  pub begins : Begins old new undo
+  pub begins : BeginsClear old new undo
 
 -- the rows that stay when this is discarded: all but those of the subtree that it holds
 abbrev pub Stays : List Row → Change → ℕ → Type 0

@@ -94,12 +94,12 @@ abbrev pub ids_below : List Row → ℕ → ℕ → List (Path × ℕ)
 ids_below rows top zero = []
 ids_below rows top (suc n) = placed (path_below rows top n) n (ids_below rows top n)
 
-abbrev pub with_nodes : List Row → List (Path × ℕ) → List (Path × Node)
-with_nodes rows [] = []
-with_nodes rows (e ∷ es) = (e.0, (row_at rows e.1).node) ∷ with_nodes rows es
+abbrev pub nodes_at_paths : List Row → List (Path × ℕ) → List (Path × Node)
+nodes_at_paths rows [] = []
+nodes_at_paths rows (e ∷ es) = (e.0, (row_at rows e.1).node) ∷ nodes_at_paths rows es
 
 unfoldable pub nodes : List Row → Nodes
-nodes rows = from_entries (with_nodes rows (ids_below rows 0 (length rows)))
+nodes rows = from_entries (nodes_at_paths rows (ids_below rows 0 (length rows)))
 
 unfoldable pub ids : List Row → Ids
 ids rows = from_entries (ids_below rows 0 (length rows))

@@ -88,7 +88,7 @@ next_past rows top (suc d) k =
     (next_past rows top d (row_at rows k).parent)
 
 -- the first child, or else, and with `past`, the first sibling behind
-abbrev pub next_row : List Row → ℕ → ℕ → Bool → Option ℕ
-next_row rows top k true = next_past rows top (row_at rows k).depth k
-next_row rows top k false =
+abbrev pub next_on_walk : List Row → ℕ → ℕ → Bool → Option ℕ
+next_on_walk rows top k true = next_past rows top (row_at rows k).depth k
+next_on_walk rows top k false =
     option_or (least_child rows k None (length rows)) (next_past rows top (row_at rows k).depth k)

@@ -4,7 +4,7 @@ ghost use Rattle.std.specs.Prelude.{slice_get, set, true, false, OnOk, OnErr};
 ghost use Rattle.dm_tree.specs.Rows.{row_at, node_of, IsShaped, IsTree, IsParkedTop};
 ghost use Rattle.dm_tree.specs.Edits.{attached_as, with_name, without_content};
 ghost use Rattle.dm_tree.specs.Reuse.{IsFreeRow};
-ghost use Rattle.dm_tree.specs.Index.{is_named_before, AreRows, IsInOrder, IsIndex, IsPut, IsTaken};
+ghost use Rattle.dm_tree.specs.Index.{is_named_before, AreRows, IsInOrder, IsIndex, IsPut, CanBeTakenOut};
 ghost use Rattle.dm_tree.specs.Index.{IsPlace, IsPlacePast};
 
 use crate::children::Children;
@@ -119,7 +119,7 @@ fn link(rows: &[Row], index: &mut Vec<Children>, id: u32) -> usize
 
 // Takes a row out from among its parent's children. It takes no memory, and leaves room for it.
 fn unlink(rows: &[Row], index: &mut Vec<Children>, id: u32)
-    requires attached { IsTaken rows.now id }
+    requires attached { CanBeTakenOut rows.now id }
     requires index { IsIndex rows.now index.old.items }
     ensures { IsIndex (attached_as rows.now id false) index.new.items }
 {
@@ -157,7 +157,7 @@ pub(crate) fn put_in(rows: &mut Vec<Row>, index: &mut Vec<Children>, id: u32)
 
 /// Takes a row out, with all that stands below it. It takes no memory.
 pub(crate) fn take_out(rows: &mut Vec<Row>, index: &mut Vec<Children>, id: u32)
-    requires attached { IsTaken rows.old.items id }
+    requires attached { CanBeTakenOut rows.old.items id }
     requires index { IsIndex rows.old.items index.old.items }
     ensures rows { rows.new.items ≡ attached_as rows.old.items id false }
     ensures index { IsIndex rows.new.items index.new.items }
@@ -229,7 +229,7 @@ fn exchange_name(rows: &mut Vec<Row>, id: u32, name: &mut Name)
 // Exchanges the name of a row that is in the tree or in a subtree, which gives it another place among its parent's
 // children.
 fn move_name(rows: &mut Vec<Row>, index: &mut Vec<Children>, id: u32, name: &mut Name)
-    requires attached { IsTaken rows.old.items id }
+    requires attached { CanBeTakenOut rows.old.items id }
     requires after { IsShaped (with_name rows.old.items id name.old (node_of rows.old.items id)) }
     requires index { IsIndex rows.old.items index.old.items }
     ensures rows { rows.new.items ≡ with_name rows.old.items id name.old (node_of rows.old.items id) }

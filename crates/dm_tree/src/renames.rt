@@ -5,7 +5,7 @@ ghost use Rattle.dm_tree.specs.declared.rows.Change.TheVariants as change;
 ghost use Rattle.dm_tree.specs.Nodes.{above, changed, counted};
 ghost use Rattle.dm_tree.specs.Rows.{nodes, ids, row_at, node_of, path_of, IsLive, IsShaped, IsTree};
 ghost use Rattle.dm_tree.specs.Index.{IsIndex};
-ghost use Rattle.dm_tree.specs.Edits.{with_name, renamed, fits as all_fit, StayRenamed};
+ghost use Rattle.dm_tree.specs.Edits.{with_name, renamed, paths_fit as all_fit, StayRenamed};
 ghost use Rattle.dm_tree.specs.Undos.{TakesBack};
 ghost use Rattle.dm_tree.specs.Notes.{TakesEditBack};
 ghost use Rattle.dm_tree.specs.Walks.{name_then, has_room as rows_have_room};

@@ -9,7 +9,7 @@ ghost use Rattle.dm_tree.specs.Rows.{nodes, ids, row_at, path_of, IsLive, IsShap
 ghost use Rattle.dm_tree.specs.Order.{first_child as first_child_of, next_sibling as next_sibling_of};
 ghost use Rattle.dm_tree.specs.Order.{next_below as next_path_below, children, children_behind, child_names, behind};
 ghost use Rattle.dm_tree.specs.Walks.{least_child as least_child_of, next_past as next_row_past};
-ghost use Rattle.dm_tree.specs.Walks.{next_row as next_row_of};
+ghost use Rattle.dm_tree.specs.Walks.{next_on_walk as next_row_of};
 ghost use Rattle.dm_tree.specs.Index.{IsIndex, AreRows, IsInOrder, IsPlacePast};
 
 use crate::children::Children;

@@ -5,11 +5,11 @@ use Rattle.std.proofs.lemmas.List.{get_or-take, get_or-drop, length-append, leng
 use Rattle.dm_tree.specs.declared.rows.Row.{Row}
 use Rattle.dm_undo.specs.declared.entries.Entry.{Entry}
 use Rattle.dm_undo.specs.Trees.{Maps, maps_of, trees}
-use Rattle.dm_undo.specs.Marks.{Recalls, RecallsFrom}
+use Rattle.dm_undo.specs.Marks.{RecallsTrees, RecallsFrom}
 use Rattle.dm_undo.proofs.Told.{length-trees}
 
 pub recalls-more : (es es' : List Entry) (rows rows' : List Row) (more : List Maps)
-    → trees es' rows' ≡ trees es rows ++ more → Recalls (length es) es rows es' rows'
+    → trees es' rows' ≡ trees es rows ++ more → RecallsTrees (length es) es rows es' rows'
 recalls-more es es' rows rows' more e mark h = (
   let long : length (trees es' rows') ≡ length (trees es rows) + length more =
       ap length e ∙ length-append (trees es rows) more in
@@ -19,7 +19,7 @@ recalls-more es es' rows rows' more e mark h = (
 )
 
 pub recalls-less : (es es' : List Entry) (rows rows' : List Row) (last : ℕ) → last ≤ length es
-    → trees es' rows' ≡ take (suc last) (trees es rows) → Recalls last es rows es' rows'
+    → trees es' rows' ≡ take (suc last) (trees es rows) → RecallsTrees last es rows es' rows'
 recalls-less es es' rows rows' last held e mark h = (
   let long : length (trees es' rows') ≡ suc last =
       ap length e ∙ length-take-le (suc last) (trees es rows) (omega (arith, held, length-trees es rows)) in

@@ -7,7 +7,7 @@ use Rattle.dm_tree.specs.Rows.{IsParkedTop}
 use Rattle.dm_tree.specs.Undos.{row_of, flipped, IsHeld}
 use Rattle.dm_undo.specs.declared.entries.Entry.{Entry}
 use Rattle.dm_undo.specs.declared.entries.Entry.TheVariants.{Record, Flipped}
-use Rattle.dm_tree.specs.Notes.{Begins, TakesEditBack}
+use Rattle.dm_tree.specs.Notes.{BeginsClear, TakesEditBack}
 use Rattle.dm_tree.specs.Reuse.{IsUsed, IsClear}
 use Rattle.dm_tree.specs.Notes.{held_by}
 use Rattle.dm_undo.specs.Entries.{OfEach, IsHeldIn, StaysWithin}
@@ -17,7 +17,7 @@ use Rattle.dm_undo.proofs.Shapes.{held_append}
 use Rattle.dm_undo.proofs.Alikes.{each_more, each_both, each_first, alike_sound}
 use Rattle.dm_undo.proofs.Rolls.{sound_holds}
 
-begins : (u : Change) (es : List Entry) (old new : List Row) → Begins old new u → OfEach (IsUsed old) es
+begins : (u : Change) (es : List Entry) (old new : List Row) → BeginsClear old new u → OfEach (IsUsed old) es
     → BeginsRow new u es
 begins (change.Value k value verno stamp) es old new f h = tt
 begins (change.Bytes k bytes verno stamp) es old new f h = tt

@@ -8,7 +8,7 @@ ghost use Rattle.dm_undo.specs.declared.entries.Entry.TheVariants as entry;
 ghost use Rattle.dm_undo.specs.Entries.{AreAlike, AreRecords, StaysWithin};
 ghost use Rattle.dm_undo.specs.Trees.{maps_of, trees, tree_at};
 ghost use Rattle.dm_undo.specs.Sound.{AreAllHeld, IsSound};
-ghost use Rattle.dm_undo.specs.Marks.{Recalls, RecallsFrom};
+ghost use Rattle.dm_undo.specs.Marks.{RecallsTrees, RecallsFrom};
 
 use crate::entries::{Entry, flip_back, keep_newest, unwind_to};
 use dm_base::Memory;
@@ -113,7 +113,7 @@ impl Journal {
         ensures trees { (before now : ListOf Row) → IsSound self.old.entries before → TakesEditBack undo before now
             → trees self.new.entries now ≡ trees self.old.entries before ++ maps_of now ∷ [] }
         ensures recalls { (before now : ListOf Row) → IsSound self.old.entries before → TakesEditBack undo before now
-            → Recalls (length self.old.entries) self.old.entries before self.new.entries now }
+            → RecallsTrees (length self.old.entries) self.old.entries before self.new.entries now }
         ensures parked { (before now : ListOf Row) → TakesEditBack undo before now
             → AreAllHeld self.old.entries before → AreAllHeld self.new.entries now }
     {
@@ -132,7 +132,7 @@ impl Journal {
         ensures there { maps_of tree.new.rows ≡ tree_at self.old.entries tree.old.rows mark }
         ensures trees { trees self.new.entries tree.new.rows
             ≡ trees self.old.entries tree.old.rows ++ maps_of tree.new.rows ∷ [] }
-        ensures recalls { Recalls (length self.old.entries)
+        ensures recalls { RecallsTrees (length self.old.entries)
             self.old.entries tree.old.rows self.new.entries tree.new.rows }
         ensures parked { AreAllHeld self.old.entries tree.old.rows → AreAllHeld self.new.entries tree.new.rows }
         ensures entries { AreAlike (entry.Flipped (length self.old.entries - mark) ∷ self.old.entries)
@@ -155,7 +155,7 @@ impl Journal {
         ensures there { maps_of tree.new.rows ≡ tree_at self.old.entries tree.old.rows mark }
         ensures trees { trees self.new.entries tree.new.rows
             ≡ take (suc mark) (trees self.old.entries tree.old.rows) }
-        ensures recalls { Recalls mark self.old.entries tree.old.rows self.new.entries tree.new.rows }
+        ensures recalls { RecallsTrees mark self.old.entries tree.old.rows self.new.entries tree.new.rows }
         ensures parked { AreAllHeld self.old.entries tree.old.rows → AreAllHeld self.new.entries tree.new.rows }
         ensures entries { AreAlike (drop (length self.old.entries - mark) self.old.entries) self.new.entries
             × (length self.new.entries ≡ mark) }

@@ -8,7 +8,7 @@ use Rattle.dm_uri.specs.declared.uri.UriError.{UriError}
 use Rattle.dm_uri.specs.declared.uri.UriError.TheVariants as error
 use Rattle.dm_uri.specs.Names.{has_name_form, is_within_limits, IsPathPart}
 use Rattle.dm_uri.specs.Grammar.{query_text}
-use Rattle.dm_uri.specs.Refusals.{IsRefused, path_part, query_part}
+use Rattle.dm_uri.specs.Refusals.{IsRefusedUri, path_part, query_part}
 use Rattle.dm_uri.specs.Reading.{names_in, query_of, parse_of}
 use Rattle.dm_uri.specs.Laws.{RefusesRest}
 use Rattle.dm_uri.proofs.PathParts.{spelled, only_names}
@@ -36,20 +36,20 @@ no_query text h query e =
 
 refused_by : (text : List ℕ) (long formed within : Bool) (query : Option Query) (e : UriError)
     → Tests text long formed within query
-    → answer long formed within (names_in (path_part text)) query ≡ Err e → IsRefused text e
+    → answer long formed within (names_in (path_part text)) query ≡ Err e → IsRefusedUri text e
 refused_by text true formed within query e t h =
     let same : error.TooLong ≡ e = cc in
-    subst (λ e. IsRefused text e) same (inl (ltb-true 255 (length text) t.length_is))
+    subst (λ e. IsRefusedUri text e) same (inl (ltb-true 255 (length text) t.length_is))
 refused_by text false false within query e t h =
     let same : error.Malformed ≡ e = cc in
-    subst (λ e. IsRefused text e) same (ltb-false 255 (length text) t.length_is, none_spelled text t.form_is)
+    subst (λ e. IsRefusedUri text e) same (ltb-false 255 (length text) t.length_is, none_spelled text t.form_is)
 refused_by text false true false query e t h =
     let same : error.TooLong ≡ e = cc in
-    subst (λ e. IsRefused text e) same
+    subst (λ e. IsRefusedUri text e) same
     (inr (names_in (path_part text), (t.form_is, spelled (path_part text)), t.within_is))
 refused_by text false true true None e t h =
     let same : error.UnknownQuery ≡ e = cc in
-    subst (λ e. IsRefused text e) same (
+    subst (λ e. IsRefusedUri text e) same (
       ltb-false 255 (length text) t.length_is,
       (
         names_in (path_part text),
@@ -60,7 +60,7 @@ refused_by text false true true None e t h =
     )
 refused_by text false true true (Some query) e t h = cc
 
-is_refused : (text : List ℕ) (e : UriError) → parse_of text ≡ Err e → IsRefused text e
+is_refused : (text : List ℕ) (e : UriError) → parse_of text ≡ Err e → IsRefusedUri text e
 is_refused text e h =
     refused_by text _ _ _ _ e (record { length_is = refl; form_is = refl; within_is = refl; query_is = refl })
     (sym (parse_tests text) ∙ h)
@@ -103,7 +103,7 @@ said_of_names : (test : List (List ℕ) → Bool) (b : Bool) (text : List ℕ) (
     → test (names_in (path_part text)) ≡ b
 said_of_names test b text names p h = ap test (only_names names (path_part text) p) ∙ h
 
-is_refusal : (text : List ℕ) (e : UriError) → IsRefused text e → parse_of text ≡ Err e
+is_refusal : (text : List ℕ) (e : UriError) → IsRefusedUri text e → parse_of text ≡ Err e
 is_refusal text error.TooLong (inl h) = parse_tests text ∙ answer_long _ _ _ _ _ (lt-ltb 255 (length text) h)
 is_refusal text error.TooLong (inr (names, p, past)) =
     parse_tests text

@@ -2,7 +2,7 @@
 use Rattle.std.specs.Prelude.{◌≡◌, ◌≤◌, ◌↔◌, ℕ, List, length, Ok, Err}
 use Rattle.dm_uri.specs.Names.{IsPath}
 use Rattle.dm_uri.specs.Grammar.{printed, IsUriText}
-use Rattle.dm_uri.specs.Refusals.{IsRefused}
+use Rattle.dm_uri.specs.Refusals.{IsRefusedUri}
 use Rattle.dm_uri.specs.Reading.{parse_of}
 use Rattle.dm_uri.specs.declared.uri.Uri.{Uri}
 use Rattle.dm_uri.specs.declared.uri.UriError.{UriError}
@@ -13,7 +13,7 @@ ReadsGrammar = (text : List ℕ) (uri : Uri) → (parse_of text ≡ Ok uri) ↔ 
 
 -- and each refusal comes exactly where it stands
 abbrev pub RefusesRest : Type 0
-RefusesRest = (text : List ℕ) (e : UriError) → (parse_of text ≡ Err e) ↔ IsRefused text e
+RefusesRest = (text : List ℕ) (e : UriError) → (parse_of text ≡ Err e) ↔ IsRefusedUri text e
 
 -- what is written is read again as the same value, where it isn't too long
 abbrev pub ReadsWritten : Type 0

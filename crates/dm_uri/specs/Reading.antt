@@ -79,9 +79,9 @@ parse_name_of text =
     else Ok text
 
 -- an answer is the one that is read; want of memory comes only in place of a value
-abbrev pub Gives : {T : Type 0} → Result T UriError → Result T UriError → Type 0
-Gives (Ok value) read = read ≡ Ok value
-Gives (Err error.Memory) read = IsOk read
-Gives (Err error.Malformed) read = read ≡ Err error.Malformed
-Gives (Err error.TooLong) read = read ≡ Err error.TooLong
-Gives (Err error.UnknownQuery) read = read ≡ Err error.UnknownQuery
+abbrev pub IsAsRead : {T : Type 0} → Result T UriError → Result T UriError → Type 0
+IsAsRead (Ok value) read = read ≡ Ok value
+IsAsRead (Err error.Memory) read = IsOk read
+IsAsRead (Err error.Malformed) read = read ≡ Err error.Malformed
+IsAsRead (Err error.TooLong) read = read ≡ Err error.TooLong
+IsAsRead (Err error.UnknownQuery) read = read ≡ Err error.UnknownQuery

@@ -29,8 +29,8 @@ HasUnknownQuery text =
     × ((query : Query) → query_part text ≡ query_text query → ⊥)
 
 -- why a text is refused: a long text goes before all else, and a path part out of form before its lengths
-abbrev pub IsRefused : List ℕ → UriError → Type 0
-IsRefused text error.TooLong = (255 < length text) ⊎ HasLongPath text
-IsRefused text error.Malformed = (length text ≤ 255) × ((names : List (List ℕ)) → IsPathPart names (path_part text) → ⊥)
-IsRefused text error.UnknownQuery = (length text ≤ 255) × HasUnknownQuery text
-IsRefused text error.Memory = ⊥
+abbrev pub IsRefusedUri : List ℕ → UriError → Type 0
+IsRefusedUri text error.TooLong = (255 < length text) ⊎ HasLongPath text
+IsRefusedUri text error.Malformed = (length text ≤ 255) × ((names : List (List ℕ)) → IsPathPart names (path_part text) → ⊥)
+IsRefusedUri text error.UnknownQuery = (length text ≤ 255) × HasUnknownQuery text
+IsRefusedUri text error.Memory = ⊥

@@ -4,7 +4,7 @@ ghost use Rattle.std.specs.Ordering.{nat_cmp};
 ghost use Rattle.std.specs.Cmp.Lexicographic.{slice_cmp};
 ghost use Rattle.std.specs.List.{list_all, position_or_len};
 ghost use Rattle.dm_uri.specs.Names.{is_name_byte, has_name_form, is_short_name, is_name};
-ghost use Rattle.dm_uri.specs.Reading.{Gives, parse_name_of};
+ghost use Rattle.dm_uri.specs.Reading.{IsAsRead, parse_name_of};
 
 use crate::uri::UriError;
 use dm_base::{Bytes, Memory};
@@ -74,11 +74,11 @@ pub(crate) fn is_name_of_bytes(text: &[u8]) -> bool
 /// where it is, and has more than 64 bytes. Memory comes only in place of a name.
 #[tactic(auto, unfolding(crate::specs::Reading::parse_name_of))]
 pub fn parse_name(alloc: Global, text: &[u8]) -> Result<Name, UriError>
-    ensures exact { Gives result (parse_name_of text.now) }
+    ensures exact { IsAsRead result (parse_name_of text.now) }
     ensures ok { IfOk result (λ name. (name ≡ text.now) × IsTrue (is_name text.now)) }
 
     // What is a name is read as this name, unless memory runs out.
-    ensures only { IsTrue (is_name text.now) → Gives result (Ok text.now) }
+    ensures only { IsTrue (is_name text.now) → IsAsRead result (Ok text.now) }
 {
     if !has_name_form(text) {
         return Err(UriError::Malformed);

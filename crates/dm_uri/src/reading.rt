@@ -4,9 +4,9 @@ ghost use Rattle.std.specs.Prelude.{is_ok, nat_le, length};
 ghost use Rattle.std.specs.List.{list_all, slice_split, position_or_len};
 ghost use Rattle.dm_uri.specs.Names.{has_name_form, is_short_name, is_name, is_within_limits};
 ghost use Rattle.dm_uri.specs.Grammar.{IsUriText};
-ghost use Rattle.dm_uri.specs.Refusals.{is_question, IsRefused};
+ghost use Rattle.dm_uri.specs.Refusals.{is_question, IsRefusedUri};
 ghost use Rattle.dm_uri.specs.Reading.{is_slash, is_root, without_front, names_in, query_of, read_path, parse_of};
-ghost use Rattle.dm_uri.specs.Reading.{Gives, FirstPart, BeginsWithNames, IsReadAsUri};
+ghost use Rattle.dm_uri.specs.Reading.{IsAsRead, FirstPart, BeginsWithNames, IsReadAsUri};
 ghost use Rattle.dm_uri.specs.declared.uri.Uri.{Uri};
 ghost use Rattle.dm_uri.specs.declared.uri.UriError.TheVariants as error;
 
@@ -147,7 +147,7 @@ fn path_of(alloc: Global, part: &[u8]) -> Result<Path, Memory>
 #[cold]
 #[tactic(auto, unfolding(crate::specs::Reading::parse_of))]
 fn read_by_rules(alloc: Global, text: &[u8]) -> Result<Uri, UriError>
-    ensures { Gives result (parse_of text.now) }
+    ensures { IsAsRead result (parse_of text.now) }
 {
     if text.len() > 255 {
         return Err(UriError::TooLong);
@@ -213,7 +213,7 @@ fn parts_at_once(text: &[u8]) -> Option<(&[u8], usize, Query)>
 
 // The value of a text, or its first refusal.
 fn read(alloc: Global, text: &[u8]) -> Result<Uri, UriError>
-    ensures { Gives result (parse_of text.now) }
+    ensures { IsAsRead result (parse_of text.now) }
 {
     let Some((part, count, query)) = parts_at_once(text) else {
         return read_by_rules(alloc, text);
@@ -244,12 +244,12 @@ pub fn is_uri(text: &[u8]) -> bool
 ///
 /// Memory comes only in place of a value: a text that is refused is refused without memory.
 pub fn parse(alloc: Global, text: &[u8]) -> Result<Uri, UriError>
-    ensures exact { Gives result (parse_of text.now) }
+    ensures exact { IsAsRead result (parse_of text.now) }
     ensures ok { IfOk result (λ uri. IsUriText text.now uri) }
 
     // What is a URI's text is read as this URI, unless memory runs out.
-    ensures only { (uri : Uri) → IsUriText text.now uri → Gives result (Ok uri) }
-    ensures err { IfErr result (λ e. e ≢ error.Memory → IsRefused text.now e) }
+    ensures only { (uri : Uri) → IsUriText text.now uri → IsAsRead result (Ok uri) }
+    ensures err { IfErr result (λ e. e ≢ error.Memory → IsRefusedUri text.now e) }
 {
     read(alloc, text)
 }

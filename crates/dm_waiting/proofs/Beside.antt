@@ -11,7 +11,7 @@ use Rattle.dm_service.specs.Packages.{is_of_job}
 use Rattle.dm_service.specs.Sending.{carried_on}
 use Rattle.dm_waiting.specs.declared.loads.Load.{Load}
 use Rattle.dm_waiting.specs.Held.{IsSmall}
-use Rattle.dm_waiting.specs.Inside.{list_of, AreBeside, marked}
+use Rattle.dm_waiting.specs.Inside.{list_of, AreBeside, first_begun}
 
 pub beside_long : (es : List Entry) (ls : List Load) → AreBeside es ls → length ls ≡ length es
 beside_long [] [] h = refl
@@ -95,7 +95,7 @@ list_drop (suc n) (e ∷ es) (l ∷ ls) h = list_drop n es ls h.2
 
 -- ---- what is left behind a message
 
-beside-marked : (n : ℕ) (es : List Entry) (ls : List Load) → AreBeside es ls → AreBeside (next_rest n es) (marked n ls)
+beside-marked : (n : ℕ) (es : List Entry) (ls : List Load) → AreBeside es ls → AreBeside (next_rest n es) (first_begun n ls)
 unfolding rest_of
 beside-marked zero es ls h = h
 beside-marked (suc n) [] [] h = tt
@@ -104,7 +104,7 @@ beside-marked (suc n) (e ∷ es) [] h = absurd h
 beside-marked (suc n) (e ∷ es) (l ∷ ls) h = (refl, h.1, h.2)
 
 pub beside_left : (whole n : ℕ) (es : List Entry) (ls : List Load) → AreBeside es ls
-    → AreBeside (left_after es whole n) (marked n (drop whole ls))
+    → AreBeside (left_after es whole n) (first_begun n (drop whole ls))
 unfolding left_after
 beside_left whole n es ls h = beside-marked n (drop whole es) (drop whole ls) (beside_drop whole es ls h)
 
@@ -115,7 +115,7 @@ same-carried (e ∷ es) (l ∷ ls) h =
     ap (λ (x : List Waiting). record { entry = e; carries = l.carries } ∷ x) (same-carried es ls h.2)
 
 list-marked : (n : ℕ) (es : List Entry) (ls : List Load) → AreBeside es ls
-    → list_of (next_rest n es) (marked n ls) ≡ carried_on (next_rest n es) (list_of es ls)
+    → list_of (next_rest n es) (first_begun n ls) ≡ carried_on (next_rest n es) (list_of es ls)
 list-marked zero es ls h = same-carried es ls h
 list-marked (suc n) [] [] h = refl
 list-marked (suc n) [] (l ∷ ls) h = absurd h
@@ -124,7 +124,7 @@ list-marked (suc n) (e ∷ es) (l ∷ ls) h =
     ap (λ (x : List Waiting). record { entry = rest_of e (suc n); carries = l.carries } ∷ x) (same-carried es ls h.2)
 
 pub list_left : (whole n : ℕ) (es : List Entry) (ls : List Load) → AreBeside es ls
-    → list_of (left_after es whole n) (marked n (drop whole ls))
+    → list_of (left_after es whole n) (first_begun n (drop whole ls))
     ≡ carried_on (left_after es whole n) (drop whole (list_of es ls))
 unfolding left_after
 list_left whole n es ls h =
@@ -211,16 +211,16 @@ list_kept front count es fs gs ls ms ns ws e f g k h is =
 
 -- what a message holds is taken off
 pub beside_taken : (whole n : ℕ) (es fs : List Entry) (ls ms ns : List Load) → fs ≡ left_after es whole n
-    → ms ≡ drop whole ls → ns ≡ marked n ms → AreBeside es ls → AreBeside fs ns
+    → ms ≡ drop whole ls → ns ≡ first_begun n ms → AreBeside es ls → AreBeside fs ns
 beside_taken whole n es fs ls ms ns e f g h =
-    beside_same (left_after es whole n) fs (marked n (drop whole ls)) ns e (g ∙ ap (marked n) f)
+    beside_same (left_after es whole n) fs (first_begun n (drop whole ls)) ns e (g ∙ ap (first_begun n) f)
     (beside_left whole n es ls h)
 
 pub list_taken : (whole n : ℕ) (es fs : List Entry) (ls ms ns : List Load) (ws : List Waiting)
-    → fs ≡ left_after es whole n → ms ≡ drop whole ls → ns ≡ marked n ms → AreBeside es ls → list_of es ls ≡ ws
+    → fs ≡ left_after es whole n → ms ≡ drop whole ls → ns ≡ first_begun n ms → AreBeside es ls → list_of es ls ≡ ws
     → list_of fs ns ≡ carried_on (left_after (map (λ (w : Waiting). w.entry) ws) whole n) (drop whole ws)
 list_taken whole n es fs ls ms ns ws e f g h is =
-    list_same (left_after es whole n) fs (marked n (drop whole ls)) ns _ e (g ∙ ap (marked n) f)
+    list_same (left_after es whole n) fs (first_begun n (drop whole ls)) ns _ e (g ∙ ap (first_begun n) f)
     (list_left whole n es ls h
     ∙ ap (λ (x : List Waiting). carried_on (left_after es whole n) (drop whole x)) is
     ∙ ap (λ (x : List Entry). carried_on (left_after x whole n) (drop whole ws)) (sym (entries_are es ls ws h is)))

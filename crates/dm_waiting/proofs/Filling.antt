@@ -17,7 +17,7 @@ use Rattle.dm_service.specs.Service.{Waiting}
 use Rattle.dm_service.specs.Ready.{AreReadyWaiting}
 use Rattle.dm_waiting.specs.declared.loads.Load.{Load}
 use Rattle.dm_waiting.specs.Held.{IsIdAt}
-use Rattle.dm_waiting.specs.Inside.{list_of, AreBeside, IsOf}
+use Rattle.dm_waiting.specs.Inside.{list_of, AreBeside, IsMessageOf}
 use Rattle.dm_waiting.proofs.Low.{ids_low}
 use Rattle.dm_waiting.proofs.Out.{body_long, id_is, front_taken}
 
@@ -34,7 +34,7 @@ ready_entries es ls ws h is ready = all-entries es ls h (subst AreReadyWaiting (
 pub is_of : (es : List Entry) (h : Header) (room : ℕ) (heard : Bool) (f : Filled)
     → f.message ≡ (fill es h room heard).message → f.bytes ≡ canonical (fill es h room heard).message
     → f.whole ≡ (fill es h room heard).whole → f.cut ≡ (fill es h room heard).cut → CanBeTaken es f.whole f.cut
-    → length f.bytes ≤ room → room ≤ 65536 → IsOf es f
+    → length f.bytes ≤ room → room ≤ 65536 → IsMessageOf es f
 unfolding fill
 is_of es h room heard f m b w n t low most =
     let whole = taken h room [] es in
@@ -54,17 +54,17 @@ is_of es h room heard f m b w n t low most =
     }
 
 -- the commands that it was numbered from
-abbrev pub commands_in : (es : List Entry) (f : Filled) → IsOf es f → List Command
+abbrev pub commands_in : (es : List Entry) (f : Filled) → IsMessageOf es f → List Command
 commands_in es f of = commands_of (take f.whole es) ++ (next_part f.cut (drop f.whole es) ++ of.behind)
 
-pub whole_there : (es : List Entry) (f : Filled) (at : ℕ) → IsOf es f → at < f.whole → at < length f.message.body
+pub whole_there : (es : List Entry) (f : Filled) (at : ℕ) → IsMessageOf es f → at < f.whole → at < length f.message.body
 whole_there es f at of h =
     let long = body_long f.whole es (next_part f.cut (drop f.whole es) ++ of.behind)
     (commands_in es f of) f.message.body
     of.taken.whole_there refl of.body in
     omega (arith, h, long)
 
-pub queue_there : (es : List Entry) (f : Filled) → IsOf es f → 0 < f.cut → f.whole < length es
+pub queue_there : (es : List Entry) (f : Filled) → IsMessageOf es f → 0 < f.cut → f.whole < length es
 queue_there es f of some =
     let long = length-drop f.whole es in
     let low = has-more f.cut (drop f.whole es) of.taken.part_there some in
@@ -79,7 +79,7 @@ one-part zero xs h k = absurd (omega (arith, h))
 one-part (suc n) [] h k = absurd (omega (arith, k))
 one-part (suc n) (x ∷ xs) h k = refl
 
-pub part_there : (es : List Entry) (f : Filled) → IsOf es f → 0 < f.cut → f.whole < length f.message.body
+pub part_there : (es : List Entry) (f : Filled) → IsMessageOf es f → 0 < f.cut → f.whole < length f.message.body
 part_there es f of some =
     let long = body_long f.whole es (next_part f.cut (drop f.whole es) ++ of.behind)
     (commands_in es f of) f.message.body
@@ -90,7 +90,7 @@ part_there es f of some =
     let one = one-part f.cut (drop f.whole es) some (omega (arith, left, there)) in
     omega (arith, long, more, one)
 
-pub id_there : (es : List Entry) (f : Filled) (at id : ℕ) (body : List Command) → IsOf es f → at ≤ f.whole
+pub id_there : (es : List Entry) (f : Filled) (at id : ℕ) (body : List Command) → IsMessageOf es f → at ≤ f.whole
     → at < length f.message.body → body ≡ f.message.body → IsIdAt body at id
     → id ≡ 1 + ids_of (commands_of (take at es))
 id_there es f at id body of h there same k =
@@ -100,7 +100,7 @@ id_there es f at id body of h there same k =
     of.taken.whole_there refl of.body h there
     (sym (k.there ∙ ap (λ (b : List Command). get_or b at k.command) same))
 
-pub id_small : (es : List Entry) (f : Filled) (at : ℕ) → IsOf es f → at ≤ f.whole
+pub id_small : (es : List Entry) (f : Filled) (at : ℕ) → IsMessageOf es f → at ≤ f.whole
     → 1 + ids_of (commands_of (take at es)) ≤ 70000
 id_small es f at of h =
     let low = ids_low f.message (commands_in es f of) at of.body of.short in

@@ -9,7 +9,7 @@ use Rattle.std.specs.List.{AllByRecursion}
 use Rattle.std.proofs.Math.Seq.{take-append_seam}
 use Rattle.dm_service.specs.declared.sent.Carried.{Carried}
 use Rattle.dm_service.specs.declared.sent.Sent.{Sent}
-use Rattle.dm_service.specs.Sending.{in_a_row, last_alone, rest_holds, but_the_last, part_holds}
+use Rattle.dm_service.specs.Sending.{in_a_row, last_part_sent, rest_holds, but_the_last, part_holds}
 use Rattle.dm_waiting.specs.Held.{row, ends, held, IsSmall, IsNumbered}
 
 -- what stood in front still stands there
@@ -73,7 +73,7 @@ row-part msg command number (suc n) =
     ap (λ (l : List Sent). record { msg = msg; command = command; number = number; counts = false } ∷ l)
     (row-later msg (command + 1) (number + 1) n)
 
-ends-part : (msg command : ℕ) (c : Carried) → ends true msg command c ≡ part_holds (last_alone msg command c)
+ends-part : (msg command : ℕ) (c : Carried) → ends true msg command c ≡ part_holds (last_part_sent msg command c)
 ends-part msg command c = by (nat_lt 1 c.count)
   where
     by : (b : Bool)

@@ -26,13 +26,13 @@ AreBeside (e ∷ es) [] = ⊥
 AreBeside (e ∷ es) (l ∷ ls) = (l.begun ≡ e.begun) × IfSome l.carries IsSmall × AreBeside es ls
 
 -- the first one is begun, where bytes of it went out
-abbrev pub marked : ℕ → List Load → List Load
-marked zero ls = ls
-marked (suc n) [] = []
-marked (suc n) (l ∷ ls) = record l { begun = true } ∷ ls
+abbrev pub first_begun : ℕ → List Load → List Load
+first_begun zero ls = ls
+first_begun (suc n) [] = []
+first_begun (suc n) (l ∷ ls) = record l { begun = true } ∷ ls
 
 -- a message of entries: as many whole ones from the front as it tells, and a part of the next one
-pub record IsOf (es : List Entry) (f : Filled) : Type 0 where
+pub record IsMessageOf (es : List Entry) (f : Filled) : Type 0 where
   pub behind : List Command
   pub body :
       f.message.body

@@ -1,7 +1,7 @@
 // What is kept beside the entries that wait.
 ghost use Rattle.std.specs.Prelude.{◌≡◌, ◌≤◌, ◌++◌, is_some, length, take, drop};
 ghost use Rattle.std.specs.List.{list_any};
-ghost use Rattle.dm_waiting.specs.Inside.{marked};
+ghost use Rattle.dm_waiting.specs.Inside.{first_begun};
 ghost use Rattle.dm_waiting.specs.declared.loads.Load.{Load as ALoad};
 
 use dm_service::Carried;
@@ -40,7 +40,7 @@ pub(crate) fn drop_between(loads: &mut VecDeque<Load>, start: usize, end: usize)
 
 /// The first one is begun, where bytes of it went out.
 pub(crate) fn begin(loads: &mut VecDeque<Load>, bytes: u64)
-    ensures { loads.new.items ≡ marked bytes loads.old.items }
+    ensures { loads.new.items ≡ first_begun bytes loads.old.items }
 {
     if bytes == 0 {
         return;

@@ -13,7 +13,7 @@ ghost use Rattle.dm_service.specs.Sending.{goes_out, carried_on};
 ghost use Rattle.dm_service.specs.Service.{entries_of};
 ghost use Rattle.dm_pack.specs.Entries.{whole_entry};
 ghost use Rattle.dm_waiting.specs.Held.{IsSmall, IsNumbered};
-ghost use Rattle.dm_waiting.specs.Inside.{IsOf, TellsAt};
+ghost use Rattle.dm_waiting.specs.Inside.{IsMessageOf, TellsAt};
 ghost use Rattle.dm_waiting.specs.View.{IsNumberedEntry};
 
 use crate::holding::push_held;
@@ -171,7 +171,7 @@ impl WaitingList {
 
     // Puts behind `out` the commands of the job that a message holds.
     fn note(&self, msg: u32, filled: &Filled, out: &mut List<Sent>) -> Result<(), Memory>
-        requires { IsOf (entries_of self.now) filled.now }
+        requires { IsMessageOf (entries_of self.now) filled.now }
         ensures ok { OnOk result (out.new ≡ out.old ++ goes_out msg 1 filled.now.whole filled.now.cut self.now) }
         ensures err { OnErr result (take (length out.old) out.new ≡ out.old) }
     {

@@ -2,8 +2,8 @@
 use Rattle.std.specs.Prelude.{◌==◌, ◌&&◌, ◌<◌, ◌≤◌, ℕ, Bool, false, not, if◌then◌else◌, bytes_eq, nat_le, codes, List}
 use Rattle.std.specs.Prelude.{[], ◌∷◌, Option, Some, None, option_map, option_and_then, ⊤}
 use Rattle.dm_base.specs.Fields.{is_word, num_of}
-use Rattle.dm_machine.specs.declared.kinds.Kind.{Kind}
-use Rattle.dm_machine.specs.declared.kinds.Kind.TheVariants as kinds
+use Rattle.dm_machine.specs.declared.kinds.Initiator.{Initiator}
+use Rattle.dm_machine.specs.declared.kinds.Initiator.TheVariants as kinds
 use Rattle.dm_words.specs.declared.forms.Form.{Form}
 use Rattle.dm_words.specs.declared.forms.Form.TheVariants as form
 use Rattle.dm_words.specs.declared.subcommands.Subcommand.{Subcommand}
@@ -38,17 +38,17 @@ is_plain (b ∷ bs) = not (b == 45)
 -- ---- the words behind it
 
 -- a number in decimal digits, without sign and leading zero, from the least to the most
-abbrev pub within : ℕ → ℕ → ℕ → Option ℕ
-within least most n = if nat_le least n && nat_le n most then Some n else None
+abbrev pub in_bounds : ℕ → ℕ → ℕ → Option ℕ
+in_bounds least most n = if nat_le least n && nat_le n most then Some n else None
 
-abbrev pub number_in : ℕ → ℕ → List ℕ → Option ℕ
-number_in least most word = option_and_then (within least most) (num_of word)
+abbrev pub number_between : ℕ → ℕ → List ℕ → Option ℕ
+number_between least most word = option_and_then (in_bounds least most) (num_of word)
 
 -- a seed that fits 64 bits, 1 to 60,000 leaves, and 0 to 10,000 messages
 abbrev pub workload_of : List ℕ → List ℕ → List ℕ → Option Form
 workload_of seed nodes messages =
-    option_and_then (λ s. option_and_then (λ n. option_map (λ m. form.Bench s n m) (number_in 0 10000 messages))
-    (number_in 1 60000 nodes)) (num_of seed)
+    option_and_then (λ s. option_and_then (λ n. option_map (λ m. form.Bench s n m) (number_between 0 10000 messages))
+    (number_between 1 60000 nodes)) (num_of seed)
 
 -- an address or the name of a server: 1 to 255 bytes of 21 to 7E, and no hyphen at the front
 abbrev pub names_peer : List ℕ → Bool
@@ -63,7 +63,7 @@ abbrev pub is_path : List ℕ → Bool
 is_path word = begins_with_slash word && is_word word
 
 -- who asks for the session
-abbrev pub session_kind_in : List ℕ → Option Kind
+abbrev pub session_kind_in : List ℕ → Option Initiator
 session_kind_in word = if bytes_eq word (codes "server") then Some kinds.ByServer
     else (if bytes_eq word (codes "client") then Some kinds.ByClient else None)
 
@@ -75,18 +75,18 @@ device_of address server kind session path = if names_peer address && (names_pee
       kind = k;
       session = s;
       path = path;
-    })) (number_in 1 4294967294 session)) (session_kind_in kind)
+    })) (number_between 1 4294967294 session)) (session_kind_in kind)
     else None
 
 abbrev pub serve_of : List ℕ → List ℕ → Option Form
 serve_of address count = if names_peer address
-    then option_map (λ n. form.Serve (record { address = address; count = n })) (number_in 1 1000000 count)
+    then option_map (λ n. form.Serve (record { address = address; count = n })) (number_between 1 1000000 count)
     else None
 
 -- the form of no further word
-abbrev pub alone : Form → List (List ℕ) → Option Form
-alone f [] = Some f
-alone f (word ∷ words) = None
+abbrev pub without_words : Form → List (List ℕ) → Option Form
+without_words f [] = Some f
+without_words f (word ∷ words) = None
 
 -- of two, of three and of five
 abbrev pub two : List (List ℕ) → Option Form
@@ -102,15 +102,15 @@ five (address ∷ server ∷ kind ∷ session ∷ path ∷ []) = device_of addre
 five other = None
 
 abbrev pub form_with : Subcommand → List (List ℕ) → Option Form
-form_with subcommand.Replay words = alone form.Replay words
+form_with subcommand.Replay words = without_words form.Replay words
 form_with subcommand.Device words = five words
 form_with subcommand.Serve words = two words
-form_with subcommand.Pair words = alone form.Pair words
-form_with subcommand.Show words = alone form.Show words
-form_with subcommand.Check words = alone form.Check words
+form_with subcommand.Pair words = without_words form.Pair words
+form_with subcommand.Show words = without_words form.Show words
+form_with subcommand.Check words = without_words form.Check words
 form_with subcommand.Bench words = three words
-form_with subcommand.Conform words = alone form.Conform words
-form_with subcommand.Make words = alone form.Make words
+form_with subcommand.Conform words = without_words form.Conform words
+form_with subcommand.Make words = without_words form.Make words
 
 -- ---- all words
 

@@ -1,12 +1,12 @@
 // What stands behind the first word.
 ghost use Rattle.std.specs.Prelude.{◌≡◌, map, string_bytes, IfOk, IfSome};
 ghost use Rattle.dm_words.specs.Forms as Spec;
-ghost use Rattle.dm_words.specs.Forms.{IsWithinBounds, names_peer, is_path, session_kind_in, number_in};
+ghost use Rattle.dm_words.specs.Forms.{IsWithinBounds, names_peer, is_path, session_kind_in, number_between};
 
 use crate::forms::{DeviceWords, Form, ServeWords};
 use crate::subcommands::{Subcommand, is_plain_word};
-use dm_base::{Bytes, Form as FieldForm, Memory, is_field, num};
-use dm_machine::Kind;
+use dm_base::{Bytes, FieldForm, Memory, is_field, num};
+use dm_machine::Initiator;
 use std::alloc::Global;
 
 const MOST_NODES: u64 = 60_000;
@@ -20,7 +20,7 @@ const LAST_SESSION: u64 = 4_294_967_294;
 
 // A number in decimal digits, without sign and leading zero, from the least to the most.
 fn number(word: &str, least: u64, most: u64) -> Option<u64>
-    ensures { result ≡ number_in least most word.now }
+    ensures { result ≡ number_between least most word.now }
 {
     let number = num(word.as_bytes())?;
     if number >= least && number <= most {
@@ -60,12 +60,12 @@ fn is_path_word(word: &str) -> bool
     }
 }
 
-fn kind_of(word: &str) -> Option<Kind>
+fn kind_of(word: &str) -> Option<Initiator>
     ensures { result ≡ session_kind_in word.now }
 {
     match word {
-        "server" => Some(Kind::ByServer),
-        "client" => Some(Kind::ByClient),
+        "server" => Some(Initiator::ByServer),
+        "client" => Some(Initiator::ByClient),
         _ => None,
     }
 }
@@ -115,7 +115,7 @@ fn serve(alloc: Global, address: &str, count: &str) -> Result<Option<Form>, Memo
 
 // A form without further words.
 fn alone(form: Form, words: &[String]) -> Option<Form>
-    ensures { result ≡ Spec.alone form (map string_bytes words.now) }
+    ensures { result ≡ Spec.without_words form (map string_bytes words.now) }
 {
     if words.is_empty() { Some(form) } else { None }
 }

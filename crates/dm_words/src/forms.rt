@@ -5,7 +5,7 @@ ghost use Rattle.dm_words.specs.Forms.{form_of, IsWithinBounds};
 use crate::behind::form_with;
 use crate::subcommands::read_subcommand;
 use dm_base::{Bytes, Memory};
-use dm_machine::Kind;
+use dm_machine::Initiator;
 use std::alloc::Global;
 
 /// What the tool says of words that have no form.
@@ -23,7 +23,7 @@ pub struct DeviceWords {
     pub address: Bytes,
     /// The name of the server's account.
     pub server: Bytes,
-    pub kind: Kind,
+    pub kind: Initiator,
     /// 1 to 4,294,967,294.
     pub session: u32,
     pub path: Bytes,

@@ -20,15 +20,15 @@ use Rattle.dm_atomic.specs.Posts.{task_posts, member_posts, members_posts, asked
 use Rattle.dm_atomic.specs.Posts.{waiting_posts}
 use Rattle.dm_atomic.specs.Made.{Made, Status, Result, Broken}
 use Rattle.dm_atomic.specs.Run.{Group, abandoned}
-use Rattle.dm_ends.specs.Commands.{session_of, is_number, origin_of}
+use Rattle.dm_ends.specs.Commands.{session_of, is_same_number, origin_of}
 use Rattle.dm_job.specs.declared.job.Job.{Job}
 use Rattle.dm_tree.specs.declared.nodes.Stamp.{Stamp}
-use Rattle.dm_machine.specs.declared.kinds.Kind.{Kind}
+use Rattle.dm_machine.specs.declared.kinds.Initiator.{Initiator}
 use Rattle.dm_machine.specs.declared.progress.Progress.{Progress}
 use Rattle.dm_machine.specs.Machine.{Session, Machine}
 use Rattle.dm_machine.specs.Sending.{sends}
 use Rattle.dm_machine.specs.Messages.{Outcome, goes_on, ends, begins, accepts, ends_update}
-use Rattle.dm_machine.specs.Statuses.{is_executed, executed, message_counted, session_counted, counted}
+use Rattle.dm_machine.specs.Statuses.{is_executed, executed, message_counted, session_counted, counted_at}
 use Rattle.dm_machine.specs.Statuses.{asked_in_run, made_in_run, given_up_in_run}
 use Rattle.dm_machine.specs.Events as client
 use Rattle.dm_machine.specs.History as client_runs
@@ -37,7 +37,8 @@ use Rattle.dm_world.specs.Deeds.{Deed, step_deeds, member_deeds, members_deeds, 
 use Rattle.dm_world.specs.Deeds.{all_deeds}
 use Rattle.dm_world.specs.World.{InSession, World, Reply, Happening, opens, up_comes, down_comes, update_ends}
 use Rattle.dm_world.specs.World.{clock_moves}
-use Rattle.dm_world.specs.World.{is_lost, finds_no_memory, with_new, replied, in_session, heard_by, deeds_in, made_in}
+use Rattle.dm_world.specs.World.{is_lost, finds_no_memory, with_new, replied, each_in_session, heard_by, deeds_in}
+use Rattle.dm_world.specs.World.{made_in}
 use Rattle.dm_world.specs.World.{deeds_by, made_by, down_delivered, up_delivered, happens, run}
 use Rattle.dm_world.specs.Start.{at_start, IsWorldStart}
 use Rattle.dm_world.specs.Commands.{WasExecuted, AnswersTheExecuted, StandsInMessage, ExecutesTheSent}
@@ -120,27 +121,27 @@ one-made (Status post code) ms = refl
 one-made (Result post found) ms = refl
 one-made (Broken target) ms = refl
 
-made-here : (n k : ℕ) (ms : List Made) → nat_eq k n ≡ true → posts_made n (in_session k ms) ≡ made_posts ms
+made-here : (n k : ℕ) (ms : List Made) → nat_eq k n ≡ true → posts_made n (each_in_session k ms) ≡ made_posts ms
 made-here n k [] e = refl
 made-here n k (m ∷ ms) e =
-    ap (λ b. cond b (made_posts (m ∷ [])) [] ++ posts_made n (in_session k ms)) e
+    ap (λ b. cond b (made_posts (m ∷ [])) [] ++ posts_made n (each_in_session k ms)) e
     ∙ ap (λ l. made_posts (m ∷ []) ++ l) (made-here n k ms e) ∙ one-made m ms
 
-made-elsewhere : (n k : ℕ) (ms : List Made) → nat_eq k n ≡ false → posts_made n (in_session k ms) ≡ []
+made-elsewhere : (n k : ℕ) (ms : List Made) → nat_eq k n ≡ false → posts_made n (each_in_session k ms) ≡ []
 made-elsewhere n k [] e = refl
 made-elsewhere n k (m ∷ ms) e =
-    ap (λ b. cond b (made_posts (m ∷ [])) [] ++ posts_made n (in_session k ms)) e ∙ made-elsewhere n k ms e
+    ap (λ b. cond b (made_posts (m ∷ [])) [] ++ posts_made n (each_in_session k ms)) e ∙ made-elsewhere n k ms e
 
-done-here : (n k : ℕ) (ds : List Deed) → nat_eq k n ≡ true → posts_done n (in_session k ds) ≡ deed_posts ds
+done-here : (n k : ℕ) (ds : List Deed) → nat_eq k n ≡ true → posts_done n (each_in_session k ds) ≡ deed_posts ds
 done-here n k [] e = refl
 done-here n k (d ∷ ds) e =
-    ap (λ b. cond b (d.post ∷ []) [] ++ posts_done n (in_session k ds)) e
+    ap (λ b. cond b (d.post ∷ []) [] ++ posts_done n (each_in_session k ds)) e
     ∙ ap (λ l. d.post ∷ l) (done-here n k ds e)
 
-done-elsewhere : (n k : ℕ) (ds : List Deed) → nat_eq k n ≡ false → posts_done n (in_session k ds) ≡ []
+done-elsewhere : (n k : ℕ) (ds : List Deed) → nat_eq k n ≡ false → posts_done n (each_in_session k ds) ≡ []
 done-elsewhere n k [] e = refl
 done-elsewhere n k (d ∷ ds) e =
-    ap (λ b. cond b (d.post ∷ []) [] ++ posts_done n (in_session k ds)) e ∙ done-elsewhere n k ds e
+    ap (λ b. cond b (d.post ∷ []) [] ++ posts_done n (each_in_session k ds)) e ∙ done-elsewhere n k ds e
 
 -- ---- how often, by a weight
 
@@ -158,8 +159,8 @@ AtMost n weight made o g done = many weight (posts_made n made) + waits n weight
 
 -- what is asked by an event that is taken was made, was given up, or waits
 taken-balances : (c : Machine) (e : client.Event) (weight : Post → ℕ) → client.takes c e ≡ true
-    → many weight (waiting_posts c.engine.group) + many weight ((counted c e).asked ++ [])
-    ≡ many weight ((counted c e).made ++ []) + (many weight ((counted c e).given_up ++ [])
+    → many weight (waiting_posts c.engine.group) + many weight ((counted_at c e).asked ++ [])
+    ≡ many weight ((counted_at c e).made ++ []) + (many weight ((counted_at c e).given_up ++ [])
     + many weight (waiting_posts (client.after c e).engine.group))
 taken-balances c e weight t =
     subst
@@ -174,7 +175,7 @@ session-balances : (c : Machine) (s : Session) (m : Parts) (nonce : List ℕ) (w
     → many weight (waiting_posts c.engine.group) + many weight (message_counted c s.progress m nonce).asked
     ≡ many weight (message_counted c s.progress m nonce).made
     + (many weight (message_counted c s.progress m nonce).given_up
-    + many weight (waiting_posts (client.machine_of (accepts c s.progress m nonce)).engine.group))
+    + many weight (waiting_posts (client.outcome_machine (accepts c s.progress m nonce)).engine.group))
 unfolding client.takes client.after
 session-balances c s m nonce weight e t =
     let x = message_counted c s.progress m nonce in
@@ -184,7 +185,7 @@ session-balances c s m nonce weight e t =
     + many weight ((session_counted c o m nonce).asked ++ [])
     ≡ many weight ((session_counted c o m nonce).made ++ [])
     + (many weight ((session_counted c o m nonce).given_up ++ [])
-    + many weight (waiting_posts (client.machine_of (client.message_outcome c o m nonce)).engine.group)))
+    + many weight (waiting_posts (client.outcome_machine (client.message_outcome c o m nonce)).engine.group)))
     e (taken-balances c (client.message (Ok m) nonce) weight taken) in
     let asked = sum_by-append weight x.asked [] in
     let made = sum_by-append weight x.made [] in
@@ -195,7 +196,7 @@ session-balances c s m nonce weight e t =
 
 waits-turned : (n : ℕ) (weight : Post → ℕ) (p : Progress) (msg b : ℕ) (x : Outcome) (g : Option Group)
     → Turned p msg b x
-    → waits n weight (client.machine_of x).session g ≤ cond (nat_eq p.number n) (many weight (waiting_posts g)) 0
+    → waits n weight (client.outcome_machine x).session g ≤ cond (nat_eq p.number n) (many weight (waiting_posts g)) 0
 waits-turned n weight p msg b (goes_on c) g h = by c.session h.1
   where
     by : (o : Option Session) → OpenAs (Turns p msg) o
@@ -209,12 +210,12 @@ waits-turned n weight p msg b (ends c e) g h =
 
 done-in : (n k : ℕ) (weight : Post → ℕ) (run : Bool) (ds : List Deed) (ps : List Post) → nat_eq k n ≡ true
     → deed_posts ds ≡ ps
-    → many weight (posts_done n (cond run (in_session k ds) [])) ≡ many weight (cond run ps [])
+    → many weight (posts_done n (cond run (each_in_session k ds) [])) ≡ many weight (cond run ps [])
 done-in n k weight true ds ps e f = ap (many weight) (done-here n k ds e ∙ f)
 done-in n k weight false ds ps e f = refl
 
 done-out : (n k : ℕ) (weight : Post → ℕ) (run : Bool) (ds : List Deed) → nat_eq k n ≡ false
-    → many weight (posts_done n (cond run (in_session k ds) [])) ≡ 0
+    → many weight (posts_done n (cond run (each_in_session k ds) [])) ≡ 0
 done-out n k weight true ds e = ap (many weight) (done-elsewhere n k ds e)
 done-out n k weight false ds e = refl
 
@@ -222,26 +223,26 @@ accepts-at-most : (n : ℕ) (weight : Post → ℕ) (c : Machine) (s : Session) 
     (made : List (InSession Made)) (done : List (InSession Deed)) → c.session ≡ Some s
     → client.takes_message (Some s) m ≡ true
     → AtMost n weight made (Some s) c.engine.group done
-    → AtMost n weight (made ++ made_in c s.progress m nonce) (client.machine_of (accepts c s.progress m nonce)).session
-    (client.machine_of (accepts c s.progress m nonce)).engine.group (done ++ deeds_in c s.progress m nonce)
+    → AtMost n weight (made ++ made_in c s.progress m nonce) (client.outcome_machine (accepts c s.progress m nonce)).session
+    (client.outcome_machine (accepts c s.progress m nonce)).engine.group (done ++ deeds_in c s.progress m nonce)
 accepts-at-most n weight c s m nonce made done e t h = by (nat_eq s.progress.number n) refl
   where
     by : (b : Bool) → nat_eq s.progress.number n ≡ b
         → AtMost n weight (made ++ made_in c s.progress m nonce)
-        (client.machine_of (accepts c s.progress m nonce)).session
-        (client.machine_of (accepts c s.progress m nonce)).engine.group (done ++ deeds_in c s.progress m nonce)
+        (client.outcome_machine (accepts c s.progress m nonce)).session
+        (client.outcome_machine (accepts c s.progress m nonce)).engine.group (done ++ deeds_in c s.progress m nonce)
     by true here =
         let p = s.progress in
         let run = is_executed p m (heard_by c p m nonce) in
         let ms = (executed c p m (heard_by c p m nonce)).made in
         let ds = all_deeds (origin_of m) m.body in
-        let g = (client.machine_of (accepts c p m nonce)).engine.group in
+        let g = (client.outcome_machine (accepts c p m nonce)).engine.group in
         let all = session-balances c s m nonce weight e t in
-        let a = ap (many weight) (made-append n made (in_session p.number ms)) in
-        let b = sum_by-append weight (posts_made n made) (posts_made n (in_session p.number ms)) in
+        let a = ap (many weight) (made-append n made (each_in_session p.number ms)) in
+        let b = sum_by-append weight (posts_made n made) (posts_made n (each_in_session p.number ms)) in
         let d = ap (many weight) (made-here n p.number ms here) in
-        let f = ap (many weight) (done-append n done (cond run (in_session p.number ds) [])) in
-        let i = sum_by-append weight (posts_done n done) (posts_done n (cond run (in_session p.number ds) [])) in
+        let f = ap (many weight) (done-append n done (cond run (each_in_session p.number ds) [])) in
+        let i = sum_by-append weight (posts_done n done) (posts_done n (cond run (each_in_session p.number ds) [])) in
         let j = done-in n p.number weight run ds (all_asked (origin_of m) m.body) here
         (all-posts (origin_of m) m.body) in
         let before = ap (λ b. cond b (many weight (waiting_posts c.engine.group)) 0) here in
@@ -253,12 +254,12 @@ accepts-at-most n weight c s m nonce made done e t h = by (nat_eq s.progress.num
         let run = is_executed p m (heard_by c p m nonce) in
         let ms = (executed c p m (heard_by c p m nonce)).made in
         let ds = all_deeds (origin_of m) m.body in
-        let g = (client.machine_of (accepts c p m nonce)).engine.group in
-        let a = ap (many weight) (made-append n made (in_session p.number ms)) in
-        let b = sum_by-append weight (posts_made n made) (posts_made n (in_session p.number ms)) in
+        let g = (client.outcome_machine (accepts c p m nonce)).engine.group in
+        let a = ap (many weight) (made-append n made (each_in_session p.number ms)) in
+        let b = sum_by-append weight (posts_made n made) (posts_made n (each_in_session p.number ms)) in
         let d = ap (many weight) (made-elsewhere n p.number ms elsewhere) in
-        let f = ap (many weight) (done-append n done (cond run (in_session p.number ds) [])) in
-        let i = sum_by-append weight (posts_done n done) (posts_done n (cond run (in_session p.number ds) [])) in
+        let f = ap (many weight) (done-append n done (cond run (each_in_session p.number ds) [])) in
+        let i = sum_by-append weight (posts_done n done) (posts_done n (cond run (each_in_session p.number ds) [])) in
         let j = done-out n p.number weight run ds elsewhere in
         let now = waits-turned n weight p m.header.msg c.begun (accepts c p m nonce) g (message-turned c p m nonce) in
         let most = ap (λ b. cond b (many weight (waiting_posts g)) 0) elsewhere in
@@ -276,7 +277,7 @@ same-at-most n weight made o g done h =
 
 down-at-most : (n : ℕ) (weight : Post → ℕ) (c : Machine) (o : Option Session) (m : Parts) (nonce : List ℕ)
     (made : List (InSession Made)) (done : List (InSession Deed)) (x : Machine) → c.session ≡ o
-    → x ≡ cond (client.takes_message o m) (client.machine_of (client.message_outcome c o m nonce)) c
+    → x ≡ cond (client.takes_message o m) (client.outcome_machine (client.message_outcome c o m nonce)) c
     → AtMost n weight made o c.engine.group done
     → AtMost n weight (made ++ made_by c o m nonce) x.session x.engine.group (done ++ deeds_by c o m nonce)
 down-at-most n weight c None m nonce made done x e f h =
@@ -292,8 +293,8 @@ down-at-most n weight c (Some s) m nonce made done x e f h =
   where
     by : (b : Bool) → client.takes_message (Some s) m ≡ b
         → AtMost n weight (made ++ cond b (made_in c s.progress m nonce) [])
-        (cond b (client.machine_of (accepts c s.progress m nonce)) c).session
-        (cond b (client.machine_of (accepts c s.progress m nonce)) c).engine.group
+        (cond b (client.outcome_machine (accepts c s.progress m nonce)) c).session
+        (cond b (client.outcome_machine (accepts c s.progress m nonce)) c).engine.group
         (done ++ cond b (deeds_in c s.progress m nonce) [])
     by true t = accepts-at-most n weight c s m nonce made done e t h
     by false t =
@@ -309,13 +310,13 @@ zero-both true = refl
 zero-both false = refl
 
 begins-stays : (n : ℕ) (weight : Post → ℕ) (made : List (InSession Made)) (done : List (InSession Deed)) (c : Machine)
-    (account : ℕ) (kind : Kind) (k : ℕ) → Stays n weight made done c
+    (account : ℕ) (kind : Initiator) (k : ℕ) → Stays n weight made done c
     → Stays n weight made done (begins c account kind k)
 unfolding begins sends abandoned
 begins-stays n weight made done c account kind k h = let none = zero-both (nat_eq k n) in omega (arith, h, none)
 
 opened-stays : (n : ℕ) (weight : Post → ℕ) (made : List (InSession Made)) (done : List (InSession Deed)) (c : Machine)
-    (account : ℕ) (kind : Kind) (k : ℕ) → Stays n weight made done c
+    (account : ℕ) (kind : Initiator) (k : ℕ) → Stays n weight made done c
     → Stays n weight made done (client_runs.next c (client.opened account kind k))
 unfolding client_runs.next client.takes client.after
 opened-stays n weight made done c account kind k h =
@@ -342,7 +343,7 @@ unfolding client_runs.next client.takes
 loss-stays n weight made done c h = h
 
 message-is : (c : Machine) (m : Parts) (nonce : List ℕ) → client_runs.next c (client.message (Ok m) nonce)
-    ≡ cond (client.takes_message c.session m) (client.machine_of (client.message_outcome c c.session m nonce)) c
+    ≡ cond (client.takes_message c.session m) (client.outcome_machine (client.message_outcome c c.session m nonce)) c
 unfolding client_runs.next client.takes client.after
 message-is c m nonce = refl
 
@@ -470,7 +471,7 @@ answers_the_executed c job hs n msg cmd code start range h =
 
 -- ---- what is executed stands in a message of the server
 
-number-said : (o : Option ℕ) (n : ℕ) → is_number o n ≡ true → o ≡ Some n
+number-said : (o : Option ℕ) (n : ℕ) → is_same_number o n ≡ true → o ≡ Some n
 number-said None n h = cc
 number-said (Some k) n h = ap Some (eq-of k n h)
 
@@ -493,7 +494,7 @@ more-sent downs (Some r) xs h =
 these-stand : (downs : List Reply) (k : ℕ) (d : Reply) (n : ℕ) (ds : List Deed) → slice_get downs k ≡ Some d
     → session_of d.message ≡ Some n
     → ((x : Deed) → Contains ds x → Contains (all_deeds (origin_of d.message) d.message.body) x)
-    → AllStand downs (in_session n ds)
+    → AllStand downs (each_in_session n ds)
 these-stand downs k d n [] e f all = tt
 these-stand downs k d n (x ∷ xs) e f all = (
   record { at = k; reply = d; was_sent = e; session_is = f; within = all x (first_in x xs) },
@@ -510,7 +511,7 @@ deeds-stand w k d nonce (Some s) e = by (client.takes_message (Some s) d.message
     by true t =
         let mine = and-left (client.is_of s d.message) (nat_lt (client.last_of s) d.message.header.msg) t in
         either (AllStand w.downs) (is_executed s.progress d.message (heard_by w.client s.progress d.message nonce))
-        {x = in_session s.progress.number (all_deeds (origin_of d.message) d.message.body)} {y = []}
+        {x = each_in_session s.progress.number (all_deeds (origin_of d.message) d.message.body)} {y = []}
         (these-stand w.downs k d s.progress.number (all_deeds (origin_of d.message) d.message.body) e
         (number-said (session_of d.message) s.progress.number mine) (λ x h. h)) tt
     by false t = tt

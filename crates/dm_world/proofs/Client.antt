@@ -20,7 +20,7 @@ use Rattle.dm_pack.specs.Entries.{Entry, whole_entry}
 use Rattle.dm_pack.specs.Filling.{fill, taken, cut, commands_of, next_part, next_rest, tail_of, tail_commands, is_final}
 use Rattle.dm_ends.specs.Commands.{alert}
 use Rattle.dm_ends.proofs.Distinct.{makes_no_fault}
-use Rattle.dm_machine.specs.declared.kinds.Kind.{Kind}
+use Rattle.dm_machine.specs.declared.kinds.Initiator.{Initiator}
 use Rattle.dm_machine.specs.declared.kinds.End.TheVariants.{Finished, Aborted}
 use Rattle.dm_machine.specs.declared.progress.Progress.{Progress}
 use Rattle.dm_machine.specs.Machine.{Session, Machine}
@@ -124,7 +124,7 @@ begun-of n p (Some t) e f g h =
       sent = rw (← e) (rw (← first) h.sent);
     }
 
-pub begins-begun : (c : Machine) (account : ℕ) (kind : Kind) (n : ℕ)
+pub begins-begun : (c : Machine) (account : ℕ) (kind : Initiator) (n : ℕ)
     → OpenAs (Begun n) (begins c account kind n).session
 unfolding begins
 begins-begun c account kind n =

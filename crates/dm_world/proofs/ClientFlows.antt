@@ -19,7 +19,7 @@ use Rattle.dm_atomic.specs.Run.{Next, abandoned}
 use Rattle.dm_pack.specs.Entries.{Entry, whole_entry, rest_of}
 use Rattle.dm_pack.specs.Filling.{numbered, commands_of, taken, cut, next_rest, fill}
 use Rattle.dm_ends.specs.Commands.{alert}
-use Rattle.dm_machine.specs.declared.kinds.Kind.{Kind}
+use Rattle.dm_machine.specs.declared.kinds.Initiator.{Initiator}
 use Rattle.dm_machine.specs.declared.kinds.End.TheVariants.{Finished, Aborted}
 use Rattle.dm_machine.specs.declared.progress.Progress.{Progress}
 use Rattle.dm_machine.specs.declared.progress.UpdateResult.{UpdateResult}
@@ -33,7 +33,7 @@ use Rattle.dm_machine.specs.Statuses.{executed}
 use Rattle.dm_machine.proofs.StaysReady.{heard_by as machine_heard}
 use Rattle.dm_machine.proofs.StaysWaiting.{answering, behind_answer, beginning}
 use Rattle.dm_machine.specs.Events as client
-use Rattle.dm_world.specs.World.{InSession, said, in_session, heard_by, made_in}
+use Rattle.dm_world.specs.World.{InSession, said, each_in_session, heard_by, made_in}
 use Rattle.dm_world.proofs.Lists.{either, either_is, Each, each-append}
 use Rattle.dm_world.proofs.Client.{OpenAs}
 use Rattle.dm_world.proofs.Packing.{commands-append}
@@ -159,18 +159,18 @@ alerts-silent : (uri : List ℕ) (results : List UpdateResult) (more : List Comm
 alerts-silent uri [] more h = h
 alerts-silent uri (r ∷ rs) more h = (tt, alerts-silent uri rs more h)
 
-opening-silent : (kind : Kind) (results : List UpdateResult) (tree : Nodes) → Each IsSilent (opening kind results tree)
+opening-silent : (kind : Initiator) (results : List UpdateResult) (tree : Nodes) → Each IsSilent (opening kind results tree)
 opening-silent kind results tree = (tt, alerts-silent (update_uri tree) results (device_told tree ∷ []) (tt, tt))
 
 fresh-silent : (cs : List Command) → Each IsSilent cs → Each IsSilentEntry (map whole_entry cs)
 fresh-silent [] h = tt
 fresh-silent (c ∷ cs) h = (h.0, fresh-silent cs h.1)
 
-first-silent : (c : Machine) (kind : Kind) → Each IsSilentEntry (first_package c kind)
+first-silent : (c : Machine) (kind : Initiator) → Each IsSilentEntry (first_package c kind)
 first-silent c kind =
     fresh-silent (opening kind c.results c.engine.tree) (opening-silent kind c.results c.engine.tree)
 
-first-flow : (made : List (InSession Made)) (n : ℕ) (c : Machine) (kind : Kind)
+first-flow : (made : List (InSession Made)) (n : ℕ) (c : Machine) (kind : Initiator)
     → Flow made n None (commands_of (first_package c kind))
 first-flow made n c kind =
     subst (Flow made n None) (sym (fresh-commands (opening kind c.results c.engine.tree)))
@@ -296,17 +296,17 @@ header-turns : (made : List (InSession Made)) (o : Option Going) (c : Machine) (
     → Flow made p.number o (commands_of c.queue)
     → Free p.opening_at p.opening_left c.queue
     → p.opening_at + p.opening_left ≤ length c.queue
-    → OutcomeTurns (made ++ in_session p.number (executed c p m h).made) p.number o (executed c p m h)
+    → OutcomeTurns (made ++ each_in_session p.number (executed c p m h).made) p.number o (executed c p m h)
     (by_header (record c { resp_uri = option_or m.header.resp_uri c.resp_uri }) p m nonce h)
 header-turns made o c p m nonce h last f g l =
     let n = p.number in
     let other = executed c p m h in
-    let all = made ++ in_session n other.made in
+    let all = made ++ each_in_session n other.made in
     let d = machine_heard c p m h in
     let w = waits_after d p h in
     let run = run_of d h.account m h.code in
     let aborts = passes h.code && list_any is_abort m.body in
-    let later = flow-later made (in_session n other.made) n o (commands_of c.queue) f in
+    let later = flow-later made (each_in_session n other.made) n o (commands_of c.queue) f in
     either_is (OutcomeTurns all n o other) h.second {x = denied d w m h nonce}
     {y = cond aborts (ends (closed d) Aborted) (answered d w m h nonce run)}
     (λ t. denied-turns all n o other d w m h nonce)
@@ -350,7 +350,7 @@ open-opens : (made : List (InSession Made)) (n : ℕ) (run : Next) (c : Machine)
 open-opens made n run c None e h = h
 open-opens made n run c (Some t) e h = record { streams = h.streams; group = h.group ∙ e }
 
-pub begins-opens : (made : List (InSession Made)) (c : Machine) (account : ℕ) (kind : Kind) (n : ℕ)
+pub begins-opens : (made : List (InSession Made)) (c : Machine) (account : ℕ) (kind : Initiator) (n : ℕ)
     → OpenAs (Opens made n (begins c account kind n)) (begins c account kind n).session
 unfolding begins abandoned
 begins-opens made c account kind n =

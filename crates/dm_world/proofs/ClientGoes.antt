@@ -8,7 +8,7 @@ use Rattle.syncml_types.specs.Message.{Parts}
 use Rattle.dm_headers.specs.Checks.{fault_of}
 use Rattle.dm_tree.specs.declared.nodes.Stamp.{Stamp}
 use Rattle.dm_pack.specs.Entries.{Entry}
-use Rattle.dm_machine.specs.declared.kinds.Kind.{Kind}
+use Rattle.dm_machine.specs.declared.kinds.Initiator.{Initiator}
 use Rattle.dm_machine.specs.Machine.{Machine, Session as Opened}
 use Rattle.dm_machine.specs.Messages.{Outcome, goes_on, ends, begins, accepts}
 use Rattle.dm_machine.specs.Messages.{ends_update}
@@ -20,7 +20,7 @@ use Rattle.dm_service.specs.Service.{Service, Session as Serving}
 use Rattle.dm_world.specs.Deeds.{Deed, all_deeds}
 use Rattle.dm_world.specs.World.{Reply, InSession as Within}
 use Rattle.dm_world.specs.World.{with_new, said}
-use Rattle.dm_world.specs.World.{in_session, heard_by, deeds_in, deeds_by, run}
+use Rattle.dm_world.specs.World.{each_in_session, heard_by, deeds_in, deeds_by, run}
 use Rattle.dm_world.specs.Acts.{Act}
 use Rattle.dm_world.specs.Acts.{deeds_acts}
 use Rattle.dm_world.proofs.Lists.{both-ways, Each, each-within, picked}
@@ -134,7 +134,7 @@ opened-goes job done o (Some t) v downs ups b n queue max k l g c q h f w =
     )
 
 pub begins-goes : (job done : List Act) (c : Machine) (v : Service) (downs : List Reply) (ups : List Parts)
-    (account : ℕ) (kind : Kind) (n : ℕ)
+    (account : ℕ) (kind : Initiator) (n : ℕ)
     → n < 2 ^ 32
     → ServerOk c.begun v.session
     → Placed job done c.session v downs ups
@@ -162,7 +162,7 @@ begins-goes job done c v downs ups account kind n max k h q f w a =
 
 -- what is executed of a message that is run, or not
 abbrev deeds_if : Bool → ℕ → Parts → List (Within Deed)
-deeds_if run n m = cond run (in_session n (all_deeds (origin_of m) m.body)) []
+deeds_if run n m = cond run (each_in_session n (all_deeds (origin_of m) m.body)) []
 
 turn-is : (s t : Opened) (d : Reply) (run : Bool)
     → TurnFine s.progress.standing d.message.header.msg run t
@@ -344,7 +344,7 @@ outcome-goes : (job : List Act) (done done' : List (Within Deed)) (s : Opened) (
     → Each UpSays ups
     → Known v.session ups
     → Aware (Some s) v.session ups
-    → GoesOn job (deeds_acts done') v downs ups (client.machine_of x) (client.outcome_answer x)
+    → GoesOn job (deeds_acts done') v downs ups (client.outcome_machine x) (client.outcome_answer x)
 outcome-goes job done done' s v downs ups b d run (goes_on c) e x so t q h f w a =
     let y = goes-on-with job done s v downs ups b d run c.session x so t.1 q.1 (inr h) f w a in
     record {
@@ -407,7 +407,7 @@ down-goes : (job : List Act) (done : List (Within Deed)) (c : Machine) (o : Opti
     → Known v.session ups
     → Aware o v.session ups
     → GoesOn job (deeds_acts (done ++ deeds_by c o d.message nonce)) v downs ups
-    (cond (client.takes_message o d.message) (client.machine_of (client.message_outcome c o d.message nonce)) c)
+    (cond (client.takes_message o d.message) (client.outcome_machine (client.message_outcome c o d.message nonce)) c)
     (cond (client.takes_message o d.message) (client.outcome_answer (client.message_outcome c o d.message nonce))
     (client.message_refusal o d.message kept))
 down-goes job done c None v downs ups k d nonce kept e p g h q r rm f w a =
@@ -420,7 +420,7 @@ down-goes job done c (Some s) v downs ups k d nonce kept e p g h q r rm f w a =
   where
     by : (t : Bool) → client.takes_message (Some s) d.message ≡ t
         → GoesOn job (deeds_acts (done ++ cond t (deeds_in c s.progress d.message nonce) [])) v downs ups
-        (cond t (client.machine_of (accepts c s.progress d.message nonce)) c)
+        (cond t (client.outcome_machine (accepts c s.progress d.message nonce)) c)
         (cond t (client.outcome_answer (accepts c s.progress d.message nonce))
         (client.message_refusal (Some s) d.message kept))
     by true t =

@@ -13,7 +13,7 @@ use Rattle.dm_atomic.specs.Made.{Made, Result}
 use Rattle.dm_atomic.specs.Run.{Next}
 use Rattle.dm_atomic.specs.Updates.{is_updating}
 use Rattle.dm_pack.specs.Filling.{commands_of}
-use Rattle.dm_machine.specs.declared.kinds.Kind.{Kind}
+use Rattle.dm_machine.specs.declared.kinds.Initiator.{Initiator}
 use Rattle.dm_machine.specs.Machine.{Machine, Session as Opened}
 use Rattle.dm_machine.specs.Messages.{Outcome, goes_on, ends, begins, accepts, ends_update}
 use Rattle.dm_machine.specs.Statuses.{is_executed, executed}
@@ -22,7 +22,8 @@ use Rattle.dm_machine.specs.History as client_runs
 use Rattle.dm_machine.specs.Ready.{IsReadyMachine, IsReadyProgress}
 use Rattle.dm_service.specs.Service.{Service, Session as Serving}
 use Rattle.dm_world.specs.Deeds.{Deed}
-use Rattle.dm_world.specs.World.{InSession, Reply, with_new, said, in_session, heard_by, deeds_in, made_in, deeds_by}
+use Rattle.dm_world.specs.World.{InSession, Reply, with_new, said, each_in_session, heard_by, deeds_in, made_in}
+use Rattle.dm_world.specs.World.{deeds_by}
 use Rattle.dm_world.specs.World.{made_by}
 use Rattle.dm_world.specs.Acts.{Act, acts, deeds_acts}
 use Rattle.dm_world.specs.Lockstep.{first_of}
@@ -189,7 +190,7 @@ begun-keeps c d None v ups made done n k l high e g o h = absurd g
 begun-keeps c d (Some t) v ups made done n k l high e g o h = opened-keeps c d t v ups made done n k l high e g o h
 
 pub begins-keeps : (c : Machine) (v : Service) (ups : List Parts) (made : List (InSession Made)) (done : List Act)
-    (account : ℕ) (kind : Kind) (n : ℕ)
+    (account : ℕ) (kind : Initiator) (n : ℕ)
     → ServerOk c.begun v.session
     → n < 2 ^ 32
     → Keeps c v ups made done
@@ -276,15 +277,15 @@ record NewFacts (v : Service) (made : List (InSession Made)) (done : List Act) (
   elsewhere : (k : ℕ) → v.runs_in ≡ Some k → k < s.progress.number → run.state.group ≡ None
 
 abbrev all_made : List (InSession Made) → Opened → Next → List (InSession Made)
-all_made made s run = made ++ in_session s.progress.number run.made
+all_made made s run = made ++ each_in_session s.progress.number run.made
 
 more-none : (made : List (InSession Made)) (s : Opened) (run : Next) (n : ℕ) → FoundNone made n → FindsNone run
     → FoundNone (all_made made s run) n
 more-none made s run n h k post found w =
-    by (Contains-append_cases made (in_session s.progress.number run.made) _ w)
+    by (Contains-append_cases made (each_in_session s.progress.number run.made) _ w)
   where
     by : Contains made (record { session = n; what = Result post found })
-        ⊎ Contains (in_session s.progress.number run.made) (record { session = n; what = Result post found })
+        ⊎ Contains (each_in_session s.progress.number run.made) (record { session = n; what = Result post found })
         → ⊥
     by (inl x) = h post found x
     by (inr x) =
@@ -295,10 +296,10 @@ other-none : (made : List (InSession Made)) (s : Opened) (run : Next) (n : ℕ) 
     → (s.progress.number ≡ n → FindsNone run)
     → FoundNone (all_made made s run) n
 other-none made s run n h k post found w =
-    by (Contains-append_cases made (in_session s.progress.number run.made) _ w)
+    by (Contains-append_cases made (each_in_session s.progress.number run.made) _ w)
   where
     by : Contains made (record { session = n; what = Result post found })
-        ⊎ Contains (in_session s.progress.number run.made) (record { session = n; what = Result post found })
+        ⊎ Contains (each_in_session s.progress.number run.made) (record { session = n; what = Result post found })
         → ⊥
     by (inl x) = h post found x
     by (inr x) =
@@ -349,7 +350,7 @@ new-facts : (job done then : List Act) (c : Machine) (s : Opened) (v : Service) 
     → NewFacts v (all_made made s (executed c s.progress d.message (heard_by c s.progress d.message nonce))) then
     (executed c s.progress d.message (heard_by c s.progress d.message nonce)) s
 new-facts job done then c s v y downs ups made d nonce x e = record {
-  low = λ i w. low-of i (Contains-append_cases made (in_session s.progress.number run.made) i w);
+  low = λ i w. low-of i (Contains-append_cases made (each_in_session s.progress.number run.made) i w);
   unmade = λ z n.
       (let q = done-none done d (is_executed s.progress d.message (heard_by c s.progress d.message nonce)) (sym e ∙ z)
       in
@@ -382,7 +383,7 @@ new-facts job done then c s v y downs ups made d nonce x e = record {
 
     low-of : (i : InSession Made)
         → Contains made i
-        ⊎ Contains (in_session s.progress.number
+        ⊎ Contains (each_in_session s.progress.number
         (executed c s.progress d.message (heard_by c s.progress d.message nonce)).made) i
         → UpTo v.session i.session
     low-of i (inl w) = x.keeps.low i w
@@ -529,7 +530,7 @@ outcome-keeps : (job done then : List Act) (c : Machine) (s : Opened) (v : Servi
     → (ball : Ball made c y)
     → OutcomeTurns (all_made made s run) s.progress.number ball.going run out
     → NewFacts v (all_made made s run) then run s
-    → Then v ups (all_made made s run) then (client.machine_of out) (client.outcome_answer out)
+    → Then v ups (all_made made s run) then (client.outcome_machine out) (client.outcome_answer out)
 outcome-keeps job done then c s v y downs ups made d run (goes_on c') x g ball turn facts = by c'.session refl g.1 turn
   where
     by : (o : Option Opened) → c'.session ≡ o → OpenAs (Numbers s.progress d.message.header.msg) o
@@ -538,13 +539,13 @@ outcome-keeps job done then c s v y downs ups made d run (goes_on c') x g ball t
     by None e h k = absurd h
     by (Some t) e h k =
         goes-keeps job done then c c' s t v y downs ups made (all_made made s run) d run x e h ball.going ball.fits
-        (later-going made (in_session s.progress.number run.made) y.progress.number ball.going ball.was_found)
+        (later-going made (each_in_session s.progress.number run.made) y.progress.number ball.going ball.was_found)
         (subst (λ i. Turns (all_made made s run) i ball.going run c' t) (x.number ∙ sym x.next.number) k) facts
 outcome-keeps job done then c s v y downs ups made d run (ends c' end) x g ball turn facts =
     ends-keeps job done then c c' s v y downs ups made (all_made made s run) d run
     (said (client.ended end c'.farewell)) x g.1 ball.going ball.fits
-    (later-going made (in_session s.progress.number run.made) y.progress.number ball.going ball.was_found)
-    (flow-later made (in_session s.progress.number run.made) y.progress.number ball.going (commands_of c.queue)
+    (later-going made (each_in_session s.progress.number run.made) y.progress.number ball.going ball.was_found)
+    (flow-later made (each_in_session s.progress.number run.made) y.progress.number ball.going (commands_of c.queue)
     ball.flow)
     turn facts
 
@@ -553,7 +554,7 @@ taken-keeps : (job : List Act) (executed_before : List (InSession Deed)) (c : Ma
     → Takes job (deeds_acts executed_before) c s v y downs ups made d
     → Then v ups (made ++ made_in c s.progress d.message nonce)
     (deeds_acts (executed_before ++ deeds_in c s.progress d.message nonce))
-    (client.machine_of (accepts c s.progress d.message nonce))
+    (client.outcome_machine (accepts c s.progress d.message nonce))
     (client.outcome_answer (accepts c s.progress d.message nonce))
 taken-keeps job executed_before c s v y downs ups made d nonce x =
     let done = deeds_acts executed_before in
@@ -585,7 +586,7 @@ served-keeps : (job : List Act) (executed_before : List (InSession Deed)) (c : M
     → NextOk c.begun s o d
     → Then v ups (made ++ made_in c s.progress d.message nonce)
     (deeds_acts (executed_before ++ deeds_in c s.progress d.message nonce))
-    (client.machine_of (accepts c s.progress d.message nonce))
+    (client.outcome_machine (accepts c s.progress d.message nonce))
     (client.outcome_answer (accepts c s.progress d.message nonce))
 served-keeps job executed_before c s v None downs ups made k d nonce e f p t h r g l x = absurd x
 served-keeps job executed_before c s v (Some y) downs ups made k d nonce e f p t h r g l x =
@@ -622,7 +623,7 @@ down-keeps : (job : List Act) (executed_before : List (InSession Deed)) (c : Mac
     → Keeps c v ups made (deeds_acts executed_before)
     → Then v ups (made ++ made_by c o d.message nonce)
     (deeds_acts (executed_before ++ deeds_by c o d.message nonce))
-    (cond (client.takes_message o d.message) (client.machine_of (client.message_outcome c o d.message nonce)) c)
+    (cond (client.takes_message o d.message) (client.outcome_machine (client.message_outcome c o d.message nonce)) c)
     (cond (client.takes_message o d.message) (client.outcome_answer (client.message_outcome c o d.message nonce))
     (client.message_refusal o d.message kept))
 down-keeps job executed_before c None v downs ups made k d nonce kept e p g h r x =
@@ -633,7 +634,7 @@ down-keeps job executed_before c (Some s) v downs ups made k d nonce kept e p g 
     by : (t : Bool) → client.takes_message (Some s) d.message ≡ t
         → Then v ups (made ++ cond t (made_in c s.progress d.message nonce) [])
         (deeds_acts (executed_before ++ cond t (deeds_in c s.progress d.message nonce) []))
-        (cond t (client.machine_of (accepts c s.progress d.message nonce)) c)
+        (cond t (client.outcome_machine (accepts c s.progress d.message nonce)) c)
         (cond t (client.outcome_answer (accepts c s.progress d.message nonce))
         (client.message_refusal (Some s) d.message kept))
     by true t =

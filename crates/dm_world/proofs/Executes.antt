@@ -14,7 +14,7 @@ use Rattle.dm_atomic.specs.declared.tasks.Origin.{Origin}
 use Rattle.dm_atomic.specs.declared.tasks.Task.{Task}
 use Rattle.dm_atomic.specs.Tasks.{item_tasks, member_tasks, members_tasks}
 use Rattle.dm_world.specs.Deeds.{Deed, step_deed, step_deeds, member_deeds, members_deeds, command_deeds, all_deeds}
-use Rattle.dm_world.specs.World.{InSession, in_session}
+use Rattle.dm_world.specs.World.{InSession, each_in_session}
 use Rattle.dm_world.specs.Acts.{Act, block, item_act, item_acts, member_acts, members_acts, seq_member_acts}
 use Rattle.dm_world.specs.Acts.{seq_members_acts, command_acts, acts, doing_acts, deeds_acts}
 use Rattle.dm_world.specs.Packing.{ExecutesAll}
@@ -84,12 +84,12 @@ done-append (d ∷ ds) b =
     ap (λ x. doing_acts d.what.doing ++ x) (done-append ds b)
     ∙ sym (append_assoc (doing_acts d.what.doing) (deeds_acts ds) (deeds_acts b))
 
-pub session-deeds : (n : ℕ) (ds : List Deed) → deeds_acts (in_session n ds) ≡ deed_acts ds
+pub session-deeds : (n : ℕ) (ds : List Deed) → deeds_acts (each_in_session n ds) ≡ deed_acts ds
 session-deeds n [] = refl
 session-deeds n (d ∷ ds) = ap (λ x. doing_acts d.doing ++ x) (session-deeds n ds)
 
 pub executes_all : ExecutesAll
 executes_all c p m nonce e =
-    ap (λ b. deeds_acts (cond b (in_session p.number (all_deeds (origin_of m) m.body)) [])) e
+    ap (λ b. deeds_acts (cond b (each_in_session p.number (all_deeds (origin_of m) m.body)) [])) e
     ∙ session-deeds p.number (all_deeds (origin_of m) m.body)
     ∙ message-deeds (origin_of m) m.body

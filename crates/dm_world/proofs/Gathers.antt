@@ -22,7 +22,7 @@ use Rattle.dm_objects.specs.declared.object.Object.TheVariants.{Nothing, Bufferi
 use Rattle.dm_objects.specs.declared.piece.Piece.{Piece}
 use Rattle.dm_objects.specs.declared.piece.What.{What}
 use Rattle.dm_objects.specs.declared.piece.What.TheVariants.{Whole, Buffered, Refused}
-use Rattle.dm_objects.specs.Gathering.{key_of, continues, Came, came, skipped, begun_by, first_of_several}
+use Rattle.dm_objects.specs.Gathering.{key_of, continues, Came, came, skipped, begun_object, first_of_several}
 use Rattle.dm_objects.specs.Gathering.{whole_step, next_piece, by_rules, is_same_key, gather}
 use Rattle.dm_commands.specs.declared.outcome.Found.{Found}
 use Rattle.dm_atomic.specs.declared.tasks.Post.{Post}
@@ -83,7 +83,7 @@ first-several max found bytes size (Some n) =
     let p = piece_with found bytes size true in
     either (CameTo found bytes true) (nat_lt max n) {x = skipped p 416} (refl, tt)
     (either (CameTo found bytes true) (nat_lt n (length bytes)) {x = skipped p 424}
-    {y = came (Buffering (begun_by p n)) Buffered} (refl, tt)
+    {y = came (Buffering (begun_object p n)) Buffered} (refl, tt)
     (record { key = refl; format = refl; media = refl; value = refl }, tt))
 
 first-piece : (max : ℕ) (found : Found) (bytes : List ℕ) (size : Option ℕ) (more : Bool)

@@ -4,9 +4,9 @@ use Rattle.std.proofs.Common.{Option, None, Some, refl, sym, ◌∙◌, ap, subs
 use Rattle.std.specs.Prelude.{Ok, slice_get}
 use Rattle.syncml_types.specs.Message.{Parts}
 use Rattle.dm_tree.specs.declared.nodes.Stamp.{Stamp}
-use Rattle.dm_ends.specs.Commands.{session_of, is_number}
+use Rattle.dm_ends.specs.Commands.{session_of, is_same_number}
 use Rattle.dm_job.specs.declared.job.Job.{Job}
-use Rattle.dm_machine.specs.declared.kinds.Kind.{Kind}
+use Rattle.dm_machine.specs.declared.kinds.Initiator.{Initiator}
 use Rattle.dm_machine.specs.Machine.{Machine, Session as Opened}
 use Rattle.dm_machine.specs.Messages.{Outcome, goes_on, ends, begins, accepts, ends_update}
 use Rattle.dm_machine.specs.Sending.{sends}
@@ -47,11 +47,11 @@ opened : (b n : ℕ) (v : Option Serving) (downs : List Reply) (ups : List Parts
 opened b n v downs ups o' None h l k g = absurd g
 opened b n v downs ups o' (Some t) h l k g = begun-holds b o' v downs ups n t t.sent h l k g g.sent
 
-begins-number : (c : Machine) (account : ℕ) (kind : Kind) (n : ℕ) → (begins c account kind n).begun ≡ n
+begins-number : (c : Machine) (account : ℕ) (kind : Initiator) (n : ℕ) → (begins c account kind n).begun ≡ n
 unfolding begins sends
 begins-number c account kind n = refl
 
-begins-then : (c : Machine) (v : Option Serving) (downs : List Reply) (ups : List Parts) (account : ℕ) (kind : Kind)
+begins-then : (c : Machine) (v : Option Serving) (downs : List Reply) (ups : List Parts) (account : ℕ) (kind : Initiator)
     (n : ℕ)
     → n < 2 ^ 32
     → Holds c.begun c.session v downs ups
@@ -80,7 +80,7 @@ outcome-then : (b : ℕ) (s : Opened) (v : Option Serving) (downs : List Reply) 
     (x : Outcome)
     → Holds b (Some s) v downs ups → NextOk b s v d
     → Turned s.progress d.message.header.msg b x
-    → Then v downs ups (client.machine_of x) (client.outcome_answer x)
+    → Then v downs ups (client.outcome_machine x) (client.outcome_answer x)
 outcome-then b s v downs ups d (goes_on c) h x g =
     subst (λ i. Holds i c.session v downs (with_new ups (said (client.sent_in c.session)))) (sym g.0)
     (turned b s v downs ups d c.session h x g.1)
@@ -101,7 +101,7 @@ refusal-said (Some s) m first =
     (either (λ a. said a ≡ None) (client.last_of s == m.header.msg) (repeat-said s first) refl)
 
 -- a text says one number
-number-said : (o : Option ℕ) (n : ℕ) → is_number o n ≡ true → o ≡ Some n
+number-said : (o : Option ℕ) (n : ℕ) → is_same_number o n ≡ true → o ≡ Some n
 number-said None n h = cc
 number-said (Some k) n h = ap Some (eq-of k n h)
 
@@ -131,13 +131,13 @@ down-then : (c : Machine) (o : Option Opened) (v : Option Serving) (downs : List
     → Holds c.begun o v downs ups
     → StandsIn d downs
     → Then v downs ups
-    (cond (client.takes_message o d.message) (client.machine_of (client.message_outcome c o d.message nonce)) c)
+    (cond (client.takes_message o d.message) (client.outcome_machine (client.message_outcome c o d.message nonce)) c)
     (cond (client.takes_message o d.message) (client.outcome_answer (client.message_outcome c o d.message nonce))
     (client.message_refusal o d.message kept))
 down-then c None v downs ups d nonce kept e h w = subst (λ (o : Option Opened). Holds c.begun o v downs ups) (sym e) h
 down-then c (Some s) v downs ups d nonce kept e h w =
     let x = accepts c s.progress d.message nonce in
-    both-ways (Then v downs ups) (client.takes_message (Some s) d.message) (client.machine_of x) c
+    both-ways (Then v downs ups) (client.takes_message (Some s) d.message) (client.outcome_machine x) c
     (client.outcome_answer x) (client.message_refusal (Some s) d.message kept)
     (λ t. outcome-then c.begun s v downs ups d x h (taken-next c.begun s v downs ups d h w t)
     (message-turned c s.progress d.message nonce))
@@ -201,7 +201,7 @@ pub record TakenUp (v : Service) (o : Option Serving) (n : ℕ) (u : Parts) (non
 
 opens-turn : (v : Service) (o : Option Serving) (n : ℕ) (u : Parts) (nonce : List ℕ) → Before o n 0
     → 0 < u.header.msg
-    → TakenUp v o n u nonce (server.opens v n u nonce)
+    → TakenUp v o n u nonce (server.opens_session v n u nonce)
 opens-turn v o n u nonce b l = record {
   base = serving.begins v n;
   from = serving.first_session v.job.account n;

@@ -10,7 +10,7 @@ use Rattle.dm_headers.specs.Checks.{fault_of, is_denied}
 use Rattle.dm_headers.specs.Standings.{Heard, hears}
 use Rattle.dm_ends.specs.Commands.{is_abort}
 use Rattle.dm_job.specs.declared.job.Job.{Job}
-use Rattle.dm_machine.specs.declared.kinds.Kind.{Kind}
+use Rattle.dm_machine.specs.declared.kinds.Initiator.{Initiator}
 use Rattle.dm_machine.specs.Machine.{Machine, Session as Opened}
 use Rattle.dm_machine.specs.Messages.{Outcome, goes_on, ends, begins, accepts, ends_update}
 use Rattle.dm_machine.specs.Events as client
@@ -54,11 +54,11 @@ unsaid-first ups c a e h = subst (λ o. UpFirst c.session (with_new ups o)) (sym
 
 outcome-first : (ups : List Parts) (s : Opened) (m : Parts) (b : ℕ) (x : Outcome)
     → Turned s.progress m.header.msg b x
-    → Says ups (client.machine_of x) (client.outcome_answer x)
+    → Says ups (client.outcome_machine x) (client.outcome_answer x)
 outcome-first ups s m b (goes_on c) h = sent-first ups c.session
 outcome-first ups s m b (ends c end) h = λ t e. absurd (none-some c.session t h.1 e)
 
-opened-first : (ups : List Parts) (c : Machine) (account : ℕ) (kind : Kind) (n : ℕ) → UpFirst c.session ups
+opened-first : (ups : List Parts) (c : Machine) (account : ℕ) (kind : Initiator) (n : ℕ) → UpFirst c.session ups
     → Says ups (client_runs.next c (client.opened account kind n)) (client_runs.answer_now c (client.opened account kind
     n))
 unfolding client_runs.next client_runs.answer_now client.takes client.after client.taken_answer client.refusal
@@ -86,12 +86,12 @@ loss-first ups c h = unsaid-first ups c (client.loss_answer c.session) (loss-sai
 
 down-first : (ups : List Parts) (c : Machine) (o : Option Opened) (m : Parts) (nonce : List ℕ) (kept : Option Parts)
     → UpFirst c.session ups
-    → Says ups (cond (client.takes_message o m) (client.machine_of (client.message_outcome c o m nonce)) c)
+    → Says ups (cond (client.takes_message o m) (client.outcome_machine (client.message_outcome c o m nonce)) c)
     (cond (client.takes_message o m) (client.outcome_answer (client.message_outcome c o m nonce))
     (client.message_refusal o m kept))
 down-first ups c None m nonce kept h = h
 down-first ups c (Some s) m nonce kept h =
-    both-ways (Says ups) (client.takes_message (Some s) m) (client.machine_of (accepts c s.progress m nonce)) c
+    both-ways (Says ups) (client.takes_message (Some s) m) (client.outcome_machine (accepts c s.progress m nonce)) c
     (client.outcome_answer (accepts c s.progress m nonce)) (client.message_refusal (Some s) m kept)
     (λ t. outcome-first ups s m c.begun (accepts c s.progress m nonce) (message-turned c s.progress m nonce))
     (λ t. unsaid-first ups c (client.message_refusal (Some s) m kept) (refusal-said (Some s) m kept) h)
@@ -131,14 +131,14 @@ accepts-leaves v s m nonce =
     (either (λ (x : Service). x.sent ≡ v.sent) (not s.progress.standing.we_failed && is_denied h.status)
     {x = gives_up heard t} {y = heard} (gives-sent heard t) refl)
 
-opens-leaves : (v : Service) (n : ℕ) (m : Parts) (nonce : List ℕ) → Leaves v (server.opens v n m nonce)
+opens-leaves : (v : Service) (n : ℕ) (m : Parts) (nonce : List ℕ) → Leaves v (server.opens_session v n m nonce)
 opens-leaves v n m nonce = accepts-leaves (server_begins v n) (first_session v.job.account n) m nonce
 
 in-leaves : (v : Service) (o : Option Serving) (n : ℕ) (m : Parts) (nonce : List ℕ)
     → Leaves v (server.after_in_session v o n m nonce)
 in-leaves v None n m nonce = opens-leaves v n m nonce
 in-leaves v (Some s) n m nonce =
-    either (Leaves v) (s.progress.number == n) {x = server_accepts v s m nonce} {y = server.opens v n m nonce}
+    either (Leaves v) (s.progress.number == n) {x = server_accepts v s m nonce} {y = server.opens_session v n m nonce}
     (accepts-leaves v s m nonce) (opens-leaves v n m nonce)
 
 as-leaves : (v : Service) (o : Option ℕ) (m : Parts) (nonce : List ℕ) → Leaves v (server.after_number v o m nonce)

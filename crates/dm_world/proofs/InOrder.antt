@@ -16,7 +16,7 @@ use Rattle.syncml_types.specs.Message.{Parts}
 use Rattle.dm_atomic.specs.Posts.{waiting_posts}
 use Rattle.dm_job.specs.declared.job.Job.{Job}
 use Rattle.dm_job.specs.declared.job.JobEntry.{JobEntry}
-use Rattle.dm_job.specs.Sound.{IsStep, IsStepMember, IsStepSeqMember, IsJobCommand, IsEntry, all_entries}
+use Rattle.dm_job.specs.Sound.{IsStep, IsStepMember, IsStepSeqMember, IsJobCommand, CanBeSent, all_entries}
 use Rattle.dm_machine.specs.Machine.{Machine}
 use Rattle.dm_machine.specs.Events as client
 use Rattle.dm_machine.specs.History as client_runs
@@ -226,7 +226,7 @@ command-whole (command.Sequence b) h = seq-whole b.members h.1
 command-whole (command.Status c) h = absurd h
 command-whole (command.Results c) h = absurd h
 
-entries-whole : (es : List JobEntry) → AllByRecursion IsEntry es → AreWhole (entries_acts es)
+entries-whole : (es : List JobEntry) → AllByRecursion CanBeSent es → AreWhole (entries_acts es)
 entries-whole [] h = tt
 entries-whole (e ∷ es) h =
     whole-append (command_acts e.command) (entries_acts es) (command-whole e.command h.0.steps) (entries-whole es h.1)

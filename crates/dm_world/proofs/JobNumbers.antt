@@ -22,16 +22,17 @@ use Rattle.dm_fields.specs.Fields.{begins_with, opt_of, account_in, limits_in}
 use Rattle.dm_fields.specs.Refusing.{or_refused}
 use Rattle.dm_job.specs.declared.job.Job.{Job}
 use Rattle.dm_job.specs.declared.job.JobEntry.{JobEntry}
-use Rattle.dm_job.specs.declared.draft.Draft.{Draft}
-use Rattle.dm_job.specs.declared.draft.Place.{Place}
-use Rattle.dm_job.specs.declared.draft.Place.TheVariants as place
+use Rattle.dm_job.specs.declared.draft.JobDraft.{JobDraft}
+use Rattle.dm_job.specs.declared.draft.LinePlace.{LinePlace}
+use Rattle.dm_job.specs.declared.draft.LinePlace.TheVariants as place
 use Rattle.dm_job.specs.declared.draft.Reading.{Reading}
 use Rattle.dm_job.specs.declared.draft.Reading.TheVariants as reading
-use Rattle.dm_job.specs.Commands.{meta_of, item_of, plain_of, bare_in, exec_in, data_in, written, write_in, verb_in}
+use Rattle.dm_job.specs.Commands.{meta_of, item_of, plain_of, bare_in, exec_in, hex_data_in, plain_written, write_in}
+use Rattle.dm_job.specs.Commands.{verb_in}
 use Rattle.dm_job.specs.Commands.{plain_in, new_atomic, new_sequence, with_member}
-use Rattle.dm_job.specs.Reading.{empty_draft, with_entry, adds, joined, joins}
+use Rattle.dm_job.specs.Reading.{empty_draft, entry_put, adds, entry_joined, draft_joined}
 use Rattle.dm_job.specs.Reading.{last_may_close, when, close_line, inside, outside, draft_after, with_draft}
-use Rattle.dm_job.specs.Reading.{after_line, behind_line}
+use Rattle.dm_job.specs.Reading.{reading_after, reading_behind}
 use Rattle.dm_job.specs.Sound.{all_entries}
 use Rattle.dm_job.specs.Texts.{segments, is_long, ended_at, job_in, end_at, end_or, job_from, job_of}
 use Rattle.dm_world.specs.Start.{JobsAreInRange}
@@ -69,7 +70,7 @@ exec-range (word ∷ uri ∷ correlator ∷ []) =
 exec-range (word ∷ uri ∷ correlator ∷ more ∷ rest) = tt
 
 written-range : (v : Verb) (uri format media : List ℕ) (o : Option (List ℕ))
-    → IfSome (option_map (written v uri format media) o) PlainRange
+    → IfSome (option_map (plain_written v uri format media) o) PlainRange
 written-range v uri format media None = tt
 written-range v uri format media (Some bytes) =
     plain-of v None uri (meta_of (opt_of format) (opt_of media)) (Some bytes)
@@ -83,8 +84,8 @@ write-range v (a ∷ b ∷ c ∷ []) = tt
 write-range v (a ∷ b ∷ c ∷ d ∷ []) = tt
 write-range v (word ∷ uri ∷ format ∷ media ∷ bytes ∷ []) =
     either (λ (o : Option Plain). IfSome o PlainRange) (is_word uri && is_short format && is_word media)
-    {x = option_map (written v uri format media) (data_in bytes)} {y = None}
-    (written-range v uri format media (data_in bytes)) tt
+    {x = option_map (plain_written v uri format media) (hex_data_in bytes)} {y = None}
+    (written-range v uri format media (hex_data_in bytes)) tt
 write-range v (a ∷ b ∷ c ∷ d ∷ e ∷ more ∷ rest) = tt
 
 plain-range : (v : Verb) (fields : List (List ℕ)) → IfSome (plain_in v fields) PlainRange
@@ -118,8 +119,8 @@ behind-range : (ps : List (List JobEntry)) (e : JobEntry) → PackagesRange ps �
 behind-range ps e h k =
     last-range (AllByRecursion JobRange) (λ es. es ++ e ∷ []) (λ es is. all-append JobRange es (e ∷ []) is (k, tt)) ps h
 
-entry-range : (p : Place) (ps : List (List JobEntry)) (e : JobEntry) → PackagesRange ps → JobRange e
-    → PackagesRange (with_entry p ps e)
+entry-range : (p : LinePlace) (ps : List (List JobEntry)) (e : JobEntry) → PackagesRange ps → JobRange e
+    → PackagesRange (entry_put p ps e)
 entry-range place.Between ps e h k = all-append (AllByRecursion JobRange) ps ((e ∷ []) ∷ []) h ((k, tt), tt)
 entry-range place.Package ps e h k = behind-range ps e h k
 entry-range place.Container ps e h k = behind-range ps e h k
@@ -143,40 +144,40 @@ with-member (command.Results c) p h k = h
 
 -- ---- a line
 
-abbrev DraftRange : Draft → Type 0
+abbrev DraftRange : JobDraft → Type 0
 DraftRange d = PackagesRange d.job.packages
 
-abbrev DraftResult : Result Draft LineReason → Type 0
+abbrev DraftResult : Result JobDraft LineReason → Type 0
 DraftResult (Ok d) = DraftRange d
 DraftResult (Err why) = Unit {0}
 
-adds-range : (d : Draft) (next : Place) (c : Command) → DraftRange d → CommandRange c → DraftRange (adds d next c)
+adds-range : (d : JobDraft) (next : LinePlace) (c : Command) → DraftRange d → CommandRange c → DraftRange (adds d next c)
 adds-range d next c h k = entry-range d.place d.job.packages _ h k
 
-joins-range : (d : Draft) (p : Plain) → DraftRange d → PlainRange p → DraftRange (joins d p)
+joins-range : (d : JobDraft) (p : Plain) → DraftRange d → PlainRange p → DraftRange (draft_joined d p)
 joins-range d p h k =
-    last-range (AllByRecursion JobRange) (last_changed (joined p))
-    (λ es is. last-range JobRange (joined p) (λ e r. with-member e.command p r k) es is) d.job.packages h
+    last-range (AllByRecursion JobRange) (last_changed (entry_joined p))
+    (λ es is. last-range JobRange (entry_joined p) (λ e r. with-member e.command p r k) es is) d.job.packages h
 
-when-range : (b : Bool) (d : Draft) → DraftRange d → DraftResult (when b d)
+when-range : (b : Bool) (d : JobDraft) → DraftRange d → DraftResult (when b d)
 when-range true d h = h
 when-range false d h = tt
 
-said-range : (o : Option Plain) (next : Plain → Draft) → IfSome o PlainRange
+said-range : (o : Option Plain) (next : Plain → JobDraft) → IfSome o PlainRange
     → ((p : Plain) → PlainRange p → DraftRange (next p))
     → DraftResult (or_refused reason.Fields o (λ p. Ok (next p)))
 said-range None next h one = tt
 said-range (Some p) next h one = one p h
 
-inside-range : (d : Draft) (line : List ℕ) (o : Option Verb) → DraftRange d → DraftResult (inside d line o)
+inside-range : (d : JobDraft) (line : List ℕ) (o : Option Verb) → DraftRange d → DraftResult (inside d line o)
 inside-range d line (Some v) h =
-    said-range (plain_in v (parts line)) (joins d) (plain-range v (parts line)) (λ p k. joins-range d p h k)
+    said-range (plain_in v (parts line)) (draft_joined d) (plain-range v (parts line)) (λ p k. joins-range d p h k)
 inside-range d line None h =
     either DraftResult (begins_with (codes "close") line) {x = close_line d line} {y = Err reason.Word}
     (when-range (bytes_eq line (codes "close") && last_may_close d.job.packages) (record d { place = place.Package }) h)
     tt
 
-outside-range : (d : Draft) (line : List ℕ) (o : Option Verb) → DraftRange d → DraftResult (outside d line o)
+outside-range : (d : JobDraft) (line : List ℕ) (o : Option Verb) → DraftRange d → DraftResult (outside d line o)
 outside-range d line (Some v) h =
     said-range (plain_in v (parts line)) (λ p. adds d place.Package (command.Plain p)) (plain-range v (parts line))
     (λ p k. adds-range d place.Package (command.Plain p) h k)
@@ -192,7 +193,7 @@ outside-range d line None h =
     (either DraftResult (begins_with (codes "end") line) {y = Err reason.Word}
     (when-range (bytes_eq line (codes "end")) (record d { place = place.End }) h) tt)))
 
-draft-range : (p : Place) (d : Draft) (line : List ℕ) → DraftRange d → DraftResult (draft_after p d line)
+draft-range : (p : LinePlace) (d : JobDraft) (line : List ℕ) → DraftRange d → DraftResult (draft_after p d line)
 draft-range place.Between d line h = outside-range d line (verb_in line) h
 draft-range place.Package d line h = outside-range d line (verb_in line) h
 draft-range place.Container d line h = inside-range d line (verb_in line) h
@@ -220,12 +221,12 @@ limits-range : (account : Account) (o : Option Limits)
 limits-range account None = tt
 limits-range account (Some limits) = tt
 
-commands-range : (r : Result Draft LineReason) → DraftResult r → ReadingResult (with_draft r)
+commands-range : (r : Result JobDraft LineReason) → DraftResult r → ReadingResult (with_draft r)
 commands-range (Ok d) h = h
 commands-range (Err why) h = tt
 
-line-range : (r : Reading) (line : List ℕ) → ReadingRange r → ReadingResult (after_line r line)
-unfolding after_line
+line-range : (r : Reading) (line : List ℕ) → ReadingRange r → ReadingResult (reading_after r line)
+unfolding reading_after
 line-range reading.First line h =
     either ReadingResult (bytes_eq line (codes "dm-job 1")) {x = Ok reading.Server} {y = Err reason.Word} tt tt
 line-range reading.Server line h =
@@ -248,7 +249,7 @@ end-range n job ([] ∷ []) h = h
 end-range n job ([] ∷ next ∷ others) h = tt
 end-range n job ((b ∷ bs) ∷ others) h = tt
 
-ended-range : (p : Place) (job : Job) → PackagesRange job.packages
+ended-range : (p : LinePlace) (job : Job) → PackagesRange job.packages
     → IfSome (ended_at p job) (λ (j : Job). PackagesRange j.packages)
 ended-range place.End job h = h
 ended-range place.Between job h = tt
@@ -269,7 +270,7 @@ or-range n (Some job) behind rest h k = end-range (n + 1) job behind h
 
 behind-line : (n : ℕ) (r : Result Reading LineReason) (rest : Reading → Result Job (ℕ × LineReason)) → ReadingResult r
     → ((next : Reading) → ReadingRange next → JobResult (rest next))
-    → JobResult (behind_line n r rest)
+    → JobResult (reading_behind n r rest)
 behind-line n (Ok next) rest h one = one next h
 behind-line n (Err why) rest h one = tt
 
@@ -278,7 +279,7 @@ from-range n r [] h = tt
 from-range n r (tail ∷ []) h = tt
 from-range n r (line ∷ next ∷ others) h =
     either JobResult (is_long line) {x = Err (n, reason.Long)} tt
-    (behind-line n (after_line r line) _ (line-range r line h)
+    (behind-line n (reading_after r line) _ (line-range r line h)
     (λ read is. or-range n (job_in read) (next ∷ others) (job_from (n + 1) read (next ∷ others)) (in-range read is)
     (from-range (n + 1) read (next ∷ others) is)))
 

@@ -18,7 +18,7 @@ use Rattle.dm_service.specs.declared.sent.Carried.{Carried}
 use Rattle.dm_service.specs.declared.sent.Sent.{Sent}
 use Rattle.dm_service.specs.Service.{Waiting}
 use Rattle.dm_service.specs.Packages.{job_waiting}
-use Rattle.dm_service.specs.Sending.{in_a_row, last_alone, rest_holds, not_counting, but_the_last}
+use Rattle.dm_service.specs.Sending.{in_a_row, last_part_sent, rest_holds, not_counting, but_the_last}
 use Rattle.dm_service.specs.Sending.{part_holds}
 use Rattle.dm_service.specs.Sending.{goes_out, carried_on}
 use Rattle.dm_service.proofs.Codes.{first_in, later_in}
@@ -194,7 +194,7 @@ two-marks : (packages : List (List JobEntry)) (ds : List Deed) (a z : Act) (k ms
     → Marked ds k (a ∷ z ∷ [])
     → IsJobAct packages c.first a
     → IsJobAct packages (c.first + c.count - 1) z
-    → Each (HasPlace packages ds msg) (last_alone msg k c)
+    → Each (HasPlace packages ds msg) (last_part_sent msg k c)
 two-marks packages [] a z k msg c m f g = absurd m
 two-marks packages (d ∷ []) a z k msg c m f g = absurd m.2
 two-marks packages (d ∷ t ∷ ds) a z k msg c m f g = (
@@ -225,7 +225,7 @@ one-mark : (packages : List (List JobEntry)) (ds : List Deed) (a : Act) (k msg :
     → Marked ds k (a ∷ [])
     → c.count ≡ 1
     → IsJobAct packages c.first a
-    → Each (HasPlace packages ds msg) (last_alone msg k c)
+    → Each (HasPlace packages ds msg) (last_part_sent msg k c)
 one-mark packages [] a k msg c m e f = absurd m
 one-mark packages (d ∷ ds) a k msg c m e f = (
   record {
@@ -247,7 +247,7 @@ alone-marks : (packages : List (List JobEntry)) (ds : List Deed) (xs : List Act)
     → Marked ds k (ends_of xs)
     → c.count ≡ length xs → 0 < length xs
     → AreJobActs packages c.first xs
-    → Each (HasPlace packages ds msg) (last_alone msg k c)
+    → Each (HasPlace packages ds msg) (last_part_sent msg k c)
 alone-marks packages ds [] k msg c m e some f = absurd (omega (arith, some))
 alone-marks packages ds (a ∷ []) k msg c m e some f =
     one-mark packages ds a k msg c m e

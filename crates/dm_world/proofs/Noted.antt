@@ -20,12 +20,13 @@ use Rattle.dm_pack.specs.Filling.{commands_of, taken, cut, next_rest, tail_of, t
 use Rattle.dm_ends.specs.Commands.{is_abort, session_of, origin_of}
 use Rattle.dm_job.specs.declared.job.Job.{Job}
 use Rattle.dm_job.specs.declared.job.JobEntry.{JobEntry}
-use Rattle.dm_job.specs.Sound.{IsEntry, all_entries}
+use Rattle.dm_job.specs.Sound.{CanBeSent, all_entries}
 use Rattle.dm_machine.specs.Machine.{Machine}
-use Rattle.dm_service.specs.declared.progress.Progress.{Progress}
+use Rattle.dm_service.specs.declared.progress.ServiceProgress.{ServiceProgress}
 use Rattle.dm_service.specs.declared.sent.Sent.{Sent}
 use Rattle.dm_service.specs.Service.{Waiting, Session, Service}
-use Rattle.dm_service.specs.Packages.{is_of_job, job_waiting, queues_package, next_package, put_back, holds_number}
+use Rattle.dm_service.specs.Packages.{is_of_job, job_waiting, queues_package, next_package, package_put_back}
+use Rattle.dm_service.specs.Packages.{holds_number}
 use Rattle.dm_service.specs.Packages.{gives_up}
 use Rattle.dm_service.specs.Answers.{command_answers}
 use Rattle.dm_service.specs.Sending.{header_for}
@@ -85,7 +86,7 @@ others-wait packages (w ∷ ws) h =
 
 put-back-of : (packages : List (List JobEntry)) (p : List JobEntry) (ps : List (List JobEntry)) → AreOf packages p
     → AreOf packages (all_entries ps)
-    → AreOf packages (all_entries (put_back p ps))
+    → AreOf packages (all_entries (package_put_back p ps))
 put-back-of packages [] ps h k = k
 put-back-of packages (e ∷ es) ps h k = all-append (Contains (all_entries packages)) (e ∷ es) (all_entries ps) h k
 
@@ -165,7 +166,7 @@ record Noted (packages : List (List JobEntry)) (old : List Sent) (n : ℕ) (x : 
 abbrev pub IsIn : List Sent → List Sent → Type 0
 IsIn xs old = (y : Sent) → Contains xs y → Contains old y
 
-pub next-numbers : (v : Service) (p : Progress) (m : Parts)
+pub next-numbers : (v : Service) (p : ServiceProgress) (m : Parts)
     → ((header_for v p m).session ≡ decimal p.number) × ((header_for v p m).msg ≡ p.standing.own + 1)
 unfolding next_header
 next-numbers v p m = (refl, refl)
@@ -302,7 +303,7 @@ message-noted packages v s m code nonce old is h k p notes =
     let t = in_session told s in
     let same = session-has s.progress told.session s (tells-has v s m code p) in
     let waits = queues_answers told m code nonce in
-    subst (λ i. Noted packages old i (answers_message v s m code nonce)) (ap (λ (q : Progress). q.number) same)
+    subst (λ i. Noted packages old i (answers_message v s m code nonce)) (ap (λ (q : ServiceProgress). q.number) same)
     (sends-noted packages (next_package waits t.progress.standing) t m code old
     (session-within old told.session s (tells-within v s m code old h k) h)
     (package-notes packages waits t.progress.standing is
@@ -338,7 +339,7 @@ accepts-noted packages v s m nonce is notes =
     let y = in_session w t in
     let within = status-within heard t failed h.status s.sent (λ y i. i) (λ y i. i) in
     let same = session-has t.progress w.session t k in
-    subst (λ i. Noted packages s.sent i (by_header w y m h nonce)) (ap (λ (q : Progress). q.number) same)
+    subst (λ i. Noted packages s.sent i (by_header w y m h nonce)) (ap (λ (q : ServiceProgress). q.number) same)
     (header-noted packages w y m h nonce s.sent is (session-within s.sent w.session t within (λ y i. i)) within
     (has-itself t.progress w.session t k)
     (status-notes packages heard t failed h.status
@@ -346,7 +347,7 @@ accepts-noted packages v s m nonce is notes =
 
 opens-noted : (packages : List (List JobEntry)) (v : Service) (n : ℕ) (m : Parts) (nonce : List ℕ) → JobIs packages
     → Notes packages v
-    → Noted packages [] n (server.opens v n m nonce)
+    → Noted packages [] n (server.opens_session v n m nonce)
 opens-noted packages v n m nonce is h =
     accepts-noted packages (begins v n) (first_session v.job.account n) m nonce is
     (record {
@@ -458,7 +459,7 @@ in-stands : (packages : List (List JobEntry)) (downs : List Reply) (v : Service)
     → Stands packages downs (server.after_in_session v o n u nonce)
     (server.sent_or_ended (server.reply_of (server.after_in_session v o n u nonce))) u
 in-stands packages downs v None n u nonce is low high h k =
-    noted-stands packages downs (server.opens v n u nonce) u n [] low high (λ y i. absurd (no-element i))
+    noted-stands packages downs (server.opens_session v n u nonce) u n [] low high (λ y i. absurd (no-element i))
     (opens-noted packages v n u nonce is h)
   where
     no-element : {y : Sent} → Contains [] y → ⊥
@@ -469,15 +470,15 @@ in-stands packages downs v (Some s) n u nonce is low high h k = by (s.progress.n
     no-element i = let none = i.1 in omega (arith, none)
 
     by : (b : Bool) → (s.progress.number == n) ≡ b
-        → Stands packages downs (cond b (accepts v s u nonce) (server.opens v n u nonce))
-        (server.sent_or_ended (server.reply_of (cond b (accepts v s u nonce) (server.opens v n u nonce)))) u
+        → Stands packages downs (cond b (accepts v s u nonce) (server.opens_session v n u nonce))
+        (server.sent_or_ended (server.reply_of (cond b (accepts v s u nonce) (server.opens_session v n u nonce)))) u
     by true e =
         let same = eq-of s.progress.number n e in
         noted-stands packages downs (accepts v s u nonce) u n s.sent low high
         (λ y i. subst (λ j. StandsAs packages downs j y) same (k y i))
         (subst (λ j. Noted packages s.sent j (accepts v s u nonce)) same (accepts-noted packages v s u nonce is h))
     by false e =
-        noted-stands packages downs (server.opens v n u nonce) u n [] low high (λ y i. absurd (no-element i))
+        noted-stands packages downs (server.opens_session v n u nonce) u n [] low high (λ y i. absurd (no-element i))
         (opens-noted packages v n u nonce is h)
 
 unmoved : (packages : List (List JobEntry)) (downs : List Reply) (v : Service) (u : Parts) (nonce : List ℕ)
@@ -579,9 +580,9 @@ all-within P [] x h (k, low, at) = absurd (omega (arith, low))
 all-within P (y ∷ ys) x h (zero, low, at) = subst P at h.0
 all-within P (y ∷ ys) x h (suc k, low, at) = all-within P ys x h.1 (k, omega (arith, low), at)
 
-pub job-is : (packages : List (List JobEntry)) → AllByRecursion IsEntry (all_entries packages) → JobIs packages
+pub job-is : (packages : List (List JobEntry)) → AllByRecursion CanBeSent (all_entries packages) → JobIs packages
 job-is packages h e within =
-    let steps = (all-within IsEntry (all_entries packages) e h within).steps in
+    let steps = (all-within CanBeSent (all_entries packages) e h within).steps in
     (job-each e.command steps, job-whole e.command steps)
 
 start-notes : (c : Machine) (job : Job) → WorldNotes job.packages (at_start c job)

@@ -20,7 +20,7 @@ use Rattle.syncml_types.specs.declared.command.Command.{Command}
 use Rattle.syncml_types.specs.declared.command.Command.TheVariants as command
 use Rattle.syncml_parts.specs.Numbering.{with_number, numbered_members, numbered_seq_member, ids_in_seq_member}
 use Rattle.syncml_parts.specs.Numbering.{numbered_seq_members, ids_in, with_numbers}
-use Rattle.syncml_parts.specs.Packing.{only_item, write_item, member_item, seq_member_item, last_of, cut_item}
+use Rattle.syncml_parts.specs.Packing.{only_item, write_item, member_item, seq_member_item, list_last, cut_item}
 use Rattle.syncml_parts.specs.Packing.{only_changed, write_changed, member_changed, seq_member_changed, last_changed}
 use Rattle.syncml_parts.specs.Packing.{bytes_in, data_in}
 use Rattle.syncml_parts.proofs.Last.{last_next}
@@ -33,7 +33,7 @@ use Rattle.dm_pack.specs.declared.filled.Tail.TheVariants.{Final, NextMessage, N
 use Rattle.dm_pack.specs.Entries.{Entry, with_size, part_item, part_of, rest_item}
 use Rattle.dm_pack.specs.Entries.{last_only}
 use Rattle.dm_pack.specs.Entries.{rest_of}
-use Rattle.dm_pack.specs.Filling.{numbered, fits, commands_of, taken, greatest, cut, next_part, next_rest, tail_of}
+use Rattle.dm_pack.specs.Filling.{numbered, fits_room, commands_of, taken, greatest, cut, next_part, next_rest, tail_of}
 use Rattle.dm_pack.specs.Filling.{tail_commands, fill}
 use Rattle.dm_pack.proofs.Parts.{only_next}
 use Rattle.dm_world.specs.Acts.{Act, block, does, item_act, item_acts, member_acts, members_acts, seq_member_acts}
@@ -221,12 +221,12 @@ last-more f x y [] = only_next x (f y) []
 last-more f x y (z ∷ xs) = only_next x y (last_changed f (z ∷ xs))
 
 last-later : {A B : Type 0} (item : A → Option B) (x y : A) (xs : List A) (i : B)
-    → option_and_then item (last_of (x ∷ y ∷ xs)) ≡ Some i
-    → option_and_then item (last_of (y ∷ xs)) ≡ Some i
+    → option_and_then item (list_last (x ∷ y ∷ xs)) ≡ Some i
+    → option_and_then item (list_last (y ∷ xs)) ≡ Some i
 last-later item x y xs i h = ap (option_and_then item) (sym (last_next x y xs)) ∙ h
 
 members-split : (a : Bool) (begun : Bool) (n : ℕ) (ms : List Member) (i : Item)
-    → option_and_then member_item (last_of ms) ≡ Some i
+    → option_and_then member_item (list_last ms) ≡ Some i
     → Splits n (members_acts a ms) (members_acts a (last_changed (member_changed (part_item begun n)) ms))
     (members_acts a (last_only (last_changed (member_changed (rest_item n)) ms)))
 members-split a begun n [] i h = cc
@@ -246,7 +246,7 @@ seq-member-split begun n (seq_member.Single m) i h = member-split false begun n 
 seq-member-split begun n (seq_member.Atomic b) i h = cc
 
 sequence-split : (begun : Bool) (n : ℕ) (ms : List SeqMember) (i : Item)
-    → option_and_then seq_member_item (last_of ms) ≡ Some i
+    → option_and_then seq_member_item (list_last ms) ≡ Some i
     → Splits n (seq_members_acts ms) (seq_members_acts (last_changed (seq_member_changed (part_item begun n)) ms))
     (seq_members_acts (last_only (last_changed (seq_member_changed (rest_item n)) ms)))
 sequence-split begun n [] i h = cc
@@ -343,7 +343,7 @@ pub cut-there : (header : Header) (room : ℕ) (before : List Command) (es : Lis
 cut-there header room before [] e rest k h g = absurd (cc)
 cut-there header room before (f ∷ es) e rest k h g =
     let same : f ≡ e = cc in
-    let x = has-item (cut_item f.command) k (λ n. fits header room (before ++ part_of f n ∷ [])) g in
+    let x = has-item (cut_item f.command) k (λ n. fits_room header room (before ++ part_of f n ∷ [])) g in
     (x.0, ap (λ (y : Entry). cut_item y.command) (sym same) ∙ x.1)
 
 -- the acts of a message

@@ -42,7 +42,7 @@ use Rattle.dm_job.specs.declared.job.Job.{Job}
 use Rattle.dm_machine.specs.Events as client
 use Rattle.dm_world.specs.World.{InSession, World, Reply, Happening, opens, up_comes, down_comes, update_ends}
 use Rattle.dm_world.specs.World.{clock_moves}
-use Rattle.dm_world.specs.World.{is_lost, finds_no_memory, in_session, heard_by, made_in, made_by, down_delivered}
+use Rattle.dm_world.specs.World.{is_lost, finds_no_memory, each_in_session, heard_by, made_in, made_by, down_delivered}
 use Rattle.dm_world.specs.World.{up_delivered, happens, run}
 use Rattle.dm_world.specs.Start.{at_start}
 use Rattle.dm_world.proofs.Lists.{either}
@@ -271,7 +271,7 @@ none-in : PairedIn []
 none-in n p f (k, low, at) = absurd (omega (arith, low))
 
 -- what stands in a session's list
-pub of-session : (k : ℕ) (ms : List Made) (x : InSession Made) → Contains (in_session k ms) x
+pub of-session : (k : ℕ) (ms : List Made) (x : InSession Made) → Contains (each_in_session k ms) x
     → (x.session ≡ k) × Contains ms x.what
 of-session k [] x (i, low, at) = absurd (omega (arith, low))
 of-session k (m ∷ ms) x (zero, low, at) =
@@ -279,12 +279,12 @@ of-session k (m ∷ ms) x (zero, low, at) =
 of-session k (m ∷ ms) x (suc i, low, at) =
     let h = of-session k ms x (i, omega (arith, low), at) in (h.0, later_in x.what m ms h.1)
 
-in-paired-session : (k : ℕ) (ms : List Made) → IsPaired ms → PairedIn (in_session k ms)
+in-paired-session : (k : ℕ) (ms : List Made) → IsPaired ms → PairedIn (each_in_session k ms)
 in-paired-session k ms h n p f c =
     let x = of-session k ms (record { session = n; what = Result p f }) c in
     let s = h p f x.1 in (
       s.code,
-      subst (λ i. Contains (in_session k ms) (record { session = i; what = Status p s.code })) (sym x.0)
+      subst (λ i. Contains (each_in_session k ms) (record { session = i; what = Status p s.code })) (sym x.0)
           (contains-map (λ (z : Made). record { session = k; what = z }) ms (Status p s.code) s.within),
     )
 

@@ -8,7 +8,7 @@ use Rattle.std.proofs.lemmas.List.{length-map, append-nil}
 use Rattle.syncml_types.specs.declared.command.Step.{Step}
 use Rattle.syncml_parts.specs.Numbering.{ids_in}
 use Rattle.dm_job.specs.declared.job.JobEntry.{JobEntry}
-use Rattle.dm_job.specs.Sound.{IsEntry, AreNumbered, all_entries}
+use Rattle.dm_job.specs.Sound.{CanBeSent, AreNumbered, all_entries}
 use Rattle.dm_world.specs.Acts.{Act, block, does, Joined, and_then, with_more, is_part_of, join, command_acts}
 use Rattle.dm_world.specs.Acts.{doing_acts, deeds_acts, entries_acts, job_acts}
 use Rattle.dm_world.specs.Deeds.{Deed}
@@ -52,7 +52,7 @@ unlined (x ∷ xs) (suc i) a h =
     let r = unlined xs i a h in record { act = r.act; at = r.at; outline_is = r.outline_is }
 
 entry-at : (es : List JobEntry) (n : ℕ) (e : JobEntry) (i : ℕ) (a : Act) → AreNumbered n es
-    → AllByRecursion IsEntry es
+    → AllByRecursion CanBeSent es
     → Contains es e
     → slice_get (outlines e.command) i ≡ Some a
     → (j : ℕ) × (e.number + i ≡ n + j) × HasOutline (entries_acts es) j a
@@ -86,7 +86,7 @@ entry-at (f ∷ es) n e i a numbered h (suc k, low, at) x =
     )
 
 pub job-at : (packages : List (List JobEntry)) (n : ℕ) (a : Act) → AreNumbered 1 (all_entries packages)
-    → AllByRecursion IsEntry (all_entries packages)
+    → AllByRecursion CanBeSent (all_entries packages)
     → IsJobAct packages n a
     → HasOutline (job_acts packages) (n - 1) a
 job-at packages n a numbered h x =

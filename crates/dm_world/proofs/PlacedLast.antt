@@ -9,12 +9,12 @@ use Rattle.std.proofs.lemmas.Bool.Decides.{nat_tests}
 use Rattle.syncml_types.specs.declared.command.Step.{Step}
 use Rattle.syncml_parts.specs.Numbering.{ids_in}
 use Rattle.dm_job.specs.declared.job.JobEntry.{JobEntry}
-use Rattle.dm_job.specs.Sound.{IsEntry, AreNumbered, all_entries}
+use Rattle.dm_job.specs.Sound.{CanBeSent, AreNumbered, all_entries}
 use Rattle.dm_world.specs.Acts.{Act, block, does, Joined, and_then, with_more, is_part_of, join, doing_acts, deeds_acts}
 use Rattle.dm_world.specs.Acts.{job_acts}
 use Rattle.dm_world.specs.Deeds.{Deed}
 use Rattle.dm_world.specs.World.{InSession}
-use Rattle.dm_world.specs.Commands.{outline, outlines, is_whole, IsJobAct, IsWholeDeed}
+use Rattle.dm_world.specs.Commands.{outline, outlines, is_whole_act, IsJobAct, IsWholeDeed}
 use Rattle.dm_world.specs.Places.{place_behind, IsExecutedAt}
 use Rattle.dm_world.proofs.Lists.{either}
 use Rattle.dm_world.proofs.Joins.{join-append}
@@ -113,7 +113,7 @@ wholes-next executed k x s e is =
 -- ---- the last
 
 module _ (packages : List (List JobEntry)) (numbered : AreNumbered 1 (all_entries packages))
-    (sound : AllByRecursion IsEntry (all_entries packages)) (executed : List (InSession Deed))
+    (sound : AllByRecursion CanBeSent (all_entries packages)) (executed : List (InSession Deed))
     (all : AllPlaced packages executed) where
   same-outline : (n m place : ℕ) (a b : Act) → IsJobAct packages n (outline a) → IsJobAct packages m (outline b)
       → n - 1 ≡ place
@@ -173,7 +173,7 @@ module _ (packages : List (List JobEntry)) (numbered : AreNumbered 1 (all_entrie
       blocks-none k j n place (block name) y low (over name g) num f m mum within.0 within.1 within.2 within.3
       (λ o. subst OnlySteps h o)
   by-acts k j n place x y (does s true) (does t more) low e f g h p q same whole over num m mum within =
-      absurd (let one = subst (AllByRecursion (λ a. is_whole a ≡ true)) g whole in let none = one.0 in cc)
+      absurd (let one = subst (AllByRecursion (λ a. is_whole_act a ≡ true)) g whole in let none = one.0 in cc)
   by-acts k j n place x y (does s false) (does t more) low e f g h p q same whole over num m mum within =
       let next = wholes-next executed k x s e g in
       let later = wholes-later executed (suc k) j (omega (arith, low)) in

@@ -21,8 +21,8 @@ use Rattle.dm_atomic.specs.Run.{Next, quietly, abandoned}
 use Rattle.dm_pack.specs.Entries.{whole_entry}
 use Rattle.dm_pack.specs.Filling.{fill}
 use Rattle.dm_ends.proofs.Hearing.{IsReadyHeard, hears_ready}
-use Rattle.dm_machine.specs.declared.kinds.Kind.{Kind}
-use Rattle.dm_machine.specs.declared.kinds.Kind.TheVariants.{ByServer, ByClient}
+use Rattle.dm_machine.specs.declared.kinds.Initiator.{Initiator}
+use Rattle.dm_machine.specs.declared.kinds.Initiator.TheVariants.{ByServer, ByClient}
 use Rattle.dm_machine.specs.declared.kinds.End.TheVariants.{Finished, Aborted}
 use Rattle.dm_machine.specs.declared.progress.Progress.{Progress}
 use Rattle.dm_machine.specs.declared.progress.UpdateResult.{UpdateResult}
@@ -61,7 +61,7 @@ abbrev pub Goes : Machine → client.Answer → Type 0
 Goes c a = Ranged c × IfSome (said a) IsShortHeld
 
 abbrev OutcomeGoes : Outcome → Type 0
-OutcomeGoes x = Goes (client.machine_of x) (client.outcome_answer x)
+OutcomeGoes x = Goes (client.outcome_machine x) (client.outcome_answer x)
 
 unsaid : (c : Machine) (a : client.Answer) → said a ≡ None → Ranged c → Goes c a
 unsaid c a e h = (h, subst (λ o. IfSome o IsShortHeld) (sym e) tt)
@@ -73,7 +73,7 @@ alert-range : (code : ℕ) (correlator : Option (List ℕ)) (is : List Item) →
     → CommandRange (alert code correlator is)
 alert-range code correlator is low all = record { id = omega arith; code = low; items = all }
 
-kind-low : (kind : Kind) → kind_code kind < 2 ^ 32
+kind-low : (kind : Initiator) → kind_code kind < 2 ^ 32
 kind-low ByServer = omega arith
 kind-low ByClient = omega arith
 
@@ -91,7 +91,7 @@ device-items tree (name ∷ names) = (record { size = tt; max_msg = tt; max_obj 
 device-range : (tree : Nodes) → CommandRange (device_told tree)
 device-range tree = record { id = omega arith; meta = tt; items = device-items tree device_leaves }
 
-package-range : (c : Machine) (kind : Kind) → AllEntryRange (first_package c kind)
+package-range : (c : Machine) (kind : Initiator) → AllEntryRange (first_package c kind)
 package-range c kind =
     let uri = update_uri c.engine.tree in
     fresh-range (opening kind c.results c.engine.tree) (
@@ -279,13 +279,13 @@ accepts-goes c p m nonce ready progress is ranged =
 
 message-by : (c : Machine) (o : Option Session) (m : Parts) (nonce : List ℕ) (kept : Option Parts) → IsReadyMachine c
     → IfSome o (λ (s : Session). IsReadyProgress c s.progress) → IsReadyMessage m nonce → Ranged c
-    → Goes (cond (client.takes_message o m) (client.machine_of (client.message_outcome c o m nonce)) c)
+    → Goes (cond (client.takes_message o m) (client.outcome_machine (client.message_outcome c o m nonce)) c)
     (cond (client.takes_message o m) (client.outcome_answer (client.message_outcome c o m nonce))
     (client.message_refusal o m kept))
 message-by c None m nonce kept ready progress is ranged = (ranged, tt)
 message-by c (Some s) m nonce kept ready progress is ranged =
     let x = accepts c s.progress m nonce in
-    both-ways Goes (client.takes_message (Some s) m) (client.machine_of x) c (client.outcome_answer x)
+    both-ways Goes (client.takes_message (Some s) m) (client.outcome_machine x) c (client.outcome_answer x)
     (client.message_refusal (Some s) m kept) (λ t. accepts-goes c s.progress m nonce ready progress is ranged)
     (λ t. unsaid c (client.message_refusal (Some s) m kept) (refusal-said (Some s) m kept) ranged)
 
@@ -298,7 +298,7 @@ unfolding client_runs.next client_runs.answer_now client.takes client.after clie
 message-moves c m nonce ready is ranged =
     message-by c c.session m nonce (client_runs.kept_in c.session) ready ready.session is ranged
 
-begins-goes : (c : Machine) (account : ℕ) (kind : Kind) (n : ℕ) → IsReadyMachine c → account < length c.accounts
+begins-goes : (c : Machine) (account : ℕ) (kind : Initiator) (n : ℕ) → IsReadyMachine c → account < length c.accounts
     → n < 2 ^ 32
     → Goes (begins c account kind n) (client.sent_in (begins c account kind n).session)
 unfolding begins
@@ -309,7 +309,7 @@ begins-goes c account kind n ready low small =
     (begins_to_send c account kind n (apart c ready) low small)
     (record { queue = package-range d kind; engine = (closed-ranged c).engine })
 
-pub opened-moves : (c : Machine) (account : ℕ) (kind : Kind) (n : ℕ) → IsReadyMachine c → account < length c.accounts
+pub opened-moves : (c : Machine) (account : ℕ) (kind : Initiator) (n : ℕ) → IsReadyMachine c → account < length c.accounts
     → n < 2 ^ 32 → Ranged c
     → Moves c (client.opened account kind n)
 unfolding client_runs.next client_runs.answer_now client.takes client.after client.taken_answer client.refusal

@@ -11,7 +11,7 @@ use Rattle.syncml_codec.specs.Ranges.{MetaRange, CredRange, HeaderRange, Command
 use Rattle.dm_auth.specs.Digests.{challenge}
 use Rattle.dm_headers.specs.declared.standings.Standing.{Standing}
 use Rattle.dm_headers.specs.Checks.{Login, is_challenged}
-use Rattle.dm_headers.specs.Headers.{is_withheld, status_of, header_answer, shown, cred_of, next_header}
+use Rattle.dm_headers.specs.Headers.{is_withheld, status_of, header_answer, credential_shown, cred_of, next_header}
 use Rattle.dm_pack.specs.Filling.{IsReadyHeader}
 use Rattle.dm_ends.specs.Commands.{alert}
 use Rattle.dm_ends.specs.Farewells.{farewell}
@@ -23,7 +23,7 @@ use Rattle.dm_world.proofs.Ranges.{all-append, IsShortHeld, made-held}
 
 -- ---- a header
 
-shown-range : (name password : Option (List ℕ)) (nonce : List ℕ) → IfSome (shown name password nonce) CredRange
+shown-range : (name password : Option (List ℕ)) (nonce : List ℕ) → IfSome (credential_shown name password nonce) CredRange
 shown-range None password nonce = tt
 shown-range (Some name) None nonce = tt
 shown-range (Some name) (Some password) nonce = record { size = tt; max_msg = tt; max_obj = tt }

@@ -40,7 +40,8 @@ use Rattle.dm_atomic.specs.declared.reports.Report.{Report}
 use Rattle.dm_atomic.specs.declared.reports.Part.{Part}
 use Rattle.dm_atomic.specs.Tasks.{item_task, item_tasks, plain_tasks, alert_task, member_tasks, members_tasks}
 use Rattle.dm_atomic.specs.Tasks.{container_post}
-use Rattle.dm_atomic.specs.Made.{Made, entry_of, reported, all_reported, notice, source_item, uri_in, is_withheld, told}
+use Rattle.dm_atomic.specs.Made.{Made, command_told, reported, all_reported, notice, source_item, uri_in, is_suppressed}
+use Rattle.dm_atomic.specs.Made.{told}
 use Rattle.dm_atomic.specs.Made as made
 use Rattle.dm_atomic.specs.Run.{Group, State, Running, Next, quietly, one_step, undone, not_run, container, parts_done}
 use Rattle.dm_atomic.specs.Run.{parts_undone, broken_group, break_of, break_group, breaks_first, one_alone, in_sequence}
@@ -67,7 +68,7 @@ use Rattle.dm_world.proofs.Ranges.{all-append, AllEntryRange}
 -- ---- what is made
 
 abbrev pub MadeRange : Made → Type 0
-MadeRange m = CommandRange (entry_of m)
+MadeRange m = CommandRange (command_told m)
 
 abbrev pub AllMadeRange : List Made → Type 0
 AllMadeRange = AllByRecursion MadeRange
@@ -604,5 +605,5 @@ execute-range c a m clock most fit numbers ready state =
 pub told-range : (ms : List Made) → AllMadeRange ms → AllEntryRange (map whole_entry (told ms))
 told-range [] all = tt
 told-range (m ∷ ms) all =
-    either (λ cs. AllEntryRange (map whole_entry cs)) (is_withheld m) {x = told ms} {y = entry_of m ∷ told ms}
+    either (λ cs. AllEntryRange (map whole_entry cs)) (is_suppressed m) {x = told ms} {y = command_told m ∷ told ms}
     (told-range ms all.1) (all.0, told-range ms all.1)

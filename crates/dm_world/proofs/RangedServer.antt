@@ -25,11 +25,11 @@ use Rattle.dm_ends.proofs.Statuses.{AreReadyPosts, AreReadyMade, origin_ready, p
 use Rattle.dm_ends.proofs.Texts.{known_number}
 use Rattle.dm_job.specs.declared.job.JobEntry.{JobEntry}
 use Rattle.dm_job.specs.Sound.{all_entries}
-use Rattle.dm_service.specs.declared.progress.Progress.{Progress}
+use Rattle.dm_service.specs.declared.progress.ServiceProgress.{ServiceProgress}
 use Rattle.dm_service.specs.Service.{Waiting, Session, Service}
-use Rattle.dm_service.specs.Packages.{is_of_job, job_waiting, queues_package, next_package, put_back, gives_up}
+use Rattle.dm_service.specs.Packages.{is_of_job, job_waiting, queues_package, next_package, package_put_back, gives_up}
 use Rattle.dm_service.specs.Answers.{code_for, answers_command, answers_all, command_answers}
-use Rattle.dm_service.specs.Sending.{target_of, header_for, carried_on, sends}
+use Rattle.dm_service.specs.Sending.{client_target, header_for, carried_on, sends}
 use Rattle.dm_service.specs.Messages.{first_session, begins, ended, denies, answer_waiting, after_status, tells}
 use Rattle.dm_service.specs.Messages.{matched_in, with_matched, queues_answers, in_session, answers_message, by_header}
 use Rattle.dm_service.specs.Messages.{accepts}
@@ -68,7 +68,7 @@ pub record Stock (v : Service) : Type 0 where
   pub queue : AllByRecursion (λ (w : Waiting). CanGo w.entry) v.queue
 
 -- a session with which a message can be sent
-record CanSend (p : Progress) : Type 0 where
+record CanSend (p : ServiceProgress) : Type 0 where
   number : p.number < 2 ^ 32
   own : p.standing.own + 1 < 2 ^ 32
   room : IsRoom p.standing.room
@@ -103,7 +103,7 @@ others-go (w ∷ ws) h =
     either WaitingGoes (not (is_of_job w)) {x = w ∷ rest} {y = rest} (h.0, others-go ws h.1) (others-go ws h.1)
 
 put-back-goes : (p : List JobEntry) (ps : List (List JobEntry)) → AllByRecursion JobGoes p → JobsGo ps
-    → JobsGo (put_back p ps)
+    → JobsGo (package_put_back p ps)
 put-back-goes [] ps h k = k
 put-back-goes (e ∷ es) ps h k = all-append JobGoes (e ∷ es) (all_entries ps) h k
 
@@ -235,7 +235,7 @@ sends-goes v s m code fit h can =
     let header = header_for v p m in
     let ready = header_ready v p m h.limits h.account can.number can.own fit in
     let range =
-    header-range (login_of Server v.job.account) p.standing v.job.limits p.number (target_of m)
+    header-range (login_of Server v.job.account) p.standing v.job.limits p.number (client_target m)
     (record { uri = v.job.account.server; name = None }) can.own h.limits in
     let all = entries-go v.queue h.queue in
     let f = fill es header p.standing.room p.standing.heard in (
@@ -259,7 +259,7 @@ denies-goes v s m code nonce low is h can =
     let p = s.progress in
     let ready = header_ready v p m h.limits h.account can.number can.own is.fit in
     let range =
-    header-range (login_of Server v.job.account) p.standing v.job.limits p.number (target_of m)
+    header-range (login_of Server v.job.account) p.standing v.job.limits p.number (client_target m)
     (record { uri = v.job.account.server; name = None }) can.own h.limits in (
       record {
         limits = h.limits;
@@ -347,7 +347,7 @@ low-number None n e = absurd (cc)
 low-number (Some k) n e = range-low k n (nat_lt 0 k) (nat_lt k (2 ^ 32)) refl e
 
 opens-goes : (v : Service) (n : ℕ) (m : Parts) (nonce : List ℕ) → n < 2 ^ 32 → IsReadyMessage m nonce → Stock v
-    → Goes (server.opens v n m nonce)
+    → Goes (server.opens_session v n m nonce)
 opens-goes v n m nonce low is h =
     accepts-goes (begins v n) (first_session v.job.account n) m nonce is
     (record {
@@ -371,7 +371,7 @@ in-goes v None n m nonce e low h is stock k = opens-goes v n m nonce low is stoc
 in-goes v (Some s) n m nonce e low h is stock k = same-or-new (s.progress.number == n) refl
   where
     same-or-new : (b : Bool) → (s.progress.number == n) ≡ b
-        → Goes (cond b (accepts v s m nonce) (server.opens v n m nonce))
+        → Goes (cond b (accepts v s m nonce) (server.opens_session v n m nonce))
     same-or-new true f =
         let above = taken-msg s n m f h in
         let own = k.own in

@@ -38,7 +38,7 @@ use Rattle.dm_pack.proofs.Within.{apart, fill_within}
 use Rattle.dm_pack.proofs.Left.{what_is_left_is_ready}
 use Rattle.dm_pack.proofs.Taking.{message_fit}
 use Rattle.dm_ends.proofs.Hearing.{IsRoom}
-use Rattle.dm_world.specs.Held.{IsHeld}
+use Rattle.dm_world.specs.Held.{IsFitInRange}
 
 -- ---- lists
 
@@ -271,7 +271,7 @@ few-ids h (c ∷ cs) last =
 
 -- a message that can be held, no longer than any that is read
 pub record IsShortHeld (m : Parts) : Type 0 where
-  pub held : IsHeld m
+  pub held : IsFitInRange m
   pub short : length (canonical m) ≤ 65536
 
 pub made-held : (h : Header) (cs : List Command) (last : Bool) → HeaderRange h → IsFit h (numbered 1 cs)

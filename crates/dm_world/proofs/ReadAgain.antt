@@ -12,7 +12,7 @@ use Rattle.dm_atomic.specs.Run.{Group}
 use Rattle.dm_ends.specs.Ready.{IsReadyMessage}
 use Rattle.dm_job.specs.declared.job.Job.{Job}
 use Rattle.dm_job.specs.declared.job.JobEntry.{JobEntry}
-use Rattle.dm_job.specs.Sound.{IsEntry, all_entries}
+use Rattle.dm_job.specs.Sound.{CanBeSent, all_entries}
 use Rattle.dm_machine.specs.Machine.{Machine}
 use Rattle.dm_machine.specs.Events as client
 use Rattle.dm_machine.specs.History as client_runs
@@ -27,7 +27,7 @@ use Rattle.dm_world.specs.World.{World, Reply, Happening, opens, up_comes, down_
 use Rattle.dm_world.specs.World.{is_lost, finds_no_memory, said, client_has, down_delivered, up_delivered}
 use Rattle.dm_world.specs.World.{happens, run}
 use Rattle.dm_world.specs.Start.{at_start, IsWorldStart, IsNonce, IsInRange, IsSchedule}
-use Rattle.dm_world.specs.Held.{IsReadAgain, ReadsTheSent}
+use Rattle.dm_world.specs.Held.{IsReadBack, ReadsTheSent}
 use Rattle.dm_world.proofs.Lists.{Each, each-within, each-new, picked}
 use Rattle.dm_world.proofs.Ranges.{IsShortHeld, AllEntryRange}
 use Rattle.dm_world.proofs.RangedRuns.{GroupRange}
@@ -124,7 +124,7 @@ run-reads c w (e ∷ es) r h = run-reads c (happens w e) es r.1 (happens-reads c
 
 -- ---- the beginning
 
-jobs-go : (es : List JobEntry) → AllByRecursion IsEntry es
+jobs-go : (es : List JobEntry) → AllByRecursion CanBeSent es
     → AllByRecursion (λ (e : JobEntry). CommandRange e.command) es
     → AllByRecursion JobGoes es
 jobs-go [] h k = tt
@@ -160,7 +160,7 @@ all-read c job hs start range = run-reads c (at_start c job) hs range (start-rea
 
 -- ---- the law
 
-read-again : (m : Parts) → IsShortHeld m → IsReadAgain m
+read-again : (m : Parts) → IsShortHeld m → IsReadBack m
 read-again m h = record {
   held = h.held;
   read = spelled_read (canonical m) m (canonical_spells m h.held.fit h.held.numbers h.short);

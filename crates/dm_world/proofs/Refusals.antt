@@ -30,12 +30,13 @@ use Rattle.dm_atomic.specs.Posts.{all_asked, made_posts, waiting_posts}
 use Rattle.dm_atomic.specs.Made.{told}
 use Rattle.dm_atomic.specs.Run.{Next, abandoned, quietly}
 use Rattle.dm_pack.specs.Entries.{Entry, IsReady, whole_entry}
-use Rattle.dm_pack.specs.Filling.{fill, taken, cut, fits, commands_of, next_part, next_rest, tail_of, tail_commands}
+use Rattle.dm_pack.specs.Filling.{fill, taken, cut, fits_room, commands_of, next_part, next_rest, tail_of}
+use Rattle.dm_pack.specs.Filling.{tail_commands}
 use Rattle.dm_pack.specs.Filling.{numbered, IsReadyHeader}
 use Rattle.dm_pack.proofs.Progress.{the_first_goes_out}
 use Rattle.dm_ends.specs.Commands.{alert, is_abort, origin_of}
 use Rattle.dm_ends.proofs.Hearing.{hears_ready}
-use Rattle.dm_machine.specs.declared.kinds.Kind.{Kind}
+use Rattle.dm_machine.specs.declared.kinds.Initiator.{Initiator}
 use Rattle.dm_machine.specs.declared.kinds.End.TheVariants.{Finished, Aborted}
 use Rattle.dm_machine.specs.declared.progress.Progress.{Progress}
 use Rattle.dm_machine.specs.declared.progress.UpdateResult.{UpdateResult}
@@ -101,10 +102,10 @@ alerts-calm : (uri : List ℕ) (results : List UpdateResult) (more : List Comman
 alerts-calm uri [] more h = h
 alerts-calm uri (r ∷ rs) more h = (tt, alerts-calm uri rs more h)
 
-opening-calm : (kind : Kind) (results : List UpdateResult) (tree : Nodes) → Each Calm (opening kind results tree)
+opening-calm : (kind : Initiator) (results : List UpdateResult) (tree : Nodes) → Each Calm (opening kind results tree)
 opening-calm kind results tree = (tt, alerts-calm (update_uri tree) results (device_told tree ∷ []) (tt, tt))
 
-first-calm : (c : Machine) (kind : Kind) → Each CalmEntry (first_package c kind)
+first-calm : (c : Machine) (kind : Initiator) → Each CalmEntry (first_package c kind)
 first-calm c kind = fresh-calm (opening kind c.results c.engine.tree) (opening-calm kind c.results c.engine.tree)
 
 -- what a session that was sent for has: what waits, and the message
@@ -134,7 +135,7 @@ begins-sent c p a calm waits first =
       f.0,
     )
 
-pub begins-quiet : (c : Machine) (account : ℕ) (kind : Kind) (n : ℕ)
+pub begins-quiet : (c : Machine) (account : ℕ) (kind : Initiator) (n : ℕ)
     → Quiet (begins c account kind n)
     × OpenAs (λ (t : Session). Each Calm t.sent.body) (begins c account kind n).session
 unfolding begins
@@ -179,13 +180,13 @@ status-taken : (c : StatusCmd) (es : List Entry) (h : Header) (room : ℕ) (hear
     → IsReady (whole_entry (command.Status c))
     → IsReadyHeader h
     → 2048 ≤ room
-    → fits h room (command.Status c ∷ []) ≡ true
+    → fits_room h room (command.Status c ∷ []) ≡ true
 unfolding fill
 status-taken c es h room heard ready header least =
-    by (fits h room (command.Status c ∷ [])) refl
+    by (fits_room h room (command.Status c ∷ [])) refl
     (the_first_goes_out (whole_entry (command.Status c)) es h room heard ready header least)
   where
-    by : (b : Bool) → fits h room (command.Status c ∷ []) ≡ b
+    by : (b : Bool) → fits_room h room (command.Status c ∷ []) ≡ b
         → (0 < cond b (suc (taken h room (command.Status c ∷ []) es)) 0)
         ⊎ ((cond b (suc (taken h room (command.Status c ∷ []) es)) 0 ≡ 0)
         × (0 < cut h room (commands_of (take (cond b (suc (taken h room (command.Status c ∷ []) es)) 0)
@@ -197,12 +198,12 @@ status-taken c es h room heard ready header least =
     by false e (inr g) = absurd (let z = g.1 in omega (arith, z))
 
 status-first : (c : StatusCmd) (es : List Entry) (h : Header) (room : ℕ) (heard : Bool)
-    → fits h room (command.Status c ∷ []) ≡ true
+    → fits_room h room (command.Status c ∷ []) ≡ true
     → (more : List Command)
     × ((fill (whole_entry (command.Status c) ∷ es) h room heard).message.body
     ≡ with_numbers 1 (command.Status c) ∷ more)
 unfolding fill
-status-first c es h room heard e = by (fits h room (command.Status c ∷ [])) e
+status-first c es h room heard e = by (fits_room h room (command.Status c ∷ [])) e
   where
     body_of : ℕ → List Command
     body_of whole =

@@ -23,12 +23,13 @@ use Rattle.dm_ends.specs.Commands.{is_abort, is_report, origin_of}
 use Rattle.dm_job.specs.declared.job.JobEntry.{JobEntry}
 use Rattle.dm_service.specs.declared.sent.Carried.{Carried}
 use Rattle.dm_service.specs.Service.{Waiting, Session, Service}
-use Rattle.dm_service.specs.Packages.{is_of_job, job_waiting, queues_package, next_package, put_back, gives_up}
+use Rattle.dm_service.specs.Packages.{is_of_job, job_waiting, queues_package, next_package, package_put_back, gives_up}
 use Rattle.dm_service.specs.Answers.{command_answers, answers_all, code_for}
 use Rattle.dm_service.specs.Sending.{header_for, sends}
 use Rattle.dm_service.specs.Messages.{first_service, begins, first_session, denies, after_status, answer_waiting}
 use Rattle.dm_service.specs.Messages.{tells, queues_answers, in_session, answers_message, by_header, accepts}
-use Rattle.dm_service.specs.Events.{Arrival, number_of, takes, opens, after_in_session, after_number, after_read, after}
+use Rattle.dm_service.specs.Events.{Arrival, number_of, takes, opens_session, after_in_session, after_number}
+use Rattle.dm_service.specs.Events.{after_read, after}
 use Rattle.dm_service.specs.History.{next, state_from}
 use Rattle.dm_world.specs.Acts.{entries_acts, job_acts, join}
 use Rattle.dm_world.specs.Packing.{acts_to_send, IsCarried, IsOfJobOrReport}
@@ -161,7 +162,7 @@ accepts-ok v s m nonce k =
     let w = after_status heard t s.progress.standing.we_failed h.status in
     header-ok w (in_session w t) m h nonce (status-ok heard t s.progress.standing.we_failed h.status k)
 
-opens-ok : (v : Service) (n : ℕ) (m : Parts) (nonce : List ℕ) → IsOk (opens v n m nonce)
+opens-ok : (v : Service) (n : ℕ) (m : Parts) (nonce : List ℕ) → IsOk (opens_session v n m nonce)
 opens-ok v n m nonce = accepts-ok (begins v n) (first_session v.job.account n) m nonce tt
 
 in-ok : (v : Service) (o : Option Session) (n : ℕ) (m : Parts) (nonce : List ℕ) → IsOk v
@@ -214,7 +215,7 @@ rest-acts [] h = refl
 rest-acts (w ∷ ws) h = kept-acts w (rest_of_queue ws) w.carries refl h.0 (rest-acts ws h.1)
 
 pub put-acts : (p : List JobEntry) (ps : List (List JobEntry))
-    → job_acts (put_back p ps) ≡ entries_acts p ++ job_acts ps
+    → job_acts (package_put_back p ps) ≡ entries_acts p ++ job_acts ps
 put-acts [] ps = refl
 put-acts (e ∷ es) ps = job-acts (e ∷ es) ps
 
@@ -222,7 +223,7 @@ gives-acts : (v : Service) (s : Session) → IsOk v
     → acts_to_send (gives_up v s) ≡ entries_acts v.newest ++ job_acts v.packages
 unfolding gives_up
 gives-acts v s h =
-    ap (λ x. x ++ job_acts (put_back v.newest v.packages)) (rest-acts v.queue h) ∙ put-acts v.newest v.packages
+    ap (λ x. x ++ job_acts (package_put_back v.newest v.packages)) (rest-acts v.queue h) ∙ put-acts v.newest v.packages
 
 status-acts : (v : Service) (s : Session) (failed : Bool) (status : ℕ) → IsOk v
     → (not failed && is_denied status) ≡ true

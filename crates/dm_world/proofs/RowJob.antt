@@ -17,7 +17,7 @@ use Rattle.dm_atomic.specs.declared.tasks.Named.{Named}
 use Rattle.dm_atomic.specs.declared.tasks.Named.TheVariants as named
 use Rattle.dm_atomic.specs.Tasks.{piece_of}
 use Rattle.dm_job.specs.declared.job.JobEntry.{JobEntry}
-use Rattle.dm_job.specs.Sound.{IsStep, IsStepMember, IsStepSeqMember, IsJobCommand, IsEntry, AreNumbered}
+use Rattle.dm_job.specs.Sound.{IsStep, IsStepMember, IsStepSeqMember, IsJobCommand, CanBeSent, AreNumbered}
 use Rattle.dm_world.specs.Acts.{Act, block, does, item_acts, members_acts, seq_members_acts, command_acts, entries_acts}
 use Rattle.dm_world.specs.Commands.{outline}
 use Rattle.dm_world.specs.Places.{last_block}
@@ -149,7 +149,7 @@ contained job before (block name ∷ x ∷ xs) behind first count e f long at so
     ∙ last-of 0 0 before (take n steps) name (steps-take n steps f)
     ∙ (let z : 0 + length before ≡ length before = omega arith in z)))
 
-entries-wholes : (es : List JobEntry) → AllByRecursion IsEntry es → AreWhole (entries_acts es)
+entries-wholes : (es : List JobEntry) → AllByRecursion CanBeSent es → AreWhole (entries_acts es)
 entries-wholes [] h = tt
 entries-wholes (e ∷ es) h =
     whole-append (command_acts e.command) (entries_acts es) (command-whole e.command h.0.steps)
@@ -158,7 +158,7 @@ entries-wholes (e ∷ es) h =
 rows-from : (job before : List Act) (es : List JobEntry) (n : ℕ) → job ≡ before ++ entries_acts es
     → n ≡ 1 + length before
     → AreNumbered n es
-    → AllByRecursion IsEntry es
+    → AllByRecursion CanBeSent es
     → RowEntries job es
 rows-from job before [] n e at numbered h = tt
 rows-from job before (x ∷ es) n e at numbered h =
@@ -183,5 +183,5 @@ rows-from job before (x ∷ es) n e at numbered h =
     )
 
 -- so a job's do
-pub job-rows : (es : List JobEntry) → AreNumbered 1 es → AllByRecursion IsEntry es → RowEntries (entries_acts es) es
+pub job-rows : (es : List JobEntry) → AreNumbered 1 es → AllByRecursion CanBeSent es → RowEntries (entries_acts es) es
 job-rows es numbered h = rows-from (entries_acts es) [] es 1 refl refl numbered h

@@ -20,7 +20,7 @@ use Rattle.dm_job.specs.Sound.{all_entries}
 use Rattle.dm_service.specs.declared.sent.Carried.{Carried}
 use Rattle.dm_service.specs.declared.sent.Sent.{Sent}
 use Rattle.dm_service.specs.Service.{Waiting, Session, Service}
-use Rattle.dm_service.specs.Packages.{is_of_job, job_waiting, queues_package, next_package, put_back, gives_up}
+use Rattle.dm_service.specs.Packages.{is_of_job, job_waiting, queues_package, next_package, package_put_back, gives_up}
 use Rattle.dm_service.specs.Answers.{command_answers}
 use Rattle.dm_service.specs.Sending.{header_for, goes_out, carried_on, sends}
 use Rattle.dm_service.specs.Messages.{first_session, begins, ended, denies, answer_waiting, after_status, matched_in}
@@ -89,14 +89,14 @@ package-rows job (e ∷ p) more h = (
 )
 
 put-rows : (job : List Act) (p : List JobEntry) (ps : List (List JobEntry)) → RowEntries job (p ++ all_entries ps)
-    → RowEntries job (all_entries (put_back p ps))
+    → RowEntries job (all_entries (package_put_back p ps))
 put-rows job [] ps h = h
 put-rows job (e ∷ es) ps h = h
 
 gives-rows : (job : List Act) (v : Service) (s : Session) → RowNotes job v → RowNotes job (gives_up v s)
 unfolding gives_up
 gives-rows job v s h = record {
-  queue = others-rows job v.queue (job_acts v.packages) (job_acts (put_back v.newest v.packages)) h.queue;
+  queue = others-rows job v.queue (job_acts v.packages) (job_acts (package_put_back v.newest v.packages)) h.queue;
   newest = put-rows job v.newest v.packages h.newest;
   whole = h.whole;
 }
@@ -318,7 +318,7 @@ pub opens-rowed : (packages : List (List JobEntry)) (job : List Act) (v : Servic
     (nonce : List ℕ) → JobIs packages
     → Notes packages v
     → RowNotes job v
-    → Rowed packages job [] (server.opens v n m nonce)
+    → Rowed packages job [] (server.opens_session v n m nonce)
 opens-rowed packages job v n m nonce is notes rows =
     accepts-rowed packages job (begins v n) (first_session v.job.account n) m nonce is
     (record {

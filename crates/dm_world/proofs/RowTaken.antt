@@ -13,7 +13,7 @@ use Rattle.dm_job.specs.Sound.{all_entries}
 use Rattle.dm_service.specs.declared.sent.Sent.{Sent}
 use Rattle.dm_world.specs.Deeds.{Doing, container, step, Deed}
 use Rattle.dm_world.specs.Acts.{Act, block, does, Joined, and_then, with_more, is_part_of, doing_acts, deeds_acts, join}
-use Rattle.dm_world.specs.World.{InSession, in_session}
+use Rattle.dm_world.specs.World.{InSession, each_in_session}
 use Rattle.dm_world.specs.Commands.{outline, outlines, IsJobAct}
 use Rattle.dm_world.specs.Places.{place_behind, IsExecutedAt}
 use Rattle.dm_world.proofs.Lists.{either}
@@ -109,15 +109,15 @@ rises-at k end (b ∷ before) d behind zero x h e f =
 rises-at k end (b ∷ before) d behind (suc i) x h e f =
     let y = rises-at (suc b.post.command) end before d behind i x h.1 e f in (ap suc y.0, y.1)
 
-session-append : (n : ℕ) (a b : List Deed) → in_session n (a ++ b) ≡ in_session n a ++ in_session n b
+session-append : (n : ℕ) (a b : List Deed) → each_in_session n (a ++ b) ≡ each_in_session n a ++ each_in_session n b
 session-append n [] b = refl
 session-append n (x ∷ a) b = ap (λ l. record { session = n; what = x } ∷ l) (session-append n a b)
 
-session-long : (n : ℕ) (a : List Deed) → length (in_session n a) ≡ length a
+session-long : (n : ℕ) (a : List Deed) → length (each_in_session n a) ≡ length a
 session-long n [] = refl
 session-long n (x ∷ a) = ap suc (session-long n a)
 
-pub session-get : (n : ℕ) (ds : List Deed) (i : ℕ) (x : InSession Deed) → slice_get (in_session n ds) i ≡ Some x
+pub session-get : (n : ℕ) (ds : List Deed) (i : ℕ) (x : InSession Deed) → slice_get (each_in_session n ds) i ≡ Some x
     → (x.session ≡ n) × (slice_get ds i ≡ Some x.what)
 session-get n [] i x e = cc
 session-get n (d ∷ ds) zero x e =
@@ -132,17 +132,17 @@ not-none (y ∷ a) b x h = cc
 -- ---- a message
 
 take-in : (executed : List (InSession Deed)) (n : ℕ) (before behind : List Deed) (d : Deed)
-    → take (length executed + length before) (executed ++ in_session n (before ++ d ∷ behind))
-    ≡ executed ++ in_session n before
+    → take (length executed + length before) (executed ++ each_in_session n (before ++ d ∷ behind))
+    ≡ executed ++ each_in_session n before
 take-in executed n before behind d =
-    let long = length-append executed (in_session n before) in
+    let long = length-append executed (each_in_session n before) in
     let same = session-long n before in
-    let e : length executed + length before ≡ length (executed ++ in_session n before) = omega (arith, long, same) in
+    let e : length executed + length before ≡ length (executed ++ each_in_session n before) = omega (arith, long, same) in
     ap (λ l. take (length executed + length before) (executed ++ l)) (session-append n before (d ∷ behind))
     ∙ ap (take (length executed + length before))
-    (sym (append_assoc executed (in_session n before) (in_session n (d ∷ behind))))
-    ∙ ap (λ k. take k ((executed ++ in_session n before) ++ in_session n (d ∷ behind))) e
-    ∙ take-here (executed ++ in_session n before) (in_session n (d ∷ behind))
+    (sym (append_assoc executed (each_in_session n before) (each_in_session n (d ∷ behind))))
+    ∙ ap (λ k. take k ((executed ++ each_in_session n before) ++ each_in_session n (d ∷ behind))) e
+    ∙ take-here (executed ++ each_in_session n before) (each_in_session n (d ∷ behind))
 
 -- the act at which a message has come, in the equation
 whole-at : (job done rest : List Act) (before behind : List Deed) (d : Deed) (a : Act) → doing_acts d.doing ≡ a ∷ []
@@ -168,8 +168,8 @@ pub placed-at : (job rest : List Act) (executed : List (InSession Deed)) (n : �
     → doing_acts d.doing ≡ a ∷ []
     → RowAct job number a (deed_acts behind ++ rest)
     → d ≡ x.what
-    → slice_get (executed ++ in_session n (before ++ d ∷ behind)) (length executed + length before) ≡ Some x
-    → IsExecutedAt (executed ++ in_session n (before ++ d ∷ behind)) (length executed + length before) (number - 1) x
+    → slice_get (executed ++ each_in_session n (before ++ d ∷ behind)) (length executed + length before) ≡ Some x
+    → IsExecutedAt (executed ++ each_in_session n (before ++ d ∷ behind)) (length executed + length before) (number - 1) x
 placed-at job rest executed n before d behind a number x all e is row same at =
     let done = deeds_acts executed in
     let whole = whole-at job done rest before behind d a is e in
@@ -181,7 +181,7 @@ placed-at job rest executed n before d behind a number x all e is row same at =
       place_is =
           ap (λ l. place_behind (join None (deeds_acts l)) a) (take-in executed n before behind d)
           ∙ ap (λ l. place_behind (join None l) a)
-          (done-append executed (in_session n before) ∙ ap (λ l. done ++ l) (session-deeds n before))
+          (done-append executed (each_in_session n before) ∙ ap (λ l. done ++ l) (session-deeds n before))
           ∙ omega (arith, k);
     }
 
@@ -286,21 +286,21 @@ pub over-now : (packages : List (List JobEntry)) (job rest : List Act) (executed
     → Comes job rest executed (before ++ d ∷ behind)
     → doing_acts d.doing ≡ block name ∷ []
     → ClosesAt packages job number (block name) (deed_acts behind) rest
-    → IsOver packages (executed ++ in_session n (before ++ d ∷ behind)) (length executed + length before) number
+    → IsOver packages (executed ++ each_in_session n (before ++ d ∷ behind)) (length executed + length before) number
 over-now packages job rest executed n before d behind name number all e is h =
     let steps = h.0 in
     let more = h.1 in
     let r = first-deeds behind steps more h.2 in
     let done = deeds_acts executed in
-    let head = executed ++ in_session n (before ++ d ∷ []) in
-    let mid = in_session n r.first in
-    let tail = in_session n r.others in
-    let split : executed ++ in_session n (before ++ d ∷ behind) ≡ head ++ (mid ++ tail) =
-    ap (λ l. executed ++ in_session n l) (sym (append_assoc before (d ∷ []) behind))
+    let head = executed ++ each_in_session n (before ++ d ∷ []) in
+    let mid = each_in_session n r.first in
+    let tail = each_in_session n r.others in
+    let split : executed ++ each_in_session n (before ++ d ∷ behind) ≡ head ++ (mid ++ tail) =
+    ap (λ l. executed ++ each_in_session n l) (sym (append_assoc before (d ∷ []) behind))
     ∙ ap (λ l. executed ++ l) (session-append n (before ++ d ∷ []) behind)
-    ∙ sym (append_assoc executed (in_session n (before ++ d ∷ [])) (in_session n behind))
-    ∙ ap (λ l. head ++ in_session n l) r.are ∙ ap (λ l. head ++ l) (session-append n r.first r.others) in
-    let long = length-append executed (in_session n (before ++ d ∷ [])) in
+    ∙ sym (append_assoc executed (each_in_session n (before ++ d ∷ [])) (each_in_session n behind))
+    ∙ ap (λ l. head ++ each_in_session n l) r.are ∙ ap (λ l. head ++ l) (session-append n r.first r.others) in
+    let long = length-append executed (each_in_session n (before ++ d ∷ [])) in
     let mine = session-long n (before ++ d ∷ []) in
     let one = length-append before (d ∷ []) in
     let two = session-long n r.first in
@@ -323,7 +323,7 @@ over-now packages job rest executed n before d behind name number all e is h =
     let acts-are : deeds_acts (head ++ mid) ≡ upto =
     done-append head mid
     ∙ ap (λ l. l ++ deeds_acts mid)
-    (done-append executed (in_session n (before ++ d ∷ []))
+    (done-append executed (each_in_session n (before ++ d ∷ []))
     ∙ ap (λ l. done ++ l) (session-deeds n (before ++ d ∷ []) ∙ deeds-append before (d ∷ [])
     ∙ ap (λ l. deed_acts before ++ (l ++ [])) is))
     ∙ ap (λ l. (done ++ (deed_acts before ++ block name ∷ [])) ++ l) (session-deeds n r.first ∙ r.acts_are)
@@ -356,11 +356,11 @@ pub placed-in : (packages : List (List JobEntry)) (job rest : List Act) (execute
     → Rises 1 end ds
     → RowSent packages job ds rest msg y
     → Comes job rest executed ds
-    → slice_get (executed ++ in_session n ds) (length executed + i) ≡ Some x
+    → slice_get (executed ++ each_in_session n ds) (length executed + i) ≡ Some x
     → slice_get ds i ≡ Some x.what
     → x.what.post.command ≡ y.command
-    → IsExecutedAt (executed ++ in_session n ds) (length executed + i) (y.number - 1) x
-    × (y.counts ≡ true → IsOverAt packages (executed ++ in_session n ds) (length executed + i) y.number x)
+    → IsExecutedAt (executed ++ each_in_session n ds) (length executed + i) (y.number - 1) x
+    × (y.counts ≡ true → IsOverAt packages (executed ++ each_in_session n ds) (length executed + i) y.number x)
 placed-in packages job rest executed n end ds msg y i x all rise row e is at f =
     let same = row.are in
     let here =
@@ -368,19 +368,19 @@ placed-in packages job rest executed n end ds msg y i x all rise row e is at f =
     (subst (λ l. slice_get l i ≡ Some x.what) same at) (f ∙ sym row.command_is) in
     let comes = subst (Comes job rest executed) same e in
     subst
-    (λ l. IsExecutedAt (executed ++ in_session n l) (length executed + i) (y.number - 1) x
-    × (y.counts ≡ true → IsOverAt packages (executed ++ in_session n l) (length executed + i) y.number x)) (sym same)
+    (λ l. IsExecutedAt (executed ++ each_in_session n l) (length executed + i) (y.number - 1) x
+    × (y.counts ≡ true → IsOverAt packages (executed ++ each_in_session n l) (length executed + i) y.number x)) (sym same)
     (subst
-    (λ k. IsExecutedAt (executed ++ in_session n (row.before ++ row.deed ∷ row.behind)) (length executed + k)
+    (λ k. IsExecutedAt (executed ++ each_in_session n (row.before ++ row.deed ∷ row.behind)) (length executed + k)
     (y.number - 1) x
-    × (y.counts ≡ true → IsOverAt packages (executed ++ in_session n (row.before ++ row.deed ∷ row.behind))
+    × (y.counts ≡ true → IsOverAt packages (executed ++ each_in_session n (row.before ++ row.deed ∷ row.behind))
     (length executed + k) y.number x)) (sym here.0) (
       placed-at job rest executed n row.before row.deed row.behind row.act y.number x all comes row.act_is row.row
           here.1
           (subst
-          (λ k. slice_get (executed ++ in_session n (row.before ++ row.deed ∷ row.behind))
+          (λ k. slice_get (executed ++ each_in_session n (row.before ++ row.deed ∷ row.behind))
           (length executed + k) ≡ Some x)
-          here.0 (subst (λ l. slice_get (executed ++ in_session n l) (length executed + i) ≡ Some x) same is)),
+          here.0 (subst (λ l. slice_get (executed ++ each_in_session n l) (length executed + i) ≡ Some x) same is)),
       λ counts name block-is.
           (let acts = ap (λ (d : Deed). doing_acts d.doing) here.1 ∙ block-is in
           let act : row.act ≡ block name = one row.act (block name) (sym row.act_is ∙ acts) in
@@ -430,22 +430,22 @@ pub all-placed : (packages : List (List JobEntry)) (job rest : List Act) (execut
     → AllActs packages job (deed_acts ds) rest
     → Comes job rest executed ds
     → AllPlaced packages executed
-    → AllPlaced packages (executed ++ in_session n ds)
+    → AllPlaced packages (executed ++ each_in_session n ds)
 all-placed packages job rest executed n ds whole all e old k x a is acts =
-    by (in-both executed (in_session n ds) k x is)
+    by (in-both executed (each_in_session n ds) k x is)
   where
     by : (slice_get executed k ≡ Some x)
-        ⊎ ((i : ℕ) × (k ≡ length executed + i) × (slice_get (in_session n ds) i ≡ Some x))
-        → (m : ℕ) × IsExecutedAt (executed ++ in_session n ds) k (m - 1) x × IsJobAct packages m (outline a)
-        × IsWithin packages (wholes_of (take k (executed ++ in_session n ds))) m a
+        ⊎ ((i : ℕ) × (k ≡ length executed + i) × (slice_get (each_in_session n ds) i ≡ Some x))
+        → (m : ℕ) × IsExecutedAt (executed ++ each_in_session n ds) k (m - 1) x × IsJobAct packages m (outline a)
+        × IsWithin packages (wholes_of (take k (executed ++ each_in_session n ds))) m a
     by (inl g) =
         let h = old k x a g acts in
         let low = slice_get_within executed k x g in (
           h.0,
-          places-stay executed (in_session n ds) k (h.0 - 1) x h.1,
+          places-stay executed (each_in_session n ds) k (h.0 - 1) x h.1,
           h.2,
           subst (λ l. IsWithin packages (wholes_of l) h.0 a)
-              (sym (take-append-le k executed (in_session n ds) (omega (arith, low)))) h.3,
+              (sym (take-append-le k executed (each_in_session n ds) (omega (arith, low)))) h.3,
         )
     by (inr g) =
         let s = split-at ds g.0 x.what (session-get n ds g.0 x g.2).1 in
@@ -458,20 +458,20 @@ all-placed packages job rest executed n ds whole all e old k x a is acts =
         (subst (λ l. AllActs packages job l rest) all-acts all) in
         let here : k ≡ length executed + length before = g.1 ∙ ap (λ i. length executed + i) s.3 in (
           h.0,
-          subst (λ j. IsExecutedAt (executed ++ in_session n ds) j (h.0 - 1) x) (sym here)
-              (subst (λ l. IsExecutedAt (executed ++ in_session n l) (length executed + length before) (h.0 - 1) x)
+          subst (λ j. IsExecutedAt (executed ++ each_in_session n ds) j (h.0 - 1) x) (sym here)
+              (subst (λ l. IsExecutedAt (executed ++ each_in_session n l) (length executed + length before) (h.0 - 1) x)
               (sym s.2)
               (placed-at job rest executed n before x.what behind a h.0 x whole (subst (Comes job rest executed) s.2 e)
               acts h.1 refl
-              (subst (λ l. slice_get (executed ++ in_session n l) (length executed + length before) ≡ Some x) s.2
-              (subst (λ j. slice_get (executed ++ in_session n ds) j ≡ Some x) here is)))),
+              (subst (λ l. slice_get (executed ++ each_in_session n l) (length executed + length before) ≡ Some x) s.2
+              (subst (λ j. slice_get (executed ++ each_in_session n ds) j ≡ Some x) here is)))),
           h.2,
-          subst (λ j. IsWithin packages (wholes_of (take j (executed ++ in_session n ds))) h.0 a) (sym here)
+          subst (λ j. IsWithin packages (wholes_of (take j (executed ++ each_in_session n ds))) h.0 a) (sym here)
               (subst (λ l. IsWithin packages (wholes_of (take (length executed + length before) (executed
-              ++ in_session n l))) h.0 a) (sym s.2)
+              ++ each_in_session n l))) h.0 a) (sym s.2)
               (subst (λ l. IsWithin packages (wholes_of l) h.0 a) (sym (take-in executed n before behind x.what))
               (subst (λ l. IsWithin packages (length (join None l).whole) h.0 a)
-              (sym (done-append executed (in_session n before)
+              (sym (done-append executed (each_in_session n before)
               ∙ ap (λ l. deeds_acts executed ++ l) (session-deeds n before)))
               (within-now packages job (deeds_acts executed ++ deed_acts before) (deed_acts behind ++ rest) a h.0
               (whole-at job (deeds_acts executed) rest before behind x.what a acts

@@ -25,7 +25,7 @@ use Rattle.dm_world.specs.Acts.{Act, acts, deeds_acts, job_acts}
 use Rattle.dm_world.specs.Lockstep.{first_of}
 use Rattle.dm_world.specs.Packing.{acts_to_send}
 use Rattle.dm_world.specs.World.{InSession, World, Reply, Happening, opens, up_comes, down_comes, update_ends}
-use Rattle.dm_world.specs.World.{clock_moves, is_lost, finds_no_memory, with_new, replied, in_session, heard_by}
+use Rattle.dm_world.specs.World.{clock_moves, is_lost, finds_no_memory, with_new, replied, each_in_session, heard_by}
 use Rattle.dm_world.specs.World.{deeds_in, deeds_by, down_delivered, up_delivered, happens, run}
 use Rattle.dm_world.specs.Start.{at_start, IsWorldStart, IsInRange, IsSchedule}
 use Rattle.dm_world.specs.Commands.{StandsInMessage}
@@ -105,18 +105,18 @@ executed-placed : (packages : List (List JobEntry)) (job : List Act) (w : World)
     → Comes job (acts_to_send w.server) w.executed (all_of d)
     → IsPlaced packages w.executed t.progress.number y
     → InNewest packages job w.server t w.downs y
-    → IsPlaced packages (w.executed ++ in_session s.progress.number (all_of d)) t.progress.number y
+    → IsPlaced packages (w.executed ++ each_in_session s.progress.number (all_of d)) t.progress.number y
 executed-placed packages job w t s d y all takes rise e old new k x is session msg command =
-    by (in-both w.executed (in_session s.progress.number (all_of d)) k x is)
+    by (in-both w.executed (each_in_session s.progress.number (all_of d)) k x is)
   where
     by : (slice_get w.executed k ≡ Some x)
-        ⊎ ((i : ℕ) × (k ≡ length w.executed + i) × (slice_get (in_session s.progress.number (all_of d)) i ≡ Some x))
-        → IsExecutedAt (w.executed ++ in_session s.progress.number (all_of d)) k (y.number - 1) x
+        ⊎ ((i : ℕ) × (k ≡ length w.executed + i) × (slice_get (each_in_session s.progress.number (all_of d)) i ≡ Some x))
+        → IsExecutedAt (w.executed ++ each_in_session s.progress.number (all_of d)) k (y.number - 1) x
         × (y.counts ≡ true
-        → IsOverAt packages (w.executed ++ in_session s.progress.number (all_of d)) k y.number x)
+        → IsOverAt packages (w.executed ++ each_in_session s.progress.number (all_of d)) k y.number x)
     by (inl g) =
         let h = old k x g session msg command in
-        let more = in_session s.progress.number (all_of d) in (
+        let more = each_in_session s.progress.number (all_of d) in (
           places-stay w.executed more k (y.number - 1) x h.0,
           λ counts name is-block. over-later packages w.executed more k y.number (h.1 counts name is-block),
         )
@@ -128,13 +128,13 @@ executed-placed packages job w t s d y all takes rise e old new k x is session m
         subst (λ o. IfSome o (λ (r : Reply). RowSent packages job (all_deeds (origin_of r.message) r.message.body)
         (acts_to_send w.server) (sent_by t) y)) takes.first (new takes.even (sym msg ∙ of ∙ sym takes.own)) in
         subst
-        (λ k. IsExecutedAt (w.executed ++ in_session s.progress.number (all_of d)) k (y.number - 1) x
+        (λ k. IsExecutedAt (w.executed ++ each_in_session s.progress.number (all_of d)) k (y.number - 1) x
         × (y.counts ≡ true
-        → IsOverAt packages (w.executed ++ in_session s.progress.number (all_of d)) k y.number x)) (sym g.1)
+        → IsOverAt packages (w.executed ++ each_in_session s.progress.number (all_of d)) k y.number x)) (sym g.1)
         (placed-in packages job (acts_to_send w.server) w.executed s.progress.number rise.0 (all_of d)
         (sent_by t) y g.0 x all
         rise.1 row e
-        (subst (λ k. slice_get (w.executed ++ in_session s.progress.number (all_of d)) k ≡ Some x) g.1 is) here.1
+        (subst (λ k. slice_get (w.executed ++ each_in_session s.progress.number (all_of d)) k ≡ Some x) g.1 is) here.1
         command)
 
 -- the client's session and the server's, where a message is taken
@@ -179,7 +179,7 @@ module _ (packages : List (List JobEntry)) (job : List Act) (many : ℕ) (w : Wo
       stays = subst (BothPlaced packages job w t) (sym (append-nil w.executed)) (h.done, sent)
 
       run : (b : Bool) → client.takes_message (Some s) d.message ≡ true
-          → BothPlaced packages job w t (w.executed ++ cond b (in_session s.progress.number (all_of d)) [])
+          → BothPlaced packages job w t (w.executed ++ cond b (each_in_session s.progress.number (all_of d)) [])
       run false q = stays
       run true q =
           let sound = subst (λ o. Holds w.client.begun o w.server.session w.downs w.ups) f fair.sound in
@@ -300,15 +300,15 @@ in-taken : (packages : List (List JobEntry)) (job : List Act) (v : Service) (o :
     → RowNotes job v
     → Taken packages job v n (server.after_in_session v o n u nonce)
 in-taken packages job v None n u nonce e is notes rows =
-    opened-taken packages job v n (server.opens v n u nonce) (opens-rowed packages job v n u nonce is notes rows)
+    opened-taken packages job v n (server.opens_session v n u nonce) (opens-rowed packages job v n u nonce is notes rows)
 in-taken packages job v (Some s) n u nonce e is notes rows = by (s.progress.number == n) refl
   where
     by : (b : Bool) → (s.progress.number == n) ≡ b
-        → Taken packages job v n (cond b (accepts v s u nonce) (server.opens v n u nonce))
+        → Taken packages job v n (cond b (accepts v s u nonce) (server.opens_session v n u nonce))
     by true f =
         session-taken packages job v n s (accepts v s u nonce) e (eq-of s.progress.number n f)
         (accepts-rowed packages job v s u nonce is notes rows)
-    by false f = opened-taken packages job v n (server.opens v n u nonce)
+    by false f = opened-taken packages job v n (server.opens_session v n u nonce)
         (opens-rowed packages job v n u nonce is notes rows)
 
 -- ---- the numbers of the session that took it

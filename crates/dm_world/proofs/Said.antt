@@ -75,7 +75,7 @@ accepts-tells v s m nonce = record {
 
 -- a session that begins forgets nothing
 begins-tells : (v : Service) (n : ℕ) (m : Parts) (nonce : List ℕ)
-    → Tells v.job.limits.max_obj v (server.opens v n m nonce) m
+    → Tells v.job.limits.max_obj v (server.opens_session v n m nonce) m
 begins-tells v n m nonce =
     let x = accepts-tells (begins v n) (first_session v.job.account n) m nonce in
     record { codes = x.codes; values = x.values; limit = x.limit }

@@ -32,7 +32,7 @@ use Rattle.dm_pack.specs.Entries.{Entry, whole_entry, part_of, rest_of, part_ite
 use Rattle.dm_base.specs.Fields.{num_of}
 use Rattle.dm_ends.specs.Commands.{alert, session_of}
 use Rattle.dm_job.specs.declared.job.Job.{Job}
-use Rattle.dm_machine.specs.declared.kinds.Kind.{Kind}
+use Rattle.dm_machine.specs.declared.kinds.Initiator.{Initiator}
 use Rattle.dm_machine.specs.declared.kinds.End.TheVariants.{Finished, Aborted}
 use Rattle.dm_machine.specs.declared.progress.Progress.{Progress}
 use Rattle.dm_machine.specs.declared.progress.UpdateResult.{UpdateResult}
@@ -49,7 +49,8 @@ use Rattle.dm_machine.proofs.StaysReady.{heard_by as machine_heard}
 use Rattle.dm_machine.proofs.StaysWaiting.{answering, behind_answer, beginning}
 use Rattle.dm_service.proofs.Codes.{first_in, later_in}
 use Rattle.dm_world.specs.World.{InSession, World, Reply, Happening, opens, up_comes, down_comes, update_ends}
-use Rattle.dm_world.specs.World.{clock_moves, is_lost, finds_no_memory, said, in_session, heard_by, made_in, made_by}
+use Rattle.dm_world.specs.World.{clock_moves, is_lost, finds_no_memory, said, each_in_session, heard_by, made_in}
+use Rattle.dm_world.specs.World.{made_by}
 use Rattle.dm_world.specs.World.{client_has, down_delivered, up_delivered, happens, run}
 use Rattle.dm_world.specs.Start.{at_start, IsWorldStart, IsSchedule}
 use Rattle.dm_world.specs.Commands.{WasMade, IsPartOf, WasFound, SaysTheMade, SaysTheFound}
@@ -279,12 +280,12 @@ alerts-tell : (made : List (InSession Made)) (n : ℕ) (uri : List ℕ) (results
 alerts-tell made n uri [] more h = h
 alerts-tell made n uri (r ∷ rs) more h = (tt, alerts-tell made n uri rs more h)
 
-opening-tells : (made : List (InSession Made)) (n : ℕ) (kind : Kind) (results : List UpdateResult) (tree : Nodes)
+opening-tells : (made : List (InSession Made)) (n : ℕ) (kind : Initiator) (results : List UpdateResult) (tree : Nodes)
     → TellAll made n (opening kind results tree)
 opening-tells made n kind results tree =
     (tt, alerts-tell made n (update_uri tree) results (device_told tree ∷ []) (tt, tt))
 
-first-tells : (made : List (InSession Made)) (n : ℕ) (c : Machine) (kind : Kind) → Tell made n (first_package c kind)
+first-tells : (made : List (InSession Made)) (n : ℕ) (c : Machine) (kind : Initiator) → Tell made n (first_package c kind)
 first-tells made n c kind =
     fresh-tell made n (opening kind c.results c.engine.tree) (opening-tells made n kind c.results c.engine.tree)
 
@@ -311,7 +312,7 @@ pub record Speaks (made : List (InSession Made)) (n : ℕ) (c : Machine) (a : cl
   pub message : IfSome (said a) (Says made n)
 
 abbrev OutcomeSpeaks : List (InSession Made) → ℕ → Outcome → Type 0
-OutcomeSpeaks made n x = Speaks made n (client.machine_of x) (client.outcome_answer x)
+OutcomeSpeaks made n x = Speaks made n (client.outcome_machine x) (client.outcome_answer x)
 
 sent-speaks : (made : List (InSession Made)) (n : ℕ) (queue : List Entry) (o : Option Session)
     → OpenAs (λ (t : Session). (t.progress.number ≡ n) × Says made n t.sent) o
@@ -361,9 +362,9 @@ run-made c p m h e f g =
     (quietly c.engine) e f g
 
 pub run-within : (made : List (InSession Made)) (n : ℕ) (r : Next) (ms : List Made) → r.made ≡ ms
-    → AreMade (made ++ in_session n ms) n r.made
+    → AreMade (made ++ each_in_session n ms) n r.made
 run-within made n r ms e x h =
-    Contains-append_right made (in_session n ms) _
+    Contains-append_right made (each_in_session n ms) _
     (contains-map (λ (x : Made). record { session = n; what = x }) ms x (subst (λ l. Contains l x) e h))
 
 answering-tells : (all : List (InSession Made)) (n : ℕ) (c : Machine) (w : Waits) (m : Parts) (h : Heard)
@@ -398,10 +399,10 @@ header-speaks : (made : List (InSession Made)) (c : Machine) (p : Progress) (m :
     → h.standing.last ≡ m.header.msg
     → h.standing.own ≡ p.standing.own
     → Tell made p.number c.queue
-    → OutcomeSpeaks (made ++ in_session p.number (executed c p m h).made) p.number
+    → OutcomeSpeaks (made ++ each_in_session p.number (executed c p m h).made) p.number
     (by_header (record c { resp_uri = option_or m.header.resp_uri c.resp_uri }) p m nonce h)
 header-speaks made c p m nonce h last low own queue =
-    let all = made ++ in_session p.number (executed c p m h).made in
+    let all = made ++ each_in_session p.number (executed c p m h).made in
     let d = machine_heard c p m h in
     let w = waits_after d p h in
     let run = run_of d h.account m h.code in
@@ -409,7 +410,7 @@ header-speaks made c p m nonce h last low own queue =
     let number = (waits-hear d p h m.header.msg low own).number in
     let later : Tell all p.number c.queue =
     each-map {P = OfEntry (Tells made p.number)} {Q = OfEntry (Tells all p.number)}
-    (λ (e : Entry). tells-later made (in_session p.number (executed c p m h).made) p.number e.command) c.queue queue in
+    (λ (e : Entry). tells-later made (each_in_session p.number (executed c p m h).made) p.number e.command) c.queue queue in
     let waiting = waits-tell all p.number d p h later in
     either_is (OutcomeSpeaks all p.number) h.second {x = denied d w m h nonce}
     {y = cond aborts (ends (closed d) Aborted) (answered d w m h nonce run)}
@@ -484,7 +485,7 @@ down-by : (made : List (InSession Made)) (c : Machine) (o : Option Session) (m :
     → IfSome o IsNumbered
     → OpenTell made c.queue o
     → Utters (made ++ made_by c o m nonce)
-    (cond (client.takes_message o m) (client.machine_of (client.message_outcome c o m nonce)) c)
+    (cond (client.takes_message o m) (client.outcome_machine (client.message_outcome c o m nonce)) c)
     (cond (client.takes_message o m) (client.outcome_answer (client.message_outcome c o m nonce))
     (client.message_refusal o m kept))
 down-by made c None m nonce kept e range h =
@@ -498,11 +499,11 @@ down-by made c (Some s) m nonce kept e range h = by (client.takes_message (Some 
         (λ (x : Entry). tells-later made [] s.progress.number x.command) c.queue h)
 
     by : (b : Bool) → Utters (made ++ cond b (made_in c s.progress m nonce) [])
-        (cond b (client.machine_of (accepts c s.progress m nonce)) c)
+        (cond b (client.outcome_machine (accepts c s.progress m nonce)) c)
         (cond b (client.outcome_answer (accepts c s.progress m nonce)) (client.message_refusal (Some s) m kept))
     by true =
         speaks-utters (made ++ made_in c s.progress m nonce) s.progress.number
-        (client.machine_of (accepts c s.progress m nonce)) (client.outcome_answer (accepts c s.progress m nonce))
+        (client.outcome_machine (accepts c s.progress m nonce)) (client.outcome_answer (accepts c s.progress m nonce))
         range.0 range.1 (accepts-speaks made c s.progress m nonce h)
     by false = silent (made ++ []) c (client.message_refusal (Some s) m kept) (refusal-said (Some s) m kept) same
 
@@ -514,7 +515,7 @@ unfolding client_runs.next client_runs.answer_now client.takes client.after clie
 message-utters made c m nonce range h =
     down-by made c c.session m nonce (client_runs.kept_in c.session) refl range h
 
-begins-utters : (made : List (InSession Made)) (c : Machine) (account : ℕ) (kind : Kind) (n : ℕ) → 0 < n → n < 2 ^ 32
+begins-utters : (made : List (InSession Made)) (c : Machine) (account : ℕ) (kind : Initiator) (n : ℕ) → 0 < n → n < 2 ^ 32
     → Utters made (begins c account kind n) (client.sent_in (begins c account kind n).session)
 unfolding begins
 begins-utters made c account kind n low high =
@@ -523,7 +524,7 @@ begins-utters made c account kind n low high =
     (sends-speaks made n (beginning c kind n) (first_progress account kind n first) (account_at (closed c) account) refl
     (first-tells made n (closed c) kind))
 
-opened-utters : (made : List (InSession Made)) (c : Machine) (account : ℕ) (kind : Kind) (n : ℕ) → n < 2 ^ 32
+opened-utters : (made : List (InSession Made)) (c : Machine) (account : ℕ) (kind : Initiator) (n : ℕ) → n < 2 ^ 32
     → OpenTell made c.queue c.session
     → After made c (client.opened account kind n)
 unfolding client_runs.next client_runs.answer_now client.takes client.after client.taken_answer client.refusal

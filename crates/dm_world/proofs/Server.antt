@@ -16,10 +16,10 @@ use Rattle.dm_pack.specs.Entries.{Entry}
 use Rattle.dm_pack.specs.Filling.{fill, taken, cut, commands_of, next_part, next_rest, tail_of, tail_commands, is_final}
 use Rattle.dm_ends.specs.Commands.{alert, is_abort}
 use Rattle.dm_ends.proofs.Distinct.{makes_no_fault}
-use Rattle.dm_service.specs.declared.progress.Progress.{Progress}
+use Rattle.dm_service.specs.declared.progress.ServiceProgress.{ServiceProgress}
 use Rattle.dm_service.specs.Service.{Waiting, Session, Service}
 use Rattle.dm_service.specs.Packages.{gives_up, next_package}
-use Rattle.dm_service.specs.Sending.{target_of, header_for, sends}
+use Rattle.dm_service.specs.Sending.{client_target, header_for, sends}
 use Rattle.dm_service.specs.Messages.{denies, after_status, tells, queues_answers, session_or, in_session}
 use Rattle.dm_service.specs.Messages.{answers_message, by_header, accepts}
 use Rattle.dm_world.proofs.Lists.{either}
@@ -27,7 +27,7 @@ use Rattle.dm_world.proofs.Numbers.{IsSent}
 use Rattle.dm_world.proofs.Client.{OpenAs, fill-body, fill-header}
 
 -- how far a session has come: its number, the MsgID accepted last, and how many messages were sent
-pub record Stands (n last own : ℕ) (p : Progress) : Type 0 where
+pub record Stands (n last own : ℕ) (p : ServiceProgress) : Type 0 where
   pub number : p.number ≡ n
   pub last_is : p.standing.last ≡ last
   pub own_is : p.standing.own ≡ own
@@ -43,18 +43,18 @@ abbrev pub Served : ℕ → ℕ → ℕ → Service → Type 0
 Served n last own v = ServedAs n last own v.sent v.session
 
 -- a machine whose session has come as far as this
-abbrev pub HasProgress : Progress → Option Session → Type 0
+abbrev pub HasProgress : ServiceProgress → Option Session → Type 0
 HasProgress p None = ⊥
 HasProgress p (Some x) = x.progress ≡ p
 
 -- ---- the message
 
-header-numbers : (v : Service) (p : Progress) (m : Parts)
+header-numbers : (v : Service) (p : ServiceProgress) (m : Parts)
     → ((header_for v p m).session ≡ decimal p.number) × ((header_for v p m).msg ≡ p.standing.own + 1)
 unfolding next_header
 header-numbers v p m = (refl, refl)
 
-server-fault : (v : Service) (es : List Entry) (p : Progress) (m : Parts)
+server-fault : (v : Service) (es : List Entry) (p : ServiceProgress) (m : Parts)
     → fault_of (fill es (header_for v p m) p.standing.room p.standing.heard).message ≡ None
 unfolding fill
 server-fault v es p m =
@@ -63,11 +63,11 @@ server-fault v es p m =
     let before = commands_of (take whole es) in
     let n = cut h p.standing.room before (drop whole es) in
     let tail = tail_of (next_rest n (drop whole es)) p.standing.heard in
-    makes_no_fault (login_of Server v.job.account) p.standing v.job.limits p.number (target_of m)
+    makes_no_fault (login_of Server v.job.account) p.standing v.job.limits p.number (client_target m)
     (record { uri = v.job.account.server; name = None })
     (before ++ next_part n (drop whole es) ++ tail_commands tail) (is_final tail)
 
-sent-is : (n own : ℕ) (p : Progress) (m : Parts) → p.number ≡ n → p.standing.own ≡ own
+sent-is : (n own : ℕ) (p : ServiceProgress) (m : Parts) → p.number ≡ n → p.standing.own ≡ own
     → IsSent p.number (p.standing.own + 1) m
     → IsSent n (own + 1) m
 sent-is n own p m e f h = record {
@@ -115,7 +115,7 @@ denies-served v s m code nonce n last own h =
             session = numbers.0;
             id = numbers.1;
             sound =
-                makes_no_fault (login_of Server v.job.account) p.standing v.job.limits p.number (target_of m)
+                makes_no_fault (login_of Server v.job.account) p.standing v.job.limits p.number (client_target m)
                 (record { uri = v.job.account.server; name = None }) cs true;
             body = (cs, refl);
           }),
@@ -136,11 +136,11 @@ pub tells-has : (v : Service) (s : Session) (m : Parts) (code : ℕ) → HasProg
     → HasProgress s.progress (tells v s m code).session
 tells-has v s m code h = either (λ (w : Service). HasProgress s.progress w.session) (passes code) refl h
 
-pub session-has : (p : Progress) (o : Option Session) (s : Session) → HasProgress p o → (session_or o s).progress ≡ p
+pub session-has : (p : ServiceProgress) (o : Option Session) (s : Session) → HasProgress p o → (session_or o s).progress ≡ p
 session-has p None s h = absurd h
 session-has p (Some x) s h = h
 
-stands-by : (n last own : ℕ) (p q : Progress) → q ≡ p → Stands n last own p → Stands n last own q
+stands-by : (n last own : ℕ) (p q : ServiceProgress) → q ≡ p → Stands n last own p → Stands n last own q
 stands-by n last own p q e h = subst (Stands n last own) (sym e) h
 
 answers-served : (v : Service) (s : Session) (m : Parts) (code : ℕ) (nonce : List ℕ) (n last own : ℕ)
@@ -169,7 +169,7 @@ pub heard-numbers : (a : Account) (s : Standing) (m : Parts) (nonce : List ℕ)
 unfolding hears
 heard-numbers a s m nonce = (refl, refl)
 
-pub has-itself : (p : Progress) (o : Option Session) (s : Session) → HasProgress p o
+pub has-itself : (p : ServiceProgress) (o : Option Session) (s : Session) → HasProgress p o
     → HasProgress (session_or o s).progress o
 has-itself p None s h = absurd h
 has-itself p (Some x) s h = refl

@@ -18,14 +18,15 @@ use Rattle.dm_headers.specs.Standings.{Heard, hears}
 use Rattle.dm_pack.specs.Filling.{fill}
 use Rattle.dm_ends.specs.Commands.{is_abort}
 use Rattle.dm_job.specs.declared.job.JobEntry.{JobEntry}
-use Rattle.dm_service.specs.declared.progress.Progress.{Progress}
+use Rattle.dm_service.specs.declared.progress.ServiceProgress.{ServiceProgress}
 use Rattle.dm_service.specs.declared.sent.Carried.{Carried}
 use Rattle.dm_service.specs.declared.sent.Sent.{Sent}
 use Rattle.dm_service.specs.Service.{Waiting, Told, Session, Service, entries_of}
 use Rattle.dm_service.specs.Matching.{untold, Finding}
 use Rattle.dm_service.specs.Packages.{is_of_job, queues_package, next_package, holds_number, forgotten, not_sent}
 use Rattle.dm_service.specs.Packages.{gives_up}
-use Rattle.dm_service.specs.Sending.{header_for, in_a_row, last_alone, rest_holds, but_the_last, part_holds, goes_out}
+use Rattle.dm_service.specs.Sending.{header_for, in_a_row, last_part_sent, rest_holds, but_the_last, part_holds}
+use Rattle.dm_service.specs.Sending.{goes_out}
 use Rattle.dm_service.specs.Sending.{sends}
 use Rattle.dm_service.specs.Messages.{ended, denies, answer_waiting, matched_in, with_matched, tells}
 use Rattle.dm_service.specs.Messages.{queues_answers, session_or, in_session, answers_message, by_header, accepts}
@@ -46,7 +47,7 @@ row-of : (msg command number n : ℕ) → Each (OfMessage msg) (in_a_row msg com
 row-of msg command number zero = tt
 row-of msg command number (suc n) = (refl, row-of msg (command + 1) (number + 1) n)
 
-alone-of : (msg command : ℕ) (c : Carried) → Each (OfMessage msg) (last_alone msg command c)
+alone-of : (msg command : ℕ) (c : Carried) → Each (OfMessage msg) (last_part_sent msg command c)
 alone-of msg command c = (refl, either (Each (OfMessage msg)) (nat_lt 1 c.count) {y = []} (refl, tt) tt)
 
 rest-of : (msg command : ℕ) (begun : Bool) (o : Option Carried) → Each (OfMessage msg) (rest_holds msg command begun o)
@@ -183,7 +184,7 @@ answers-leave v s m code nonce e =
     (λ u h. record {
       none = λ has a.
           (let no : t.progress.standing.accepted ≡ false = sym h.accepted ∙ a in
-          let k = has (ap (λ (p : Progress). p.standing.accepted) (sym of.1) ∙ no) in
+          let k = has (ap (λ (p : ServiceProgress). p.standing.accepted) (sym of.1) ∙ no) in
           h.none a (of.0 ∙ k.0)
           (next-nojob queued t.progress.standing no
           (queued-nojob told m code nonce (subst (Each NoJob) (sym (tells-queue v s m code)) k.1))));
@@ -193,7 +194,7 @@ answers-leave v s m code nonce e =
             told = h.told ∙ next-told queued t.progress.standing ∙ behind.1;
             out = h.out;
             sent = h.sent ∙ ap (λ l. l ++ h.out) of.0;
-            next = subst (λ k. AreNext k h.out) (ap (λ (p : Progress). p.standing.own) of.1) h.next;
+            next = subst (λ k. AreNext k h.out) (ap (λ (p : ServiceProgress). p.standing.own) of.1) h.next;
           });
     })
     (sends-leave q t m code)
@@ -338,7 +339,7 @@ accepts-leave v s m nonce = by-status (tells_first v s m nonce) refl
           base = g;
           from = t';
           object = at.object;
-          own = ap (λ (p : Progress). p.standing.own) at.progress ∙ own-is;
+          own = ap (λ (p : ServiceProgress). p.standing.own) at.progress ∙ own-is;
           limit = at.limit;
           sent = inl e;
           within = at.within;
@@ -347,7 +348,7 @@ accepts-leave v s m nonce = by-status (tells_first v s m nonce) refl
               at.none
               (has
               (still-none v.job.account s.progress.standing m nonce
-              (ap (λ (p : Progress). p.standing.accepted) (sym at.progress) ∙ a))).0;
+              (ap (λ (p : ServiceProgress). p.standing.accepted) (sym at.progress) ∙ a))).0;
           leaves = k;
         })
         (header-leave g t' m h nonce at.session))

@@ -21,10 +21,10 @@ use Rattle.dm_pack.specs.Filling.{fill}
 use Rattle.dm_ends.specs.Commands.{alert, is_abort}
 use Rattle.dm_job.specs.declared.job.JobEntry.{JobEntry}
 use Rattle.dm_service.specs.declared.sent.Carried.{Carried}
-use Rattle.dm_service.specs.declared.progress.Progress.{Progress}
+use Rattle.dm_service.specs.declared.progress.ServiceProgress.{ServiceProgress}
 use Rattle.dm_service.specs.declared.sent.Sent.{Sent}
 use Rattle.dm_service.specs.Service.{Waiting, Session, Service, entries_of}
-use Rattle.dm_service.specs.Packages.{is_of_job, queues_package, next_package, put_back, not_sent}
+use Rattle.dm_service.specs.Packages.{is_of_job, queues_package, next_package, package_put_back, not_sent}
 use Rattle.dm_service.specs.Packages.{runs_after}
 use Rattle.dm_service.specs.Packages.{gives_up}
 use Rattle.dm_service.specs.Sending.{header_for, rest_holds, part_holds, goes_out, carried_on, runs_in_after, sends}
@@ -287,13 +287,13 @@ answers-goes v s m code nonce e ok =
     ∙ ap job_acts same.packages in
     open-map x.session
     (λ u h. (
-      h.0 ∙ ap (λ (p : Progress). p.standing.own + 1) of.1,
+      h.0 ∙ ap (λ (p : ServiceProgress). p.standing.own + 1) of.1,
       h.1
-          ∙ ap (λ (p : Progress). p.standing.we_failed) of.1,
+          ∙ ap (λ (p : ServiceProgress). p.standing.we_failed) of.1,
       goes-from v q x s.sent u.sent s.progress.number (reply_acts (reply_of x)) rest
           (next-job queued t.progress.standing ∙ same.job) (next-runs queued t.progress.standing ∙ same.runs_in)
           (λ i. next-idle queued t.progress.standing (queued-idle told m code nonce (same-idle v told same i))) fresh
-          (subst (λ k. Goes q x s.sent u.sent k (reply_acts (reply_of x))) (ap (λ (p : Progress). p.number) of.1)
+          (subst (λ k. Goes q x s.sent u.sent k (reply_acts (reply_of x))) (ap (λ (p : ServiceProgress). p.number) of.1)
           (subst (λ z. Goes q x z u.sent t.progress.number (reply_acts (reply_of x))) of.0 h.2)),
     ))
     (sends-goes q t m code
@@ -378,7 +378,7 @@ gave-idle : (runs : Option ℕ) (newest : List JobEntry) (ss : List Sent) → ss
 gave-idle runs newest [] e = (refl, refl)
 gave-idle runs newest (s ∷ ss) e = absurd (cc)
 
-none-back : (newest : List JobEntry) (ps : List (List JobEntry)) → newest ≡ [] → ps ≡ [] → put_back newest ps ≡ []
+none-back : (newest : List JobEntry) (ps : List (List JobEntry)) → newest ≡ [] → ps ≡ [] → package_put_back newest ps ≡ []
 none-back [] ps e f = f
 none-back (x ∷ xs) ps e f = absurd (cc)
 
@@ -386,7 +386,7 @@ gave-up : (v : Service) (s : Session) → Each IsOfJobOrReport v.queue
     → GaveUp v (gives_up v s) s.sent (not_sent v.newest s.sent)
 unfolding gives_up
 gave-up v s ok = record {
-  rest = ap (λ x. x ++ job_acts (put_back v.newest v.packages)) (rest-acts v.queue ok) ∙ put-acts v.newest v.packages;
+  rest = ap (λ x. x ++ job_acts (package_put_back v.newest v.packages)) (rest-acts v.queue ok) ∙ put-acts v.newest v.packages;
   ok = kept-ok v.queue ok;
   newest = refl;
   packages = put-acts v.newest v.packages;
@@ -619,7 +619,7 @@ accepts-outcome v s m nonce f ok = by-status (not s.progress.standing.we_failed 
         (sym (or-session g.session t t' at.session))
         (open-map (by_header g t' m h nonce).session
         (λ u k. given-outcome v heard g s t' (not_sent heard.newest t.sent) m h (by_header g t' m h nonce) u same st
-        (said true e) (gave-up heard t ok) behind.2 (ap (λ (p : Progress). p.number) at.number)
-        (ap (λ (p : Progress). p.standing.own) at.number ∙ own-is)
-        (ap (λ (p : Progress). p.standing.we_failed) at.number) k)
+        (said true e) (gave-up heard t ok) behind.2 (ap (λ (p : ServiceProgress). p.number) at.number)
+        (ap (λ (p : ServiceProgress). p.standing.own) at.number ∙ own-is)
+        (ap (λ (p : ServiceProgress). p.standing.we_failed) at.number) k)
         (header-outcome g t' m h nonce at.session at.ok))

@@ -18,7 +18,7 @@ use Rattle.dm_service.specs.declared.sent.Sent.{Sent}
 use Rattle.dm_service.specs.Service.{Waiting, Session, Service}
 use Rattle.dm_service.specs.Packages.{next_package, holds_number}
 use Rattle.dm_service.specs.Packages.{gives_up}
-use Rattle.dm_service.specs.Sending.{in_a_row, last_alone, rest_holds, but_the_last, part_holds, goes_out}
+use Rattle.dm_service.specs.Sending.{in_a_row, last_part_sent, rest_holds, but_the_last, part_holds, goes_out}
 use Rattle.dm_service.specs.Sending.{sends}
 use Rattle.dm_service.specs.Messages.{begins, first_session, ended, denies, after_status, matched_in, with_matched}
 use Rattle.dm_service.specs.Messages.{tells}
@@ -47,7 +47,7 @@ row-ids : (msg command number n : ℕ) → 0 < command → Each HasId (in_a_row 
 row-ids msg command number zero h = tt
 row-ids msg command number (suc n) h = (h, row-ids msg (command + 1) (number + 1) n (omega arith))
 
-alone-ids : (msg command : ℕ) (c : Carried) → 0 < command → Each HasId (last_alone msg command c)
+alone-ids : (msg command : ℕ) (c : Carried) → 0 < command → Each HasId (last_part_sent msg command c)
 alone-ids msg command c h = (h, either (Each HasId) (nat_lt 1 c.count) {y = []} (omega arith, tt) tt)
 
 rest-ids : (msg command : ℕ) (begun : Bool) (o : Option Carried) → 0 < command
@@ -136,14 +136,14 @@ accepts-ids v s m nonce k =
     (gives-ids heard t k) k in
     header-ids w (in_session w t) m h nonce all (session-ids w.session t all k)
 
-opens-ids : (v : Service) (n : ℕ) (m : Parts) (nonce : List ℕ) → HaveIds (server.opens v n m nonce)
+opens-ids : (v : Service) (n : ℕ) (m : Parts) (nonce : List ℕ) → HaveIds (server.opens_session v n m nonce)
 opens-ids v n m nonce = accepts-ids (begins v n) (first_session v.job.account n) m nonce tt
 
 in-ids : (v : Service) (o : Option Session) (n : ℕ) (m : Parts) (nonce : List ℕ) → IfSome o HasIds
     → HaveIds (server.after_in_session v o n m nonce)
 in-ids v None n m nonce h = opens-ids v n m nonce
 in-ids v (Some s) n m nonce h =
-    either HaveIds (s.progress.number == n) {x = accepts v s m nonce} {y = server.opens v n m nonce}
+    either HaveIds (s.progress.number == n) {x = accepts v s m nonce} {y = server.opens_session v n m nonce}
     (accepts-ids v s m nonce h) (opens-ids v n m nonce)
 
 as-ids : (v : Service) (o : Option ℕ) (m : Parts) (nonce : List ℕ) → HaveIds v
@@ -212,7 +212,7 @@ accepts-code v s m nonce place code e f h = by (codes_are_told v s m nonce place
 
 -- a session that begins has sent nothing
 opens-code : (v : Service) (n : ℕ) (m : Parts) (nonce : List ℕ) (place code : ℕ)
-    → Comes v (server.opens v n m nonce) m place code
+    → Comes v (server.opens_session v n m nonce) m place code
 opens-code v n m nonce place code h =
     by (codes_are_told (begins v n) (first_session v.job.account n) m nonce place code h)
   where
@@ -234,7 +234,7 @@ in-code v None n m nonce place code e f h = opens-code v n m nonce place code h
 in-code v (Some s) n m nonce place code e f h = by (s.progress.number == n) refl h
   where
     by : (b : Bool) → (s.progress.number == n) ≡ b
-        → Comes v (cond b (accepts v s m nonce) (server.opens v n m nonce)) m place code
+        → Comes v (cond b (accepts v s m nonce) (server.opens_session v n m nonce)) m place code
     by true g k = accepts-code v s m nonce place code e (f ∙ ap Some (sym (eq-of s.progress.number n g))) k
     by false g k = opens-code v n m nonce place code k
 

@@ -9,7 +9,7 @@ use Rattle.dm_auth.specs.declared.credentials.Verdict.{Verdict}
 use Rattle.dm_auth.specs.declared.credentials.Verdict.TheVariants.{Missing, Accepted, Wrong}
 use Rattle.dm_auth.specs.Digests.{verdict}
 use Rattle.dm_headers.specs.Checks.{fault_of, judged, judged_by, verdict_code, header_code}
-use Rattle.dm_ends.specs.Commands.{is_number}
+use Rattle.dm_ends.specs.Commands.{is_same_number}
 use Rattle.dm_atomic.specs.Made.{Made}
 use Rattle.dm_machine.specs.Machine.{Machine, Session as Opened}
 use Rattle.dm_machine.specs.Events as client
@@ -24,7 +24,7 @@ use Rattle.dm_world.specs.World.{is_lost, finds_no_memory, with_new, said, repli
 use Rattle.dm_world.specs.World.{made_by, down_delivered, up_delivered, happens, run}
 use Rattle.dm_world.specs.Start.{at_start}
 use Rattle.dm_world.specs.Lockstep.{first_of, newest_in, TakesNewest, ServesNewest, is_down_taken, is_up_taken}
-use Rattle.dm_world.specs.Lockstep.{Untaken, TakesTurns, IsFault, IsUnderstood, Understands}
+use Rattle.dm_world.specs.Lockstep.{Untaken, TakesTurns, IsFaultCode, IsUnderstood, Understands}
 use Rattle.dm_world.proofs.Lists.{either, Each, each-map, each-within, StandsIn, picked}
 use Rattle.dm_world.proofs.Numbers.{session_number, eq-of, eq-self}
 use Rattle.dm_world.proofs.Lockstep.{Bound, UpOk, DownOk, Below, Falls, itself, message_of, NewestIs, Holds, Before}
@@ -101,11 +101,11 @@ bound-most None n own k b h = omega (arith, b, h)
 bound-most (Some y) n own k (inl b) h = let g = h.1 b.0 in omega (arith, g)
 bound-most (Some y) n own k (inr b) h = let g = h.0 (sym b.0) in let z = b.2 in omega (arith, g, z)
 
-session-says : (x : Option ℕ) (n : ℕ) → is_number x n ≡ true → x ≡ Some n
+session-says : (x : Option ℕ) (n : ℕ) → is_same_number x n ≡ true → x ≡ Some n
 session-says None n h = cc
 session-says (Some k) n h = ap (λ y. Some y) (eq-of k n h)
 
-number-same : (o : Option ℕ) (n : ℕ) → o ≡ Some n → is_number o n ≡ true
+number-same : (o : Option ℕ) (n : ℕ) → o ≡ Some n → is_same_number o n ≡ true
 number-same o n e = rw e (eq-self n)
 
 newest-up : (n k : ℕ) (ups : List Parts) (i : ℕ) (u : Parts) → slice_get ups i ≡ Some u → Falls itself ups
@@ -122,9 +122,9 @@ newest-up n k (x ∷ xs) zero u p f h e g =
     number_or None = None
     number_or (Some y) = server.number_of y
 newest-up n k (x ∷ xs) (suc i) u p f h e g =
-    past (is_number (server.number_of x) n) refl (newest-up n k xs i u p f.1 h.1 e g)
+    past (is_same_number (server.number_of x) n) refl (newest-up n k xs i u p f.1 h.1 e g)
   where
-    past : (c : Bool) → is_number (server.number_of x) n ≡ c → newest_in n xs ≡ Some u
+    past : (c : Bool) → is_same_number (server.number_of x) n ≡ c → newest_in n xs ≡ Some u
         → cond c (Some x) (newest_in n xs) ≡ Some u
     past false s r = r
     past true s r =
@@ -273,7 +273,7 @@ takes_turns c job hs start range =
 -- ---- no end refuses the other's messages
 
 abbrev IsFine : ℕ → Type 0
-IsFine code = IsFault code → ⊥
+IsFine code = IsFaultCode code → ⊥
 
 fine-code : IsFine 200
 fine-code (inl h) = omega (arith, h)

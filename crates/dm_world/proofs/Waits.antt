@@ -13,7 +13,7 @@ use Rattle.syncml_types.specs.Message.{Parts}
 use Rattle.syncml_parts.specs.Numbering.{ids_in}
 use Rattle.dm_headers.specs.declared.standings.Standing.{Standing}
 use Rattle.dm_headers.specs.Headers.{is_withheld as header_withheld, header_answer}
-use Rattle.dm_atomic.specs.Made.{Made, Status, Result, Broken, told, entry_of, is_withheld}
+use Rattle.dm_atomic.specs.Made.{Made, Status, Result, Broken, told, command_told, is_suppressed}
 use Rattle.dm_pack.specs.Entries.{Entry, part_of, rest_of}
 use Rattle.dm_pack.specs.Filling.{fill, taken, cut, commands_of, next_part, next_rest}
 use Rattle.dm_ends.specs.Commands.{is_report}
@@ -45,7 +45,7 @@ waiting-append a b =
 
 -- ---- what is told has no acts
 
-entry-acts : (m : Made) → command_acts (entry_of m) ≡ []
+entry-acts : (m : Made) → command_acts (command_told m) ≡ []
 entry-acts (Status p code) = refl
 entry-acts (Result p f) = refl
 entry-acts (Broken t) = refl
@@ -53,7 +53,7 @@ entry-acts (Broken t) = refl
 pub told-acts : (ms : List Made) → acts (told ms) ≡ []
 told-acts [] = refl
 told-acts (m ∷ ms) =
-    either (λ x. acts x ≡ []) (is_withheld m) (told-acts ms)
+    either (λ x. acts x ≡ []) (is_suppressed m) (told-acts ms)
     (ap (λ x. x ++ acts (told ms)) (entry-acts m) ∙ told-acts ms)
 
 pub header-acts : (h : Header) (code : ℕ) (nonce : List ℕ) → acts (header_answer h code nonce) ≡ []

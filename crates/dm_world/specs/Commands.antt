@@ -116,12 +116,12 @@ outline (block name) = block name
 outline (does s more) = does (record s { value = [] }) false
 
 -- none of a step comes later
-abbrev pub is_whole : Act → Bool
-is_whole (block name) = true
-is_whole (does s more) = not more
+abbrev pub is_whole_act : Act → Bool
+is_whole_act (block name) = true
+is_whole_act (does s more) = not more
 
 abbrev pub IsWholeDeed : Deed → Type 0
-IsWholeDeed d = AllByRecursion (λ a. is_whole a ≡ true) (doing_acts d.doing)
+IsWholeDeed d = AllByRecursion (λ a. is_whole_act a ≡ true) (doing_acts d.doing)
 
 abbrev pub outlines : Command → List Act
 outlines c = map outline (command_acts c)

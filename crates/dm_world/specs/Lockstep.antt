@@ -3,7 +3,7 @@ use Rattle.std.specs.Prelude.{◌≡◌, ◌⊎◌, ℕ, Bool, true, false, if�
 use Rattle.std.specs.Prelude.{slice_get}
 use Rattle.syncml_types.specs.Message.{Parts}
 use Rattle.dm_headers.specs.Checks.{Login, header_code}
-use Rattle.dm_ends.specs.Commands.{is_number}
+use Rattle.dm_ends.specs.Commands.{is_same_number}
 use Rattle.dm_machine.specs.Machine.{Machine}
 use Rattle.dm_machine.specs.Events as client
 use Rattle.dm_service.specs.Events as server
@@ -21,7 +21,7 @@ first_of (x ∷ xs) = Some x
 -- the newest message of this session
 abbrev pub newest_in : ℕ → List Parts → Option Parts
 newest_in n [] = None
-newest_in n (m ∷ ms) = if is_number (server.number_of m) n then Some m else newest_in n ms
+newest_in n (m ∷ ms) = if is_same_number (server.number_of m) n then Some m else newest_in n ms
 
 -- a message that the client takes is the newest that the server sent, and was sent for the client's newest
 abbrev pub TakesNewest : World → Type 0
@@ -69,12 +69,12 @@ TakesTurns = (c : Machine) (job : Job) (hs : List Happening) → IsWorldStart c 
 -- ---- understanding each other
 
 -- another version of the message or of the protocol, or a CmdID that stands twice
-abbrev pub IsFault : ℕ → Type 0
-IsFault code = (code ≡ 400) ⊎ (code ≡ 505) ⊎ (code ≡ 513)
+abbrev pub IsFaultCode : ℕ → Type 0
+IsFaultCode code = (code ≡ 400) ⊎ (code ≡ 505) ⊎ (code ≡ 513)
 
 -- whoever checks its header, and whether or not a credential was accepted
 abbrev pub IsUnderstood : Parts → Type 0
-IsUnderstood m = (accepted : Bool) (login : Login) → IsFault (header_code accepted login m) → ⊥
+IsUnderstood m = (accepted : Bool) (login : Login) → IsFaultCode (header_code accepted login m) → ⊥
 
 -- no message that an end ever sent has a fault for the other
 pub record RefusesNone (w : World) : Type 0 where

@@ -5,7 +5,7 @@ use Rattle.dm_tree.specs.Nodes.{IsStamp}
 use Rattle.syncml_codec.specs.Ranges.{CommandRange}
 use Rattle.dm_job.specs.declared.job.Job.{Job}
 use Rattle.dm_job.specs.declared.job.JobEntry.{JobEntry}
-use Rattle.dm_job.specs.Sound.{all_entries, IsSound}
+use Rattle.dm_job.specs.Sound.{all_entries, IsSoundJob}
 use Rattle.dm_job.specs.Texts.{job_of}
 use Rattle.dm_machine.specs.Machine.{Machine}
 use Rattle.dm_machine.specs.Laws.{IsUnused}
@@ -33,7 +33,7 @@ pub record IsWorldStart (c : Machine) (job : Job) : Type 0 where
   pub empty : c.queue ≡ []
   pub no_group : c.engine.group ≡ None
   pub ready : IsReadyMachine c
-  pub sound : IsSound job
+  pub sound : IsSoundJob job
   pub numbers : AreInRange job
 
 -- the nonce of a challenge has sixteen bytes

@@ -7,7 +7,7 @@ use Rattle.dm_tree.specs.declared.nodes.Stamp.{Stamp}
 use Rattle.dm_headers.specs.declared.checks.Side.TheVariants.{Server}
 use Rattle.dm_headers.specs.Standings.{Heard, hears}
 use Rattle.dm_atomic.specs.Made.{Made}
-use Rattle.dm_machine.specs.declared.kinds.Kind.{Kind}
+use Rattle.dm_machine.specs.declared.kinds.Initiator.{Initiator}
 use Rattle.dm_machine.specs.declared.kinds.End.TheVariants.{Denied}
 use Rattle.dm_machine.specs.declared.progress.Progress.{Progress}
 use Rattle.dm_machine.specs.Machine.{Machine, Session}
@@ -44,7 +44,7 @@ pub record World : Type 0 where
 -- What may happen next. A message is named by its place in what was sent, and the nonce is that of a challenge. One
 -- that never comes is no happening; a loss is noticed, and changes nothing.
 pub data Happening : Type 0 where
-  opens : ℕ → Kind → ℕ → Happening
+  opens : ℕ → Initiator → ℕ → Happening
   up_comes : ℕ → List ℕ → Happening
   down_comes : ℕ → List ℕ → Happening
   update_ends : Bool → Happening
@@ -69,18 +69,18 @@ replied a m = option_map (λ (sent : Parts). record { message = sent; answers = 
 
 -- ---- what the client executes of a message that it takes, and what it makes for it
 
-abbrev pub in_session : {A : Type 0} → ℕ → List A → List (InSession A)
-in_session number xs = map (λ x. record { session = number; what = x }) xs
+abbrev pub each_in_session : {A : Type 0} → ℕ → List A → List (InSession A)
+each_in_session number xs = map (λ x. record { session = number; what = x }) xs
 
 abbrev pub heard_by : Machine → Progress → Parts → List ℕ → Heard
 heard_by c p m nonce = hears Server (account_at c p.account) p.standing m nonce
 
 abbrev pub deeds_in : Machine → Progress → Parts → List ℕ → List (InSession Deed)
 deeds_in c p m nonce =
-    if is_executed p m (heard_by c p m nonce) then in_session p.number (all_deeds (origin_of m) m.body) else []
+    if is_executed p m (heard_by c p m nonce) then each_in_session p.number (all_deeds (origin_of m) m.body) else []
 
 abbrev pub made_in : Machine → Progress → Parts → List ℕ → List (InSession Made)
-made_in c p m nonce = in_session p.number (executed c p m (heard_by c p m nonce)).made
+made_in c p m nonce = each_in_session p.number (executed c p m (heard_by c p m nonce)).made
 
 abbrev pub deeds_by : Machine → Option Session → Parts → List ℕ → List (InSession Deed)
 deeds_by c None m nonce = []

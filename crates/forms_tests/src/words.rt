@@ -1,5 +1,5 @@
 // Lists of words, and the form that each has.
-use dm_machine::Kind;
+use dm_machine::Initiator;
 use dm_words::{DeviceWords, Form, ServeWords, read_form};
 use std::alloc::Global;
 use std::test::Fail;
@@ -8,7 +8,7 @@ use std::test::Fail;
 #[derive(Clone, Copy, PartialEq, Eq)]
 enum Asked {
     Replay,
-    Device(&'static str, &'static str, Kind, u32, &'static str),
+    Device(&'static str, &'static str, Initiator, u32, &'static str),
     Serve(&'static str, u32),
     Pair,
     Show,
@@ -101,12 +101,12 @@ const ROWS: [(&[&str], Option<Asked>); 83] = [
     (&["bench", "7", "10", ""], None),
     (&["bench", "7", "10", " 1"], None),
     (&["show", "7", "10", "1"], None),
-    (&["device", "h:80", "s1", "client", "1", "/dm"], Some(Asked::Device("h:80", "s1", Kind::ByClient, 1, "/dm"))),
+    (&["device", "h:80", "s1", "client", "1", "/dm"], Some(Asked::Device("h:80", "s1", Initiator::ByClient, 1, "/dm"))),
     (
         &["device", "h", "s", "server", "4294967294", "/"],
-        Some(Asked::Device("h", "s", Kind::ByServer, 4_294_967_294, "/")),
+        Some(Asked::Device("h", "s", Initiator::ByServer, 4_294_967_294, "/")),
     ),
-    (&["device", LONG, "~!", "server", "7", "/a?b=c"], Some(Asked::Device(LONG, "~!", Kind::ByServer, 7, "/a?b=c"))),
+    (&["device", LONG, "~!", "server", "7", "/a?b=c"], Some(Asked::Device(LONG, "~!", Initiator::ByServer, 7, "/a?b=c"))),
     (&["device"], None),
     (&["device", "h", "s", "client", "1"], None),
     (&["device", "h", "s", "client", "1", "/", ""], None),

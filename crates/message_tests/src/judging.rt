@@ -4,7 +4,7 @@ use crate::pieces::{HEAD, REST};
 use dm_base::{Bytes, Memory};
 use std::alloc::Global;
 use std::test::Fail;
-use syncml_grammar::{Verdict, judge};
+use syncml_grammar::{MessageVerdict, judge};
 use wbxml_tables::Element::{
     self, EAtomic, ECmdID, EGet, EItem, ELocURI, EMap, ESequence, ETarget,
 };
@@ -55,11 +55,11 @@ enum Judged {
     Refused(usize, Reason),
 }
 
-fn judged_of(verdict: &Verdict) -> Judged {
+fn judged_of(verdict: &MessageVerdict) -> Judged {
     match verdict {
-        Verdict::Message(_) => Judged::Whole,
-        Verdict::Unfinished => Judged::Unfinished,
-        Verdict::Refused { at, reason } => Judged::Refused(*at, *reason),
+        MessageVerdict::Message(_) => Judged::Whole,
+        MessageVerdict::Unfinished => Judged::Unfinished,
+        MessageVerdict::Refused { at, reason } => Judged::Refused(*at, *reason),
     }
 }
 

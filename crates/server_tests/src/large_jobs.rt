@@ -1,7 +1,7 @@
 // A job of 60,000 Gets, in time.
 use crate::servers::server_of;
 use dm_base::{Bytes, Memory, Nonce};
-use dm_server::{Answer, Server};
+use dm_server::{Server, ServerAnswer};
 use itoa::Buffer;
 use std::alloc::Global;
 use std::test::Fail;
@@ -54,7 +54,7 @@ fn message(alloc: Global, msg: u64, parts: [&[u8]; 3]) -> Result<Bytes, Memory> 
 fn tell(alloc: Global, server: &mut Server, msg: u64, parts: [&[u8]; 3]) -> Result<bool, Memory> {
     let bytes = message(alloc, msg, parts)?;
     let answer = server.deliver(bytes.as_slice(), Nonce { bytes: [0; 16] })?;
-    Ok(answer == Answer::Sent)
+    Ok(answer == ServerAnswer::Sent)
 }
 
 // How often three bytes stand in the message sent last.

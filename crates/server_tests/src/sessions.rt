@@ -6,11 +6,11 @@ use crate::rows::{Delivery, Parts, Row};
 use crate::servers::server_of;
 use crate::value_rows::VALUES;
 use dm_base::{Bytes, Memory, Nonce};
-use dm_server::{Answer, Server};
+use dm_server::{Server, ServerAnswer};
 use std::alloc::Global;
 use std::test::Fail;
 
-fn deliver(server: &mut Server, bytes: &[u8], nonce: Nonce) -> Result<Answer, Memory> {
+fn deliver(server: &mut Server, bytes: &[u8], nonce: Nonce) -> Result<ServerAnswer, Memory> {
     match server.deliver(bytes, nonce) {
         Err(Memory) => server.deliver(bytes, nonce),
         answer => answer,

@@ -3,7 +3,7 @@ ghost use Rattle.std.specs.Prelude.{◌≡◌, ◌<◌, length};
 
 use crate::rows::Call;
 use dm_base::{Memory, Nonce};
-use dm_machine::Kind;
+use dm_machine::Initiator;
 use dm_session::{Acted, Answer, BeginError, Client};
 
 #[tactic(auto, using(dm_machine::proofs::Accounts::accounts_stay))]
@@ -11,7 +11,7 @@ fn begin(client: &mut Client, session: u32) -> Result<(), BeginError>
     requires { 0 < length client.old.machine.accounts }
     ensures { length client.new.machine.accounts ≡ length client.old.machine.accounts }
 {
-    client.begin(0, Kind::ByClient, session)?;
+    client.begin(0, Initiator::ByClient, session)?;
     Ok(())
 }
 

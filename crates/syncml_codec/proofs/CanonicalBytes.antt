@@ -6,7 +6,7 @@ use Rattle.wbxml_tokens.specs.declared.token.Token.TheVariants.{End}
 use Rattle.wbxml_tokens.specs.declared.extent.Extent.{Extent}
 use Rattle.wbxml_tokens.specs.declared.extent.Extent.TheVariants as extents
 use Rattle.wbxml_tokens.specs.Reading.{most_bytes, extent_after, is_whole}
-use Rattle.wbxml_tokens.specs.Spelling.{Written, written_after, given, prologue}
+use Rattle.wbxml_tokens.specs.Spelling.{WrittenSoFar, written_after, given, prologue}
 use Rattle.wbxml_tokens.specs.Whole.{extent_behind}
 use Rattle.wbxml_tokens.specs.Written.{at_prologue, CanBeSpelled, AreInElement, IsWrittenOf}
 use Rattle.wbxml_tokens.proofs.Elements.{element_is_whole}
@@ -57,7 +57,7 @@ pub canonical_spells : (parts : Parts) → IsFit parts.header parts.body → Are
 unfolding canonical
 canonical_spells parts fit numbers short =
     let ts : List Token = message_tokens parts in
-    let w : Written = given written_after at_prologue ts in
+    let w : WrittenSoFar = given written_after at_prologue ts in
     let message = canonical_is_spelled parts fit numbers in
     let inside = in_element extents.Before ts ((element_is_whole ts).0 (element_of_parts ts parts message)).1 in
     let s : IsWrittenOf ts w = written_is_spelled ts (canonical_can_be_spelled parts fit numbers) inside in
@@ -68,7 +68,7 @@ canonical_spells parts fit numbers short =
       placed = s.placed;
       page = w.page;
       extent = extent_behind extents.Before ts;
-      whole = sym (ap (λ (v : Written). v.bytes) (given_bytes at_prologue ts)) ∙ s.whole;
+      whole = sym (ap (λ (v : WrittenSoFar). v.bytes) (given_bytes at_prologue ts)) ∙ s.whole;
       within = short;
       is_prologue = s.is_prologue;
       spells = s.spells;

@@ -14,9 +14,9 @@ use Rattle.syncml_shape.specs.declared.rows.Kind.{Kind}
 use Rattle.syncml_shape.specs.declared.rows.Kind.TheVariants as kinds
 use Rattle.syncml_shape.specs.declared.rows.Choice.{Choice}
 use Rattle.syncml_shape.specs.declared.rows.Choice.TheVariants.{Commands, AtomicMembers, SequenceMembers}
-use Rattle.syncml_shape.specs.declared.rows.Row.{Row}
+use Rattle.syncml_shape.specs.declared.rows.ChildRow.{ChildRow}
 use Rattle.syncml_shape.specs.declared.rows.TheConstants as table
-use Rattle.syncml_shape.specs.Rows.{kind_in, Content, in_order, start, in_row, next_row, after_row, next}
+use Rattle.syncml_shape.specs.Rows.{kind_in, Content, in_order, start, in_row, next_row, after_row, next_child}
 use Rattle.syncml_shape.proofs.Accepts.{and_true}
 use Rattle.syncml_types.specs.declared.values.Meta.{Meta}
 use Rattle.syncml_types.specs.declared.values.Item.{Item}
@@ -49,8 +49,8 @@ use Rattle.syncml_types.specs.Fitness.{seq_member_correlates, command_correlates
 use Rattle.syncml_grammar.specs.declared.leaf.Simple.TheVariants as simples
 use Rattle.syncml_grammar.specs.declared.draft.Draft.TheVariants as drafts
 use Rattle.syncml_grammar.specs.Drafts.{no_plain}
-use Rattle.syncml_grammar.specs.Values.{Value, of_draft, simple, node, fresh, with_child}
-use Rattle.syncml_codec.specs.Ranges.{IsShort, ItemRange, PlainRange, AlertRange, MemberRange, AtomicRange}
+use Rattle.syncml_grammar.specs.Values.{Value, of_draft, simple, node, fresh_value, with_child}
+use Rattle.syncml_codec.specs.Ranges.{IsShortNumber, ItemRange, PlainRange, AlertRange, MemberRange, AtomicRange}
 use Rattle.syncml_codec.specs.Ranges.{SeqMemberRange, StatusRange, ResultsRange, CommandRange}
 use Rattle.syncml_codec.proofs.CanonicalForests.{Puts, ◌behind◌, puts_none, puts_full, puts_then, row, next_here, skips}
 use Rattle.syncml_codec.proofs.CanonicalForests.{ends, puts_optional, puts_flag, PutsOne, puts_filled, puts_list}
@@ -107,7 +107,7 @@ items_any value same items good =
     (each_so GoodItem _ items (item_one false value same) good)
     (ends (row EItem kinds.Item false true) false refl) (ends (row EItem kinds.Item false true) true refl)
 
-texts_any : (e : Element) (rows : List Row) (value : List (List ℕ) → Value) → next_row false rows e ≡ None
+texts_any : (e : Element) (rows : List ChildRow) (value : List (List ℕ) → Value) → next_row false rows e ≡ None
     → ((before : List (List ℕ)) (t : List ℕ)
     → with_child (value before) e (simple (simples.Text t)) ≡ value (before ++ t ∷ []))
     → (texts : List (List ℕ)) → list_all is_text texts ≡ true
@@ -156,7 +156,7 @@ plain_children c =
 
 -- with one item or more, and no correlator
 plain_puts : (v : Verb) (id : ℕ) (no_resp : Bool) (meta : Option Meta) (items : List Item) → is_number id ≡ true
-    → IsShort id → IfSome meta GoodMeta
+    → IsShortNumber id → IfSome meta GoodMeta
     → is_filled items ≡ true → AllByRecursion GoodItem items
     → Puts (in_order false table.PLAIN) (of_draft (drafts.Plain (no_plain v)))
     (number_tokens ECmdID id ++ flag_tokens ENoResp no_resp ++ optional meta_tokens meta ++ [] ++ items_tokens items)
@@ -170,7 +170,7 @@ plain_puts v id no_resp meta items number low good some all =
 
 -- with a correlator or none, and one item
 exec_puts : (v : Verb) (id : ℕ) (no_resp : Bool) (meta : Option Meta) (correlator : Option (List ℕ)) (item : Item)
-    → is_number id ≡ true → IsShort id → IfSome meta GoodMeta
+    → is_number id ≡ true → IsShortNumber id → IfSome meta GoodMeta
     → all_of is_text correlator ≡ true → GoodItem item
     → Puts (in_order false table.EXEC) (of_draft (drafts.Plain (no_plain v)))
     (number_tokens ECmdID id ++ flag_tokens ENoResp no_resp ++ optional meta_tokens meta
@@ -247,12 +247,12 @@ exec_start : (v : Verb) → is_exec v ≡ true → start (verb_kind v) ≡ in_or
 exec_start verb.Exec exec_ = refl
 exec_start _ exec_ = cc
 
-verb_fresh : (v : Verb) → fresh (verb_kind v) (verb_element v) ≡ of_draft (drafts.Plain (no_plain v))
+verb_fresh : (v : Verb) → fresh_value (verb_kind v) (verb_element v) ≡ of_draft (drafts.Plain (no_plain v))
 verb_fresh verb.Add = refl
 verb_fresh _ = refl
 
 plain_inner : (c : Plain) → GoodPlain c
-    → Puts (start (verb_kind c.verb)) (fresh (verb_kind c.verb) (verb_element c.verb)) (plain_children c)
+    → Puts (start (verb_kind c.verb)) (fresh_value (verb_kind c.verb) (verb_element c.verb)) (plain_children c)
     (in_order false []) (of_draft (drafts.Plain c))
 plain_inner c good =
     subst (λ v. Puts (start (verb_kind c.verb)) v (plain_children c) (in_order false []) (of_draft (drafts.Plain c)))
@@ -269,7 +269,7 @@ plain_inner c good =
           (of_draft (drafts.Plain c))) (sym (plain_start c.verb is)) (plain_other c is good)
     ]) refl)
 
-plain_element : {c d : Content} {v : Value} (p : Plain) → next c (verb_element p.verb) ≡ Some (verb_kind p.verb, d)
+plain_element : {c d : Content} {v : Value} (p : Plain) → next_child c (verb_element p.verb) ≡ Some (verb_kind p.verb, d)
     → GoodPlain p
     → Puts c v (plain_tokens p) d (with_child v (verb_element p.verb) (node (drafts.Plain p)))
 unfolding plain_tokens
@@ -289,12 +289,12 @@ abbrev alert_held : ℕ → Bool → ℕ → Option (List ℕ) → List Item →
 alert_held id no_resp code correlator items =
     of_draft (drafts.Alert (record { id = id; no_resp = no_resp; code = code; correlator = correlator; items = items }))
 
-alert_element : {c d : Content} {v : Value} (a : AlertCmd) → next c EAlert ≡ Some (kinds.Alert, d) → GoodAlert a
+alert_element : {c d : Content} {v : Value} (a : AlertCmd) → next_child c EAlert ≡ Some (kinds.Alert, d) → GoodAlert a
     → Puts c v (alert_tokens a) d (with_child v EAlert (node (drafts.Alert a)))
 unfolding alert_tokens alert_texts
 alert_element a n good =
     let both = and_true _ _ good.texts in
-    let inner : Puts (start kinds.Alert) (fresh kinds.Alert EAlert)
+    let inner : Puts (start kinds.Alert) (fresh_value kinds.Alert EAlert)
     (number_tokens ECmdID a.id ++ flag_tokens ENoResp a.no_resp ++ number_tokens EData a.code
     ++ optional (text_tokens ECorrelator) a.correlator ++ items_tokens a.items)
     (in_order false []) (of_draft (drafts.Alert a)) =
@@ -310,12 +310,12 @@ alert_element a n good =
 -- ---- containers
 
 -- a row of many elements
-abbrev pub many_row : Choice → Bool → Row
+abbrev pub many_row : Choice → Bool → ChildRow
 many_row choice required = record { choice = choice; required = required; many = true }
 
-pub next_among : (choice : Choice) (e : Element) (k : Kind) (r came : Bool) (rows : List Row)
+pub next_among : (choice : Choice) (e : Element) (k : Kind) (r came : Bool) (rows : List ChildRow)
     → kind_in choice e ≡ Some k
-    → next (in_order came (many_row choice r ∷ rows)) e ≡ Some (k, in_order true (many_row choice r ∷ rows))
+    → next_child (in_order came (many_row choice r ∷ rows)) e ≡ Some (k, in_order true (many_row choice r ∷ rows))
 next_among choice e k r came rows h =
     ap (λ (o : Option Kind). after_row (in_row o came (many_row choice r) rows (next_row false rows e))) h
     ∙ ap (λ (b : Bool). after_row (if b then None else Some (k, many_row choice r ∷ rows))) (again came)
@@ -350,7 +350,7 @@ good_member (member.Alert c) t d n f k r = record { texts = t; data_short = d; n
 -- what is known of an Atomic
 pub record GoodAtomic (b : Block Member) : Type 0 where
   pub number : is_number b.id ≡ true
-  pub low : IsShort b.id
+  pub low : IsShortNumber b.id
   pub meta : IfSome b.meta GoodMeta
   pub filled : is_filled b.members ≡ true
   pub members : AllByRecursion GoodMember b.members
@@ -400,11 +400,11 @@ member_one id no_resp meta (member.One c) good came before =
 member_one id no_resp meta (member.Alert c) good came before =
     alert_element c (next_among AtomicMembers EAlert kinds.Alert true came [] refl) good
 
-atomic_element : {c d : Content} {v : Value} (b : Block Member) → next c EAtomic ≡ Some (kinds.Atomic, d) → GoodAtomic b
+atomic_element : {c d : Content} {v : Value} (b : Block Member) → next_child c EAtomic ≡ Some (kinds.Atomic, d) → GoodAtomic b
     → Puts c v (atomic_tokens b) d (with_child v EAtomic (node (drafts.Atomic b)))
 unfolding atomic_tokens members_tokens
 atomic_element b n good =
-    let inner : Puts (start kinds.Atomic) (fresh kinds.Atomic EAtomic)
+    let inner : Puts (start kinds.Atomic) (fresh_value kinds.Atomic EAtomic)
     (number_tokens ECmdID b.id ++ flag_tokens ENoResp b.no_resp ++ optional meta_tokens b.meta
     ++ members_tokens b.members)
     (in_order false []) (of_draft (drafts.Atomic b)) =
@@ -431,7 +431,7 @@ good_seq_member (seq_member.Atomic b) t d n f k r = good_atomic b t d n f k r
 -- what is known of a Sequence
 pub record GoodSequence (b : Block SeqMember) : Type 0 where
   pub number : is_number b.id ≡ true
-  pub low : IsShort b.id
+  pub low : IsShortNumber b.id
   pub meta : IfSome b.meta GoodMeta
   pub filled : is_filled b.members ≡ true
   pub members : AllByRecursion GoodSeqMember b.members
@@ -451,12 +451,12 @@ seq_member_one id no_resp meta (seq_member.Single (member.Alert c)) good came be
 seq_member_one id no_resp meta (seq_member.Atomic b) good came before =
     atomic_element b (next_among SequenceMembers EAtomic kinds.Atomic true came [] refl) good
 
-sequence_element : {c d : Content} {v : Value} (b : Block SeqMember) → next c ESequence ≡ Some (kinds.Sequence, d)
+sequence_element : {c d : Content} {v : Value} (b : Block SeqMember) → next_child c ESequence ≡ Some (kinds.Sequence, d)
     → GoodSequence b
     → Puts c v (sequence_tokens b) d (with_child v ESequence (node (drafts.Sequence b)))
 unfolding sequence_tokens seq_members_tokens
 sequence_element b n good =
-    let inner : Puts (start kinds.Sequence) (fresh kinds.Sequence ESequence)
+    let inner : Puts (start kinds.Sequence) (fresh_value kinds.Sequence ESequence)
     (number_tokens ECmdID b.id ++ flag_tokens ENoResp b.no_resp ++ optional meta_tokens b.meta
     ++ seq_members_tokens b.members)
     (in_order false []) (of_draft (drafts.Sequence b)) =
@@ -493,7 +493,7 @@ status_held id msg_ref cmd_ref cmd targets sources chal code items = of_draft (d
   items = items;
 }))
 
-chal_option : (rows : List Row) (value : Option Meta → Value) (o : Option Meta) → next_row false rows EChal ≡ None
+chal_option : (rows : List ChildRow) (value : Option Meta → Value) (o : Option Meta) → next_row false rows EChal ≡ None
     → IfSome o GoodMeta
     → ((m : Meta) → with_child (value None) EChal (node (drafts.Chal m)) ≡ value (Some m))
     → Puts (in_order false (row EChal kinds.Chal false false ∷ rows)) (value None) (optional chal_tokens o)
@@ -506,7 +506,7 @@ chal_option rows value o none good same =
     (puts_then (chal_element m (next_here EChal kinds.Chal false false false rows refl) is)
     (skips EChal kinds.Chal false false true rows none refl)))
 
-status_element : {c d : Content} {v : Value} (s : StatusCmd) → next c EStatus ≡ Some (kinds.Status, d) → GoodStatus s
+status_element : {c d : Content} {v : Value} (s : StatusCmd) → next_child c EStatus ≡ Some (kinds.Status, d) → GoodStatus s
     → Puts c v (status_tokens s) d (with_child v EStatus (node (drafts.Status s)))
 unfolding status_tokens status_texts
 status_element s n good =
@@ -514,7 +514,7 @@ status_element s n good =
     let three = and_true _ _ four.0 in
     let two = and_true _ _ three.0 in
     let one = and_true _ _ two.0 in
-    let inner : Puts (start kinds.Status) (fresh kinds.Status EStatus)
+    let inner : Puts (start kinds.Status) (fresh_value kinds.Status EStatus)
     (number_tokens ECmdID s.id ++ number_tokens EMsgRef s.msg_ref ++ number_tokens ECmdRef s.cmd_ref
     ++ text_tokens ECmd s.cmd ++ texts_tokens ETargetRef s.target_refs
     ++ texts_tokens ESourceRef s.source_refs ++ optional chal_tokens s.chal ++ number_tokens EData s.code
@@ -558,25 +558,25 @@ results_held id msg_ref cmd_ref meta target source items = of_draft (drafts.Resu
   items = items;
 }))
 
-id_known : (o : Option ℕ) → all_of is_number o ≡ true → IfSome o IsShort
-    → IfSome o (λ n. (is_number n ≡ true) × IsShort n)
+id_known : (o : Option ℕ) → all_of is_number o ≡ true → IfSome o IsShortNumber
+    → IfSome o (λ n. (is_number n ≡ true) × IsShortNumber n)
 id_known None h r = tt
 id_known (Some n) h r = (h, r)
 
-id_option : (e : Element) (rows : List Row) (value : Option ℕ → Value) (o : Option ℕ) → next_row false rows e ≡ None
-    → all_of is_number o ≡ true → IfSome o IsShort
+id_option : (e : Element) (rows : List ChildRow) (value : Option ℕ → Value) (o : Option ℕ) → next_row false rows e ≡ None
+    → all_of is_number o ≡ true → IfSome o IsShortNumber
     → ((n : ℕ) → with_child (value None) e (simple (simples.Short n)) ≡ value (Some n))
     → Puts (in_order false (row e kinds.Id false false ∷ rows)) (value None) (optional (number_tokens e) o)
     (in_order false rows) (value o)
 id_option e rows value o none h low same =
-    puts_optional (λ n. (is_number n ≡ true) × IsShort n) (number_tokens e) value o (id_known o h low)
+    puts_optional (λ n. (is_number n ≡ true) × IsShortNumber n) (number_tokens e) value o (id_known o h low)
     (skips e kinds.Id false false false rows none refl)
     (λ n is.
     subst (λ w. Puts (in_order false (row e kinds.Id false false ∷ rows)) (value None) (number_tokens e n)
     (in_order false rows) w) (same n)
     (id_row e false false rows n none is.0 is.1))
 
-results_element : {c d : Content} {v : Value} (s : ResultsCmd) → next c EResults ≡ Some (kinds.Results, d)
+results_element : {c d : Content} {v : Value} (s : ResultsCmd) → next_child c EResults ≡ Some (kinds.Results, d)
     → GoodResults s
     → Puts c v (results_tokens s) d (with_child v EResults (node (drafts.Results s)))
 unfolding results_tokens results_texts
@@ -584,7 +584,7 @@ results_element s n good =
     let three = and_true _ _ good.texts in
     let two = and_true _ _ three.0 in
     let one = and_true _ _ two.0 in
-    let inner : Puts (start kinds.Results) (fresh kinds.Results EResults)
+    let inner : Puts (start kinds.Results) (fresh_value kinds.Results EResults)
     (number_tokens ECmdID s.id ++ optional (number_tokens EMsgRef) s.msg_ref ++ number_tokens ECmdRef s.cmd_ref
     ++ optional meta_tokens s.meta
     ++ optional (text_tokens ETargetRef) s.target_ref ++ optional (text_tokens ESourceRef) s.source_ref
@@ -656,7 +656,7 @@ good_commands cs =
 abbrev pub body_held : List Command → Bool → Value
 body_held commands last = of_draft (drafts.Body (record { commands = commands; last = last }))
 
-pub command_one : (rows : List Row) (c : Command) → GoodCommand c
+pub command_one : (rows : List ChildRow) (c : Command) → GoodCommand c
     → PutsOne (many_row Commands false ∷ rows) (λ cs. body_held cs false) command_tokens c
 unfolding command_tokens
 command_one rows (command.Plain c) good came before =

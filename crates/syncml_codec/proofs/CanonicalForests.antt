@@ -16,10 +16,10 @@ use Rattle.wbxml_tokens.specs.Written.{CanBeSpelled}
 use Rattle.syncml_shape.specs.declared.rows.Kind.{Kind}
 use Rattle.syncml_shape.specs.declared.rows.Kind.TheVariants as kinds
 use Rattle.syncml_shape.specs.declared.rows.Choice.TheVariants.{One}
-use Rattle.syncml_shape.specs.declared.rows.Row.{Row}
+use Rattle.syncml_shape.specs.declared.rows.ChildRow.{ChildRow}
 use Rattle.syncml_shape.specs.Forest.{Forest, nothing, text, opaque, bare, full, spelling}
 use Rattle.syncml_shape.specs.Rows.{same, Content, in_order, in_any_order, none_came, start, in_row, next_row}
-use Rattle.syncml_shape.specs.Rows.{after_row, next, all_optional, is_complete, takes_text}
+use Rattle.syncml_shape.specs.Rows.{after_row, next_child, all_optional, is_complete, takes_text}
 use Rattle.syncml_shape.specs.Shape.{fits}
 use Rattle.syncml_shape.proofs.Accepts.{and_true}
 use Rattle.syncml_shape.proofs.Completes.{and_both}
@@ -27,7 +27,7 @@ use Rattle.syncml_shape.proofs.Names.{same_only}
 use Rattle.syncml_types.specs.Canonical.{parent_tokens, element_tokens, flag_tokens, optional}
 use Rattle.syncml_types.specs.Fitness.{all_of, is_filled}
 use Rattle.syncml_grammar.specs.declared.leaf.Simple.TheVariants as simples
-use Rattle.syncml_grammar.specs.Values.{Value, Whole, simple, fresh, with_text, closed, with_child}
+use Rattle.syncml_grammar.specs.Values.{Value, EndedElement, simple, fresh_value, with_text, closed_value, with_child}
 use Rattle.syncml_grammar.specs.Reads.{Unread, ◌then◌, at_place, read}
 
 -- ---- trees before a rest
@@ -72,9 +72,9 @@ pub ◌behind◌ : {c d f : Content} {v w x : Value} {ts us : List Token} → Pu
 
 -- ---- elements
 
-pub puts_bare : {c d : Content} {v : Value} (e : Element) (k : Kind) (whole : Whole) → next c e ≡ Some (k, d)
+pub puts_bare : {c d : Content} {v : Value} (e : Element) (k : Kind) (whole : EndedElement) → next_child c e ≡ Some (k, d)
     → IsTrue (is_complete (start k))
-    → closed k (fresh k e) ≡ Ok whole → Puts c v (Tag e false ∷ []) d (with_child v e whole)
+    → closed_value k (fresh_value k e) ≡ Ok whole → Puts c v (Tag e false ∷ []) d (with_child v e whole)
 puts_bare {c} {d} {v} e k whole n done is = record {
   front = λ rest. bare e rest;
   place = λ at. at + 1;
@@ -87,14 +87,14 @@ puts_bare {c} {d} {v} e k whole n done is = record {
   reads = λ at rest h.
       ap (λ (o : Option (Kind × Content)). elim o as (λ _. Result (Value × ℕ) Unread) [
         | None ↦ Err (record { at = at; reason = Misplaced })
-        | Some x ↦ at_place at (closed x.0 (fresh x.0 e)) then (λ child. read (at + 1) (with_child v e child) x.1 rest)
+        | Some x ↦ at_place at (closed_value x.0 (fresh_value x.0 e)) then (λ child. read (at + 1) (with_child v e child) x.1 rest)
       ]) n
       ∙ ap (λ r. at_place at r then (λ child. read (at + 1) (with_child v e child) d rest)) is;
 }
 
-pub puts_full : {c d f : Content} {v w : Value} {ts : List Token} (e : Element) (k : Kind) (whole : Whole)
-    → next c e ≡ Some (k, d)
-    → Puts (start k) (fresh k e) ts f w → IsTrue (is_complete f) → closed k w ≡ Ok whole
+pub puts_full : {c d f : Content} {v w : Value} {ts : List Token} (e : Element) (k : Kind) (whole : EndedElement)
+    → next_child c e ≡ Some (k, d)
+    → Puts (start k) (fresh_value k e) ts f w → IsTrue (is_complete f) → closed_value k w ≡ Ok whole
     → Puts c v (parent_tokens e ts) d (with_child v e whole)
 puts_full {c} {d} {f} {v} {w} {ts} e k whole n inner done is = record {
   front = λ rest. full e (inner.front nothing) rest;
@@ -110,10 +110,10 @@ puts_full {c} {d} {f} {v} {w} {ts} e k whole n inner done is = record {
   reads = λ at rest h.
       ap (λ (o : Option (Kind × Content)). elim o as (λ _. Result (Value × ℕ) Unread) [
         | None ↦ Err (record { at = at; reason = Misplaced })
-        | Some x ↦ read (at + 1) (fresh x.0 e) (start x.0) (inner.front nothing) then
-            (λ p. at_place p.1 (closed x.0 p.0) then (λ child. read (p.1 + 1) (with_child v e child) x.1 rest))
+        | Some x ↦ read (at + 1) (fresh_value x.0 e) (start x.0) (inner.front nothing) then
+            (λ p. at_place p.1 (closed_value x.0 p.0) then (λ child. read (p.1 + 1) (with_child v e child) x.1 rest))
       ]) n
-      ∙ ap (λ r. r then (λ p. at_place p.1 (closed k p.0) then (λ child. read (p.1 + 1) (with_child v e child) d rest)))
+      ∙ ap (λ r. r then (λ p. at_place p.1 (closed_value k p.0) then (λ child. read (p.1 + 1) (with_child v e child) d rest)))
       (inner.reads (at + 1) nothing done)
       ∙ ap (λ r. at_place (inner.place (at + 1)) r
       then (λ child. read (inner.place (at + 1) + 1) (with_child v e child) d rest)) is;
@@ -131,16 +131,16 @@ same_read a b m n h =
     let pair : ◌≡◌ {A = Value × ℕ} (a, m) (b, n) = cc in ap (λ (p : Value × ℕ). p.0) pair
 
 -- an element that is its tag alone where it has no children
-pub puts_element : {c d f : Content} {v w : Value} {ts : List Token} (e : Element) (k : Kind) (whole : Whole)
-    → next c e ≡ Some (k, d)
-    → Puts (start k) (fresh k e) ts f w → IsTrue (is_complete f) → closed k w ≡ Ok whole
+pub puts_element : {c d f : Content} {v w : Value} {ts : List Token} (e : Element) (k : Kind) (whole : EndedElement)
+    → next_child c e ≡ Some (k, d)
+    → Puts (start k) (fresh_value k e) ts f w → IsTrue (is_complete f) → closed_value k w ≡ Ok whole
     → Puts c v (element_tokens e ts) d (with_child v e whole)
 puts_element {f = f} {w = w} {ts = []} e k whole n inner done is =
     let none : inner.front nothing ≡ nothing = no_tree (inner.front nothing) (inner.spells nothing) in
-    let same : fresh k e ≡ w = same_read (fresh k e) w 0 (inner.place 0)
-    (ap (λ tree. read 0 (fresh k e) (start k) tree) (sym none) ∙ inner.reads 0 nothing done) in
+    let same : fresh_value k e ≡ w = same_read (fresh_value k e) w 0 (inner.place 0)
+    (ap (λ tree. read 0 (fresh_value k e) (start k) tree) (sym none) ∙ inner.reads 0 nothing done) in
     puts_bare e k whole n (subst (λ tree. IsTrue (fits (start k) tree)) none (inner.fit nothing done))
-    (ap (closed k) same ∙ is)
+    (ap (closed_value k) same ∙ is)
 puts_element {ts = t ∷ ts} e k whole n inner done is = puts_full e k whole n inner done is
 
 pub puts_text : {c : Content} {v : Value} (bytes : List ℕ) → HasNoZero bytes → IsTrue (takes_text c)
@@ -169,7 +169,7 @@ puts_opaque {c} {v} bytes short takes = record {
 
 -- whatever may come next in the second may come in the first, with the same behind it
 pub record Covers (c d : Content) : Type 0 where
-  pub next : (e : Element) (x : Kind × Content) → next d e ≡ Some x → next c e ≡ Some x
+  pub next : (e : Element) (x : Kind × Content) → next_child d e ≡ Some x → next_child c e ≡ Some x
   pub complete : IsTrue (is_complete d) → IsTrue (is_complete c)
   pub no_text : takes_text d ≡ false
 
@@ -180,23 +180,23 @@ never : {P : Type 0} → false ≡ true → P
 never h = cc
 
 came_bare : (d : Content) (e : Element) (rest : Forest) → IsTrue (fits d (bare e rest))
-    → (x : Kind × Content) × (next d e ≡ Some x) × IsTrue (is_complete (start x.0) && fits x.1 rest)
+    → (x : Kind × Content) × (next_child d e ≡ Some x) × IsTrue (is_complete (start x.0) && fits x.1 rest)
 came_bare d e rest h =
-    (elim (next d e)
-    as (λ (o : Option (Kind × Content)). next d e ≡ o
+    (elim (next_child d e)
+    as (λ (o : Option (Kind × Content)). next_child d e ≡ o
     → IsTrue (elim o as (λ _. Bool) [ None ↦ false | Some x ↦ is_complete (start x.0) && fits x.1 rest ])
-    → (x : Kind × Content) × (next d e ≡ Some x) × IsTrue (is_complete (start x.0) && fits x.1 rest)) [
+    → (x : Kind × Content) × (next_child d e ≡ Some x) × IsTrue (is_complete (start x.0) && fits x.1 rest)) [
       | None ↦ λ is g. never g
       | Some x ↦ λ is g. (x, is, g)
     ]) refl h
 
 came_full : (d : Content) (e : Element) (i rest : Forest) → IsTrue (fits d (full e i rest))
-    → (x : Kind × Content) × (next d e ≡ Some x) × IsTrue (fits (start x.0) i && fits x.1 rest)
+    → (x : Kind × Content) × (next_child d e ≡ Some x) × IsTrue (fits (start x.0) i && fits x.1 rest)
 came_full d e i rest h =
-    (elim (next d e)
-    as (λ (o : Option (Kind × Content)). next d e ≡ o
+    (elim (next_child d e)
+    as (λ (o : Option (Kind × Content)). next_child d e ≡ o
     → IsTrue (elim o as (λ _. Bool) [ None ↦ false | Some x ↦ fits (start x.0) i && fits x.1 rest ])
-    → (x : Kind × Content) × (next d e ≡ Some x) × IsTrue (fits (start x.0) i && fits x.1 rest)) [
+    → (x : Kind × Content) × (next_child d e ≡ Some x) × IsTrue (fits (start x.0) i && fits x.1 rest)) [
       | None ↦ λ is g. never g
       | Some x ↦ λ is g. (x, is, g)
     ]) refl h
@@ -228,14 +228,14 @@ covered_read {c} {d} g at v (bare e rest) h =
     let came = came_bare d e rest h in
     ap (λ (o : Option (Kind × Content)). elim o as (λ _. Result (Value × ℕ) Unread) [
       | None ↦ Err (record { at = at; reason = Misplaced })
-      | Some x ↦ at_place at (closed x.0 (fresh x.0 e)) then (λ child. read (at + 1) (with_child v e child) x.1 rest)
+      | Some x ↦ at_place at (closed_value x.0 (fresh_value x.0 e)) then (λ child. read (at + 1) (with_child v e child) x.1 rest)
     ]) (g.next e came.0 came.1 ∙ sym came.1)
 covered_read {c} {d} g at v (full e i rest) h =
     let came = came_full d e i rest h in
     ap (λ (o : Option (Kind × Content)). elim o as (λ _. Result (Value × ℕ) Unread) [
       | None ↦ Err (record { at = at; reason = Misplaced })
-      | Some x ↦ read (at + 1) (fresh x.0 e) (start x.0) i then
-          (λ p. at_place p.1 (closed x.0 p.0) then (λ child. read (p.1 + 1) (with_child v e child) x.1 rest))
+      | Some x ↦ read (at + 1) (fresh_value x.0 e) (start x.0) i then
+          (λ p. at_place p.1 (closed_value x.0 p.0) then (λ child. read (p.1 + 1) (with_child v e child) x.1 rest))
     ]) (g.next e came.0 came.1 ∙ sym came.1)
 
 pub puts_then : {c d f : Content} {v w : Value} {ts : List Token} → Puts c v ts d w → Covers d f → Puts c v ts f w
@@ -249,17 +249,17 @@ puts_then p g = record {
 }
 
 -- a row of one element
-abbrev pub row : Element → Kind → Bool → Bool → Row
+abbrev pub row : Element → Kind → Bool → Bool → ChildRow
 row e k required many = record { choice = One e k; required = required; many = many }
 
-pub next_here : (e : Element) (k : Kind) (r m came : Bool) (rows : List Row) → (came && not m) ≡ false
-    → next (in_order came (row e k r m ∷ rows)) e ≡ Some (k, in_order true (row e k r m ∷ rows))
+pub next_here : (e : Element) (k : Kind) (r m came : Bool) (rows : List ChildRow) → (came && not m) ≡ false
+    → next_child (in_order came (row e k r m ∷ rows)) e ≡ Some (k, in_order true (row e k r m ∷ rows))
 next_here e k r m came rows again =
     ap (λ (b : Bool). after_row (in_row (if b then Some k else None) came (row e k r m) rows (next_row false rows e)))
     (true_same the_type e e refl)
     ∙ ap (λ (b : Bool). after_row (if b then None else Some (k, row e k r m ∷ rows))) again
 
-complete_all : (rows : List Row) → IsTrue (is_complete (in_order false rows)) → IsTrue (all_optional rows)
+complete_all : (rows : List ChildRow) → IsTrue (is_complete (in_order false rows)) → IsTrue (all_optional rows)
 complete_all [] h = refl
 complete_all (one ∷ rows) h = h
 
@@ -269,11 +269,11 @@ passed false true h = cc
 passed false false h = refl
 
 -- a row of an element that no later row has
-pub skips : (e : Element) (k : Kind) (r m came : Bool) (rows : List Row) → next_row false rows e ≡ None
+pub skips : (e : Element) (k : Kind) (r m came : Bool) (rows : List ChildRow) → next_row false rows e ≡ None
     → (came || not r) ≡ true
     → Covers (in_order came (row e k r m ∷ rows)) (in_order false rows)
 skips e k r m came rows none over = record {
-  next = λ other x h.
+  next_child = λ other x h.
       (elim (same e other)
       as (λ (b : Bool). same e other ≡ b
       → after_row (in_row (if b then Some k else None) came (row e k r m) rows (next_row false rows other)) ≡ Some x) [
@@ -287,10 +287,10 @@ skips e k r m came rows none over = record {
 }
 
 -- the last row
-pub ends : (last : Row) (came : Bool) → (came || not last.required) ≡ true
+pub ends : (last : ChildRow) (came : Bool) → (came || not last.required) ≡ true
     → Covers (in_order came (last ∷ [])) (in_order false [])
 ends last came over = record {
-  next = λ other x h. none_some x h;
+  next_child = λ other x h. none_some x h;
   complete = λ h. and_both (came || not last.required) true over refl;
   no_text = refl;
 }
@@ -298,12 +298,12 @@ ends last came over = record {
 -- a Meta in which no MetInf comes
 pub unwrapped : Covers (in_any_order true none_came) (in_any_order false none_came)
 unwrapped = record {
-  next = λ other x h.
+  next_child = λ other x h.
       (elim (same other EMetInf)
       as (λ (b : Bool). same other EMetInf ≡ b
-      → (if true && b then Some (kinds.MetInf, in_order false []) else next (in_any_order false none_came) other)
+      → (if true && b then Some (kinds.MetInf, in_order false []) else next_child (in_any_order false none_came) other)
       ≡ Some x) [
-        | true ↦ λ is. none_some x (sym (ap (next (in_any_order false none_came)) (same_only other EMetInf is)) ∙ h)
+        | true ↦ λ is. none_some x (sym (ap (next_child (in_any_order false none_came)) (same_only other EMetInf is)) ∙ h)
         | false ↦ λ is. h
       ]) refl;
   complete = λ h. refl;
@@ -329,7 +329,7 @@ puts_perhaps P tokens content value None h one = puts_none
 puts_perhaps P tokens content value (Some x) h one = one x h
 
 -- a flag
-pub puts_flag : (e : Element) (rows : List Row) (value : Bool → Value) (b : Bool) → next_row false rows e ≡ None
+pub puts_flag : (e : Element) (rows : List ChildRow) (value : Bool → Value) (b : Bool) → next_row false rows e ≡ None
     → with_child (value false) e (simple simples.Flag) ≡ value true
     → Puts (in_order false (row e kinds.Flag false false ∷ rows)) (value false) (flag_tokens e b) (in_order false rows)
     (value b)
@@ -342,12 +342,12 @@ puts_flag e rows value true none same =
     refl) (skips e kinds.Flag false false true rows none refl))
 
 -- what one more of a list does, behind those that came
-abbrev pub PutsOne : {A : Type 0} → List Row → (List A → Value) → (A → List Token) → A → Type 0
+abbrev pub PutsOne : {A : Type 0} → List ChildRow → (List A → Value) → (A → List Token) → A → Type 0
 PutsOne {A} rows value tokens x =
     (came : Bool) (before : List A)
     → Puts (in_order came rows) (value before) (tokens x) (in_order true rows) (value (before ++ x ∷ []))
 
-pub puts_more : {A : Type 0} {d : Content} (rows : List Row) (value : List A → Value) (tokens : A → List Token)
+pub puts_more : {A : Type 0} {d : Content} (rows : List ChildRow) (value : List A → Value) (tokens : A → List Token)
     (xs before : List A)
     → AllByRecursion (PutsOne rows value tokens) xs → Covers (in_order true rows) d
     → Puts (in_order true rows) (value before) (flat_map tokens xs) d (value (before ++ xs))
@@ -360,14 +360,14 @@ puts_more {d = d} rows value tokens (x ∷ xs) before h g =
     (h.0 true before behind puts_more rows value tokens xs (before ++ x ∷ []) h.1 g)
 
 -- a list that isn't empty
-pub puts_filled : {A : Type 0} {d : Content} (rows : List Row) (value : List A → Value) (tokens : A → List Token)
+pub puts_filled : {A : Type 0} {d : Content} (rows : List ChildRow) (value : List A → Value) (tokens : A → List Token)
     (xs : List A) → is_filled xs ≡ true
     → AllByRecursion (PutsOne rows value tokens) xs → Covers (in_order true rows) d
     → Puts (in_order false rows) (value []) (flat_map tokens xs) d (value xs)
 puts_filled rows value tokens [] some h g = never some
 puts_filled rows value tokens (x ∷ xs) some h g = h.0 false [] behind puts_more rows value tokens xs (x ∷ []) h.1 g
 
-pub puts_list : {A : Type 0} {d : Content} (rows : List Row) (value : List A → Value) (tokens : A → List Token)
+pub puts_list : {A : Type 0} {d : Content} (rows : List ChildRow) (value : List A → Value) (tokens : A → List Token)
     (xs : List A)
     → AllByRecursion (PutsOne rows value tokens) xs → Covers (in_order false rows) d → Covers (in_order true rows) d
     → Puts (in_order false rows) (value []) (flat_map tokens xs) d (value xs)

@@ -10,10 +10,10 @@ use Rattle.wbxml_tables.specs.declared.Element.TheVariants.{ESource, ESyncBody, 
 use Rattle.wbxml_tables.specs.declared.Element.TheVariants.{EVerProto}
 use Rattle.syncml_shape.specs.declared.rows.Kind.TheVariants as kinds
 use Rattle.syncml_shape.specs.declared.rows.Choice.TheVariants.{Commands}
-use Rattle.syncml_shape.specs.declared.rows.Row.{Row}
+use Rattle.syncml_shape.specs.declared.rows.ChildRow.{ChildRow}
 use Rattle.syncml_shape.specs.declared.rows.TheConstants as table
 use Rattle.syncml_shape.specs.Forest.{nothing}
-use Rattle.syncml_shape.specs.Rows.{same, Content, in_order, document, start, in_row, next_row, after_row, next}
+use Rattle.syncml_shape.specs.Rows.{same, Content, in_order, document, start, in_row, next_row, after_row, next_child}
 use Rattle.syncml_shape.specs.Rows.{is_complete}
 use Rattle.syncml_shape.proofs.Accepts.{and_true}
 use Rattle.syncml_shape.proofs.Names.{same_only}
@@ -29,7 +29,7 @@ use Rattle.syncml_types.specs.Canonical.{body_children, body_tokens, message_tok
 use Rattle.syncml_types.specs.Fitness.{all_of, is_in_limit, is_number, loc_texts, cred_texts, header_texts, header_data}
 use Rattle.syncml_types.specs.Fitness.{IsFit}
 use Rattle.syncml_grammar.specs.declared.draft.Draft.TheVariants as drafts
-use Rattle.syncml_grammar.specs.Values.{Value, of_draft, node, fresh, with_child}
+use Rattle.syncml_grammar.specs.Values.{Value, of_draft, node, fresh_value, with_child}
 use Rattle.syncml_grammar.specs.Reads.{SpellsParts}
 use Rattle.syncml_codec.specs.Ranges.{CredRange, HeaderRange, AreNumbers}
 use Rattle.syncml_codec.proofs.CanonicalForests.{Puts, ◌behind◌, puts_full, puts_element, Covers, puts_then, row}
@@ -48,7 +48,7 @@ record GoodHeader (h : Header) : Type 0 where
   number : is_number h.msg ≡ true
   range : HeaderRange h
 
-loc_row : {v : Value} (e : Element) (rows : List Row) (loc : Loc) → next_row false rows e ≡ None
+loc_row : {v : Value} (e : Element) (rows : List ChildRow) (loc : Loc) → next_row false rows e ≡ None
     → loc_texts is_text loc ≡ true
     → Puts (in_order false (row e kinds.Loc true false ∷ rows)) v (loc_tokens e loc) (in_order false rows)
     (with_child v e (node (drafts.Loc loc)))
@@ -62,7 +62,7 @@ good_cred : (o : Option Cred) → all_of (cred_texts is_text) o ≡ true
 good_cred None t d r = tt
 good_cred (Some c) t d r = record { texts = t; data_short = d; range = r }
 
-cred_option : (rows : List Row) (value : Option Cred → Value) (o : Option Cred) → next_row false rows ECred ≡ None
+cred_option : (rows : List ChildRow) (value : Option Cred → Value) (o : Option Cred) → next_row false rows ECred ≡ None
     → IfSome o GoodCred
     → ((c : Cred) → with_child (value None) ECred (node (drafts.Cred c)) ≡ value (Some c))
     → Puts (in_order false (row ECred kinds.Cred false false ∷ rows)) (value None) (optional cred_tokens o)
@@ -90,7 +90,7 @@ header_held dtd proto session msg target source resp_uri no_resp cred meta = of_
   meta = meta;
 }))
 
-header_element : {c d : Content} {v : Value} (h : Header) → next c ESyncHdr ≡ Some (kinds.Header, d) → GoodHeader h
+header_element : {c d : Content} {v : Value} (h : Header) → next_child c ESyncHdr ≡ Some (kinds.Header, d) → GoodHeader h
     → Puts c v (header_tokens h) d (with_child v ESyncHdr (node (drafts.Header h)))
 unfolding header_tokens header_texts header_data
 header_element h n good =
@@ -101,7 +101,7 @@ header_element h n good =
     let three = and_true _ _ four.0 in
     let two = and_true _ _ three.0 in
     let one = and_true _ _ two.0 in
-    let inner : Puts (start kinds.Header) (fresh kinds.Header ESyncHdr)
+    let inner : Puts (start kinds.Header) (fresh_value kinds.Header ESyncHdr)
     (text_tokens EVerDTD h.dtd ++ text_tokens EVerProto h.proto ++ text_tokens ESessionID h.session
     ++ number_tokens EMsgID h.msg ++ loc_tokens ETarget h.target
     ++ loc_tokens ESource h.source ++ optional (text_tokens ERespURI) h.resp_uri ++ flag_tokens ENoResp h.no_resp
@@ -129,7 +129,7 @@ header_element h n good =
 -- ---- bodies
 
 final_next : (came : Bool)
-    → next (in_order came table.BODY) EFinal ≡ Some (kinds.Flag, in_order true (drop 1 table.BODY))
+    → next_child (in_order came table.BODY) EFinal ≡ Some (kinds.Flag, in_order true (drop 1 table.BODY))
 final_next true = refl
 final_next false = refl
 
@@ -140,26 +140,26 @@ commands_end false = refl
 -- no command is Final
 commands_pass : (came : Bool) → Covers (in_order came table.BODY) (in_order false (drop 1 table.BODY))
 commands_pass came = record {
-  next = λ other x h.
+  next_child = λ other x h.
       (elim (same EFinal other) as (λ (b : Bool). same EFinal other ≡ b
       → after_row (in_row (if b then Some kinds.Flag else None) false (row EFinal kinds.Flag false false) []
       (next_row false [] other)) ≡ Some x
-      → next (in_order came table.BODY) other ≡ Some x) [
+      → next_child (in_order came table.BODY) other ≡ Some x) [
         | true ↦ λ is g.
-            subst (λ e. next (in_order came table.BODY) e ≡ Some x) (same_only EFinal other is) (final_next came ∙ g)
+            subst (λ e. next_child (in_order came table.BODY) e ≡ Some x) (same_only EFinal other is) (final_next came ∙ g)
         | false ↦ λ is g. none_some x g
       ]) refl h;
   complete = λ h. commands_end came;
   no_text = refl;
 }
 
-body_element : {c d : Content} {v : Value} (body : List Command) (last : Bool) → next c ESyncBody ≡ Some (kinds.Body, d)
+body_element : {c d : Content} {v : Value} (body : List Command) (last : Bool) → next_child c ESyncBody ≡ Some (kinds.Body, d)
     → AllByRecursion GoodCommand body
     → Puts c v (body_tokens body last) d
     (with_child v ESyncBody (node (drafts.Body (record { commands = body; last = last }))))
 unfolding body_tokens commands_tokens
 body_element body last n good =
-    let inner : Puts (start kinds.Body) (fresh kinds.Body ESyncBody) (body_children body last) (in_order false [])
+    let inner : Puts (start kinds.Body) (fresh_value kinds.Body ESyncBody) (body_children body last) (in_order false [])
     (body_held body last) =
     puts_list (many_row Commands false ∷ drop 1 table.BODY) (λ cs. body_held cs false) command_tokens body
     (each_so GoodCommand _ body (command_one (drop 1 table.BODY)) good) (commands_pass false) (commands_pass true)
@@ -172,7 +172,7 @@ abbrev pub message_held : Option Header → List Command → Bool → Value
 message_held header body last = of_draft (drafts.Message (record { header = header; body = body; last = last }))
 
 pub message_children : (parts : Parts) → IsFit parts.header parts.body → AreNumbers parts
-    → Puts (start kinds.Message) (fresh kinds.Message ESyncML)
+    → Puts (start kinds.Message) (fresh_value kinds.Message ESyncML)
     (header_tokens parts.header ++ body_tokens parts.body parts.last) (in_order false [])
     (message_held (Some parts.header) parts.body parts.last)
 message_children parts fit numbers =

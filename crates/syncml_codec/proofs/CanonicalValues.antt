@@ -16,9 +16,9 @@ use Rattle.wbxml_tokens.specs.declared.token.Token.TheVariants.{Text, Opaque}
 use Rattle.wbxml_tokens.specs.Spelled.{HasNoZero}
 use Rattle.syncml_shape.specs.declared.rows.Kind.{Kind}
 use Rattle.syncml_shape.specs.declared.rows.Kind.TheVariants as kinds
-use Rattle.syncml_shape.specs.declared.rows.Row.{Row}
+use Rattle.syncml_shape.specs.declared.rows.ChildRow.{ChildRow}
 use Rattle.syncml_shape.specs.declared.rows.TheConstants as table
-use Rattle.syncml_shape.specs.Rows.{Content, in_order, in_any_order, pieces, start, next_row, next}
+use Rattle.syncml_shape.specs.Rows.{Content, in_order, in_any_order, pieces, start, next_row, next_child}
 use Rattle.syncml_shape.proofs.Accepts.{and_true}
 use Rattle.syncml_shape.proofs.Completes.{and_both}
 use Rattle.syncml_types.specs.declared.values.Loc.{Loc}
@@ -37,11 +37,12 @@ use Rattle.syncml_grammar.specs.declared.leaf.Simple.TheVariants as simples
 use Rattle.syncml_grammar.specs.declared.draft.Draft.TheVariants as drafts
 use Rattle.syncml_grammar.specs.Numbers.{digits_after, number_in}
 use Rattle.syncml_grammar.specs.Leaves.{short_number, closed_number}
-use Rattle.syncml_grammar.specs.Values.{Value, of_leaf, of_draft, simple, node, fresh, with_text, simply, closed}
+use Rattle.syncml_grammar.specs.Values.{Value, of_leaf, of_draft, simple, node, fresh_value, with_text, simply}
+use Rattle.syncml_grammar.specs.Values.{closed_value}
 use Rattle.syncml_grammar.specs.Values.{with_child}
 use Rattle.dm_decimals.proofs.Decimals.{written_is_read}
 use Rattle.syncml_grammar.proofs.Decimals.{numbers_are_decimal}
-use Rattle.syncml_codec.specs.Ranges.{IsShort, IsLong, MetaRange, ItemRange, CredRange}
+use Rattle.syncml_codec.specs.Ranges.{IsShortNumber, IsLongNumber, MetaRange, ItemRange, CredRange}
 use Rattle.syncml_codec.proofs.Numbers.{decimal_clear}
 use Rattle.syncml_codec.proofs.CanonicalForests.{Puts, ◌behind◌, puts_none, puts_bare, puts_full, puts_element}
 use Rattle.syncml_codec.proofs.CanonicalForests.{puts_text, puts_opaque, puts_then, row, next_here, skips, unwrapped}
@@ -62,10 +63,10 @@ text_clear : (t : List ℕ) → is_text t ≡ true → HasNoZero t
 text_clear t h = clear t (and_true (is_utf8 t) (list_all (λ b. not (b == 0)) t) h).1
 
 text_closed : (t : List ℕ) → is_text t ≡ true
-    → closed kinds.Text (of_leaf (leaves.Text t)) ≡ Ok (simple (simples.Text t))
+    → closed_value kinds.Text (of_leaf (leaves.Text t)) ≡ Ok (simple (simples.Text t))
 text_closed t h = ap (λ (b : Bool). simply (if b then Ok (simples.Text t) else Err reasons.Text)) h
 
-pub text_element : {c d : Content} {v : Value} (e : Element) (t : List ℕ) → next c e ≡ Some (kinds.Text, d)
+pub text_element : {c d : Content} {v : Value} (e : Element) (t : List ℕ) → next_child c e ≡ Some (kinds.Text, d)
     → is_text t ≡ true
     → Puts c v (text_tokens e t) d (with_child v e (simple (simples.Text t)))
 unfolding text_tokens
@@ -82,7 +83,7 @@ piece : {v : Value} (bytes : List ℕ) (q : Bool) → is_text bytes ≡ q → is
 piece bytes true is short = puts_text bytes (text_clear bytes is) refl
 piece bytes false is short = puts_opaque bytes (short_length bytes short) refl
 
-pub data_element : {c d : Content} {v : Value} (t : List ℕ) → next c EData ≡ Some (kinds.Bytes, d)
+pub data_element : {c d : Content} {v : Value} (t : List ℕ) → next_child c EData ≡ Some (kinds.Bytes, d)
     → is_in_limit t ≡ true
     → Puts c v (data_tokens t) d (with_child v EData (simple (simples.Text t)))
 unfolding data_tokens
@@ -92,9 +93,9 @@ data_element (b ∷ bs) n h =
 
 -- ---- numbers
 
-digits_element : {c d : Content} {v : Value} (e : Element) (k : Kind) (s : Simple) (t : List ℕ) → next c e ≡ Some (k, d)
-    → start k ≡ pieces → fresh k e ≡ of_leaf (leaves.Number Start) → 0 < length t → HasNoZero t
-    → closed k (of_leaf (leaves.Number (digits_after Start t))) ≡ Ok (simple s)
+digits_element : {c d : Content} {v : Value} (e : Element) (k : Kind) (s : Simple) (t : List ℕ) → next_child c e ≡ Some (k, d)
+    → start k ≡ pieces → fresh_value k e ≡ of_leaf (leaves.Number Start) → 0 < length t → HasNoZero t
+    → closed_value k (of_leaf (leaves.Number (digits_after Start t))) ≡ Ok (simple s)
     → Puts c v (text_tokens e t) d (with_child v e (simple s))
 unfolding text_tokens
 digits_element e k s [] n in_pieces begun some none is = absurd (omega (arith, some))
@@ -102,25 +103,25 @@ digits_element e k s (b ∷ bs) n in_pieces begun some none is =
     let number : Value = of_leaf (leaves.Number (digits_after Start (b ∷ bs))) in
     let held : Puts pieces (of_leaf (leaves.Number Start)) (Text (b ∷ bs) ∷ []) pieces number =
     puts_text (b ∷ bs) none refl in
-    let from_fresh : Puts pieces (fresh k e) (Text (b ∷ bs) ∷ []) pieces number =
+    let from_fresh : Puts pieces (fresh_value k e) (Text (b ∷ bs) ∷ []) pieces number =
     subst (λ (x : Value). Puts pieces x (Text (b ∷ bs) ∷ []) pieces number) (sym begun) held in
-    let inner : Puts (start k) (fresh k e) (Text (b ∷ bs) ∷ []) pieces number =
-    subst (λ (x : Content). Puts x (fresh k e) (Text (b ∷ bs) ∷ []) pieces number) (sym in_pieces) from_fresh in
+    let inner : Puts (start k) (fresh_value k e) (Text (b ∷ bs) ∷ []) pieces number =
+    subst (λ (x : Content). Puts x (fresh_value k e) (Text (b ∷ bs) ∷ []) pieces number) (sym in_pieces) from_fresh in
     puts_full e k (simple s) n inner refl is
 
-wide : (n : ℕ) → IsShort n → n < 2 ^ 64
+wide : (n : ℕ) → IsShortNumber n → n < 2 ^ 64
 wide n low = omega (arith, low)
 
 decimal_read : (n : ℕ) → n < 2 ^ 64 → number_in (digits_after Start (decimal n)) ≡ Some n
 decimal_read n low = numbers_are_decimal (decimal n) ∙ written_is_read n low
 
-short_closed : (least n : ℕ) → least ≤ n → IsShort n → simply (short_number least n) ≡ Ok (simple (simples.Short n))
+short_closed : (least n : ℕ) → least ≤ n → IsShortNumber n → simply (short_number least n) ≡ Ok (simple (simples.Short n))
 short_closed least n some low =
     ap (λ (b : Bool). simply (if b then Ok (simples.Short n) else Err reasons.Number))
     (and_both (nat_le least n) (nat_le n 4294967295) (le-leb least n some) (le-leb n 4294967295 (omega (arith, low))))
 
-pub id_element : {c d : Content} {v : Value} (e : Element) (n : ℕ) → next c e ≡ Some (kinds.Id, d) → is_number n ≡ true
-    → IsShort n
+pub id_element : {c d : Content} {v : Value} (e : Element) (n : ℕ) → next_child c e ≡ Some (kinds.Id, d) → is_number n ≡ true
+    → IsShortNumber n
     → Puts c v (number_tokens e n) d (with_child v e (simple (simples.Short n)))
 unfolding number_tokens
 id_element e n is some low =
@@ -130,7 +131,7 @@ id_element e n is some low =
     (clear (decimal n) (decimal_clear n far))
     (ap (λ o. simply (closed_number kinds.Id o)) (decimal_read n far) ∙ short_closed 1 n (omega (arith, least)) low)
 
-pub code_element : {c d : Content} {v : Value} (e : Element) (n : ℕ) → next c e ≡ Some (kinds.Code, d) → IsShort n
+pub code_element : {c d : Content} {v : Value} (e : Element) (n : ℕ) → next_child c e ≡ Some (kinds.Code, d) → IsShortNumber n
     → Puts c v (number_tokens e n) d (with_child v e (simple (simples.Short n)))
 unfolding number_tokens
 code_element e n is low =
@@ -139,7 +140,7 @@ code_element e n is low =
     (clear (decimal n) (decimal_clear n far))
     (ap (λ o. simply (closed_number kinds.Code o)) (decimal_read n far) ∙ short_closed 0 n (omega arith) low)
 
-pub size_element : {c d : Content} {v : Value} (e : Element) (n : ℕ) → next c e ≡ Some (kinds.Size, d) → IsLong n
+pub size_element : {c d : Content} {v : Value} (e : Element) (n : ℕ) → next_child c e ≡ Some (kinds.Size, d) → IsLongNumber n
     → Puts c v (number_tokens e n) d (with_child v e (simple (simples.Long n)))
 unfolding number_tokens
 size_element e n is far =
@@ -152,7 +153,7 @@ size_element e n is far =
 abbrev pub IsText : List ℕ → Type 0
 IsText t = is_text t ≡ true
 
-pub text_row : {v : Value} (e : Element) (r m : Bool) (rows : List Row) (t : List ℕ) → next_row false rows e ≡ None
+pub text_row : {v : Value} (e : Element) (r m : Bool) (rows : List ChildRow) (t : List ℕ) → next_row false rows e ≡ None
     → is_text t ≡ true
     → Puts (in_order false (row e kinds.Text r m ∷ rows)) v (text_tokens e t) (in_order false rows)
     (with_child v e (simple (simples.Text t)))
@@ -160,7 +161,7 @@ text_row e r m rows t none h =
     puts_then (text_element e t (next_here e kinds.Text r m false rows refl) h)
     (skips e kinds.Text r m true rows none refl)
 
-pub text_option : (e : Element) (rows : List Row) (value : Option (List ℕ) → Value) (o : Option (List ℕ))
+pub text_option : (e : Element) (rows : List ChildRow) (value : Option (List ℕ) → Value) (o : Option (List ℕ))
     → next_row false rows e ≡ None → all_of is_text o ≡ true
     → ((t : List ℕ) → with_child (value None) e (simple (simples.Text t)) ≡ value (Some t))
     → Puts (in_order false (row e kinds.Text false false ∷ rows)) (value None) (optional (text_tokens e) o)
@@ -173,16 +174,16 @@ text_option e rows value o none h same =
     (in_order false rows) w) (same t)
     (text_row e false false rows t none is))
 
-pub id_row : {v : Value} (e : Element) (r m : Bool) (rows : List Row) (n : ℕ) → next_row false rows e ≡ None
-    → is_number n ≡ true → IsShort n
+pub id_row : {v : Value} (e : Element) (r m : Bool) (rows : List ChildRow) (n : ℕ) → next_row false rows e ≡ None
+    → is_number n ≡ true → IsShortNumber n
     → Puts (in_order false (row e kinds.Id r m ∷ rows)) v (number_tokens e n) (in_order false rows)
     (with_child v e (simple (simples.Short n)))
 id_row e r m rows n none some low =
     puts_then (id_element e n (next_here e kinds.Id r m false rows refl) some low)
     (skips e kinds.Id r m true rows none refl)
 
-pub code_row : {v : Value} (e : Element) (r m : Bool) (rows : List Row) (n : ℕ) → next_row false rows e ≡ None
-    → IsShort n
+pub code_row : {v : Value} (e : Element) (r m : Bool) (rows : List ChildRow) (n : ℕ) → next_row false rows e ≡ None
+    → IsShortNumber n
     → Puts (in_order false (row e kinds.Code r m ∷ rows)) v (number_tokens e n) (in_order false rows)
     (with_child v e (simple (simples.Short n)))
 code_row e r m rows n none low =
@@ -192,7 +193,7 @@ code_row e r m rows n none low =
 -- ---- Loc
 
 loc_children : (e : Element) (loc : Loc) → loc_texts is_text loc ≡ true
-    → Puts (start kinds.Loc) (fresh kinds.Loc e)
+    → Puts (start kinds.Loc) (fresh_value kinds.Loc e)
     (text_tokens ELocURI loc.uri ++ optional (text_tokens ELocName) loc.name) (in_order false [])
     (of_draft (drafts.Loc loc))
 unfolding loc_texts
@@ -202,7 +203,7 @@ loc_children e loc h =
     behind text_option ELocName [] (λ o. of_draft (drafts.Loc (record { uri = loc.uri; name = o }))) loc.name refl
     both.1 (λ t. refl)
 
-pub loc_element : {c d : Content} {v : Value} (e : Element) (loc : Loc) → next c e ≡ Some (kinds.Loc, d)
+pub loc_element : {c d : Content} {v : Value} (e : Element) (loc : Loc) → next_child c e ≡ Some (kinds.Loc, d)
     → loc_texts is_text loc ≡ true
     → Puts c v (loc_tokens e loc) d (with_child v e (node (drafts.Loc loc)))
 unfolding loc_tokens
@@ -220,7 +221,7 @@ came a b c d e f g h = in_any_order false (a ∷ b ∷ c ∷ d ∷ e ∷ f ∷ g
 
 text_perhaps : (e : Element) (content : Option (List ℕ) → Content) (value : Option (List ℕ) → Value)
     (o : Option (List ℕ)) → all_of is_text o ≡ true
-    → ((t : List ℕ) → next (content None) e ≡ Some (kinds.Text, content (Some t)))
+    → ((t : List ℕ) → next_child (content None) e ≡ Some (kinds.Text, content (Some t)))
     → ((t : List ℕ) → with_child (value None) e (simple (simples.Text t)) ≡ value (Some t))
     → Puts (content None) (value None) (optional (text_tokens e) o) (content o) (value o)
 text_perhaps e content value o h n same =
@@ -228,12 +229,12 @@ text_perhaps e content value o h n same =
     (λ t is. subst (λ w. Puts (content None) (value None) (text_tokens e t) (content (Some t)) w) (same t)
     (text_element e t (n t) is))
 
-size_perhaps : (e : Element) (content : Option ℕ → Content) (value : Option ℕ → Value) (o : Option ℕ) → IfSome o IsLong
-    → ((n : ℕ) → next (content None) e ≡ Some (kinds.Size, content (Some n)))
+size_perhaps : (e : Element) (content : Option ℕ → Content) (value : Option ℕ → Value) (o : Option ℕ) → IfSome o IsLongNumber
+    → ((n : ℕ) → next_child (content None) e ≡ Some (kinds.Size, content (Some n)))
     → ((n : ℕ) → with_child (value None) e (simple (simples.Long n)) ≡ value (Some n))
     → Puts (content None) (value None) (optional (number_tokens e) o) (content o) (value o)
 size_perhaps e content value o h next_is same =
-    puts_perhaps IsLong (number_tokens e) content value o h
+    puts_perhaps IsLongNumber (number_tokens e) content value o h
     (λ n is. subst (λ w. Puts (content None) (value None) (number_tokens e n) (content (Some n)) w) (same n)
     (size_element e n (next_is n) is))
 
@@ -251,7 +252,7 @@ held format media size nonce msg obj mark version = of_draft (drafts.Meta (recor
 }))
 
 meta_puts : (e : Element) (m : Meta) → GoodMeta m
-    → Puts (start kinds.Meta) (fresh kinds.Meta e) (meta_children m)
+    → Puts (start kinds.Meta) (fresh_value kinds.Meta e) (meta_children m)
     (came (is_some m.format) (is_some m.media) (is_some m.size) (is_some m.next_nonce) (is_some m.max_msg)
     (is_some m.max_obj) (is_some m.mark) (is_some m.version))
     (of_draft (drafts.Meta m))
@@ -289,12 +290,12 @@ meta_puts e m good =
     (λ o. held m.format m.media m.size m.next_nonce m.max_msg m.max_obj m.mark o) m.version five.1 (λ t. refl)
     (λ t. refl)
 
-pub meta_element : {c d : Content} {v : Value} (m : Meta) → next c EMeta ≡ Some (kinds.Meta, d) → GoodMeta m
+pub meta_element : {c d : Content} {v : Value} (m : Meta) → next_child c EMeta ≡ Some (kinds.Meta, d) → GoodMeta m
     → Puts c v (meta_tokens m) d (with_child v EMeta (node (drafts.Meta m)))
 unfolding meta_tokens
 meta_element m n good = puts_element EMeta kinds.Meta (node (drafts.Meta m)) n (meta_puts EMeta m good) refl refl
 
-pub meta_option : (rows : List Row) (value : Option Meta → Value) (o : Option Meta) → next_row false rows EMeta ≡ None
+pub meta_option : (rows : List ChildRow) (value : Option Meta → Value) (o : Option Meta) → next_row false rows EMeta ≡ None
     → IfSome o GoodMeta
     → ((m : Meta) → with_child (value None) EMeta (node (drafts.Meta m)) ≡ value (Some m))
     → Puts (in_order false (row EMeta kinds.Meta false false ∷ rows)) (value None) (optional meta_tokens o)
@@ -319,7 +320,7 @@ pub record GoodItem (item : Item) : Type 0 where
   pub data_short : item_data is_in_limit item ≡ true
   pub range : ItemRange item
 
-loc_option : (e : Element) (rows : List Row) (value : Option Loc → Value) (o : Option Loc)
+loc_option : (e : Element) (rows : List ChildRow) (value : Option Loc → Value) (o : Option Loc)
     → next_row false rows e ≡ None → all_of (loc_texts is_text) o ≡ true
     → ((loc : Loc) → with_child (value None) e (node (drafts.Loc loc)) ≡ value (Some loc))
     → Puts (in_order false (row e kinds.Loc false false ∷ rows)) (value None) (optional (loc_tokens e) o)
@@ -333,7 +334,7 @@ loc_option e rows value o none h same =
     (puts_then (loc_element e loc (next_here e kinds.Loc false false false rows refl) is)
     (skips e kinds.Loc false false true rows none refl)))
 
-data_option : (rows : List Row) (value : Option (List ℕ) → Value) (o : Option (List ℕ))
+data_option : (rows : List ChildRow) (value : Option (List ℕ) → Value) (o : Option (List ℕ))
     → next_row false rows EData ≡ None → all_of is_in_limit o ≡ true
     → ((t : List ℕ) → with_child (value None) EData (simple (simples.Text t)) ≡ value (Some t))
     → Puts (in_order false (row EData kinds.Bytes false false ∷ rows)) (value None) (optional data_tokens o)
@@ -352,7 +353,7 @@ item_held target source meta value more =
     of_draft (drafts.Item (record { target = target; source = source; meta = meta; value = value; more = more }))
 
 item_puts : (e : Element) (item : Item) → GoodItem item
-    → Puts (start kinds.Item) (fresh kinds.Item e) (item_children item) (in_order false [])
+    → Puts (start kinds.Item) (fresh_value kinds.Item e) (item_children item) (in_order false [])
     (of_draft (drafts.Item item))
 unfolding item_texts item_data
 item_puts e item good =
@@ -367,7 +368,7 @@ item_puts e item good =
     good.data_short (λ t. refl)
     behind puts_flag EMoreData [] (λ b. item_held item.target item.source item.meta item.value b) item.more refl refl
 
-pub item_element : {c d : Content} {v : Value} (item : Item) → next c EItem ≡ Some (kinds.Item, d) → GoodItem item
+pub item_element : {c d : Content} {v : Value} (item : Item) → next_child c EItem ≡ Some (kinds.Item, d) → GoodItem item
     → Puts c v (item_tokens item) d (with_child v EItem (node (drafts.Item item)))
 unfolding item_tokens
 item_element item n good =
@@ -382,7 +383,7 @@ pub record GoodCred (cred : Cred) : Type 0 where
   pub range : CredRange cred
 
 cred_puts : (e : Element) (cred : Cred) → GoodCred cred
-    → Puts (start kinds.Cred) (fresh kinds.Cred e) (optional meta_tokens cred.meta ++ data_tokens cred.value)
+    → Puts (start kinds.Cred) (fresh_value kinds.Cred e) (optional meta_tokens cred.meta ++ data_tokens cred.value)
     (in_order false []) (of_draft (drafts.Cred cred))
 unfolding cred_texts
 cred_puts e cred good =
@@ -391,12 +392,12 @@ cred_puts e cred good =
     behind puts_then (data_element cred.value (next_here EData kinds.Bytes true false false [] refl) good.data_short)
     (skips EData kinds.Bytes true false true [] refl refl)
 
-pub cred_element : {c d : Content} {v : Value} (cred : Cred) → next c ECred ≡ Some (kinds.Cred, d) → GoodCred cred
+pub cred_element : {c d : Content} {v : Value} (cred : Cred) → next_child c ECred ≡ Some (kinds.Cred, d) → GoodCred cred
     → Puts c v (cred_tokens cred) d (with_child v ECred (node (drafts.Cred cred)))
 unfolding cred_tokens
 cred_element cred n good = puts_full ECred kinds.Cred (node (drafts.Cred cred)) n (cred_puts ECred cred good) refl refl
 
-pub chal_element : {c d : Content} {v : Value} (chal : Meta) → next c EChal ≡ Some (kinds.Chal, d) → GoodMeta chal
+pub chal_element : {c d : Content} {v : Value} (chal : Meta) → next_child c EChal ≡ Some (kinds.Chal, d) → GoodMeta chal
     → Puts c v (chal_tokens chal) d (with_child v EChal (node (drafts.Chal chal)))
 unfolding chal_tokens
 chal_element chal n good =

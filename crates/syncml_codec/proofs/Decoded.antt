@@ -9,9 +9,9 @@ use Rattle.wbxml_tokens.specs.declared.reason.Reason.TheVariants as reasons
 use Rattle.wbxml_tokens.specs.declared.reason.Refusal.{Refusal}
 use Rattle.wbxml_tokens.specs.declared.token.Placed.{Placed}
 use Rattle.wbxml_tokens.specs.declared.extent.Extent.TheVariants as extents
-use Rattle.wbxml_tokens.specs.Reading.{Reader, Reading, at_start, begun_by, most_bytes, taken_by, is_whole, limit}
+use Rattle.wbxml_tokens.specs.Reading.{Reader, Reading, first_reader, begun_by, most_bytes, taken_by, is_whole, limit}
 use Rattle.wbxml_tokens.specs.Reading.{reading}
-use Rattle.wbxml_tokens.specs.Taking.{taken, ◌>>=◌}
+use Rattle.wbxml_tokens.specs.Taking.{taken_all, ◌>>=◌}
 use Rattle.wbxml_tokens.specs.Spelled.{RefusedAt}
 use Rattle.wbxml_tokens.proofs.Documents.{known, Known, spelled_is_read as spelled_tokens_are_read}
 use Rattle.wbxml_tokens.proofs.Refusals.{refused_is_told}
@@ -21,14 +21,14 @@ use Rattle.wbxml_tokens.proofs.Beyond.{limit_refuses}
 use Rattle.wbxml_tokens.proofs.Steps.{reads-append}
 use Rattle.syncml_types.specs.Message.{Parts}
 use Rattle.syncml_grammar.specs.Reads.{SpellsParts}
-use Rattle.syncml_grammar.specs.Machine.{finished}
+use Rattle.syncml_grammar.specs.Machine.{finished_parts}
 use Rattle.syncml_grammar.specs.Building.{Building, no_building, built_by, unless_stopped, HasBuilt}
 use Rattle.syncml_grammar.specs.Taken.{building, tokens, HasRefused}
 use Rattle.syncml_grammar.proofs.Judging.{spelled_taken, finished_spelled}
 use Rattle.syncml_grammar.proofs.Taken.{built_is_taken}
 use Rattle.syncml_codec.specs.Messages.{Spells, TokenRefusedAt, NoTokenRefused, MessageRefusedAt, by_grammar, by_reader}
 use Rattle.syncml_codec.specs.Messages.{cut}
-use Rattle.syncml_codec.specs.Decoding.{built, first_of, settled, parts_of, read_by, read_of}
+use Rattle.syncml_codec.specs.Decoding.{built, first_refused, settled, parts_of, read_by, read_of}
 use Rattle.syncml_codec.specs.Laws.{SpelledIsRead, RefusedIsRead, OneIsSpelled, NoneGoesOn}
 use Rattle.syncml_codec.proofs.Unrefused.{some_not_none, HasFront, front_of, sound_within, read_more, refused_more}
 use Rattle.syncml_codec.proofs.Unrefused.{begins_with}
@@ -41,12 +41,12 @@ ok_not_err a e h = cc
 
 read_when : (bytes : List ℕ) (r : Result Building Refusal) (o : Option Refusal) (p : Option Parts) → built bytes ≡ r
     → (reading bytes).refused ≡ o → parts_of r ≡ p
-    → read_of bytes ≡ read_by (first_of r o) p (length bytes)
+    → read_of bytes ≡ read_by (first_refused r o) p (length bytes)
 unfolding read_of settled
 read_when bytes r o p is refused parts =
-    ap (λ b. read_by (first_of b (reading bytes).refused) (parts_of b) (length bytes)) is
-    ∙ ap (λ f. read_by (first_of r f) (parts_of r) (length bytes)) refused
-    ∙ ap (λ q. read_by (first_of r o) q (length bytes)) parts
+    ap (λ b. read_by (first_refused b (reading bytes).refused) (parts_of b) (length bytes)) is
+    ∙ ap (λ f. read_by (first_refused r f) (parts_of r) (length bytes)) refused
+    ∙ ap (λ q. read_by (first_refused r o) q (length bytes)) parts
 
 read_refused : (bytes : List ℕ) (b : Building) (f : Refusal) → built bytes ≡ Ok b → (reading bytes).refused ≡ Some f
     → read_of bytes ≡ Err f
@@ -58,12 +58,12 @@ read_unbuilt bytes f is = read_when bytes (Err f) (reading bytes).refused None i
 -- ---- what bytes spell
 
 built_of : (placed : List Placed) (parts : Parts) → SpellsParts (tokens placed) parts
-    → (b : Building) × (taken building no_building placed ≡ Ok b) × (built_by b ≡ Some parts)
+    → (b : Building) × (taken_all building no_building placed ≡ Ok b) × (built_by b ≡ Some parts)
 built_of placed parts s =
     let t = spelled_taken (tokens placed) parts s in
     let w = built_is_taken.taken_whole placed t.0 t.1 in
     let h : HasBuilt w.0 (tokens placed) = built_is_taken.built placed w.0 w.1 in
-    (w.0, w.1, ap (λ o. unless_stopped o (finished w.0.frames)) h.0 ∙ ap finished w.2 ∙ t.2)
+    (w.0, w.1, ap (λ o. unless_stopped o (finished_parts w.0.frames)) h.0 ∙ ap finished_parts w.2 ∙ t.2)
 
 spelled_reading : (bytes : List ℕ) (parts : Parts) (s : Spells bytes parts)
     → ((reading bytes).tokens ≡ s.placed) × ((reading bytes).refused ≡ None)
@@ -78,7 +78,7 @@ pub spelled_read : (bytes : List ℕ) (parts : Parts) → Spells bytes parts →
 spelled_read bytes parts s =
     let r = spelled_reading bytes parts s in
     let b = built_of s.placed parts s.message in
-    read_when bytes (Ok b.0) None (Some parts) (ap (taken building no_building) r.0 ∙ b.1) r.1 b.2
+    read_when bytes (Ok b.0) None (Some parts) (ap (taken_all building no_building) r.0 ∙ b.1) r.1 b.2
 
 -- the extent behind the bytes of a message
 whole_when : (bytes : List ℕ) (parts : Parts) → SpellsParts (tokens (reading bytes).tokens) parts
@@ -117,13 +117,13 @@ spells_when bytes b parts fit is sound by_parts =
     let h : HasBuilt b (tokens (reading bytes).tokens) = built_is_taken.built (reading bytes).tokens b is in
     let spelled =
     finished_spelled (tokens (reading bytes).tokens) b.frames parts h.1
-    (sym (ap (λ o. unless_stopped o (finished b.frames)) h.0) ∙ by_parts) in
+    (sym (ap (λ o. unless_stopped o (finished_parts b.frames)) h.0) ∙ by_parts) in
     let room = sound_within bytes sound in
     spells_by bytes parts room spelled (known bytes fit room sound)
 
 read_spells : (bytes : List ℕ) (parts : Parts) (r : Result Building Refusal) (o : Option Refusal) (p : Option Parts)
     → AreBytes bytes → built bytes ≡ r
-    → (reading bytes).refused ≡ o → parts_of r ≡ p → read_by (first_of r o) p (length bytes) ≡ Ok parts
+    → (reading bytes).refused ≡ o → parts_of r ≡ p → read_by (first_refused r o) p (length bytes) ≡ Ok parts
     → Spells bytes parts
 read_spells bytes parts (Err f) o p fit is refused by_parts h = absurd (ok_not_err parts f (sym h))
 read_spells bytes parts (Ok b) (Some f) p fit is refused by_parts h = absurd (ok_not_err parts f (sym h))
@@ -191,7 +191,7 @@ take_over (suc n) (x ∷ a) b few =
     ap (λ l. x ∷ l) (take_over n a b (omega (arith, few)) ∙ ap (λ m. a ++ take m b) same)
 
 -- and back
-token_by : (bytes : List ℕ) (f : Refusal) (h : HasFront (begun_by at_start) bytes) → HasRefused (reading bytes).tokens f
+token_by : (bytes : List ℕ) (f : Refusal) (h : HasFront (begun_by first_reader) bytes) → HasRefused (reading bytes).tokens f
     → Known h.front → TokenRefusedAt bytes f.at f.reason
 token_by bytes f h (before, p, later, split, refused, place) (inl (s, extent)) =
     let q : Placed = record { at = f.at; token = p.token } in
@@ -235,7 +235,7 @@ bytes_of_front (x ∷ a) b h = (h.0, bytes_of_front a b h.1)
 pub refused_token : (bytes : List ℕ) (f : Refusal) → AreBytes bytes → built bytes ≡ Err f
     → TokenRefusedAt bytes f.at f.reason
 refused_token bytes f fit is =
-    let h : HasFront (begun_by at_start) bytes = front_of bytes (begun_by at_start) refl in
+    let h : HasFront (begun_by first_reader) bytes = front_of bytes (begun_by first_reader) refl in
     token_by bytes f h ((built_is_taken.refused (reading bytes).tokens f).0 is)
     (known h.front (bytes_of_front h.front h.rest (subst AreBytes h.split fit)) (sound_within h.front h.sound) h.sound)
 
@@ -246,7 +246,7 @@ same_refusal f g e = cc
 
 told_by : (bytes : List ℕ) (f : Refusal) (r : Result Building Refusal) (o : Option Refusal) (p : Option Parts)
     → AreBytes bytes → built bytes ≡ r
-    → (reading bytes).refused ≡ o → parts_of r ≡ p → read_by (first_of r o) p (length bytes) ≡ Err f
+    → (reading bytes).refused ≡ o → parts_of r ≡ p → read_by (first_refused r o) p (length bytes) ≡ Err f
     → MessageRefusedAt bytes f.at f.reason
 told_by bytes f (Err g) o p fit is refused by_parts h =
     subst (λ (e : Refusal). MessageRefusedAt bytes e.at e.reason) (same_refusal g f h)
@@ -321,7 +321,7 @@ goes_no_further bytes (b ∷ later) a s sound =
     ap (λ (c : Bool). if c then Some reasons.Trailing else at_limit x.reader) whole in
     let stopped = limit_refuses x reasons.Trailing (taken_by x.reader) (b ∷ later) r.1 why refl (omega arith) in
     absurd (some_not_none (record { at = taken_by x.reader; reason = reasons.Trailing })
-    (sym (ap (λ y. y.refused) (reads-append (begun_by at_start) bytes (b ∷ later) ∙ stopped)) ∙ sound))
+    (sym (ap (λ y. y.refused) (reads-append (begun_by first_reader) bytes (b ∷ later) ∙ stopped)) ∙ sound))
   where
     at_limit : Reader → Option Reason
     at_limit r = if taken_by r == most_bytes then Some reasons.Toolong else None
@@ -332,17 +332,17 @@ none_goes_on bytes later a b fit x y = goes_no_further bytes later a x (spelled_
 -- ---- refusals that are settled
 
 settled_by : (bytes later : List ℕ) (f : Refusal) (r : Result Building Refusal) (o : Option Refusal) → built bytes ≡ r
-    → (reading bytes).refused ≡ o → first_of r o ≡ Some f
-    → first_of (built (bytes ++ later)) (reading (bytes ++ later)).refused ≡ Some f
+    → (reading bytes).refused ≡ o → first_refused r o ≡ Some f
+    → first_refused (built (bytes ++ later)) (reading (bytes ++ later)).refused ≡ Some f
 settled_by bytes later f (Err g) o is refused h =
     let m = read_more bytes later in
-    ap (λ r. first_of r (reading (bytes ++ later)).refused)
-    (ap (taken building no_building) m.1 ∙ taken-append building no_building (reading bytes).tokens m.0
-    ∙ ap (λ r. r >>= (λ v. taken building v m.0)) is) ∙ h
+    ap (λ r. first_refused r (reading (bytes ++ later)).refused)
+    (ap (taken_all building no_building) m.1 ∙ taken-append building no_building (reading bytes).tokens m.0
+    ∙ ap (λ r. r >>= (λ v. taken_all building v m.0)) is) ∙ h
 settled_by bytes later f (Ok b) o is refused h =
-    ap (λ (x : Reading). first_of (taken building no_building x.tokens) x.refused)
+    ap (λ (x : Reading). first_refused (taken_all building no_building x.tokens) x.refused)
     (refused_more bytes later f (refused ∙ h))
-    ∙ ap (λ r. first_of r (reading bytes).refused) is ∙ refused ∙ h
+    ∙ ap (λ r. first_refused r (reading bytes).refused) is ∙ refused ∙ h
 
 -- what is settled stays
 pub settled_more : (bytes later : List ℕ) (f : Refusal) → settled bytes ≡ Some f → settled (bytes ++ later) ≡ Some f

@@ -12,7 +12,8 @@ use Rattle.syncml_shape.specs.declared.rows.Kind.TheVariants as kinds
 use Rattle.syncml_shape.specs.declared.rows.Choice.TheVariants.{One}
 use Rattle.syncml_shape.specs.declared.rows.TheConstants as table
 use Rattle.syncml_shape.specs.Forest.{Forest, nothing, text, opaque, bare, full, spelling}
-use Rattle.syncml_shape.specs.Rows.{same, Content, in_order, document, start, in_row, after_row, next, is_complete}
+use Rattle.syncml_shape.specs.Rows.{same, Content, in_order, document, start, in_row, after_row, next_child}
+use Rattle.syncml_shape.specs.Rows.{is_complete}
 use Rattle.syncml_shape.specs.Shape.{fits}
 use Rattle.syncml_shape.proofs.Accepts.{and_true}
 use Rattle.syncml_types.specs.Message.{Parts}
@@ -35,7 +36,7 @@ content_of (full e inner rest) = with_element e (content_of inner) (content_of r
 abbrev behind_message : Content
 behind_message = in_order true table.DOCUMENT
 
-next_none : (e : Element) → next behind_message e ≡ None
+next_none : (e : Element) → next_child behind_message e ≡ None
 next_none e =
     (elim (same ESyncML e)
     as (λ (b : Bool).
@@ -58,7 +59,7 @@ no_more (full e inner f) h =
     (sym (ap (λ o. elim o as (λ _. Bool) [ None ↦ false | Some x ↦ fits (start x.0) inner && fits x.1 f ])
     (next_none e)) ∙ h)
 
-next_behind : (e : Element) (x : Kind × Content) → next document e ≡ Some x → behind_message ≡ x.1
+next_behind : (e : Element) (x : Kind × Content) → next_child document e ≡ Some x → behind_message ≡ x.1
 next_behind e x h =
     (elim (same ESyncML e)
     as (λ (b : Bool).
@@ -74,8 +75,8 @@ element_of nothing h = not_so h
 element_of (text bytes f) h = not_so h
 element_of (opaque bytes f) h = not_so h
 element_of (bare e f) h =
-    (elim (next document e)
-    as (λ o. next document e ≡ o
+    (elim (next_child document e)
+    as (λ o. next_child document e ≡ o
     → IsTrue (elim o as (λ _. Bool) [ None ↦ false | Some x ↦ is_complete (start x.0) && fits x.1 f ])
     → IsElement (spelling (bare e f))) [
       | None ↦ λ n h'. not_so h'
@@ -86,8 +87,8 @@ element_of (bare e f) h =
           (e, inl (ap (λ g. Tag e false ∷ spelling g) none))
     ]) refl h
 element_of (full e inner f) h =
-    (elim (next document e)
-    as (λ o. next document e ≡ o
+    (elim (next_child document e)
+    as (λ o. next_child document e ≡ o
     → IsTrue (elim o as (λ _. Bool) [ None ↦ false | Some x ↦ fits (start x.0) inner && fits x.1 f ])
     → IsElement (spelling (full e inner f))) [
       | None ↦ λ n h'. not_so h'

@@ -9,20 +9,20 @@ use Rattle.wbxml_tokens.specs.declared.reason.FeedError.{FeedError}
 use Rattle.wbxml_tokens.specs.declared.reason.FeedError.TheVariants as errors
 use Rattle.wbxml_tokens.specs.declared.reason.Reason.TheVariants as reasons
 use Rattle.wbxml_tokens.specs.declared.token.Placed.{Placed}
-use Rattle.wbxml_tokens.specs.Reading.{Reading, at_start, begun_by, reads, reading}
-use Rattle.wbxml_tokens.specs.Taking.{taken, told, IsFirst, Stops, ◌>>=◌}
+use Rattle.wbxml_tokens.specs.Reading.{Reading, first_reader, begun_by, reads, reading}
+use Rattle.wbxml_tokens.specs.Taking.{taken_all, told_before, IsFirst, Stops, ◌>>=◌}
 use Rattle.wbxml_tokens.proofs.Steps.{reads-append}
 use Rattle.wbxml_tokens.proofs.Turns.{reads-told, taken-append}
 use Rattle.syncml_types.specs.Message.{Parts}
 use Rattle.syncml_grammar.specs.Building.{Building, IsLacking, no_building, built_by}
 use Rattle.syncml_grammar.specs.Taken.{building}
 use Rattle.syncml_codec.specs.Messages.{Spells, MessageRefusedAt}
-use Rattle.syncml_codec.specs.Decoding.{built, first_of, settled, parts_of, read_by, read_of, IsRead, Decodes}
+use Rattle.syncml_codec.specs.Decoding.{built, first_refused, settled, parts_of, read_by, read_of, IsRead, Decodes}
 use Rattle.syncml_codec.specs.Decoding.{TellsSettled, Decoding, StandsBehind, HasDecoded}
 use Rattle.syncml_codec.proofs.Unrefused.{sound_within}
 use Rattle.syncml_codec.proofs.Decoded.{spelled_is_read, refused_is_read, settled_more, settled_read}
 
-pub nothing_fed : (d : Decoding) → d ≡ record { reader = at_start; building = no_building; length = 0; stopped = None }
+pub nothing_fed : (d : Decoding) → d ≡ record { reader = first_reader; building = no_building; length = 0; stopped = None }
     → HasDecoded d []
 unfolding HasDecoded settled reads
 nothing_fed d is = subst (λ (e : Decoding). StandsBehind e.stopped e []) (sym is) (refl, refl, refl, refl)
@@ -39,7 +39,7 @@ stands_by : (d : Decoding) (bytes : List ℕ) → d.stopped ≡ None → HasDeco
 unfolding HasDecoded
 stands_by d bytes going h = subst (λ o. StandsBehind o d bytes) going h
 
-sound_by : (r : Result Building Refusal) (o : Option Refusal) → first_of r o ≡ None → o ≡ None
+sound_by : (r : Result Building Refusal) (o : Option Refusal) → first_refused r o ≡ None → o ≡ None
 sound_by (Ok b) o h = h
 sound_by (Err f) o h = cc
 
@@ -48,31 +48,31 @@ unfolding settled
 sound_of bytes h = sound_by (built bytes) (reading bytes).refused h
 
 read_on : (d : Decoding) (bytes piece : List ℕ) → Stands d bytes
-    → reading (bytes ++ piece) ≡ told (reading bytes).tokens (reads (begun_by d.reader) piece)
+    → reading (bytes ++ piece) ≡ told_before (reading bytes).tokens (reads (begun_by d.reader) piece)
 read_on d bytes piece s =
     let x : Reading = reading bytes in
-    reads-append (begun_by at_start) bytes piece
+    reads-append (begun_by first_reader) bytes piece
     ∙ ap (λ y. reads y piece)
     (ap (λ f. record { tokens = x.tokens; refused = f; reader = x.reader }) (sound_of bytes s.0)
     ∙ ap (λ t. record { tokens = t; refused = None; reader = x.reader }) (sym (append-nil x.tokens)))
     ∙ reads-told x.tokens (begun_by x.reader) piece
-    ∙ ap (λ y. told x.tokens (reads (begun_by y) piece)) (sym s.1)
+    ∙ ap (λ y. told_before x.tokens (reads (begun_by y) piece)) (sym s.1)
 
 built_on : (d : Decoding) (bytes piece : List ℕ) → Stands d bytes
-    → built (bytes ++ piece) ≡ taken building d.building (reads (begun_by d.reader) piece).tokens
+    → built (bytes ++ piece) ≡ taken_all building d.building (reads (begun_by d.reader) piece).tokens
 built_on d bytes piece s =
     let later : List Placed = (reads (begun_by d.reader) piece).tokens in
-    ap (λ (x : Reading). taken building no_building x.tokens) (read_on d bytes piece s)
-    ∙ taken-append building no_building (reading bytes).tokens later ∙ ap (λ r. r >>= (λ v. taken building v later)) s.2
+    ap (λ (x : Reading). taken_all building no_building x.tokens) (read_on d bytes piece s)
+    ∙ taken-append building no_building (reading bytes).tokens later ∙ ap (λ r. r >>= (λ v. taken_all building v later)) s.2
 
 settled_on : (bytes : List ℕ) (r : Result Building Refusal) (o : Option Refusal) → built bytes ≡ r
-    → (reading bytes).refused ≡ o → settled bytes ≡ first_of r o
+    → (reading bytes).refused ≡ o → settled bytes ≡ first_refused r o
 unfolding settled
-settled_on bytes r o is refused = ap (λ b. first_of b (reading bytes).refused) is ∙ ap (first_of r) refused
+settled_on bytes r o is refused = ap (λ b. first_refused b (reading bytes).refused) is ∙ ap (first_refused r) refused
 
 -- a piece of which nothing is refused
 pub fed_ok : (d e : Decoding) (bytes piece : List ℕ) → HasDecoded d bytes → d.stopped ≡ None → e.stopped ≡ None
-    → (taken building d.building (reads (begun_by d.reader) piece).tokens ≡ Ok e.building)
+    → (taken_all building d.building (reads (begun_by d.reader) piece).tokens ≡ Ok e.building)
     × ((reads (begun_by d.reader) piece).refused ≡ None)
     → e.reader ≡ (reads (begun_by d.reader) piece).reader → e.length ≡ min (d.length + length piece) (2 ^ 64 - 1)
     → (settled (bytes ++ piece) ≡ None) × HasDecoded e (bytes ++ piece)
@@ -93,7 +93,7 @@ fed_ok d e bytes piece h going goes_on (handed, sound) is_reader is_length =
 -- a piece of which something is refused
 fed_refused : (d e : Decoding) (bytes piece : List ℕ) (b : Building) (f : Refusal) → HasDecoded d bytes
     → d.stopped ≡ None
-    → IsFirst (taken building d.building (reads (begun_by d.reader) piece).tokens) b
+    → IsFirst (taken_all building d.building (reads (begun_by d.reader) piece).tokens) b
     (reads (begun_by d.reader) piece).refused f → e.stopped ≡ Some (errors.Refused f)
     → (settled (bytes ++ piece) ≡ Some f) × HasDecoded e (bytes ++ piece)
 unfolding HasDecoded
@@ -102,7 +102,7 @@ fed_refused d e bytes piece b f h going first stops =
     let is = refused_so first x in
     (is, subst (λ o. StandsBehind o e (bytes ++ piece)) (sym stops) is)
   where
-    refused_so : IsFirst (taken building d.building (reads (begun_by d.reader) piece).tokens) b
+    refused_so : IsFirst (taken_all building d.building (reads (begun_by d.reader) piece).tokens) b
         (reads (begun_by d.reader) piece).refused f → Stands d bytes → settled (bytes ++ piece) ≡ Some f
     refused_so (inl handed) x =
         settled_on (bytes ++ piece) (Err f) (reading (bytes ++ piece)).refused (built_on d bytes piece x ∙ handed) refl

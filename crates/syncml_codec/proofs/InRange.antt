@@ -16,7 +16,7 @@ use Rattle.wbxml_tokens.specs.declared.reason.Reason.TheVariants as reasons
 use Rattle.syncml_shape.specs.declared.rows.Kind.{Kind}
 use Rattle.syncml_shape.specs.declared.rows.Kind.TheVariants as kinds
 use Rattle.syncml_shape.specs.Forest.{Forest, nothing, text, opaque, bare, full}
-use Rattle.syncml_shape.specs.Rows.{Content, document, start, next}
+use Rattle.syncml_shape.specs.Rows.{Content, document, start, next_child}
 use Rattle.syncml_types.specs.declared.values.Loc.{Loc}
 use Rattle.syncml_types.specs.declared.values.Meta.{Meta}
 use Rattle.syncml_types.specs.declared.values.Item.{Item}
@@ -52,11 +52,13 @@ use Rattle.syncml_grammar.specs.Simples.{meta_with_text, header_with_text, statu
 use Rattle.syncml_grammar.specs.Simples.{alert_with_number, status_with_number, results_with_number, meta_with_size}
 use Rattle.syncml_grammar.specs.Simples.{with_short, with_long, with_flag, with_simple}
 use Rattle.syncml_grammar.specs.Simples.{with_text as with_simple_text}
-use Rattle.syncml_grammar.specs.Nodes.{header_with_loc, item_with_loc, with_node}
-use Rattle.syncml_grammar.specs.Values.{Value, of_leaf, of_draft, Whole, simple, node, holds_leaf, fresh, with_text}
-use Rattle.syncml_grammar.specs.Values.{simply, closed, with_child}
-use Rattle.syncml_grammar.specs.Reads.{Unread, ◌then◌, at_place, read, parts_from, parts_in, SpellsParts}
-use Rattle.syncml_codec.specs.Ranges.{IsShort, IsLong, MetaRange, ItemRange, CredRange, HeaderRange, PlainRange}
+use Rattle.syncml_grammar.specs.Nodes.{header_with_loc, item_with_loc, with_inner}
+use Rattle.syncml_grammar.specs.Values.{Value, of_leaf, of_draft, EndedElement, simple, node, holds_leaf, fresh_value}
+use Rattle.syncml_grammar.specs.Values.{with_text}
+use Rattle.syncml_grammar.specs.Values.{simply, closed_value, with_child}
+use Rattle.syncml_grammar.specs.Reads.{Unread, ◌then◌, at_place, read, parts_from, parts_held, SpellsParts}
+use Rattle.syncml_codec.specs.Ranges.{IsShortNumber, IsLongNumber, MetaRange, ItemRange, CredRange, HeaderRange}
+use Rattle.syncml_codec.specs.Ranges.{PlainRange}
 use Rattle.syncml_codec.specs.Ranges.{AlertRange, MemberRange, AtomicRange, SeqMemberRange, SequenceRange, StatusRange}
 use Rattle.syncml_codec.specs.Ranges.{ResultsRange, CommandRange, AreNumbers}
 use Rattle.syncml_codec.specs.Laws.{SpelledIsInRange}
@@ -82,17 +84,17 @@ DraftRange (draft.Meta meta) = MetaRange meta
 
 abbrev SimpleRange : Simple → Type 0
 SimpleRange (simples.Text bytes) = ⊤
-SimpleRange (simples.Short n) = IsShort n
-SimpleRange (simples.Long n) = IsLong n
+SimpleRange (simples.Short n) = IsShortNumber n
+SimpleRange (simples.Long n) = IsLongNumber n
 SimpleRange simples.Flag = ⊤
 
-abbrev WholeRange : Whole → Type 0
+abbrev WholeRange : EndedElement → Type 0
 WholeRange (simple s) = SimpleRange s
 WholeRange (node d) = DraftRange d
 
 abbrev DigitsRange : Digits → Type 0
 DigitsRange Start = ⊤
-DigitsRange (Number n) = IsLong n
+DigitsRange (Number n) = IsLongNumber n
 DigitsRange Bad = ⊤
 
 abbrev LeafRange : Leaf → Type 0
@@ -153,7 +155,7 @@ short_range least n s h =
       | false ↦ λ is e. cc
     ] refl h
 
-ranged_range : (k : Kind) (n : ℕ) (s : Simple) → IsLong n → ranged k n ≡ Ok s → SimpleRange s
+ranged_range : (k : Kind) (n : ℕ) (s : Simple) → IsLongNumber n → ranged k n ≡ Ok s → SimpleRange s
 ranged_range kinds.Size n s long h = subst SimpleRange (same_simple (simples.Long n) s h) long
 ranged_range kinds.Id n s long h = short_range 1 n s h
 ranged_range _ n s long h = short_range 0 n s h
@@ -229,11 +231,11 @@ draft_text (draft.Atomic b) e bytes r = r
 draft_text (draft.Sequence b) e bytes r = r
 draft_text (draft.Chal meta) e bytes r = r
 
-alert_number : (c : AlertCmd) (e : Element) (n : ℕ) → IsShort n → AlertRange c → AlertRange (alert_with_number c e n)
+alert_number : (c : AlertCmd) (e : Element) (n : ℕ) → IsShortNumber n → AlertRange c → AlertRange (alert_with_number c e n)
 alert_number c EData n short r = record { id = r.id; code = short; items = r.items }
 alert_number c _ n short r = record { id = short; code = r.code; items = r.items }
 
-status_number : (c : StatusCmd) (e : Element) (n : ℕ) → IsShort n → StatusRange c
+status_number : (c : StatusCmd) (e : Element) (n : ℕ) → IsShortNumber n → StatusRange c
     → StatusRange (status_with_number c e n)
 status_number c ECmdID n short r =
     record { id = short; msg_ref = r.msg_ref; cmd_ref = r.cmd_ref; code = r.code; chal = r.chal; items = r.items }
@@ -244,7 +246,7 @@ status_number c ECmdRef n short r =
 status_number c _ n short r =
     record { id = r.id; msg_ref = r.msg_ref; cmd_ref = r.cmd_ref; code = short; chal = r.chal; items = r.items }
 
-results_number : (c : ResultsCmd) (e : Element) (n : ℕ) → IsShort n → ResultsRange c
+results_number : (c : ResultsCmd) (e : Element) (n : ℕ) → IsShortNumber n → ResultsRange c
     → ResultsRange (results_with_number c e n)
 results_number c ECmdID n short r =
     record { id = short; msg_ref = r.msg_ref; cmd_ref = r.cmd_ref; meta = r.meta; items = r.items }
@@ -253,7 +255,7 @@ results_number c EMsgRef n short r =
 results_number c _ n short r =
     record { id = r.id; msg_ref = r.msg_ref; cmd_ref = short; meta = r.meta; items = r.items }
 
-draft_short : (d : Draft) (e : Element) (n : ℕ) → IsShort n → DraftRange d → DraftRange (with_short d e n)
+draft_short : (d : Draft) (e : Element) (n : ℕ) → IsShortNumber n → DraftRange d → DraftRange (with_short d e n)
 draft_short (draft.Header h) e n short r = record { msg = short; cred = r.cred; meta = r.meta }
 draft_short (draft.Plain c) e n short r = record { id = short; meta = r.meta; items = r.items }
 draft_short (draft.Alert c) e n short r = alert_number c e n short r
@@ -270,12 +272,12 @@ draft_short (draft.Cred cred) e n short r = r
 draft_short (draft.Chal meta) e n short r = r
 draft_short (draft.Meta meta) e n short r = r
 
-meta_size : (meta : Meta) (e : Element) (n : ℕ) → IsLong n → MetaRange meta → MetaRange (meta_with_size meta e n)
+meta_size : (meta : Meta) (e : Element) (n : ℕ) → IsLongNumber n → MetaRange meta → MetaRange (meta_with_size meta e n)
 meta_size meta ESize n long r = record { size = long; max_msg = r.max_msg; max_obj = r.max_obj }
 meta_size meta EMaxMsgSize n long r = record { size = r.size; max_msg = long; max_obj = r.max_obj }
 meta_size meta _ n long r = record { size = r.size; max_msg = r.max_msg; max_obj = long }
 
-draft_long : (d : Draft) (e : Element) (n : ℕ) → IsLong n → DraftRange d → DraftRange (with_long d e n)
+draft_long : (d : Draft) (e : Element) (n : ℕ) → IsLongNumber n → DraftRange d → DraftRange (with_long d e n)
 draft_long (draft.Meta meta) e n long r = meta_size meta e n long r
 draft_long draft.Document e n long r = r
 draft_long (draft.Message m) e n long r = r
@@ -332,20 +334,20 @@ item_loc item _ loc r = r
 
 -- a value that a child changes by its kind alone, and by no other child
 message_node : (m : MessageDraft) (e : Element) (d : Draft) → DraftRange d → DraftRange (draft.Message m)
-    → DraftRange (with_node (draft.Message m) e d)
+    → DraftRange (with_inner (draft.Message m) e d)
 message_node m e (draft.Header h) c r = (c, r.1)
 message_node m e (draft.Body b) c r = (r.0, c)
 message_node m e _ c r = r
 
 header_node : (h : Header) (e : Element) (d : Draft) → DraftRange d → HeaderRange h
-    → DraftRange (with_node (draft.Header h) e d)
+    → DraftRange (with_inner (draft.Header h) e d)
 header_node h e (draft.Loc loc) c r = header_loc h e loc r
 header_node h e (draft.Cred cred) c r = record { msg = r.msg; cred = c; meta = r.meta }
 header_node h e (draft.Meta meta) c r = record { msg = r.msg; cred = r.cred; meta = c }
 header_node h e _ c r = r
 
 body_node : (b : BodyDraft) (e : Element) (d : Draft) → DraftRange d → AllByRecursion CommandRange b.commands
-    → DraftRange (with_node (draft.Body b) e d)
+    → DraftRange (with_inner (draft.Body b) e d)
 body_node b e (draft.Plain x) c r = one_more CommandRange b.commands (command.Plain x) r c
 body_node b e (draft.Alert x) c r = one_more CommandRange b.commands (command.Alert x) r c
 body_node b e (draft.Atomic x) c r = one_more CommandRange b.commands (command.Atomic x) r c
@@ -355,20 +357,20 @@ body_node b e (draft.Results x) c r = one_more CommandRange b.commands (command.
 body_node b e _ c r = r
 
 plain_node : (p : Plain) (e : Element) (d : Draft) → DraftRange d → PlainRange p
-    → DraftRange (with_node (draft.Plain p) e d)
+    → DraftRange (with_inner (draft.Plain p) e d)
 plain_node p e (draft.Meta meta) c r = record { id = r.id; meta = c; items = r.items }
 plain_node p e (draft.Item item) c r =
     record { id = r.id; meta = r.meta; items = one_more ItemRange p.items item r.items c }
 plain_node p e _ c r = r
 
 alert_node : (a : AlertCmd) (e : Element) (d : Draft) → DraftRange d → AlertRange a
-    → DraftRange (with_node (draft.Alert a) e d)
+    → DraftRange (with_inner (draft.Alert a) e d)
 alert_node a e (draft.Item item) c r =
     record { id = r.id; code = r.code; items = one_more ItemRange a.items item r.items c }
 alert_node a e _ c r = r
 
 atomic_node : (b : Block Member) (e : Element) (d : Draft) → DraftRange d → AtomicRange b
-    → DraftRange (with_node (draft.Atomic b) e d)
+    → DraftRange (with_inner (draft.Atomic b) e d)
 atomic_node b e (draft.Meta meta) c r = record { id = r.id; meta = c; members = r.members }
 atomic_node b e (draft.Plain x) c r =
     record { id = r.id; meta = r.meta; members = one_more MemberRange b.members (member.One x) r.members c }
@@ -377,7 +379,7 @@ atomic_node b e (draft.Alert x) c r =
 atomic_node b e _ c r = record { id = r.id; meta = r.meta; members = r.members }
 
 sequence_node : (b : Block SeqMember) (e : Element) (d : Draft) → DraftRange d → SequenceRange b
-    → DraftRange (with_node (draft.Sequence b) e d)
+    → DraftRange (with_inner (draft.Sequence b) e d)
 sequence_node b e (draft.Meta meta) c r = record { id = r.id; meta = c; members = r.members }
 sequence_node b e (draft.Plain x) c r =
     record {
@@ -396,7 +398,7 @@ sequence_node b e (draft.Atomic x) c r =
 sequence_node b e _ c r = record { id = r.id; meta = r.meta; members = r.members }
 
 status_node : (s : StatusCmd) (e : Element) (d : Draft) → DraftRange d → StatusRange s
-    → DraftRange (with_node (draft.Status s) e d)
+    → DraftRange (with_inner (draft.Status s) e d)
 status_node s e (draft.Chal meta) c r =
     record { id = r.id; msg_ref = r.msg_ref; cmd_ref = r.cmd_ref; code = r.code; chal = c; items = r.items }
 status_node s e (draft.Item item) c r =
@@ -411,7 +413,7 @@ status_node s e (draft.Item item) c r =
 status_node s e _ c r = r
 
 results_node : (s : ResultsCmd) (e : Element) (d : Draft) → DraftRange d → ResultsRange s
-    → DraftRange (with_node (draft.Results s) e d)
+    → DraftRange (with_inner (draft.Results s) e d)
 results_node s e (draft.Meta meta) c r =
     record { id = r.id; msg_ref = r.msg_ref; cmd_ref = r.cmd_ref; meta = c; items = r.items }
 results_node s e (draft.Item item) c r =
@@ -425,28 +427,28 @@ results_node s e (draft.Item item) c r =
 results_node s e _ c r = r
 
 item_node : (item : Item) (e : Element) (d : Draft) → DraftRange d → ItemRange item
-    → DraftRange (with_node (draft.Item item) e d)
+    → DraftRange (with_inner (draft.Item item) e d)
 item_node item e (draft.Loc loc) c r = item_loc item e loc r
 item_node item e (draft.Meta meta) c r = c
 item_node item e _ c r = r
 
 cred_node : (cred : Cred) (e : Element) (d : Draft) → DraftRange d → CredRange cred
-    → DraftRange (with_node (draft.Cred cred) e d)
+    → DraftRange (with_inner (draft.Cred cred) e d)
 cred_node cred e (draft.Meta meta) c r = c
 cred_node cred e _ c r = r
 
 chal_node : (meta : Meta) (e : Element) (d : Draft) → DraftRange d → MetaRange meta
-    → DraftRange (with_node (draft.Chal meta) e d)
+    → DraftRange (with_inner (draft.Chal meta) e d)
 chal_node meta e (draft.Meta other) c r = c
 chal_node meta e _ c r = r
 
 meta_node : (meta : Meta) (e : Element) (d : Draft) → DraftRange d → MetaRange meta
-    → DraftRange (with_node (draft.Meta meta) e d)
+    → DraftRange (with_inner (draft.Meta meta) e d)
 meta_node meta e (draft.Meta other) c r = c
 meta_node meta e _ c r = r
 
 draft_node : (d : Draft) (e : Element) (child : Draft) → DraftRange child → DraftRange d
-    → DraftRange (with_node d e child)
+    → DraftRange (with_inner d e child)
 draft_node draft.Document e child c r = c
 draft_node (draft.Message m) e child c r = message_node m e child c r
 draft_node (draft.Header h) e child c r = header_node h e child c r
@@ -465,7 +467,7 @@ draft_node (draft.Meta meta) e child c r = meta_node meta e child c r
 
 -- ---- values
 
-child_range : (v : Value) (e : Element) (w : Whole) → WholeRange w → ValueRange v → ValueRange (with_child v e w)
+child_range : (v : Value) (e : Element) (w : EndedElement) → WholeRange w → ValueRange v → ValueRange (with_child v e w)
 child_range (of_leaf leaf) e w h r = r
 child_range (of_draft d) e (simple s) h r = draft_simple d e s h r
 child_range (of_draft d) e (node child) h r = draft_node d e child h r
@@ -504,26 +506,26 @@ new_by : (b : Bool) (k : Kind) (e : Element)
 new_by true k e = new_leaf k
 new_by false k e = new_draft k e
 
-new_value : (k : Kind) (e : Element) → ValueRange (fresh k e)
+new_value : (k : Kind) (e : Element) → ValueRange (fresh_value k e)
 new_value k e = new_by (holds_leaf k) k e
 
-same_whole : (a b : Whole) → ◌≡◌ {A = Result Whole Reason} (Ok a) (Ok b) → a ≡ b
+same_whole : (a b : EndedElement) → ◌≡◌ {A = Result EndedElement Reason} (Ok a) (Ok b) → a ≡ b
 same_whole a b e = cc
 
-simply_range : (k : Kind) (leaf : Leaf) (o : Result Simple Reason) (w : Whole) → LeafRange leaf → closed_leaf k leaf ≡ o
+simply_range : (k : Kind) (leaf : Leaf) (o : Result Simple Reason) (w : EndedElement) → LeafRange leaf → closed_leaf k leaf ≡ o
     → simply o ≡ Ok w → WholeRange w
 simply_range k leaf (Ok s) w r is h = subst WholeRange (same_whole (simple s) w h) (leaf_range k leaf s r is)
 simply_range k leaf (Err reason) w r is h = cc
 
-closed_range : (k : Kind) (v : Value) (w : Whole) → ValueRange v → closed k v ≡ Ok w → WholeRange w
+closed_range : (k : Kind) (v : Value) (w : EndedElement) → ValueRange v → closed_value k v ≡ Ok w → WholeRange w
 closed_range k (of_leaf leaf) w r h = simply_range k leaf (closed_leaf k leaf) w r refl h
 closed_range k (of_draft d) w r h = subst WholeRange (same_whole (node d) w h) r
 
 -- ---- trees
 
-closes_to : (at : ℕ) (o : Result Whole Reason) (f : Whole → Result (Value × ℕ) Unread) (out : Value × ℕ)
+closes_to : (at : ℕ) (o : Result EndedElement Reason) (f : EndedElement → Result (Value × ℕ) Unread) (out : Value × ℕ)
     → (at_place at o then f) ≡ Ok out
-    → (w : Whole) × (o ≡ Ok w) × (f w ≡ Ok out)
+    → (w : EndedElement) × (o ≡ Ok w) × (f w ≡ Ok out)
 closes_to at (Ok w) f out h = (w, refl, h)
 closes_to at (Err reason) f out h = cc
 
@@ -545,30 +547,30 @@ read_range (text bytes f) at v content out r h =
 read_range (opaque bytes f) at v content out r h =
     read_range f (at + 1) (with_text v bytes) content out (more_text v bytes r) h
 read_range (bare e f) at v content out r h =
-    (elim (next content e) as (λ o. (elim o as (λ _. Result (Value × ℕ) Unread) [
+    (elim (next_child content e) as (λ o. (elim o as (λ _. Result (Value × ℕ) Unread) [
       | None ↦ Err (record { at = at; reason = Misplaced })
-      | Some x ↦ at_place at (closed x.0 (fresh x.0 e)) then (λ child. read (at + 1) (with_child v e child) x.1 f)
+      | Some x ↦ at_place at (closed_value x.0 (fresh_value x.0 e)) then (λ child. read (at + 1) (with_child v e child) x.1 f)
     ]) ≡ Ok out → ValueRange out.0) [
       | None ↦ λ h'. cc
       | Some x ↦ λ h'.
           let shut =
-          closes_to at (closed x.0 (fresh x.0 e)) (λ child. read (at + 1) (with_child v e child) x.1 f) out h' in
-          let whole = closed_range x.0 (fresh x.0 e) shut.0 (new_value x.0 e) shut.1 in
+          closes_to at (closed_value x.0 (fresh_value x.0 e)) (λ child. read (at + 1) (with_child v e child) x.1 f) out h' in
+          let whole = closed_range x.0 (fresh_value x.0 e) shut.0 (new_value x.0 e) shut.1 in
           read_range f (at + 1) (with_child v e shut.0) x.1 out (child_range v e shut.0 whole r) shut.2
     ]) h
 read_range (full e inner f) at v content out r h =
-    (elim (next content e) as (λ o. (elim o as (λ _. Result (Value × ℕ) Unread) [
+    (elim (next_child content e) as (λ o. (elim o as (λ _. Result (Value × ℕ) Unread) [
       | None ↦ Err (record { at = at; reason = Misplaced })
-      | Some x ↦ read (at + 1) (fresh x.0 e) (start x.0) inner then
-          (λ p. at_place p.1 (closed x.0 p.0) then (λ child. read (p.1 + 1) (with_child v e child) x.1 f))
+      | Some x ↦ read (at + 1) (fresh_value x.0 e) (start x.0) inner then
+          (λ p. at_place p.1 (closed_value x.0 p.0) then (λ child. read (p.1 + 1) (with_child v e child) x.1 f))
     ]) ≡ Ok out → ValueRange out.0) [
       | None ↦ λ h'. cc
       | Some x ↦ λ h'.
-          let run = reads_to (read (at + 1) (fresh x.0 e) (start x.0) inner)
-          (λ p. at_place p.1 (closed x.0 p.0) then (λ child. read (p.1 + 1) (with_child v e child) x.1 f)) out h' in
+          let run = reads_to (read (at + 1) (fresh_value x.0 e) (start x.0) inner)
+          (λ p. at_place p.1 (closed_value x.0 p.0) then (λ child. read (p.1 + 1) (with_child v e child) x.1 f)) out h' in
           let shut =
-          closes_to run.0.1 (closed x.0 run.0.0) (λ child. read (run.0.1 + 1) (with_child v e child) x.1 f) out run.2 in
-          let inside = read_range inner (at + 1) (fresh x.0 e) (start x.0) run.0 (new_value x.0 e) run.1 in
+          closes_to run.0.1 (closed_value x.0 run.0.0) (λ child. read (run.0.1 + 1) (with_child v e child) x.1 f) out run.2 in
+          let inside = read_range inner (at + 1) (fresh_value x.0 e) (start x.0) run.0 (new_value x.0 e) run.1 in
           let whole = closed_range x.0 run.0.0 shut.0 inside shut.1 in
           read_range f (run.0.1 + 1) (with_child v e shut.0) x.1 out (child_range v e shut.0 whole r) shut.2
     ]) h
@@ -586,7 +588,7 @@ parts_range m (Some header) parts h body is =
     subst AreNumbers (same_parts (record { header = header; body = m.body; last = m.last }) parts is)
     (record { header = h; body = body })
 
-value_range : (v : Value) (parts : Parts) → ValueRange v → parts_in v ≡ Some parts → AreNumbers parts
+value_range : (v : Value) (parts : Parts) → ValueRange v → parts_held v ≡ Some parts → AreNumbers parts
 value_range (of_draft (draft.Message m)) parts r is = parts_range m m.header parts r.0 r.1 is
 value_range (of_draft _) parts r is = cc
 value_range (of_leaf leaf) parts r is = cc

@@ -11,7 +11,7 @@ use Rattle.wbxml_tokens.specs.declared.reason.Reason.TheVariants as reasons
 use Rattle.wbxml_tokens.specs.declared.reason.Refusal.{Refusal}
 use Rattle.wbxml_tokens.specs.declared.extent.Extent.{Extent}
 use Rattle.wbxml_tokens.specs.Reading.{most_bytes, reading}
-use Rattle.wbxml_tokens.specs.Taking.{taken, ◌>>=◌}
+use Rattle.wbxml_tokens.specs.Taking.{taken_all, ◌>>=◌}
 use Rattle.wbxml_tokens.specs.Spelled.{IsWrong, IsWrongPrologue, IsUnfinishedPrologue, ReadsUpTo, RefusedAt}
 use Rattle.wbxml_tokens.specs.Spelled.{in_prologue, in_body, trailing, unfinished_prologue, unfinished_body}
 use Rattle.wbxml_tokens.proofs.Refusals.{refused_is_told}
@@ -19,7 +19,7 @@ use Rattle.wbxml_tokens.proofs.Turns.{taken-append}
 use Rattle.syncml_grammar.specs.Building.{Building, no_building}
 use Rattle.syncml_grammar.specs.Taken.{building}
 use Rattle.syncml_codec.specs.Messages.{NoTokenRefused}
-use Rattle.syncml_codec.specs.Decoding.{built, first_of, settled}
+use Rattle.syncml_codec.specs.Decoding.{built, first_refused, settled}
 use Rattle.syncml_codec.specs.Laws.{RefusedPartIsSettled}
 use Rattle.syncml_codec.proofs.Unrefused.{read_more}
 use Rattle.syncml_codec.proofs.Decoded.{refused_token, take_over, bytes_of_front}
@@ -182,8 +182,8 @@ short_refused {bytes} (unfinished_body {table} {page} {at} {extent} {rest} u ope
 built_more : (bytes later : List ℕ) (f : Refusal) → built bytes ≡ Err f → built (bytes ++ later) ≡ Err f
 built_more bytes later f is =
     let m = read_more bytes later in
-    ap (taken building no_building) m.1 ∙ taken-append building no_building (reading bytes).tokens m.0
-    ∙ ap (λ r. r >>= (λ v. taken building v m.0)) is
+    ap (taken_all building no_building) m.1 ∙ taken-append building no_building (reading bytes).tokens m.0
+    ∙ ap (λ r. r >>= (λ v. taken_all building v m.0)) is
 
 settled_when : (front rest bytes : List ℕ) (f : Refusal) (r : Result Building Refusal) → AreBytes bytes
     → bytes ≡ front ++ rest → NoTokenRefused bytes
@@ -192,7 +192,7 @@ unfolding settled
 settled_when front rest bytes f (Err g) fit split none is refused =
     absurd (none g.at g.reason (refused_token bytes g fit (ap built split ∙ built_more front rest g is)))
 settled_when front rest bytes f (Ok b) fit split none is refused =
-    ap (λ r. first_of r (reading front).refused) is ∙ refused
+    ap (λ r. first_refused r (reading front).refused) is ∙ refused
 
 pub refused_part_is_settled : RefusedPartIsSettled
 refused_part_is_settled bytes at reason fit h none other =

@@ -22,7 +22,7 @@ use Rattle.syncml_grammar.specs.Refusals.{IsRefused}
 use Rattle.syncml_grammar.specs.Taken.{tokens, HasRefused}
 use Rattle.syncml_grammar.proofs.Reasons.{IsOfText, unread_is_text}
 use Rattle.syncml_grammar.proofs.Taken.{built_is_taken}
-use Rattle.syncml_codec.specs.Decoding.{built, first_of, settled, parts_of, read_by, read_of}
+use Rattle.syncml_codec.specs.Decoding.{built, first_refused, settled, parts_of, read_by, read_of}
 use Rattle.syncml_codec.specs.Laws.{SettledIsForGood, RefusedIsSettled, RefusedTokenIsSettled, TruncatedIsOpen}
 use Rattle.syncml_codec.proofs.Decoded.{token_unbuilt, bytes_of_front, settled_more, settled_read}
 
@@ -64,7 +64,7 @@ same_some f g e = cc
 
 settled_by : (bytes : List ℕ) (f : Refusal) (r : Result Building Refusal) (o : Option Refusal) → AreBytes bytes
     → built bytes ≡ r → (reading bytes).refused ≡ o
-    → first_of r o ≡ Some f → f.reason ≡ reasons.Truncated → ⊥
+    → first_refused r o ≡ Some f → f.reason ≡ reasons.Truncated → ⊥
 settled_by bytes f (Err g) o fit is refused h e =
     let found : HasRefused (reading bytes).tokens f =
     (built_is_taken.refused (reading bytes).tokens f).0 (is ∙ ap (λ (x : Refusal). Err x) (same_some g f h)) in
@@ -137,7 +137,7 @@ settled_is_for_good bytes f fit = (
 
 unbuilt_settled : (bytes : List ℕ) (f : Refusal) → built bytes ≡ Err f → settled bytes ≡ Some f
 unfolding settled
-unbuilt_settled bytes f is = ap (λ r. first_of r (reading bytes).refused) is
+unbuilt_settled bytes f is = ap (λ r. first_refused r (reading bytes).refused) is
 
 few : (n : ℕ) (l : List ℕ) → length (take n l) ≤ n
 few n l = omega (arith, length-take n l)

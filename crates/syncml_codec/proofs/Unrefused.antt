@@ -10,8 +10,9 @@ use Rattle.wbxml_tokens.specs.declared.reason.Refusal.{Refusal}
 use Rattle.wbxml_tokens.specs.declared.token.Placed.{Placed}
 use Rattle.wbxml_tokens.specs.declared.extent.Extent.{Extent}
 use Rattle.wbxml_tokens.specs.Fronts.{Front, more, wrong, head, switch, token}
-use Rattle.wbxml_tokens.specs.Reading.{Reader, Reading, at_start, begun_by, most_bytes, taken_by, is_whole, found, met}
-use Rattle.wbxml_tokens.specs.Reading.{limit, step, step_from, step_within, reads, reading}
+use Rattle.wbxml_tokens.specs.Reading.{Reader, Reading, first_reader, begun_by, most_bytes, taken_by, is_whole, found}
+use Rattle.wbxml_tokens.specs.Reading.{met}
+use Rattle.wbxml_tokens.specs.Reading.{limit, step_byte, step_from, step_within, reads, reading}
 use Rattle.wbxml_tokens.specs.Spelled.{SpellsTokens, none, switch as a_switch, token as a_token}
 use Rattle.wbxml_tokens.proofs.Steps.{reads-append, stays}
 use Rattle.wbxml_tokens.proofs.Turns.{reads-told}
@@ -54,24 +55,24 @@ pub record HasFront (x : Reading) (bytes : List ℕ) : Type 0 where
   pub sound : (reads x front).refused ≡ None
   pub tokens : (reads x front).tokens ≡ (reads x bytes).tokens
 
-front_by : (x : Reading) (b : ℕ) (bytes : List ℕ) (o : Option Refusal) → x.refused ≡ None → (step x b).refused ≡ o
-    → ((step x b).refused ≡ None → HasFront (step x b) bytes) → HasFront x (b ∷ bytes)
+front_by : (x : Reading) (b : ℕ) (bytes : List ℕ) (o : Option Refusal) → x.refused ≡ None → (step_byte x b).refused ≡ o
+    → ((step_byte x b).refused ≡ None → HasFront (step_byte x b) bytes) → HasFront x (b ∷ bytes)
 unfolding reads
 front_by x b bytes None going is later =
-    let h : HasFront (step x b) bytes = later is in
+    let h : HasFront (step_byte x b) bytes = later is in
     record { front = b ∷ h.front; rest = h.rest; split = ap (λ l. b ∷ l) h.split; sound = h.sound; tokens = h.tokens }
 front_by x b bytes (Some f) going is later = record {
   front = [];
   rest = b ∷ bytes;
   split = refl;
   sound = going;
-  tokens = sym (ap (λ y. y.tokens) (stays (step x b) f bytes is) ∙ from_adds_none x b x.refused f refl going is);
+  tokens = sym (ap (λ y. y.tokens) (stays (step_byte x b) f bytes is) ∙ from_adds_none x b x.refused f refl going is);
 }
 
 pub front_of : (bytes : List ℕ) (x : Reading) → x.refused ≡ None → HasFront x bytes
 unfolding reads
 front_of [] x going = record { front = []; rest = []; split = refl; sound = going; tokens = refl }
-front_of (b ∷ bytes) x going = front_by x b bytes (step x b).refused going refl (front_of bytes (step x b))
+front_of (b ∷ bytes) x going = front_by x b bytes (step_byte x b).refused going refl (front_of bytes (step_byte x b))
 
 -- ---- bytes of which none is refused are no more than a document may have
 
@@ -100,13 +101,13 @@ sound_before x bytes (Some f) is h = absurd (refused_none x f is (ap (λ y. y.re
 refused_beyond : (bytes : List ℕ) → most_bytes < length bytes → (reading bytes).refused ≡ None → ⊥
 refused_beyond bytes long sound =
     let x : Reading = reading (take most_bytes bytes) in
-    let split : reading bytes ≡ reads x (drop most_bytes bytes) = in_two (begun_by at_start) most_bytes bytes in
+    let split : reading bytes ≡ reads x (drop most_bytes bytes) = in_two (begun_by first_reader) most_bytes bytes in
     let early : x.refused ≡ None =
     sound_before x (drop most_bytes bytes) x.refused refl (sym (ap (λ y. y.refused) split) ∙ sound) in
     let full : taken_by x.reader ≡ most_bytes =
     omega (
       arith,
-      takes_all (take most_bytes bytes) (begun_by at_start) early,
+      takes_all (take most_bytes bytes) (begun_by first_reader) early,
       length-take-le most_bytes bytes (omega (arith, long)),
     ) in
     let why = limit_of x.reader (is_whole x.reader.extent) refl full in
@@ -128,14 +129,14 @@ pub read_more : (bytes later : List ℕ)
 read_more bytes later =
     let x : Reading = reading bytes in (
       (reads (record x { tokens = [] }) later).tokens,
-      ap (λ y. y.tokens) (reads-append (begun_by at_start) bytes later)
+      ap (λ y. y.tokens) (reads-append (begun_by first_reader) bytes later)
           ∙ ap (λ t. (reads (record x { tokens = t }) later).tokens) (sym (append-nil x.tokens))
           ∙ ap (λ y. y.tokens) (reads-told x.tokens (record x { tokens = [] }) later),
     )
 
 pub refused_more : (bytes later : List ℕ) (f : Refusal) → (reading bytes).refused ≡ Some f
     → reading (bytes ++ later) ≡ reading bytes
-refused_more bytes later f is = reads-append (begun_by at_start) bytes later ∙ stays (reading bytes) f later is
+refused_more bytes later f is = reads-append (begun_by first_reader) bytes later ∙ stays (reading bytes) f later is
 
 -- ---- the bytes of the first tokens
 

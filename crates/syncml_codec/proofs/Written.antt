@@ -2,9 +2,9 @@
 use Rattle.std.proofs.Common.{◌≡◌, List, [], ◌∷◌, ◌++◌, sym, ◌∙◌, append_assoc}
 use Rattle.std.proofs.lemmas.List.{append-nil}
 use Rattle.wbxml_tokens.specs.declared.token.Token.{Token}
-use Rattle.wbxml_tokens.specs.Spelling.{Written, written_after, given, spelled, token_bytes, page_after}
+use Rattle.wbxml_tokens.specs.Spelling.{WrittenSoFar, written_after, given, spelled, token_bytes, page_after}
 
-pub bytes_written : (w : Written) (tokens : List Token)
+pub bytes_written : (w : WrittenSoFar) (tokens : List Token)
     → (given written_after w tokens).bytes ≡ w.bytes ++ spelled w.page tokens
 bytes_written w [] = sym (append-nil w.bytes)
 bytes_written w (t ∷ ts) =

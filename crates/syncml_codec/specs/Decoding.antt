@@ -6,7 +6,7 @@ use Rattle.wbxml_tokens.specs.declared.reason.FeedError.{FeedError}
 use Rattle.wbxml_tokens.specs.declared.reason.FeedError.TheVariants as errors
 use Rattle.wbxml_tokens.specs.declared.reason.Reason.TheVariants as reasons
 use Rattle.wbxml_tokens.specs.Reading.{Reader, reading}
-use Rattle.wbxml_tokens.specs.Taking.{taken}
+use Rattle.wbxml_tokens.specs.Taking.{taken_all}
 use Rattle.syncml_types.specs.Message.{Parts}
 use Rattle.syncml_grammar.specs.Building.{Building, no_building, built_by}
 use Rattle.syncml_grammar.specs.Taken.{building}
@@ -14,15 +14,15 @@ use Rattle.syncml_codec.specs.Messages.{Spells, MessageRefusedAt}
 
 -- what is built of the tokens that are read, or the refusal of the first that the grammar doesn't take
 abbrev pub built : List ℕ → Result Building Refusal
-built bytes = taken building no_building (reading bytes).tokens
+built bytes = taken_all building no_building (reading bytes).tokens
 
-abbrev pub first_of : Result Building Refusal → Option Refusal → Option Refusal
-first_of (Err refusal) refused = Some refusal
-first_of (Ok b) refused = refused
+abbrev pub first_refused : Result Building Refusal → Option Refusal → Option Refusal
+first_refused (Err refusal) refused = Some refusal
+first_refused (Ok b) refused = refused
 
 -- the first refusal that these bytes settle, whatever follows them
 unfoldable pub settled : List ℕ → Option Refusal
-settled bytes = first_of (built bytes) (reading bytes).refused
+settled bytes = first_refused (built bytes) (reading bytes).refused
 
 abbrev pub parts_of : Result Building Refusal → Option Parts
 parts_of (Err refusal) = None
@@ -83,5 +83,5 @@ abbrev pub IsGoing : Decoding → Type 0
 IsGoing d = d.stopped ≡ None
 
 -- it has answered this, and reads no more
-abbrev pub HasStopped : Decoding → FeedError → Type 0
-HasStopped d error = d.stopped ≡ Some error
+abbrev pub HasAnswered : Decoding → FeedError → Type 0
+HasAnswered d error = d.stopped ≡ Some error

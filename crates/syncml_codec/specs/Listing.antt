@@ -19,37 +19,37 @@ begins_with_sign [] = false
 begins_with_sign (b ∷ bs) = b == 35
 
 -- a value that is shown as it is
-abbrev pub is_shown : List ℕ → Bool
-is_shown bytes = list_all is_printable bytes && not (begins_with_sign bytes)
+abbrev pub is_plain_text : List ℕ → Bool
+is_plain_text bytes = list_all is_printable bytes && not (begins_with_sign bytes)
 
 unfoldable pub value_text : List ℕ → List ℕ
-value_text bytes = if is_shown bytes then bytes else 35 ∷ hex_text bytes
+value_text bytes = if is_plain_text bytes then bytes else 35 ∷ hex_text bytes
 
 -- two spaces a depth
 abbrev pub spaces : ℕ → List ℕ
 spaces zero = []
 spaces (suc n) = 32 ∷ 32 ∷ spaces n
 
-abbrev pub above : ℕ → ℕ
-above zero = zero
-above (suc n) = n
+abbrev pub depth_above : ℕ → ℕ
+depth_above zero = zero
+depth_above (suc n) = n
 
 abbrev pub feed_where : Bool → List ℕ
 feed_where c = if c then line_feed else []
 
 -- the lines of tokens at a depth, where the line of an element may still be open
-abbrev pub listed : ℕ → Bool → List Token → List ℕ
-listed depth is_open [] = []
-listed depth is_open (Tag e content ∷ ts) =
+abbrev pub token_lines : ℕ → Bool → List Token → List ℕ
+token_lines depth is_open [] = []
+token_lines depth is_open (Tag e content ∷ ts) =
     feed_where is_open ++ spaces depth ++ name_in_text e ++ feed_where (not content)
-    ++ listed (if content then suc depth else depth) content ts
-listed depth is_open (End ∷ ts) = feed_where is_open ++ listed (above depth) false ts
-listed depth is_open (Text text ∷ ts) = 32 ∷ value_text text ++ listed depth is_open ts
-listed depth is_open (Opaque bytes ∷ ts) = 32 ∷ value_text bytes ++ listed depth is_open ts
+    ++ token_lines (if content then suc depth else depth) content ts
+token_lines depth is_open (End ∷ ts) = feed_where is_open ++ token_lines (depth_above depth) false ts
+token_lines depth is_open (Text text ∷ ts) = 32 ∷ value_text text ++ token_lines depth is_open ts
+token_lines depth is_open (Opaque bytes ∷ ts) = 32 ∷ value_text bytes ++ token_lines depth is_open ts
 
 -- the listing of a message
 abbrev pub listing_of : Parts → List ℕ
-listing_of m = listed 0 false (message_tokens m)
+listing_of m = token_lines 0 false (message_tokens m)
 
 -- ---- how it is written
 

@@ -19,16 +19,16 @@ use Rattle.syncml_types.specs.declared.command.Command.TheVariants as command
 use Rattle.syncml_types.specs.Message.{Parts}
 
 -- a number of 32 bits, and one of 64
-abbrev pub IsShort : ℕ → Type 0
-IsShort n = n < 2 ^ 32
+abbrev pub IsShortNumber : ℕ → Type 0
+IsShortNumber n = n < 2 ^ 32
 
-abbrev pub IsLong : ℕ → Type 0
-IsLong n = n < 2 ^ 64
+abbrev pub IsLongNumber : ℕ → Type 0
+IsLongNumber n = n < 2 ^ 64
 
 pub record MetaRange (meta : Meta) : Type 0 where
-  pub size : IfSome meta.size IsLong
-  pub max_msg : IfSome meta.max_msg IsLong
-  pub max_obj : IfSome meta.max_obj IsLong
+  pub size : IfSome meta.size IsLongNumber
+  pub max_msg : IfSome meta.max_msg IsLongNumber
+  pub max_obj : IfSome meta.max_obj IsLongNumber
 
 abbrev pub ItemRange : Item → Type 0
 ItemRange item = IfSome item.meta MetaRange
@@ -37,18 +37,18 @@ abbrev pub CredRange : Cred → Type 0
 CredRange cred = IfSome cred.meta MetaRange
 
 pub record HeaderRange (h : Header) : Type 0 where
-  pub msg : IsShort h.msg
+  pub msg : IsShortNumber h.msg
   pub cred : IfSome h.cred CredRange
   pub meta : IfSome h.meta MetaRange
 
 pub record PlainRange (c : Plain) : Type 0 where
-  pub id : IsShort c.id
+  pub id : IsShortNumber c.id
   pub meta : IfSome c.meta MetaRange
   pub items : AllByRecursion ItemRange c.items
 
 pub record AlertRange (c : AlertCmd) : Type 0 where
-  pub id : IsShort c.id
-  pub code : IsShort c.code
+  pub id : IsShortNumber c.id
+  pub code : IsShortNumber c.code
   pub items : AllByRecursion ItemRange c.items
 
 abbrev pub MemberRange : Member → Type 0
@@ -56,7 +56,7 @@ MemberRange (member.One c) = PlainRange c
 MemberRange (member.Alert c) = AlertRange c
 
 pub record AtomicRange (b : Block Member) : Type 0 where
-  pub id : IsShort b.id
+  pub id : IsShortNumber b.id
   pub meta : IfSome b.meta MetaRange
   pub members : AllByRecursion MemberRange b.members
 
@@ -65,22 +65,22 @@ SeqMemberRange (seq_member.Single m) = MemberRange m
 SeqMemberRange (seq_member.Atomic b) = AtomicRange b
 
 pub record SequenceRange (b : Block SeqMember) : Type 0 where
-  pub id : IsShort b.id
+  pub id : IsShortNumber b.id
   pub meta : IfSome b.meta MetaRange
   pub members : AllByRecursion SeqMemberRange b.members
 
 pub record StatusRange (c : StatusCmd) : Type 0 where
-  pub id : IsShort c.id
-  pub msg_ref : IsShort c.msg_ref
-  pub cmd_ref : IsShort c.cmd_ref
-  pub code : IsShort c.code
+  pub id : IsShortNumber c.id
+  pub msg_ref : IsShortNumber c.msg_ref
+  pub cmd_ref : IsShortNumber c.cmd_ref
+  pub code : IsShortNumber c.code
   pub chal : IfSome c.chal MetaRange
   pub items : AllByRecursion ItemRange c.items
 
 pub record ResultsRange (c : ResultsCmd) : Type 0 where
-  pub id : IsShort c.id
-  pub msg_ref : IfSome c.msg_ref IsShort
-  pub cmd_ref : IsShort c.cmd_ref
+  pub id : IsShortNumber c.id
+  pub msg_ref : IfSome c.msg_ref IsShortNumber
+  pub cmd_ref : IsShortNumber c.cmd_ref
   pub meta : IfSome c.meta MetaRange
   pub items : AllByRecursion ItemRange c.items
 

@@ -6,7 +6,7 @@ ghost use Rattle.wbxml_tokens.specs.declared.reason.FeedError.TheVariants as err
 ghost use Rattle.syncml_types.specs.Message.{Parts};
 ghost use Rattle.syncml_codec.specs.Messages.{Spells, MessageRefusedAt};
 ghost use Rattle.syncml_codec.specs.Decoding.{read_of, settled, IsRead, Decodes, TellsSettled, HasDecoded, IsGoing};
-ghost use Rattle.syncml_codec.specs.Decoding.{HasStopped};
+ghost use Rattle.syncml_codec.specs.Decoding.{HasAnswered};
 
 use std::alloc::Global;
 use std::marker::Model;
@@ -54,7 +54,7 @@ impl Decoder {
             → TellsSettled result (settled (bytes ++ piece.now)) }
         ensures decoded { (bytes : ListOf ℕ) → HasDecoded self.old bytes → HasDecoded self.new (bytes ++ piece.now) }
         ensures going { OnOk result (IsGoing self.new) }
-        ensures stops { IfErr result (λ error. HasStopped self.new error) }
+        ensures stops { IfErr result (λ error. HasAnswered self.new error) }
     {
         match self.reader.feed(piece, &mut self.builder) {
             Ok(()) => {
@@ -76,8 +76,8 @@ impl Decoder {
             → TellsSettled result (settled (bytes ++ piece.now)) }
         ensures decoded { (bytes : ListOf ℕ) → HasDecoded self.old bytes → HasDecoded self.new (bytes ++ piece.now) }
         ensures going { OnOk result (IsGoing self.new) }
-        ensures stops { IfErr result (λ error. HasStopped self.new error) }
-        ensures again { (error : Why) → HasStopped self.old error → result ≡ Bad error }
+        ensures stops { IfErr result (λ error. HasAnswered self.new error) }
+        ensures again { (error : Why) → HasAnswered self.old error → result ≡ Bad error }
     {
         match self.stopped {
             Some(error) => Err(error),
@@ -89,8 +89,8 @@ impl Decoder {
     /// memory: `Memory` comes where a feed has answered it.
     pub fn finish(self) -> Result<Message, FeedError>
         ensures read { (bytes : ListOf ℕ) → HasDecoded self bytes → IsRead result (read_of bytes) }
-        ensures again { (error : Why) → HasStopped self error → result ≡ Bad error }
-        ensures memory { result ≡ Bad errors.Memory → HasStopped self errors.Memory }
+        ensures again { (error : Why) → HasAnswered self error → result ≡ Bad error }
+        ensures memory { result ≡ Bad errors.Memory → HasAnswered self errors.Memory }
     {
         if let Some(error) = self.stopped {
             drop(self);

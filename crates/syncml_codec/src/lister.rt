@@ -54,7 +54,7 @@ fn begins_with_sign(bytes: &[u8]) -> bool
 
 // Whether a value is shown as it is.
 fn is_shown(bytes: &[u8]) -> bool
-    ensures { result ≡ Spec.is_shown bytes.now }
+    ensures { result ≡ Spec.is_plain_text bytes.now }
 {
     all_printable(bytes) && !begins_with_sign(bytes)
 }

@@ -1,7 +1,8 @@
 // The ranges of a message's numbers follow from the types that hold them. Nothing here takes memory.
 ghost use Rattle.std.specs.Prelude.{IfSome};
 ghost use Rattle.std.specs.List.{AllByRecursion};
-ghost use Rattle.syncml_codec.specs.Ranges.{IsShort, IsLong, MetaRange, ItemRange, CredRange, HeaderRange, PlainRange};
+ghost use Rattle.syncml_codec.specs.Ranges.{IsShortNumber, IsLongNumber, MetaRange, ItemRange, CredRange, HeaderRange};
+ghost use Rattle.syncml_codec.specs.Ranges.{PlainRange};
 ghost use Rattle.syncml_codec.specs.Ranges.{AlertRange, MemberRange, AtomicRange, SeqMemberRange, SequenceRange};
 ghost use Rattle.syncml_codec.specs.Ranges.{StatusRange, ResultsRange, CommandRange, AreNumbers};
 
@@ -12,11 +13,11 @@ use syncml_types::{
 };
 
 fn is_short(number: Option<u32>)
-    ensures { IfSome number IsShort }
+    ensures { IfSome number IsShortNumber }
 {}
 
 fn is_long(number: Option<u64>)
-    ensures { IfSome number IsLong }
+    ensures { IfSome number IsLongNumber }
 {}
 
 fn meta_range(meta: &Meta)

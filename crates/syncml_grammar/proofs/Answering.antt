@@ -7,17 +7,17 @@ use Rattle.dm_base.specs.Limits.{text_limit}
 use Rattle.dm_base.specs.declared.bytes.Memory.{Memory}
 use Rattle.wbxml_tokens.specs.declared.reason.Reason.{Reason}
 use Rattle.wbxml_tokens.specs.declared.token.Token.{Token}
-use Rattle.wbxml_tokens.specs.Taking.{Takes}
+use Rattle.wbxml_tokens.specs.Taking.{TakesToken}
 use Rattle.syncml_shape.specs.Forest.{spelling}
 use Rattle.syncml_types.specs.Message.{Parts}
 use Rattle.syncml_types.specs.Fitness.{IsFit}
 use Rattle.wbxml_tokens.specs.declared.reason.Stop.{Stop}
 use Rattle.wbxml_tokens.specs.declared.reason.Stop.TheVariants as stops
-use Rattle.syncml_grammar.specs.declared.verdict.Verdict.{Verdict}
-use Rattle.syncml_grammar.specs.Reads.{SpellsParts, parts_in}
-use Rattle.syncml_grammar.specs.Machine.{Frame, step, finished}
+use Rattle.syncml_grammar.specs.declared.verdict.MessageVerdict.{MessageVerdict}
+use Rattle.syncml_grammar.specs.Reads.{SpellsParts, parts_held}
+use Rattle.syncml_grammar.specs.Machine.{Frame, step, finished_parts}
 use Rattle.syncml_grammar.specs.Building.{Building, IsBuilding, HasBuilt, built_by, unless_stopped, building_after}
-use Rattle.syncml_grammar.specs.Building.{frames_or, refused_by, refusal_of, told, IsLacking, text_length}
+use Rattle.syncml_grammar.specs.Building.{frames_or, refused_by, token_refusal, reason_told, IsLacking, text_length}
 use Rattle.syncml_grammar.specs.Refusals.{Judges, verdict_of}
 use Rattle.syncml_grammar.specs.Refusals.{Verdict as Judgement}
 use Rattle.syncml_grammar.specs.Verdicts.{judgement, GivesOne}
@@ -30,7 +30,7 @@ same_parts (Some x) h k = cc
 
 -- the message behind tokens is fit
 pub fit_behind : ReadIsFit → (b : Building) (parts : Parts) → IsBuilding b → b.stopped ≡ None
-    → finished b.frames ≡ Some parts
+    → finished_parts b.frames ≡ Some parts
     → IsFit parts.header parts.body
 fit_behind law b parts is_building going fin =
     let was = is_building going in
@@ -40,7 +40,7 @@ fit_behind law b parts is_building going fin =
     let short : text_length (spelling spells.0) ≤ text_limit =
     subst (λ tokens. text_length tokens ≤ text_limit) shape.spelled (omega (arith, was.2)) in
     let fit = law spells.0 read.0 read.1 shape.fitting read.2 short in
-    subst (λ (p : Parts). IsFit p.header p.body) (same_parts (parts_in read.0) fit.1 read.3) fit.2
+    subst (λ (p : Parts). IsFit p.header p.body) (same_parts (parts_held read.0) fit.1 read.3) fit.2
 
 -- what stands for nothing, and is left out again
 pub found_again : {E : Type 0} (found : Option Parts) (e : E) → result_ok (ok_or found e) ≡ found
@@ -51,7 +51,7 @@ pub finish_spelled : (r : Option Parts) (b : Building) (tokens : List Token) (pa
     → HasBuilt b tokens
     → (r ≡ Some parts) ↔ SpellsParts tokens parts
 finish_spelled r b tokens parts is has =
-    let whole : r ≡ finished b.frames = is ∙ ap (λ s. unless_stopped s (finished b.frames)) has.0 in (
+    let whole : r ≡ finished_parts b.frames = is ∙ ap (λ s. unless_stopped s (finished_parts b.frames)) has.0 in (
       λ w. finished_spelled tokens b.frames parts has.1 (sym whole ∙ w),
       λ spells. whole ∙ spelled_finished tokens b.frames parts has.1 spells,
     )
@@ -68,7 +68,7 @@ err_step (Err other) reason h = cc
 -- one token, put into a builder that hasn't stopped
 pub one_step : (r : Result Unit Stop) (old new : Building) (t : Token) → old.stopped ≡ None
     → OnOk r (new ≡ building_after old t)
-    → Takes told IsLacking r old new (refusal_of old t) → GivesOne r old new t
+    → TakesToken reason_told IsLacking r old new (token_refusal old t) → GivesOne r old new t
 one_step (Ok u) old new t going is takes =
     let taken =
     ok_step (step old.frames t) old.frames (subst (λ s. refused_by s (step old.frames t) ≡ None) going takes) in
@@ -77,12 +77,12 @@ one_step (Err stops.Memory) old new t going is takes = tt
 one_step (Err (stops.Refused reason)) old new t going is takes =
     err_step (step old.frames t) reason (subst (λ s. refused_by s (step old.frames t) ≡ Some reason) going takes)
 
-pub answer_exact : (r : Result Verdict Memory) (tokens : List Token) → IfOk r (λ v. judgement v ≡ verdict_of tokens)
+pub answer_exact : (r : Result MessageVerdict Memory) (tokens : List Token) → IfOk r (λ v. judgement v ≡ verdict_of tokens)
     → IfOk r (λ v. Judges tokens (judgement v))
 answer_exact (Ok v) tokens x = subst (Judges tokens) (sym x) (verdict_judges tokens)
 answer_exact (Err e) tokens x = x
 
-pub answer_only : (r : Result Verdict Memory) (tokens : List Token) (other : Judgement)
+pub answer_only : (r : Result MessageVerdict Memory) (tokens : List Token) (other : Judgement)
     → IfOk r (λ v. judgement v ≡ verdict_of tokens) → Judges tokens other
     → IfOk r (λ v. judgement v ≡ other)
 answer_only (Ok v) tokens other x j = x ∙ one_verdict tokens other j

@@ -21,7 +21,8 @@ use Rattle.syncml_shape.specs.declared.rows.Kind.TheVariants as kinds
 use Rattle.syncml_shape.specs.declared.rows.TheConstants as table
 use Rattle.syncml_shape.specs.Forest.{Forest, nothing, text, opaque, bare, full, spelling}
 use Rattle.syncml_shape.specs.declared.rows.Choice.TheVariants.{One}
-use Rattle.syncml_shape.specs.Rows.{same, Content, in_order, document, start, in_row, after_row, next, is_complete}
+use Rattle.syncml_shape.specs.Rows.{same, Content, in_order, document, start, in_row, after_row, next_child}
+use Rattle.syncml_shape.specs.Rows.{is_complete}
 use Rattle.syncml_shape.specs.Rows.{takes_text}
 use Rattle.syncml_shape.specs.Shape.{fits}
 use Rattle.syncml_shape.proofs.Accepts.{and_true}
@@ -43,10 +44,11 @@ use Rattle.syncml_grammar.specs.Leaves.{short_number, ranged, closed_text, close
 use Rattle.syncml_grammar.specs.Drafts.{verb_of}
 use Rattle.syncml_grammar.specs.Simples.{with_short, with_long, with_flag}
 use Rattle.syncml_grammar.specs.Simples.{with_text as with_simple_text}
-use Rattle.syncml_grammar.specs.Nodes.{with_node}
-use Rattle.syncml_grammar.specs.Values.{Value, of_leaf, of_draft, Whole, simple, node, fresh, with_text, simply, closed}
+use Rattle.syncml_grammar.specs.Nodes.{with_inner}
+use Rattle.syncml_grammar.specs.Values.{Value, of_leaf, of_draft, EndedElement, simple, node, fresh_value, with_text}
+use Rattle.syncml_grammar.specs.Values.{simply, closed_value}
 use Rattle.syncml_grammar.specs.Values.{draft_with, with_child}
-use Rattle.syncml_grammar.specs.Reads.{Unread, ◌then◌, at_place, read, parts_from, parts_in}
+use Rattle.syncml_grammar.specs.Reads.{Unread, ◌then◌, at_place, read, parts_from, parts_held}
 use Rattle.syncml_grammar.specs.Building.{text_length}
 use Rattle.syncml_grammar.specs.Laws.{ReadIsFit}
 use Rattle.syncml_grammar.proofs.FitRows.{not_so, sort, all_pass, complete_needs, Came, came}
@@ -93,7 +95,7 @@ not_both : {A : Type 0} (b : Bool) → not b ≡ true → b ≡ true → A
 not_both true h k = cc
 not_both false h k = cc
 
-fresh_fits : (k : Kind) (e : Element) → verb_fits e k ≡ true → FitValue k (start k) (fresh k e)
+fresh_fits : (k : Kind) (e : Element) → verb_fits e k ≡ true → FitValue k (start k) (fresh_value k e)
 fresh_fits kinds.Message e v = (refl, refl, record { header = tt; present = λ h. never h; body = tt })
 fresh_fits kinds.Header e v = (
   refl,
@@ -180,7 +182,7 @@ fresh_fits kinds.Code e v = refl
 fresh_fits kinds.Size e v = refl
 fresh_fits kinds.Flag e v = refl
 
-fresh_length : (k : Kind) (e : Element) → length_in (fresh k e) ≡ 0
+fresh_length : (k : Kind) (e : Element) → length_in (fresh_value k e) ≡ 0
 fresh_length kinds.Message e = refl
 fresh_length _ e = refl
 
@@ -251,8 +253,8 @@ leaf_closed k (leaves.Number digits) s f short h =
     ]) h
 leaf_closed k leaves.Flag s f short h = subst (FitSimple k) (same_simple simples.Flag s h) f
 
-value_closed : (k : Kind) (content : Content) (v : Value) (w : Whole) → FitValue k content v
-    → IsTrue (is_complete content) → length_in v ≤ text_limit → closed k v ≡ Ok w → FitWhole k w
+value_closed : (k : Kind) (content : Content) (v : Value) (w : EndedElement) → FitValue k content v
+    → IsTrue (is_complete content) → length_in v ≤ text_limit → closed_value k v ≡ Ok w → FitWhole k w
 value_closed k content (of_leaf leaf) w f done short h =
     (elim (closed_leaf k leaf) as (λ o. closed_leaf k leaf ≡ o → simply o ≡ Ok w → FitWhole k w) [
       | Ok s ↦ λ is h'. subst (FitWhole k) (same_simple (simple s) w h') (leaf_closed k leaf s f short is)
@@ -287,21 +289,21 @@ stays_flag (draft.Body b) = record { sort = refl; test = refl }
 stays_flag _ = record { sort = refl; test = refl }
 
 stays_node : (d : Draft) (e : Element) (child : Draft) (content : Content) → FitDraft content d
-    → Stays (with_node d e child) d
+    → Stays (with_inner d e child) d
 stays_node draft.Document e child content f = absurd f
 stays_node (draft.Plain c) e (draft.Meta meta) content f = record { sort = refl; test = refl }
 stays_node (draft.Plain c) e (draft.Item item) content f = record { sort = refl; test = refl }
 stays_node (draft.Plain c) e _ content f = record { sort = refl; test = refl }
 stays_node _ e child content f = record { sort = refl; test = refl }
 
-stays : (d : Draft) (e : Element) (w : Whole) (content : Content) → FitDraft content d → Stays (draft_with d e w) d
+stays : (d : Draft) (e : Element) (w : EndedElement) (content : Content) → FitDraft content d → Stays (draft_with d e w) d
 stays d e (simple (simples.Text bytes)) content f = stays_text d e bytes
 stays d e (simple (simples.Short n)) content f = stays_short d e n
 stays d e (simple (simples.Long n)) content f = stays_long d e n
 stays d e (simple simples.Flag) content f = stays_flag d
 stays d e (node child) content f = stays_node d e child content f
 
-child_fits : (k : Kind) (content : Content) (v : Value) (e : Element) (x : Kind × Content) (w : Whole)
+child_fits : (k : Kind) (content : Content) (v : Value) (e : Element) (x : Kind × Content) (w : EndedElement)
     → Came content e x → FitValue k content v → FitWhole x.0 w → FitValue k x.1 (with_child v e w)
 child_fits k content (of_leaf leaf) e x w g f h = f
 child_fits k content (of_draft d) e x w g f h =
@@ -312,7 +314,7 @@ child_fits k content (of_draft d) e x w g f h =
       draft_step content x.1 e x.0 d w g passed.0 h f.2,
     )
 
-child_length : (v : Value) (e : Element) (w : Whole) → length_in (with_child v e w) ≤ length_in v
+child_length : (v : Value) (e : Element) (w : EndedElement) → length_in (with_child v e w) ≤ length_in v
 child_length (of_leaf leaf) e w = omega arith
 child_length (of_draft d) e w = omega arith
 
@@ -350,11 +352,11 @@ record Going (k : Kind) (content : Content) (v : Value) (left : ℕ) : Type 0 wh
   room : length_in v + left ≤ text_limit
 
 fresh_going : (k : Kind) (e : Element) (left : ℕ) → verb_fits e k ≡ true → left ≤ text_limit
-    → Going k (start k) (fresh k e) left
+    → Going k (start k) (fresh_value k e) left
 fresh_going k e left v h =
     record { verbs = start_verbs k; fit = fresh_fits k e v; room = omega (arith, h, fresh_length k e) }
 
-child_going : (k : Kind) (content : Content) (v : Value) (e : Element) (x : Kind × Content) (w : Whole) (left more : ℕ)
+child_going : (k : Kind) (content : Content) (v : Value) (e : Element) (x : Kind × Content) (w : EndedElement) (left more : ℕ)
     → Came content e x → Going k content v more → left ≤ more → FitWhole x.0 w
     → Going k x.1 (with_child v e w) left
 child_going k content v e x w left more came_so going h fit = record {
@@ -373,8 +375,8 @@ piece_going k content v bytes left going =
     }
 
 -- an element that closes: its whole, and what was read behind it
-closes_to : (at : ℕ) (o : Result Whole Reason) (f : Whole → Result (Value × ℕ) Unread) (out : Value × ℕ)
-    → (at_place at o then f) ≡ Ok out → (w : Whole) × (o ≡ Ok w) × (f w ≡ Ok out)
+closes_to : (at : ℕ) (o : Result EndedElement Reason) (f : EndedElement → Result (Value × ℕ) Unread) (out : Value × ℕ)
+    → (at_place at o then f) ≡ Ok out → (w : EndedElement) × (o ≡ Ok w) × (f w ≡ Ok out)
 closes_to at (Ok w) f out h = (w, refl, h)
 closes_to at (Err reason) f out h = cc
 
@@ -401,44 +403,44 @@ read_fits (opaque bytes f) k at v content out going h r =
     (piece_going k content v bytes (text_length (spelling f)) going)
     (and_true (takes_text content) (fits content f) h).1 r
 read_fits (bare e f) k at v content out going h r =
-    (elim (next content e) as (λ o. next content e ≡ o
+    (elim (next_child content e) as (λ o. next_child content e ≡ o
     → IsTrue (elim o as (λ _. Bool) [ None ↦ false | Some x ↦ is_complete (start x.0) && fits x.1 f ])
     → (elim o as (λ _. Result (Value × ℕ) Unread) [
       | None ↦ Err (record { at = at; reason = Misplaced })
-      | Some x ↦ at_place at (closed x.0 (fresh x.0 e)) then (λ child. read (at + 1) (with_child v e child) x.1 f)
+      | Some x ↦ at_place at (closed_value x.0 (fresh_value x.0 e)) then (λ child. read (at + 1) (with_child v e child) x.1 f)
     ]) ≡ Ok out → Read k out.0) [
       | None ↦ λ n h' r'. not_so h'
       | Some x ↦ λ n h' r'.
           let fit = and_true (is_complete (start x.0)) (fits x.1 f) h' in
           let c = came content e x n in
           let shut =
-          closes_to at (closed x.0 (fresh x.0 e)) (λ child. read (at + 1) (with_child v e child) x.1 f) out r' in
+          closes_to at (closed_value x.0 (fresh_value x.0 e)) (λ child. read (at + 1) (with_child v e child) x.1 f) out r' in
           let fresh_fit = fresh_fits x.0 e (c.passes verb_fits going.verbs).0 in
           let whole =
-          value_closed x.0 (start x.0) (fresh x.0 e) shut.0 fresh_fit fit.0 (omega (arith, fresh_length x.0 e))
+          value_closed x.0 (start x.0) (fresh_value x.0 e) shut.0 fresh_fit fit.0 (omega (arith, fresh_length x.0 e))
           shut.1 in
           read_fits f k (at + 1) (with_child v e shut.0) x.1 out
           (child_going k content v e x shut.0 (text_length (spelling f)) (text_length (spelling (bare e f))) c going
           (omega arith) whole) fit.1 shut.2
     ]) refl h r
 read_fits (full e inner f) k at v content out going h r =
-    (elim (next content e) as (λ o. next content e ≡ o
+    (elim (next_child content e) as (λ o. next_child content e ≡ o
     → IsTrue (elim o as (λ _. Bool) [ None ↦ false | Some x ↦ fits (start x.0) inner && fits x.1 f ])
     → (elim o as (λ _. Result (Value × ℕ) Unread) [
       | None ↦ Err (record { at = at; reason = Misplaced })
-      | Some x ↦ read (at + 1) (fresh x.0 e) (start x.0) inner then
-          (λ p. at_place p.1 (closed x.0 p.0) then (λ child. read (p.1 + 1) (with_child v e child) x.1 f))
+      | Some x ↦ read (at + 1) (fresh_value x.0 e) (start x.0) inner then
+          (λ p. at_place p.1 (closed_value x.0 p.0) then (λ child. read (p.1 + 1) (with_child v e child) x.1 f))
     ]) ≡ Ok out → Read k out.0) [
       | None ↦ λ n h' r'. not_so h'
       | Some x ↦ λ n h' r'.
           let fit = and_true (fits (start x.0) inner) (fits x.1 f) h' in
           let c = came content e x n in
           let run =
-          reads_to (read (at + 1) (fresh x.0 e) (start x.0) inner)
-          (λ p. at_place p.1 (closed x.0 p.0) then (λ child. read (p.1 + 1) (with_child v e child) x.1 f)) out r' in
+          reads_to (read (at + 1) (fresh_value x.0 e) (start x.0) inner)
+          (λ p. at_place p.1 (closed_value x.0 p.0) then (λ child. read (p.1 + 1) (with_child v e child) x.1 f)) out r' in
           let shut =
-          closes_to run.0.1 (closed x.0 run.0.0) (λ child. read (run.0.1 + 1) (with_child v e child) x.1 f) out run.2 in
-          let all = read_fits inner x.0 (at + 1) (fresh x.0 e) (start x.0) run.0
+          closes_to run.0.1 (closed_value x.0 run.0.0) (λ child. read (run.0.1 + 1) (with_child v e child) x.1 f) out run.2 in
+          let all = read_fits inner x.0 (at + 1) (fresh_value x.0 e) (start x.0) run.0
           (fresh_going x.0 e (text_length (spelling inner)) (c.passes verb_fits going.verbs).0
           (omega (arith, going.room, inner_length e inner f))) fit.0 run.1 in
           let whole = value_closed x.0 all.0 run.0.0 shut.0 all.2 all.1 all.3 shut.1 in
@@ -458,16 +460,16 @@ no_more nothing h = refl
 no_more (text bytes f) h = not_so h
 no_more (opaque bytes f) h = not_so h
 no_more (bare e f) h =
-    (elim (next behind_message e)
-    as (λ o. next behind_message e ≡ o
+    (elim (next_child behind_message e)
+    as (λ o. next_child behind_message e ≡ o
     → IsTrue (elim o as (λ _. Bool) [ None ↦ false | Some x ↦ is_complete (start x.0) && fits x.1 f ])
     → bare e f ≡ nothing) [
       | None ↦ λ n h'. not_so h'
       | Some x ↦ λ n h'. absurd ((came behind_message e x n).open_still refl)
     ]) refl h
 no_more (full e inner f) h =
-    (elim (next behind_message e)
-    as (λ o. next behind_message e ≡ o
+    (elim (next_child behind_message e)
+    as (λ o. next_child behind_message e ≡ o
     → IsTrue (elim o as (λ _. Bool) [ None ↦ false | Some x ↦ fits (start x.0) inner && fits x.1 f ])
     → full e inner f ≡ nothing) [
       | None ↦ λ n h'. not_so h'
@@ -475,7 +477,7 @@ no_more (full e inner f) h =
     ]) refl h
 
 -- the one child is a message
-document_next : (e : Element) (x : Kind × Content) → next document e ≡ Some x → (kinds.Message, behind_message) ≡ x
+document_next : (e : Element) (x : Kind × Content) → next_child document e ≡ Some x → (kinds.Message, behind_message) ≡ x
 document_next e x h =
     (elim (same ESyncML e)
     as (λ (b : Bool).
@@ -486,7 +488,7 @@ document_next e x h =
       | false ↦ λ h'. cc
     ]) h
 
-message_read : (v : Value) (w : Whole) → Read kinds.Message v → closed kinds.Message v ≡ Ok w
+message_read : (v : Value) (w : EndedElement) → Read kinds.Message v → closed_value kinds.Message v ≡ Ok w
     → (m : MessageDraft) × (w ≡ node (draft.Message m)) × Ended FitMessage m
 message_read (of_leaf (leaves.Text bytes)) w r h = not_so (ap (λ n. n == 20) r.2)
 message_read (of_leaf (leaves.Number digits)) w r h = not_so r.2
@@ -496,7 +498,7 @@ message_read (of_draft d) w r h = never (ap (λ n. 1 == n) r.2.0)
 
 -- what the law says of a message's value
 abbrev IsGood : Value → Type 0
-IsGood value = (parts : Parts) × (parts_in value ≡ Some parts) × IsFit parts.header parts.body
+IsGood value = (parts : Parts) × (parts_held value ≡ Some parts) × IsFit parts.header parts.body
 
 header_good : (m : MessageDraft) (o : Option Header) → IfSome o (Ended FitHeader) → is_none o ≡ false
     → AllByRecursion FitCommand m.body
@@ -509,7 +511,7 @@ message_good : (m : MessageDraft) → Ended FitMessage m → IsGood (of_draft (d
 message_good m (content, done, f) =
     header_good m m.header f.header (f.present (complete_needs is_header content done)) f.body
 
-document_good : (e : Element) (w : Whole) (m : MessageDraft) (value : Value) → w ≡ node (draft.Message m)
+document_good : (e : Element) (w : EndedElement) (m : MessageDraft) (value : Value) → w ≡ node (draft.Message m)
     → with_child (of_draft draft.Document) e w ≡ value → Ended FitMessage m → IsGood value
 document_good e w m value is gives f =
     subst IsGood (ap (with_child (of_draft draft.Document) e) (sym is) ∙ gives) (message_good m f)
@@ -522,8 +524,8 @@ read_is_fit nothing value at h r short = not_so h
 read_is_fit (text bytes f) value at h r short = not_so h
 read_is_fit (opaque bytes f) value at h r short = not_so h
 read_is_fit (bare e f) value at h r short =
-    (elim (next document e)
-    as (λ o. next document e ≡ o
+    (elim (next_child document e)
+    as (λ o. next_child document e ≡ o
     → IsTrue (elim o as (λ _. Bool) [ None ↦ false | Some x ↦ is_complete (start x.0) && fits x.1 f ]) → IsGood value) [
       | None ↦ λ n h'. not_so h'
       | Some x ↦ λ n h'.
@@ -531,12 +533,12 @@ read_is_fit (bare e f) value at h r short =
           (and_true (is_complete (start x.0)) (fits x.1 f) h').0)
     ]) refl h
 read_is_fit (full e inner f) value at h r short =
-    (elim (next document e) as (λ o. next document e ≡ o
+    (elim (next_child document e) as (λ o. next_child document e ≡ o
     → IsTrue (elim o as (λ _. Bool) [ None ↦ false | Some x ↦ fits (start x.0) inner && fits x.1 f ])
     → (elim o as (λ _. Result (Value × ℕ) Unread) [
       | None ↦ Err (record { at = 0; reason = Misplaced })
-      | Some x ↦ read (0 + 1) (fresh x.0 e) (start x.0) inner then
-          (λ p. at_place p.1 (closed x.0 p.0)
+      | Some x ↦ read (0 + 1) (fresh_value x.0 e) (start x.0) inner then
+          (λ p. at_place p.1 (closed_value x.0 p.0)
           then (λ child. read (p.1 + 1) (with_child (of_draft draft.Document) e child) x.1 f))
     ]) ≡ Ok (value, at) → IsGood value) [
       | None ↦ λ n h' r'. not_so h'
@@ -544,19 +546,19 @@ read_is_fit (full e inner f) value at h r short =
           let is = document_next e x n in
           let fit = and_true (fits (start x.0) inner) (fits x.1 f) h' in
           let run =
-          reads_to (read (0 + 1) (fresh x.0 e) (start x.0) inner)
-          (λ p. at_place p.1 (closed x.0 p.0)
+          reads_to (read (0 + 1) (fresh_value x.0 e) (start x.0) inner)
+          (λ p. at_place p.1 (closed_value x.0 p.0)
           then (λ child. read (p.1 + 1) (with_child (of_draft draft.Document) e child) x.1 f)) (value, at) r' in
           let shut =
-          closes_to run.0.1 (closed x.0 run.0.0)
+          closes_to run.0.1 (closed_value x.0 run.0.0)
           (λ child. read (run.0.1 + 1) (with_child (of_draft draft.Document) e child) x.1 f) (value, at) run.2 in
-          let all = read_fits inner x.0 (0 + 1) (fresh x.0 e) (start x.0) run.0
+          let all = read_fits inner x.0 (0 + 1) (fresh_value x.0 e) (start x.0) run.0
           (fresh_going x.0 e (text_length (spelling inner)) ((came document e x n).passes verb_fits refl).0
           (omega (arith, short, inner_length e inner f))) fit.0 run.1 in
           let none = no_more f (subst (λ (y : Kind × Content). IsTrue (fits y.1 f)) (sym is) fit.1) in
           let message =
           message_read run.0.0 shut.0 (subst (λ (y : Kind × Content). Read y.0 run.0.0) (sym is) all)
-          (subst (λ (y : Kind × Content). closed y.0 run.0.0 ≡ Ok shut.0) (sym is) shut.1) in
+          (subst (λ (y : Kind × Content). closed_value y.0 run.0.0 ≡ Ok shut.0) (sym is) shut.1) in
           let ends =
           subst (λ g. read (run.0.1 + 1) (with_child (of_draft draft.Document) e shut.0) x.1 g ≡ Ok (value, at)) none
           shut.2 in

@@ -9,11 +9,12 @@ use Rattle.syncml_shape.specs.declared.rows.Kind.{Kind}
 use Rattle.syncml_shape.specs.declared.rows.Kind.TheVariants as kinds
 use Rattle.syncml_shape.specs.declared.rows.Choice.{Choice}
 use Rattle.syncml_shape.specs.declared.rows.Choice.TheVariants.{One, Commands, AtomicMembers, SequenceMembers}
-use Rattle.syncml_shape.specs.declared.rows.Row.{Row}
+use Rattle.syncml_shape.specs.declared.rows.ChildRow.{ChildRow}
 use Rattle.syncml_shape.specs.declared.rows.MetaRow.{MetaRow}
 use Rattle.syncml_shape.specs.declared.rows.TheConstants as table
 use Rattle.syncml_shape.specs.Rows.{same, atomic_member, sequence_member, command, kind_in, Content, in_order}
-use Rattle.syncml_shape.specs.Rows.{in_any_order, pieces, in_row, next_row, after_row, meta_place, after_meta, next}
+use Rattle.syncml_shape.specs.Rows.{in_any_order, pieces, in_row, next_row, after_row, meta_place, after_meta}
+use Rattle.syncml_shape.specs.Rows.{next_child}
 use Rattle.syncml_shape.specs.Rows.{all_optional, is_complete}
 use Rattle.syncml_shape.proofs.Accepts.{and_true}
 use Rattle.syncml_shape.proofs.Names.{same_only, of_same}
@@ -68,7 +69,7 @@ choice_all q Commands = commands_all q
 choice_all q AtomicMembers = atomic_all q
 choice_all q SequenceMembers = sequence_all q
 
-abbrev pub rows_all : (Element → Kind → Bool) → List Row → Bool
+abbrev pub rows_all : (Element → Kind → Bool) → List ChildRow → Bool
 rows_all q [] = true
 rows_all q (row ∷ rows) = choice_all q row.choice && rows_all q rows
 
@@ -130,7 +131,7 @@ choice_passes q SequenceMembers e k p h = sequence_passes q e k p h
 
 -- ---- children that must still come
 
-abbrev pub rows_need : (Element → Kind → Bool) → Bool → List Row → Bool
+abbrev pub rows_need : (Element → Kind → Bool) → Bool → List ChildRow → Bool
 rows_need p came [] = false
 rows_need p came (row ∷ rows) = ((not came && row.required) && choice_all p row.choice) || rows_need p false rows
 
@@ -139,7 +140,7 @@ needs p (in_order came rows) = rows_need p came rows
 needs p (in_any_order wrap came) = false
 needs p pieces = false
 
-optional_need : (p : Element → Kind → Bool) (rows : List Row) → IsTrue (all_optional rows)
+optional_need : (p : Element → Kind → Bool) (rows : List ChildRow) → IsTrue (all_optional rows)
     → rows_need p false rows ≡ false
 optional_need p [] h = refl
 optional_need p (row ∷ rows) h =
@@ -170,11 +171,11 @@ complete_needs p pieces h = refl
 abbrev pub is_item : Element → Kind → Bool
 is_item e kind = sort kind == 10
 
-abbrev pub is_last : List Row → Bool
+abbrev pub is_last : List ChildRow → Bool
 is_last [] = true
 is_last (row ∷ rows) = false
 
-abbrev pub rows_end : List Row → Bool
+abbrev pub rows_end : List ChildRow → Bool
 rows_end [] = true
 rows_end (row ∷ rows) =
     (choice_all (λ e k. not (is_item e k)) row.choice || (not row.many && is_last rows)) && rows_end rows
@@ -202,11 +203,11 @@ pub record Came (content : Content) (e : Element) (x : Kind × Content) : Type 0
   pub item : ends_in_item content ≡ true → (ends_in_item x.1 ≡ true) × (is_item e x.0 ≡ true → has_ended x.1 ≡ true)
   pub open_still : has_ended content ≡ true → ⊥
 
-abbrev RowsPassed : (Element → Kind → Bool) → List Row → Element → Option (Kind × List Row) → Type 0
+abbrev RowsPassed : (Element → Kind → Bool) → List ChildRow → Element → Option (Kind × List ChildRow) → Type 0
 RowsPassed q rows e None = ⊤
 RowsPassed q rows e (Some x) = (q e x.0 ≡ true) × (rows_all q x.1 ≡ true)
 
-rows_passed : (q : Element → Kind → Bool) (rows : List Row) (came : Bool) (e : Element) → rows_all q rows ≡ true
+rows_passed : (q : Element → Kind → Bool) (rows : List ChildRow) (came : Bool) (e : Element) → rows_all q rows ≡ true
     → RowsPassed q rows e (next_row came rows e)
 rows_passed q [] came e h = tt
 rows_passed q (row ∷ rows) came e h =
@@ -221,17 +222,17 @@ rows_passed q (row ∷ rows) came e h =
     own true k is = tt
     own false k is = (is, h)
 
-    later : (b : Bool) (o : Option (Kind × List Row)) → RowsPassed q rows e o
+    later : (b : Bool) (o : Option (Kind × List ChildRow)) → RowsPassed q rows e o
         → RowsPassed q (row ∷ rows) e (if b then None else o)
     later true o r = tt
     later false None r = tt
     later false (Some x) r = r
 
-abbrev RowsMet : (Element → Kind → Bool) → Bool → Element → Option (Kind × List Row) → Type 0
+abbrev RowsMet : (Element → Kind → Bool) → Bool → Element → Option (Kind × List ChildRow) → Type 0
 RowsMet p need e None = ⊤
 RowsMet p need e (Some x) = rows_need p true x.1 ≡ false → (need ≡ false) ⊎ (p e x.0 ≡ true)
 
-rows_met : (p : Element → Kind → Bool) (rows : List Row) (came : Bool) (e : Element)
+rows_met : (p : Element → Kind → Bool) (rows : List ChildRow) (came : Bool) (e : Element)
     → RowsMet p (rows_need p came rows) e (next_row came rows e)
 rows_met p [] came e = tt
 rows_met p (row ∷ rows) came e =
@@ -258,17 +259,17 @@ rows_met p (row ∷ rows) came e =
     own true k is = tt
     own false k is = λ none. now k (choice_all p row.choice) (rows_need p false rows) refl is none
 
-    later : (a r c m : Bool) (o : Option (Kind × List Row)) → RowsMet p m e o
+    later : (a r c m : Bool) (o : Option (Kind × List ChildRow)) → RowsMet p m e o
         → RowsMet p (((not a && r) && c) || m) e (if not a && r then None else o)
     later false true c m o met = tt
     later false false c m o met = met
     later true r c m o met = met
 
-abbrev RowsEnd : Element → Option (Kind × List Row) → Type 0
+abbrev RowsEnd : Element → Option (Kind × List ChildRow) → Type 0
 RowsEnd e None = ⊤
 RowsEnd e (Some x) = (rows_end x.1 ≡ true) × (is_item e x.0 ≡ true → has_ended (in_order true x.1) ≡ true)
 
-rows_ended : (rows : List Row) (came : Bool) (e : Element) → rows_end rows ≡ true → RowsEnd e (next_row came rows e)
+rows_ended : (rows : List ChildRow) (came : Bool) (e : Element) → rows_end rows ≡ true → RowsEnd e (next_row came rows e)
 rows_ended [] came e h = tt
 rows_ended (row ∷ rows) came e h =
     let both =
@@ -297,21 +298,21 @@ rows_ended (row ∷ rows) came e h =
           (and_true _ _ h).0 is item,
     )
 
-    later : (b : Bool) (o : Option (Kind × List Row)) → RowsEnd e o → RowsEnd e (if b then None else o)
+    later : (b : Bool) (o : Option (Kind × List ChildRow)) → RowsEnd e o → RowsEnd e (if b then None else o)
     later true o r = tt
     later false o r = r
 
 pub not_so : {A : Type 0} → false ≡ true → A
 not_so h = cc
 
-no_more : (came : Bool) (rows : List Row) (e : Element) (x : Kind × List Row) → has_ended (in_order came rows) ≡ true
+no_more : (came : Bool) (rows : List ChildRow) (e : Element) (x : Kind × List ChildRow) → has_ended (in_order came rows) ≡ true
     → next_row came rows e ≡ Some x → ⊥
 no_more came [] e x h is = cc
 no_more came (row ∷ []) e x h is =
     let both = and_true came (not row.many && true) h in
     never (kind_in row.choice e) came both.0 (and_true _ _ both.1).0 is
   where
-    refuse : (b : Bool) (y : Kind × List Row) → b ≡ true → (if b then None else Some y) ≡ Some x → ⊥
+    refuse : (b : Bool) (y : Kind × List ChildRow) → b ≡ true → (if b then None else Some y) ≡ Some x → ⊥
     refuse true y h is = cc
     refuse false y h is = cc
 
@@ -346,7 +347,7 @@ meta_passed q (row ∷ rows) (c ∷ came) n e h =
 
 -- ---- the child that comes next
 
-came_in_order : (came : Bool) (rows : List Row) (e : Element) (o : Option (Kind × List Row)) (x : Kind × Content)
+came_in_order : (came : Bool) (rows : List ChildRow) (e : Element) (o : Option (Kind × List ChildRow)) (x : Kind × Content)
     → next_row came rows e ≡ o → after_row o ≡ Some x → Came (in_order came rows) e x
 came_in_order came rows e None x is h = cc
 came_in_order came rows e (Some y) x is h =
@@ -381,7 +382,7 @@ came_wrapped came e x is h =
       open_still = λ ended. cc;
     })
 
-pub came : (content : Content) (e : Element) (x : Kind × Content) → next content e ≡ Some x → Came content e x
+pub came : (content : Content) (e : Element) (x : Kind × Content) → next_child content e ≡ Some x → Came content e x
 came (in_order c rows) e x h = came_in_order c rows e (next_row c rows e) x refl h
 came (in_any_order false c) e x h = came_in_meta false c e (meta_place 0 table.META c e) x refl h
 came (in_any_order true c) e x h =

@@ -42,7 +42,7 @@ use Rattle.syncml_grammar.specs.Simples.{loc_with_text, meta_with_text, meta_wit
 use Rattle.syncml_grammar.specs.Simples.{status_with_text, results_with_text, alert_with_number, status_with_number}
 use Rattle.syncml_grammar.specs.Simples.{results_with_number}
 use Rattle.syncml_grammar.specs.Nodes.{header_with_loc, item_with_loc}
-use Rattle.syncml_grammar.specs.Values.{Whole, simple, node, draft_with}
+use Rattle.syncml_grammar.specs.Values.{EndedElement, simple, node, draft_with}
 use Rattle.syncml_grammar.proofs.FitRows.{sort, needs, is_item, ends_in_item, has_ended, Came}
 use Rattle.syncml_grammar.proofs.FitParts.{number_of, is_header, is_member, is_seq_member, FitText, FitLoc, FitMeta}
 use Rattle.syncml_grammar.proofs.FitParts.{FitItem, FitCred, FitHeader, FitPlain, FitAlert, FitMember, FitAtomic}
@@ -98,7 +98,7 @@ FitSimple k (simples.Short n) = (sort k ≡ 21) × (is_code k ≡ false → is_n
 FitSimple k (simples.Long n) = sort k ≡ 22
 FitSimple k simples.Flag = sort k ≡ 23
 
-abbrev pub FitWhole : Kind → Whole → Type 0
+abbrev pub FitWhole : Kind → EndedElement → Type 0
 FitWhole k (simple s) = FitSimple k s
 FitWhole k (node d) = (sort k ≡ draft_sort d) × (content : Content) × IsTrue (is_complete content) × FitDraft content d
 
@@ -232,7 +232,7 @@ meta_size meta EMaxMsgSize n f =
 meta_size meta _ n f =
     record { format = f.format; media = f.media; next_nonce = f.next_nonce; mark = f.mark; version = f.version }
 
-loc_step : (content after : Content) (e : Element) (k : Kind) (loc : Loc) (w : Whole) → Came content e (k, after)
+loc_step : (content after : Content) (e : Element) (k : Kind) (loc : Loc) (w : EndedElement) → Came content e (k, after)
     → text_alone e k ≡ true → FitWhole k w
     → FitLoc loc → FitDraft after (draft_with (draft.Loc loc) e w)
 loc_step content after e k loc (simple (simples.Text text)) g ok h f = loc_text loc e text (fit_text k text ok h) f
@@ -241,7 +241,7 @@ loc_step content after e k loc (simple (simples.Long n)) g ok h f = f
 loc_step content after e k loc (simple simples.Flag) g ok h f = f
 loc_step content after e k loc (node d) g ok h f = f
 
-meta_step : (content after : Content) (e : Element) (k : Kind) (meta : Meta) (w : Whole) → Came content e (k, after)
+meta_step : (content after : Content) (e : Element) (k : Kind) (meta : Meta) (w : EndedElement) → Came content e (k, after)
     → text_alone e k ≡ true → FitWhole k w
     → FitMeta meta → FitDraft after (draft_with (draft.Meta meta) e w)
 meta_step content after e k meta (simple (simples.Text text)) g ok h f = meta_text meta e text (fit_text k text ok h) f
@@ -251,7 +251,7 @@ meta_step content after e k meta (simple simples.Flag) g ok h f = f
 meta_step content after e k meta (node (draft.Meta m)) g ok h f = h.3
 meta_step content after e k meta (node _) g ok h f = f
 
-chal_step : (content after : Content) (e : Element) (k : Kind) (meta : Meta) (w : Whole) → FitWhole k w → FitMeta meta
+chal_step : (content after : Content) (e : Element) (k : Kind) (meta : Meta) (w : EndedElement) → FitWhole k w → FitMeta meta
     → FitDraft after (draft_with (draft.Chal meta) e w)
 chal_step content after e k meta (simple (simples.Text text)) h f = f
 chal_step content after e k meta (simple (simples.Short n)) h f = f
@@ -260,7 +260,7 @@ chal_step content after e k meta (simple simples.Flag) h f = f
 chal_step content after e k meta (node (draft.Meta m)) h f = h.3
 chal_step content after e k meta (node _) h f = f
 
-cred_step : (content after : Content) (e : Element) (k : Kind) (cred : Cred) (w : Whole) → FitWhole k w → FitCred cred
+cred_step : (content after : Content) (e : Element) (k : Kind) (cred : Cred) (w : EndedElement) → FitWhole k w → FitCred cred
     → FitDraft after (draft_with (draft.Cred cred) e w)
 cred_step content after e k cred (simple (simples.Text text)) h f = record { meta = f.meta; value = h.1 }
 cred_step content after e k cred (simple (simples.Short n)) h f = f
@@ -273,7 +273,7 @@ item_loc : (item : Item) (e : Element) (loc : Loc) → FitLoc loc → FitItem it
 item_loc item ETarget loc h f = record { target = h; source = f.source; meta = f.meta; value = f.value }
 item_loc item _ loc h f = record { target = f.target; source = h; meta = f.meta; value = f.value }
 
-item_step : (content after : Content) (e : Element) (k : Kind) (item : Item) (w : Whole) → FitWhole k w → FitItem item
+item_step : (content after : Content) (e : Element) (k : Kind) (item : Item) (w : EndedElement) → FitWhole k w → FitItem item
     → FitDraft after (draft_with (draft.Item item) e w)
 item_step content after e k item (simple (simples.Text text)) h f =
     record { target = f.target; source = f.source; meta = f.meta; value = h.1 }
@@ -375,7 +375,7 @@ header_loc h _ loc l f = record {
   msg = f.msg;
 }
 
-pub header_step : (content after : Content) (e : Element) (k : Kind) (h : Header) (w : Whole)
+pub header_step : (content after : Content) (e : Element) (k : Kind) (h : Header) (w : EndedElement)
     → Came content e (k, after) → header_child e k ≡ true → FitWhole k w
     → FitHeader content h → FitDraft after (draft_with (draft.Header h) e w)
 header_step content after e k h (simple (simples.Text text)) g ok fit f =
@@ -472,7 +472,7 @@ plain_moved c s g is other unlike f = record {
   correlates = f.correlates;
 }
 
-plain_step : (content after : Content) (e : Element) (k : Kind) (c : Plain) (w : Whole) → Came content e (k, after)
+plain_step : (content after : Content) (e : Element) (k : Kind) (c : Plain) (w : EndedElement) → Came content e (k, after)
     → plain_child (is_exec c.verb) e k ≡ true → FitWhole k w
     → FitPlain content c → FitDraft after (draft_with (draft.Plain c) e w)
 plain_step content after e k c (simple (simples.Text text)) g ok h f = record {
@@ -543,7 +543,7 @@ alert_number EData {k} c n g ok h f = record {
 alert_number _ {k} c n g ok h f =
     record { correlator = f.correlator; items = f.items; id = λ _. fit_number k n (or_false (not (is_code k)) ok) h }
 
-alert_step : (content after : Content) (e : Element) (k : Kind) (c : AlertCmd) (w : Whole) → Came content e (k, after)
+alert_step : (content after : Content) (e : Element) (k : Kind) (c : AlertCmd) (w : EndedElement) → Came content e (k, after)
     → alert_child e k ≡ true → FitWhole k w
     → FitAlert content c → FitDraft after (draft_with (draft.Alert c) e w)
 alert_step content after e k c (simple (simples.Text text)) g ok h f =
@@ -586,7 +586,7 @@ atomic_member b m s g is other h f = record {
   filled = λ _. is_filled_more b.members m;
 }
 
-atomic_step : (content after : Content) (e : Element) (k : Kind) (b : Block Member) (w : Whole)
+atomic_step : (content after : Content) (e : Element) (k : Kind) (b : Block Member) (w : EndedElement)
     → Came content e (k, after)
     → id_alone e k ≡ true → FitWhole k w
     → FitAtomic content b → FitDraft after (draft_with (draft.Atomic b) e w)
@@ -642,7 +642,7 @@ sequence_member b m s g is other h f = record {
   filled = λ _. is_filled_more b.members m;
 }
 
-sequence_step : (content after : Content) (e : Element) (k : Kind) (b : Block SeqMember) (w : Whole)
+sequence_step : (content after : Content) (e : Element) (k : Kind) (b : Block SeqMember) (w : EndedElement)
     → Came content e (k, after) → id_alone e k ≡ true → FitWhole k w
     → FitSequence content b → FitDraft after (draft_with (draft.Sequence b) e w)
 sequence_step content after e k b (simple (simples.Text text)) g ok h f = sequence_moved b 20 g h.0 refl refl f
@@ -762,7 +762,7 @@ status_number e {k} c n g ok h f = record {
   msg_ref = kept (number_of EMsgRef) g (other_element EMsgRef e k refl) f.msg_ref;
 }
 
-status_step : (content after : Content) (e : Element) (k : Kind) (c : StatusCmd) (w : Whole) → Came content e (k, after)
+status_step : (content after : Content) (e : Element) (k : Kind) (c : StatusCmd) (w : EndedElement) → Came content e (k, after)
     → status_child e k ≡ true → FitWhole k w
     → FitStatus content c → FitDraft after (draft_with (draft.Status c) e w)
 status_step content after e k c (simple (simples.Text text)) g ok h f =
@@ -858,7 +858,7 @@ results_number e {k} c n g ok h f = record {
   filled = same_items 21 g h.0 refl f.filled;
 }
 
-results_step : (content after : Content) (e : Element) (k : Kind) (c : ResultsCmd) (w : Whole)
+results_step : (content after : Content) (e : Element) (k : Kind) (c : ResultsCmd) (w : EndedElement)
     → Came content e (k, after) → status_child e k ≡ true → FitWhole k w
     → FitResults content c → FitDraft after (draft_with (draft.Results c) e w)
 results_step content after e k c (simple (simples.Text text)) g ok h f =
@@ -888,7 +888,7 @@ results_step content after e k c (node d) g ok h f = results_moved c (draft_sort
 
 -- ---- a body, and a message
 
-body_step : (content after : Content) (e : Element) (k : Kind) (b : BodyDraft) (w : Whole) → FitWhole k w
+body_step : (content after : Content) (e : Element) (k : Kind) (b : BodyDraft) (w : EndedElement) → FitWhole k w
     → AllByRecursion FitCommand b.commands → FitDraft after (draft_with (draft.Body b) e w)
 body_step content after e k b (simple (simples.Text text)) h f = f
 body_step content after e k b (simple (simples.Short n)) h f = f
@@ -918,7 +918,7 @@ message_moved {content} {after} {e} {k} m s g is other f =
       body = f.body;
     }
 
-message_step : (content after : Content) (e : Element) (k : Kind) (m : MessageDraft) (w : Whole)
+message_step : (content after : Content) (e : Element) (k : Kind) (m : MessageDraft) (w : EndedElement)
     → Came content e (k, after) → FitWhole k w
     → FitMessage content m → FitDraft after (draft_with (draft.Message m) e w)
 message_step content after e k m (simple (simples.Text text)) g h f = message_moved m 20 g h.0 refl f
@@ -937,7 +937,7 @@ message_step content after e k m (node d) g h f = message_moved m (draft_sort d)
 
 -- ---- any
 
-pub draft_step : (content after : Content) (e : Element) (k : Kind) (d : Draft) (w : Whole) → Came content e (k, after)
+pub draft_step : (content after : Content) (e : Element) (k : Kind) (d : Draft) (w : EndedElement) → Came content e (k, after)
     → child_test d e k ≡ true → FitWhole k w
     → FitDraft content d → FitDraft after (draft_with d e w)
 draft_step content after e k draft.Document w g ok h f = absurd f

@@ -9,14 +9,14 @@ use Rattle.syncml_shape.specs.Forest.{Forest}
 use Rattle.syncml_shape.specs.Rows.{document, is_complete}
 use Rattle.syncml_shape.specs.Shape.{HasShape, IsViable}
 use Rattle.syncml_shape.specs.Faults.{IsRefused as IsMisshapen}
-use Rattle.syncml_shape.specs.Machine.{Frame as Outlined, is_whole, step as shape_step}
+use Rattle.syncml_shape.specs.Machine.{Frame as Outlined, may_end, step as shape_step}
 use Rattle.syncml_shape.specs.Outline.{HasTaken as HasOutline}
 use Rattle.syncml_shape.proofs.Judging.{takes_one as outline_takes, viable_front, taken_viable as outline_viable}
 use Rattle.syncml_shape.proofs.Judging.{refused_here as misshapen_here, whole_shaped}
 use Rattle.syncml_types.specs.Message.{Parts}
 use Rattle.syncml_grammar.specs.Values.{Value}
-use Rattle.syncml_grammar.specs.Reads.{Unread, at_place, read_document, parts_in, ReadsAs, SpellsParts, ◌then◌}
-use Rattle.syncml_grammar.specs.Machine.{Frame, root, step, finished}
+use Rattle.syncml_grammar.specs.Reads.{Unread, at_place, read_document, parts_held, ReadsAs, SpellsParts, ◌then◌}
+use Rattle.syncml_grammar.specs.Machine.{Frame, root, step, finished_parts}
 use Rattle.syncml_grammar.specs.Building.{frames_behind, HasTaken}
 use Rattle.syncml_grammar.specs.Refusals.{AllRead, ClosesUnread, IsRefused, Verdict, message, unfinished, refused}
 use Rattle.syncml_grammar.specs.Refusals.{Judges, message_or_not, verdict_then, verdict_from, verdict_of}
@@ -158,14 +158,14 @@ read_taken tokens v all = goes_on tokens [] (root ∷ []) refl v all
 
 -- ---- what is finished
 
-finished_top : (s : List Frame) (parts : Parts) → finished s ≡ Some parts
-    → (top : Frame) × (s ≡ top ∷ []) × IsTrue (is_complete top.content) × (parts_in top.value ≡ Some parts)
+finished_top : (s : List Frame) (parts : Parts) → finished_parts s ≡ Some parts
+    → (top : Frame) × (s ≡ top ∷ []) × IsTrue (is_complete top.content) × (parts_held top.value ≡ Some parts)
 finished_top [] parts h = cc
 finished_top (top ∷ []) parts h =
     (elim (is_complete top.content)
-    as (λ (b : Bool). is_complete top.content ≡ b → (if b then parts_in top.value else None) ≡ Some parts
+    as (λ (b : Bool). is_complete top.content ≡ b → (if b then parts_held top.value else None) ≡ Some parts
     → (top' : Frame) × (top ∷ [] ≡ top' ∷ []) × IsTrue (is_complete top'.content)
-    × (parts_in top'.value ≡ Some parts)) [
+    × (parts_held top'.value ≡ Some parts)) [
       | true ↦ λ done w. (top, refl, done, w)
       | false ↦ λ done w. cc
     ]) refl h
@@ -178,48 +178,48 @@ same_value tree value top h =
     ap (λ (f : Frame). f.value) frame
 
 pub finished_spelled : (tokens : List Token) (s : List Frame) (parts : Parts) → HasTaken s tokens
-    → finished s ≡ Some parts → SpellsParts tokens parts
+    → finished_parts s ≡ Some parts → SpellsParts tokens parts
 finished_spelled tokens s parts h w =
     let top = finished_top s parts w in
     let shaped =
     whole_shaped tokens (outline_of s) (taken_outline tokens s h)
-    (subst (λ m. IsTrue (is_whole (outline_of m))) (sym top.1) top.2) in
+    (subst (λ m. IsTrue (may_end (outline_of m))) (sym top.1) top.2) in
     let ran : (read_document shaped.0 then (λ p. Ok (behind shaped.0 p.0))) ≡ Ok (top.0 ∷ []) =
     sym (run_document tokens shaped.0 shaped.1) ∙ run_of tokens 0 (root ∷ []) s h ∙ ap Ok top.1 in
     (elim (read_document shaped.0)
     as (λ r. read_document shaped.0 ≡ r → (r then (λ p. Ok (behind shaped.0 p.0))) ≡ Ok (top.0 ∷ [])
     → SpellsParts tokens parts) [
-      | Ok p ↦ λ is r. (shaped.0, shaped.1, (p.0, p.1, is, ap parts_in (same_value shaped.0 p.0 top.0 r) ∙ top.3))
+      | Ok p ↦ λ is r. (shaped.0, shaped.1, (p.0, p.1, is, ap parts_held (same_value shaped.0 p.0 top.0 r) ∙ top.3))
       | Err unread ↦ λ is r. cc
     ]) refl ran
 
 -- the frames behind what spells parts
 pub spelled_taken : (tokens : List Token) (parts : Parts) → SpellsParts tokens parts
-    → (frames : List Frame) × HasTaken frames tokens × (finished frames ≡ Some parts)
+    → (frames : List Frame) × HasTaken frames tokens × (finished_parts frames ≡ Some parts)
 spelled_taken tokens parts (tree, shape, reads) = with_value reads
   where
-    with_value : ReadsAs tree parts → (frames : List Frame) × HasTaken frames tokens × (finished frames ≡ Some parts)
+    with_value : ReadsAs tree parts → (frames : List Frame) × HasTaken frames tokens × (finished_parts frames ≡ Some parts)
     with_value (value, at, is, has) = (
       behind tree value,
       behind_of tokens 0 (root ∷ []) (behind tree value)
           (run_document tokens tree shape ∙ ap (λ r. r then (λ p. Ok (behind tree p.0))) is),
-      ap (λ (b : Bool). if b then parts_in value else None) (rest_complete tree document shape.fitting) ∙ has,
+      ap (λ (b : Bool). if b then parts_held value else None) (rest_complete tree document shape.fitting) ∙ has,
     )
 
 same_frames : (tokens : List Token) (a b : List Frame) → HasTaken a tokens → HasTaken b tokens → a ≡ b
 same_frames tokens a b h k = let same : ◌≡◌ {A = Result (List Frame) Reason} (Ok a) (Ok b) = sym h ∙ k in cc
 
 pub spelled_finished : (tokens : List Token) (s : List Frame) (parts : Parts) → HasTaken s tokens
-    → SpellsParts tokens parts → finished s ≡ Some parts
+    → SpellsParts tokens parts → finished_parts s ≡ Some parts
 spelled_finished tokens s parts h spells =
     let took = spelled_taken tokens parts spells in
-    ap finished (same_frames tokens s took.0 h took.1) ∙ took.2
+    ap finished_parts (same_frames tokens s took.0 h took.1) ∙ took.2
 
 -- ---- the verdict on a whole list
 
-judges_end : (tokens : List Token) (s : List Frame) → HasTaken s tokens → Judges tokens (message_or_not (finished s))
+judges_end : (tokens : List Token) (s : List Frame) → HasTaken s tokens → Judges tokens (message_or_not (finished_parts s))
 judges_end tokens s h =
-    elim (finished s) as (λ o. finished s ≡ o → Judges tokens (message_or_not o)) [
+    elim (finished_parts s) as (λ o. finished_parts s ≡ o → Judges tokens (message_or_not o)) [
       | Some parts ↦ λ w. finished_spelled tokens s parts h w
       | None ↦ λ w. (
         taken_viable tokens s h,
@@ -231,7 +231,7 @@ judges_end tokens s h =
 judges_from : (tokens before : List Token) (s : List Frame) (at : ℕ) → HasTaken s before → length before ≡ at
     → Judges (before ++ tokens) (verdict_from at s tokens)
 judges_from [] before s at h len =
-    subst (λ l. Judges l (message_or_not (finished s))) (sym (append-nil before)) (judges_end before s h)
+    subst (λ l. Judges l (message_or_not (finished_parts s))) (sym (append-nil before)) (judges_end before s h)
 judges_from (t ∷ tokens) before s at h len =
     elim (step s t) as (λ o. step s t ≡ o
     → Judges (before ++ t ∷ tokens) (verdict_then at o (λ m. verdict_from (at + 1) m tokens))) [
@@ -258,7 +258,7 @@ verdict-append (t ∷ a) b s frames at h =
     ]) h
 
 verdict-taken : (tokens : List Token) (s : List Frame) → HasTaken s tokens
-    → verdict_of tokens ≡ message_or_not (finished s)
+    → verdict_of tokens ≡ message_or_not (finished_parts s)
 verdict-taken tokens s h = ap verdict_of (sym (append-nil tokens)) ∙ verdict-append tokens [] (root ∷ []) s 0 h
 
 pub refused_viable : (before : List Token) (t : Token) (reason : Reason) → IsRefused before t reason → IsViable before
@@ -280,7 +280,7 @@ one_verdict tokens unfinished (viable, all, never) =
     let took = read_taken tokens viable all in
     verdict-taken tokens took.0 took.1
     ∙ ap message_or_not
-    (none_finished (finished took.0) (λ parts w. never parts (finished_spelled tokens took.0 parts took.1 w)))
+    (none_finished (finished_parts took.0) (λ parts w. never parts (finished_spelled tokens took.0 parts took.1 w)))
 one_verdict tokens (refused at reason) (before, t, rest, split, place, x) =
     let took = read_taken before (refused_viable before t reason x) x.0 in
     ap verdict_of split ∙ verdict-append before (t ∷ rest) (root ∷ []) took.0 0 took.1

@@ -4,9 +4,9 @@ use Rattle.wbxml_tables.specs.declared.Element.{Element}
 use Rattle.syncml_grammar.specs.declared.draft.MessageDraft.{MessageDraft}
 use Rattle.syncml_grammar.specs.declared.draft.Draft.{Draft}
 use Rattle.syncml_grammar.specs.declared.draft.Draft.TheVariants as draft
-use Rattle.syncml_grammar.specs.Nodes.{with_node, is_document}
+use Rattle.syncml_grammar.specs.Nodes.{with_inner, is_document}
 
-pub whole_child : (d : Draft) (e : Element) (child : Draft) → is_document d ≡ true → with_node d e child ≡ child
+pub whole_child : (d : Draft) (e : Element) (child : Draft) → is_document d ≡ true → with_inner d e child ≡ child
 whole_child draft.Document e child is = refl
 whole_child (draft.Message m) e child is = cc
 whole_child (draft.Header h) e child is = cc
@@ -23,7 +23,7 @@ whole_child (draft.Cred cred) e child is = cc
 whole_child (draft.Chal meta) e child is = cc
 whole_child (draft.Meta meta) e child is = cc
 
-pub left_document : (d : Draft) (e : Element) → is_document d ≡ false → d ≡ with_node d e draft.Document
+pub left_document : (d : Draft) (e : Element) → is_document d ≡ false → d ≡ with_inner d e draft.Document
 left_document draft.Document e is = cc
 left_document (draft.Message m) e is = refl
 left_document (draft.Header h) e is = refl
@@ -41,7 +41,7 @@ left_document (draft.Chal meta) e is = refl
 left_document (draft.Meta meta) e is = refl
 
 pub left_message : (d : Draft) (e : Element) (m : MessageDraft) → is_document d ≡ false
-    → d ≡ with_node d e (draft.Message m)
+    → d ≡ with_inner d e (draft.Message m)
 left_message draft.Document e m is = cc
 left_message (draft.Message n) e m is = refl
 left_message (draft.Header h) e m is = refl

@@ -8,14 +8,14 @@ use Rattle.wbxml_tables.specs.declared.Element.{Element}
 use Rattle.wbxml_tokens.specs.declared.token.Token.{Token}
 use Rattle.wbxml_tokens.specs.declared.token.Token.TheVariants.{Tag, End, Text, Opaque}
 use Rattle.syncml_shape.specs.declared.rows.Kind.{Kind}
-use Rattle.syncml_shape.specs.Rows.{Content, start, next, is_complete, takes_text}
+use Rattle.syncml_shape.specs.Rows.{Content, start, next_child, is_complete, takes_text}
 use Rattle.syncml_shape.specs.Shape.{IsViable}
 use Rattle.syncml_shape.specs.Faults.{tag_fault}
 use Rattle.syncml_shape.specs.Machine.{Frame as Outlined, with_tag as shape_tag, step as shape_step}
 use Rattle.syncml_shape.specs.Outline.{then_outline, outline_from}
 use Rattle.syncml_shape.specs.Outline.{HasTaken as HasOutline}
 use Rattle.syncml_shape.proofs.Judging.{taken_viable as outline_viable}
-use Rattle.syncml_grammar.specs.Values.{closed, with_text, with_child}
+use Rattle.syncml_grammar.specs.Values.{closed_value, with_text, with_child}
 use Rattle.syncml_grammar.specs.Reads.{◌then◌}
 use Rattle.syncml_grammar.specs.Machine.{Frame, root, began, named_end, on_tag, on_next, step}
 use Rattle.syncml_grammar.specs.Building.{frames_behind, HasTaken}
@@ -45,7 +45,7 @@ named_outline : (o : Option Element) (child parent p : Frame) → named_end o ch
     → outlined p ≡ outlined parent
 named_outline None child parent p h = cc
 named_outline (Some e) child parent p h =
-    (elim (closed child.kind child.value)
+    (elim (closed_value child.kind child.value)
     as (λ r. (r then (λ whole. Ok (record parent { value = with_child parent.value e whole }))) ≡ Ok p
     → outlined p ≡ outlined parent) [
       | Ok whole ↦ λ w. let is : record parent { value = with_child parent.value e whole } ≡ p = cc in
@@ -54,7 +54,7 @@ named_outline (Some e) child parent p h =
     ]) h
 
 follows_child : (top : Frame) (below : List Frame) (e : Element) (b : Bool) (fault : Option Reason)
-    (o : Option (Kind × Content)) → next top.content e ≡ o
+    (o : Option (Kind × Content)) → next_child top.content e ≡ o
     → Follows (on_tag top below e b fault) (shape_tag (outlined top) (outline_of below) e b fault o)
 follows_child top below e b (Some reason) o is = inl refl
 follows_child top below e b None None is =
@@ -79,7 +79,7 @@ follows_text false top below bytes = inl refl
 
 pub step_follows : (t : Token) (s : List Frame) → Follows (step s t) (shape_step (outline_of s) t)
 step_follows t [] = inl refl
-step_follows (Tag e b) (top ∷ below) = follows_child top below e b (tag_fault top.element e) (next top.content e) refl
+step_follows (Tag e b) (top ∷ below) = follows_child top below e b (tag_fault top.element e) (next_child top.content e) refl
 step_follows (Text bytes) (top ∷ below) = follows_text (takes_text top.content) top below bytes
 step_follows (Opaque bytes) (top ∷ below) = follows_text (takes_text top.content) top below bytes
 step_follows End (top ∷ []) = inl refl

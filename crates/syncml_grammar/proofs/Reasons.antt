@@ -7,7 +7,7 @@ use Rattle.wbxml_tokens.specs.declared.reason.Reason.TheVariants as reasons
 use Rattle.syncml_shape.specs.declared.rows.Kind.{Kind}
 use Rattle.syncml_shape.specs.declared.rows.Kind.TheVariants as kinds
 use Rattle.syncml_shape.specs.Forest.{Forest, nothing, text, opaque, bare, full}
-use Rattle.syncml_shape.specs.Rows.{Content, document, start, next, is_complete, takes_text}
+use Rattle.syncml_shape.specs.Rows.{Content, document, start, next_child, is_complete, takes_text}
 use Rattle.syncml_shape.specs.Shape.{fits}
 use Rattle.syncml_shape.proofs.Accepts.{and_true}
 use Rattle.syncml_types.specs.Canonical.{is_text}
@@ -18,7 +18,8 @@ use Rattle.syncml_grammar.specs.declared.leaf.Simple.{Simple}
 use Rattle.syncml_grammar.specs.declared.leaf.Simple.TheVariants as simple
 use Rattle.syncml_grammar.specs.Numbers.{number_in}
 use Rattle.syncml_grammar.specs.Leaves.{closed_text, closed_number, closed_leaf}
-use Rattle.syncml_grammar.specs.Values.{Value, of_leaf, of_draft, simply, fresh, closed, with_text, with_child}
+use Rattle.syncml_grammar.specs.Values.{Value, of_leaf, of_draft, simply, fresh_value, closed_value, with_text}
+use Rattle.syncml_grammar.specs.Values.{with_child}
 use Rattle.syncml_grammar.specs.Reads.{Unread, at_place, read, ◌then◌}
 use Rattle.syncml_grammar.specs.Refusals.{UnreadIsText}
 
@@ -54,7 +55,7 @@ simply_only : (r : Result Simple Reason) (reason : Reason) → simply r ≡ Err 
 simply_only (Ok x) reason h = cc
 simply_only (Err other) reason h = cc
 
-closed_reason : (kind : Kind) (value : Value) (reason : Reason) → closed kind value ≡ Err reason → IsOfText reason
+closed_reason : (kind : Kind) (value : Value) (reason : Reason) → closed_value kind value ≡ Err reason → IsOfText reason
 closed_reason kind (of_leaf l) reason h = leaf_reason kind l reason (simply_only (closed_leaf kind l) reason h)
 closed_reason kind (of_draft d) reason h = cc
 
@@ -75,41 +76,41 @@ read_reason (text b f) n value c u fit h =
 read_reason (opaque b f) n value c u fit h =
     read_reason f (n + 1) (with_text value b) c u (and_true (takes_text c) (fits c f) fit).1 h
 read_reason (bare e f) n value c u fit h =
-    (elim (next c e)
+    (elim (next_child c e)
     as (λ o. IsTrue (elim o as (λ _. Bool) [ None ↦ false | Some x ↦ is_complete (start x.0) && fits x.1 f ])
     → (elim o as (λ _. Result (Value × ℕ) Unread) [
       | None ↦ Err (record { at = n; reason = reasons.Misplaced })
-      | Some x ↦ at_place n (closed x.0 (fresh x.0 e)) then (λ child. read (n + 1) (with_child value e child) x.1 f)
+      | Some x ↦ at_place n (closed_value x.0 (fresh_value x.0 e)) then (λ child. read (n + 1) (with_child value e child) x.1 f)
     ]) ≡ Err u → IsOfText u.reason) [
       | None ↦ λ w r. cc
       | Some x ↦ λ w r.
-          end_reason n (λ child. read (n + 1) (with_child value e child) x.1 f) (closed x.0 (fresh x.0 e)) u
-          (closed_reason x.0 (fresh x.0 e))
+          end_reason n (λ child. read (n + 1) (with_child value e child) x.1 f) (closed_value x.0 (fresh_value x.0 e)) u
+          (closed_reason x.0 (fresh_value x.0 e))
           (λ child q. read_reason f (n + 1) (with_child value e child) x.1 u
           (and_true (is_complete (start x.0)) (fits x.1 f) w).1 q) r
     ]) fit h
 read_reason (full e i f) n value c u fit h =
-    (elim (next c e)
+    (elim (next_child c e)
     as (λ o. IsTrue (elim o as (λ _. Bool) [ None ↦ false | Some x ↦ fits (start x.0) i && fits x.1 f ])
     → (elim o as (λ _. Result (Value × ℕ) Unread) [
       | None ↦ Err (record { at = n; reason = reasons.Misplaced })
-      | Some x ↦ read (n + 1) (fresh x.0 e) (start x.0) i
-          then (λ p. at_place p.1 (closed x.0 p.0) then (λ child. read (p.1 + 1) (with_child value e child) x.1 f))
+      | Some x ↦ read (n + 1) (fresh_value x.0 e) (start x.0) i
+          then (λ p. at_place p.1 (closed_value x.0 p.0) then (λ child. read (p.1 + 1) (with_child value e child) x.1 f))
     ]) ≡ Err u → IsOfText u.reason) [
       | None ↦ λ w r. cc
       | Some x ↦ λ w r.
           let both = and_true (fits (start x.0) i) (fits x.1 f) w in
-          (elim (read (n + 1) (fresh x.0 e) (start x.0) i) as (λ q. read (n + 1) (fresh x.0 e) (start x.0) i ≡ q
+          (elim (read (n + 1) (fresh_value x.0 e) (start x.0) i) as (λ q. read (n + 1) (fresh_value x.0 e) (start x.0) i ≡ q
           → (q
-          then (λ p. at_place p.1 (closed x.0 p.0) then (λ child. read (p.1 + 1) (with_child value e child) x.1 f)))
+          then (λ p. at_place p.1 (closed_value x.0 p.0) then (λ child. read (p.1 + 1) (with_child value e child) x.1 f)))
           ≡ Err u → IsOfText u.reason) [
             | Ok p ↦ λ is r'.
-                end_reason p.1 (λ child. read (p.1 + 1) (with_child value e child) x.1 f) (closed x.0 p.0) u
+                end_reason p.1 (λ child. read (p.1 + 1) (with_child value e child) x.1 f) (closed_value x.0 p.0) u
                 (closed_reason x.0 p.0)
                 (λ child q. read_reason f (p.1 + 1) (with_child value e child) x.1 u both.1 q) r'
             | Err v ↦ λ is r'. let same : v ≡ u = cc in
                 subst (λ (k : Unread). IsOfText k.reason) same
-                (read_reason i (n + 1) (fresh x.0 e) (start x.0) v both.0 is)
+                (read_reason i (n + 1) (fresh_value x.0 e) (start x.0) v both.0 is)
           ]) refl r
     ]) fit h
 

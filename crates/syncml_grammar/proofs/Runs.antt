@@ -5,7 +5,7 @@ use Rattle.dm_base.specs.Limits.{text_limit}
 use Rattle.wbxml_tokens.specs.declared.token.Token.{Token}
 use Rattle.syncml_grammar.specs.Reads.{◌then◌}
 use Rattle.syncml_grammar.specs.Machine.{Frame, root, step}
-use Rattle.syncml_grammar.specs.Building.{Building, IsBuilding, frames_behind, HasTaken, text_in, text_length}
+use Rattle.syncml_grammar.specs.Building.{Building, IsBuilding, frames_behind, HasTaken, bytes_of_text, text_length}
 
 -- behind tokens, and then behind more
 pub behind-append : (before later : List Token) (from : List Frame)
@@ -19,7 +19,7 @@ behind-append (token ∷ before) later from =
     ]
 
 length-append : (before : List Token) (token : Token)
-    → text_length (before ++ token ∷ []) ≡ text_length before + text_in token
+    → text_length (before ++ token ∷ []) ≡ text_length before + bytes_of_text token
 length-append [] token = search rules
 length-append (t ∷ before) token = let e = length-append before token in search rules
 
@@ -33,7 +33,7 @@ taken_more before token frames after h x =
 -- a building that took one token more
 pub building_more : (b : Building) (token : Token) (after : List Frame) (left : ℕ) → IsBuilding b → b.stopped ≡ None
     → step b.frames token ≡ Ok after
-    → left + text_in token ≡ b.room → IsBuilding (record b { frames = after; room = left })
+    → left + bytes_of_text token ≡ b.room → IsBuilding (record b { frames = after; room = left })
 building_more b token after left is_building going x room = λ still.
     let was = is_building going in
     let e = length-append was.0 token in

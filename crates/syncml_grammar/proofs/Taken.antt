@@ -4,11 +4,11 @@ use Rattle.std.proofs.Common.{sym, ◌∙◌, ap, subst, append_assoc}
 use Rattle.wbxml_tokens.specs.declared.reason.Reason.{Reason}
 use Rattle.wbxml_tokens.specs.declared.reason.Refusal.{Refusal}
 use Rattle.wbxml_tokens.specs.declared.token.Placed.{Placed}
-use Rattle.wbxml_tokens.specs.Taking.{taken, taken_one, ◌>>=◌}
+use Rattle.wbxml_tokens.specs.Taking.{taken_all, taken_one, ◌>>=◌}
 use Rattle.wbxml_tokens.proofs.Turns.{taken-append}
 use Rattle.syncml_grammar.specs.Reads.{◌then◌}
 use Rattle.syncml_grammar.specs.Machine.{Frame, step}
-use Rattle.syncml_grammar.specs.Building.{Building, no_building, building_after, refusal_of, refused_by, frames_or}
+use Rattle.syncml_grammar.specs.Building.{Building, no_building, building_after, token_refusal, refused_by, frames_or}
 use Rattle.syncml_grammar.specs.Building.{frames_behind, HasTaken, HasBuilt}
 use Rattle.syncml_grammar.specs.Refusals.{IsRefused}
 use Rattle.syncml_grammar.specs.Taken.{building, tokens, HasRefused, BuiltIsTaken}
@@ -21,12 +21,12 @@ tokens-append (p ∷ a) b = ap (λ l. p.token ∷ l) (tokens-append a b)
 -- ---- one token
 
 went : (b : Building) (p : Placed) (after : List Frame) → b.stopped ≡ None → step b.frames p.token ≡ Ok after
-    → taken_one building (refusal_of b p.token) b p ≡ Ok (building_after b p.token)
+    → taken_one building (token_refusal b p.token) b p ≡ Ok (building_after b p.token)
 went b p after going x =
     ap (λ r. taken_one building r b p) (ap (λ s. refused_by s (step b.frames p.token)) going ∙ ap (refused_by None) x)
 
 stopped : (b : Building) (p : Placed) (reason : Reason) → b.stopped ≡ None → step b.frames p.token ≡ Err reason
-    → taken_one building (refusal_of b p.token) b p ≡ Err (record { at = p.at; reason = reason })
+    → taken_one building (token_refusal b p.token) b p ≡ Err (record { at = p.at; reason = reason })
 stopped b p reason going x =
     ap (λ r. taken_one building r b p) (ap (λ s. refused_by s (step b.frames p.token)) going ∙ ap (refused_by None) x)
 
@@ -38,17 +38,17 @@ frames_after b p after x = ap (frames_or b.frames) x
 
 -- a builder that took tokens which the grammar takes
 abbrev pub Took : Building → List Placed → List Frame → Type 0
-Took b placed frames = (c : Building) × (taken building b placed ≡ Ok c) × (c.frames ≡ frames) × (c.stopped ≡ None)
+Took b placed frames = (c : Building) × (taken_all building b placed ≡ Ok c) × (c.frames ≡ frames) × (c.stopped ≡ None)
 
 -- what stands behind the first token of some
 abbrev Behind : Result (List Frame) Reason → Building → Placed → List Placed → Type 0
-Behind (Ok after) b p placed = taken building b (p ∷ placed) ≡ taken building (building_after b p.token) placed
-Behind (Err reason) b p placed = taken building b (p ∷ placed) ≡ Err (record { at = p.at; reason = reason })
+Behind (Ok after) b p placed = taken_all building b (p ∷ placed) ≡ taken_all building (building_after b p.token) placed
+Behind (Err reason) b p placed = taken_all building b (p ∷ placed) ≡ Err (record { at = p.at; reason = reason })
 
 behind_one : (b : Building) (p : Placed) (placed : List Placed) (r : Result (List Frame) Reason) → b.stopped ≡ None
     → step b.frames p.token ≡ r → Behind r b p placed
-behind_one b p placed (Ok after) going x = ap (λ r. r >>= (λ v. taken building v placed)) (went b p after going x)
-behind_one b p placed (Err reason) going x = ap (λ r. r >>= (λ v. taken building v placed)) (stopped b p reason going x)
+behind_one b p placed (Ok after) going x = ap (λ r. r >>= (λ v. taken_all building v placed)) (went b p after going x)
+behind_one b p placed (Err reason) going x = ap (λ r. r >>= (λ v. taken_all building v placed)) (stopped b p reason going x)
 
 took : (placed : List Placed) (b : Building) (frames : List Frame) → b.stopped ≡ None
     → frames_behind b.frames (tokens placed) ≡ Ok frames → Took b placed frames
@@ -65,7 +65,7 @@ took (p ∷ placed) b frames going h =
       | Err reason ↦ λ x rest. cc
     ]) refl h
 
-built_from : (placed : List Placed) (b c : Building) → b.stopped ≡ None → taken building b placed ≡ Ok c
+built_from : (placed : List Placed) (b c : Building) → b.stopped ≡ None → taken_all building b placed ≡ Ok c
     → (c.stopped ≡ None) × (frames_behind b.frames (tokens placed) ≡ Ok c.frames)
 built_from [] b c going h =
     let same : b ≡ c = cc in
@@ -85,7 +85,7 @@ built_from (p ∷ placed) b c going h =
 
 refused_from : (placed before : List Placed) (b : Building) (f : Refusal) → b.stopped ≡ None
     → HasTaken b.frames (tokens before)
-    → taken building b placed ≡ Err f → HasRefused (before ++ placed) f
+    → taken_all building b placed ≡ Err f → HasRefused (before ++ placed) f
 refused_from [] before b f going took_all h = cc
 refused_from (p ∷ placed) before b f going took_all h =
     (elim (step b.frames p.token) as (λ o. step b.frames p.token ≡ o → HasRefused (before ++ p ∷ placed) f) [
@@ -111,7 +111,7 @@ refused_from (p ∷ placed) before b f going took_all h =
           )
     ]) refl
 
-refused_where : (placed : List Placed) (f : Refusal) → HasRefused placed f → taken building no_building placed ≡ Err f
+refused_where : (placed : List Placed) (f : Refusal) → HasRefused placed f → taken_all building no_building placed ≡ Err f
 refused_where placed f (before, p, rest, split, x, place) =
     let read = read_taken (tokens before) (refused_viable (tokens before) p.token f.reason x) x.0 in
     let c = took before no_building read.0 refl read.1 in
@@ -119,22 +119,22 @@ refused_where placed f (before, p, rest, split, x, place) =
     ap (λ m. step m p.token) c.2 ∙ refused_only (tokens before) read.0 p.token f.reason read.1 x in
     let told : record { at = p.at; reason = f.reason } ≡ f =
     ap (λ n. record { at = n; reason = f.reason }) (sym place) in
-    ap (taken building no_building) split
+    ap (taken_all building no_building) split
     ∙ taken-append building no_building before (p ∷ rest)
-    ∙ ap (λ r. r >>= (λ v. taken building v (p ∷ rest))) c.1
+    ∙ ap (λ r. r >>= (λ v. taken_all building v (p ∷ rest))) c.1
     ∙ behind_one c.0 p rest (Err f.reason) c.3 bad
     ∙ ap Err told
 
 -- ---- the law
 
-built : (placed : List Placed) (b : Building) → taken building no_building placed ≡ Ok b → HasBuilt b (tokens placed)
+built : (placed : List Placed) (b : Building) → taken_all building no_building placed ≡ Ok b → HasBuilt b (tokens placed)
 built placed b h = built_from placed no_building b refl h
 
 taken_whole : (placed : List Placed) (frames : List Frame) → HasTaken frames (tokens placed)
-    → (b : Building) × (taken building no_building placed ≡ Ok b) × (b.frames ≡ frames)
+    → (b : Building) × (taken_all building no_building placed ≡ Ok b) × (b.frames ≡ frames)
 taken_whole placed frames h = let c = took placed no_building frames refl h in (c.0, c.1, c.2)
 
-refused : (placed : List Placed) (f : Refusal) → (taken building no_building placed ≡ Err f) ↔ HasRefused placed f
+refused : (placed : List Placed) (f : Refusal) → (taken_all building no_building placed ≡ Err f) ↔ HasRefused placed f
 refused placed f = (λ h. refused_from placed [] no_building f refl refl h, refused_where placed f)
 
 pub built_is_taken : BuiltIsTaken

@@ -8,7 +8,7 @@ use Rattle.syncml_types.specs.Message.{Parts}
 use Rattle.wbxml_tokens.specs.declared.reason.Stop.{Stop}
 use Rattle.wbxml_tokens.specs.declared.reason.Stop.TheVariants as stops
 use Rattle.syncml_grammar.specs.Reads.{◌then◌}
-use Rattle.syncml_grammar.specs.Machine.{Frame, root, step, finished}
+use Rattle.syncml_grammar.specs.Machine.{Frame, root, step, finished_parts}
 
 -- the open elements behind tokens, or why one of these is refused
 abbrev pub frames_behind : List Frame → List Token → Result (List Frame) Reason
@@ -19,15 +19,15 @@ frames_behind frames (token ∷ tokens) = step frames token then (λ after. fram
 abbrev pub HasTaken : List Frame → List Token → Type 0
 HasTaken frames tokens = frames_behind (root ∷ []) tokens ≡ Ok frames
 
-abbrev pub text_in : Token → ℕ
-text_in (Tag e content) = 0
-text_in End = 0
-text_in (Text bytes) = length bytes
-text_in (Opaque bytes) = length bytes
+abbrev pub bytes_of_text : Token → ℕ
+bytes_of_text (Tag e content) = 0
+bytes_of_text End = 0
+bytes_of_text (Text bytes) = length bytes
+bytes_of_text (Opaque bytes) = length bytes
 
 abbrev pub text_length : List Token → ℕ
 text_length [] = 0
-text_length (token ∷ tokens) = text_in token + text_length tokens
+text_length (token ∷ tokens) = bytes_of_text token + text_length tokens
 
 -- the open elements, how many bytes of text may still come, and why it takes no more tokens. All tokens together may
 -- have far more text than those of a message
@@ -50,7 +50,7 @@ frames_or frames (Err reason) = frames
 
 -- with one more token, where it is taken
 abbrev pub building_after : Building → Token → Building
-building_after b token = record b { frames = frames_or b.frames (step b.frames token); room = b.room - text_in token }
+building_after b token = record b { frames = frames_or b.frames (step b.frames token); room = b.room - bytes_of_text token }
 
 abbrev pub refused_by : Option Stop → Result (List Frame) Reason → Option Reason
 refused_by None (Ok frames) = None
@@ -59,12 +59,12 @@ refused_by (Some (stops.Refused reason)) x = Some reason
 refused_by (Some stops.Memory) x = None
 
 -- why it refuses a token
-abbrev pub refusal_of : Building → Token → Option Reason
-refusal_of b token = refused_by b.stopped (step b.frames token)
+abbrev pub token_refusal : Building → Token → Option Reason
+token_refusal b token = refused_by b.stopped (step b.frames token)
 
-abbrev pub told : Stop → Option Reason
-told stops.Memory = None
-told (stops.Refused reason) = Some reason
+abbrev pub reason_told : Stop → Option Reason
+reason_told stops.Memory = None
+reason_told (stops.Refused reason) = Some reason
 
 -- after want of memory it takes no more
 abbrev pub IsLacking : Building → Building → Type 0
@@ -84,4 +84,4 @@ unless_stopped (Some stop) parts = None
 
 -- the parts of the message, where the document is whole
 abbrev pub built_by : Building → Option Parts
-built_by b = unless_stopped b.stopped (finished b.frames)
+built_by b = unless_stopped b.stopped (finished_parts b.frames)

@@ -7,7 +7,7 @@ use Rattle.syncml_shape.specs.Shape.{fits}
 use Rattle.syncml_types.specs.Message.{Parts}
 use Rattle.syncml_types.specs.Fitness.{IsFit}
 use Rattle.syncml_grammar.specs.Values.{Value}
-use Rattle.syncml_grammar.specs.Reads.{read_document, parts_in}
+use Rattle.syncml_grammar.specs.Reads.{read_document, parts_held}
 use Rattle.syncml_grammar.specs.Building.{text_length}
 
 -- a document whose texts read, and aren't too long, gives a message, and it is fit
@@ -15,4 +15,4 @@ abbrev pub ReadIsFit : Type 0
 ReadIsFit =
     (tree : Forest) (value : Value) (at : ℕ)
     → IsTrue (fits document tree) → read_document tree ≡ Ok (value, at) → text_length (spelling tree) ≤ text_limit
-    → (parts : Parts) × (parts_in value ≡ Some parts) × IsFit parts.header parts.body
+    → (parts : Parts) × (parts_held value ≡ Some parts) × IsFit parts.header parts.body

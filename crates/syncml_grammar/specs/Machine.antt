@@ -7,12 +7,12 @@ use Rattle.wbxml_tokens.specs.declared.token.Token.{Token}
 use Rattle.wbxml_tokens.specs.declared.token.Token.TheVariants.{Tag, End, Text, Opaque}
 use Rattle.syncml_shape.specs.declared.rows.Kind.{Kind}
 use Rattle.syncml_shape.specs.declared.rows.Kind.TheVariants as kinds
-use Rattle.syncml_shape.specs.Rows.{Content, document, start, next, is_complete, takes_text}
+use Rattle.syncml_shape.specs.Rows.{Content, document, start, next_child, is_complete, takes_text}
 use Rattle.syncml_shape.specs.Faults.{tag_fault}
 use Rattle.syncml_types.specs.Message.{Parts}
 use Rattle.syncml_grammar.specs.declared.draft.Draft.TheVariants as draft
-use Rattle.syncml_grammar.specs.Values.{Value, of_draft, fresh, with_text, closed, with_child}
-use Rattle.syncml_grammar.specs.Reads.{◌then◌, parts_in}
+use Rattle.syncml_grammar.specs.Values.{Value, of_draft, fresh_value, with_text, closed_value, with_child}
+use Rattle.syncml_grammar.specs.Reads.{◌then◌, parts_held}
 
 -- an open element: its name, what it may still have, and what it holds so far; the document has no name
 pub record Frame : Type 0 where
@@ -26,12 +26,12 @@ abbrev pub root : Frame
 root = record { element = None; kind = kinds.Message; content = document; value = of_draft draft.Document }
 
 abbrev pub began : Element → Kind → Frame
-began e kind = record { element = Some e; kind = kind; content = start kind; value = fresh kind e }
+began e kind = record { element = Some e; kind = kind; content = start kind; value = fresh_value kind e }
 
 abbrev pub named_end : Option Element → Frame → Frame → Result Frame Reason
 named_end None child parent = Err Misplaced
 named_end (Some e) child parent =
-    closed child.kind child.value then (λ whole. Ok (record parent { value = with_child parent.value e whole }))
+    closed_value child.kind child.value then (λ whole. Ok (record parent { value = with_child parent.value e whole }))
 
 -- the parent behind its child's end
 abbrev pub on_end : Frame → Frame → Result Frame Reason
@@ -53,7 +53,7 @@ on_next top below e content (Some x) = with_tag (record top { content = x.1 }) b
 
 abbrev pub on_tag : Frame → List Frame → Element → Bool → Option Reason → Result (List Frame) Reason
 on_tag top below e content (Some reason) = Err reason
-on_tag top below e content None = on_next top below e content (next top.content e)
+on_tag top below e content None = on_next top below e content (next_child top.content e)
 
 abbrev pub on_text : Frame → List ℕ → Result Frame Reason
 on_text top bytes =
@@ -72,7 +72,7 @@ step (top ∷ []) End = Err Misplaced
 step (top ∷ parent ∷ below) End = on_end top parent then (λ p. Ok (p ∷ below))
 
 -- the parts of the message, where the document is whole
-abbrev pub finished : List Frame → Option Parts
-finished [] = None
-finished (top ∷ parent ∷ below) = None
-finished (top ∷ []) = if is_complete top.content then parts_in top.value else None
+abbrev pub finished_parts : List Frame → Option Parts
+finished_parts [] = None
+finished_parts (top ∷ parent ∷ below) = None
+finished_parts (top ∷ []) = if is_complete top.content then parts_held top.value else None

@@ -36,18 +36,18 @@ as_member (draft.Plain c) = Some (member.One c)
 as_member (draft.Alert c) = Some (member.Alert c)
 as_member other = None
 
-abbrev pub single : Option Member → Option SeqMember
-single None = None
-single (Some m) = Some (seq_member.Single m)
+abbrev pub as_single : Option Member → Option SeqMember
+as_single None = None
+as_single (Some m) = Some (seq_member.Single m)
 
 abbrev pub as_seq_member : Draft → Option SeqMember
 as_seq_member (draft.Atomic b) = Some (seq_member.Atomic b)
-as_seq_member other = single (as_member other)
+as_seq_member other = as_single (as_member other)
 
 -- a list with one more, where there is one
-abbrev pub joined : {A : Type 0} → List A → Option A → List A
-joined xs None = xs
-joined xs (Some x) = xs ++ x ∷ []
+abbrev pub and_one : {A : Type 0} → List A → Option A → List A
+and_one xs None = xs
+and_one xs (Some x) = xs ++ x ∷ []
 
 abbrev pub message_with : MessageDraft → Draft → MessageDraft
 message_with m (draft.Header h) = record m { header = Some h }
@@ -75,7 +75,7 @@ alert_with c other = c
 
 abbrev pub block_with : {M : Type 0} → (Draft → Option M) → Block M → Draft → Block M
 block_with one b (draft.Meta meta) = record b { meta = Some meta }
-block_with one b other = record b { members = joined b.members (one other) }
+block_with one b other = record b { members = and_one b.members (one other) }
 
 abbrev pub status_with : StatusCmd → Draft → StatusCmd
 status_with c (draft.Chal meta) = record c { chal = Some meta }
@@ -105,22 +105,22 @@ abbrev pub meta_with : Meta → Draft → Meta
 meta_with old (draft.Meta meta) = meta
 meta_with old other = old
 
-abbrev pub with_node : Draft → Element → Draft → Draft
-with_node draft.Document e child = child
-with_node (draft.Message m) e child = draft.Message (message_with m child)
-with_node (draft.Header h) e child = draft.Header (header_with h e child)
-with_node (draft.Body b) e child = draft.Body (record b { commands = joined b.commands (as_command child) })
-with_node (draft.Plain c) e child = draft.Plain (plain_with c child)
-with_node (draft.Alert c) e child = draft.Alert (alert_with c child)
-with_node (draft.Atomic b) e child = draft.Atomic (block_with as_member b child)
-with_node (draft.Sequence b) e child = draft.Sequence (block_with as_seq_member b child)
-with_node (draft.Status c) e child = draft.Status (status_with c child)
-with_node (draft.Results c) e child = draft.Results (results_with c child)
-with_node (draft.Item item) e child = draft.Item (item_with item e child)
-with_node (draft.Loc loc) e child = draft.Loc loc
-with_node (draft.Cred cred) e child = draft.Cred (cred_with cred child)
-with_node (draft.Chal meta) e child = draft.Chal (meta_with meta child)
-with_node (draft.Meta meta) e child = draft.Meta (meta_with meta child)
+abbrev pub with_inner : Draft → Element → Draft → Draft
+with_inner draft.Document e child = child
+with_inner (draft.Message m) e child = draft.Message (message_with m child)
+with_inner (draft.Header h) e child = draft.Header (header_with h e child)
+with_inner (draft.Body b) e child = draft.Body (record b { commands = and_one b.commands (as_command child) })
+with_inner (draft.Plain c) e child = draft.Plain (plain_with c child)
+with_inner (draft.Alert c) e child = draft.Alert (alert_with c child)
+with_inner (draft.Atomic b) e child = draft.Atomic (block_with as_member b child)
+with_inner (draft.Sequence b) e child = draft.Sequence (block_with as_seq_member b child)
+with_inner (draft.Status c) e child = draft.Status (status_with c child)
+with_inner (draft.Results c) e child = draft.Results (results_with c child)
+with_inner (draft.Item item) e child = draft.Item (item_with item e child)
+with_inner (draft.Loc loc) e child = draft.Loc loc
+with_inner (draft.Cred cred) e child = draft.Cred (cred_with cred child)
+with_inner (draft.Chal meta) e child = draft.Chal (meta_with meta child)
+with_inner (draft.Meta meta) e child = draft.Meta (meta_with meta child)
 
 abbrev pub is_document : Draft → Bool
 is_document draft.Document = true

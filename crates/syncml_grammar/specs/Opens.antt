@@ -30,22 +30,22 @@ abbrev pub frames_of : Open → List Open → List Frame
 frames_of top below = frame_of top ∷ reverse (map frame_of below)
 
 -- with the one without, which is innermost
-abbrev pub with_leaf : Option OpenLeaf → List Frame → List Frame
-with_leaf None frames = frames
-with_leaf (Some o) frames = leaf_frame o ∷ frames
+abbrev pub with_open_leaf : Option OpenLeaf → List Frame → List Frame
+with_open_leaf None frames = frames
+with_open_leaf (Some o) frames = leaf_frame o ∷ frames
 
 -- what was left is what the definition gives, or why it stopped; memory is wanted only where it isn't refused
-abbrev pub Stops : {A : Type 0} → Stop → Result A Reason → Type 0
-Stops stops.Memory x = IsOk x
-Stops (stops.Refused reason) x = x ≡ Err reason
+abbrev pub StopsFor : {A : Type 0} → Stop → Result A Reason → Type 0
+StopsFor stops.Memory x = IsOk x
+StopsFor (stops.Refused reason) x = x ≡ Err reason
 
 abbrev pub GivesFrame : Result Unit Stop → Frame → Result Frame Reason → Type 0
 GivesFrame (Ok u) after x = x ≡ Ok after
-GivesFrame (Err stop) after x = Stops stop x
+GivesFrame (Err stop) after x = StopsFor stop x
 
 abbrev pub GivesFrames : Result Unit Stop → List Frame → Result (List Frame) Reason → Type 0
 GivesFrames (Ok u) after x = x ≡ Ok after
-GivesFrames (Err stop) after x = Stops stop x
+GivesFrames (Err stop) after x = StopsFor stop x
 
-abbrev pub parts_of : WholeParts → Parts
-parts_of p = record { header = p.header; body = p.body; last = p.last }
+abbrev pub parts_from_whole : WholeParts → Parts
+parts_from_whole p = record { header = p.header; body = p.body; last = p.last }

@@ -4,13 +4,13 @@ use Rattle.wbxml_tokens.specs.declared.reason.Reason.{Reason}
 use Rattle.wbxml_tokens.specs.declared.reason.Reason.TheVariants.{Misplaced}
 use Rattle.wbxml_tokens.specs.declared.token.Token.{Token}
 use Rattle.syncml_shape.specs.Forest.{Forest, nothing, text, opaque, bare, full}
-use Rattle.syncml_shape.specs.Rows.{Content, document, start, next}
+use Rattle.syncml_shape.specs.Rows.{Content, document, start, next_child}
 use Rattle.syncml_shape.specs.Shape.{HasShape}
 use Rattle.syncml_types.specs.Message.{Parts}
 use Rattle.syncml_types.specs.declared.values.Header.{Header}
 use Rattle.syncml_grammar.specs.declared.draft.Draft.TheVariants as draft
 use Rattle.syncml_grammar.specs.declared.draft.MessageDraft.{MessageDraft}
-use Rattle.syncml_grammar.specs.Values.{Value, of_draft, fresh, with_text, closed, with_child}
+use Rattle.syncml_grammar.specs.Values.{Value, of_draft, fresh_value, with_text, closed_value, with_child}
 
 -- a reason, and the place of the token that closes what doesn't read; tokens are counted from 0
 pub record Unread : Type 0 where
@@ -33,16 +33,16 @@ read at value content nothing = Ok (value, at)
 read at value content (text bytes rest) = read (at + 1) (with_text value bytes) content rest
 read at value content (opaque bytes rest) = read (at + 1) (with_text value bytes) content rest
 read at value content (bare e rest) =
-    elim (next content e) [
+    elim (next_child content e) [
       | None ↦ Err (record { at = at; reason = Misplaced })
-      | Some x ↦ at_place at (closed x.0 (fresh x.0 e))
+      | Some x ↦ at_place at (closed_value x.0 (fresh_value x.0 e))
           then (λ child. read (at + 1) (with_child value e child) x.1 rest)
     ]
 read at value content (full e inner rest) =
-    elim (next content e) [
+    elim (next_child content e) [
       | None ↦ Err (record { at = at; reason = Misplaced })
-      | Some x ↦ read (at + 1) (fresh x.0 e) (start x.0) inner then
-          (λ p. at_place p.1 (closed x.0 p.0) then (λ child. read (p.1 + 1) (with_child value e child) x.1 rest))
+      | Some x ↦ read (at + 1) (fresh_value x.0 e) (start x.0) inner then
+          (λ p. at_place p.1 (closed_value x.0 p.0) then (λ child. read (p.1 + 1) (with_child value e child) x.1 rest))
     ]
 
 abbrev pub read_document : Forest → Result (Value × ℕ) Unread
@@ -52,13 +52,13 @@ abbrev pub parts_from : MessageDraft → Option Header → Option Parts
 parts_from m None = None
 parts_from m (Some header) = Some (record { header = header; body = m.body; last = m.last })
 
-abbrev pub parts_in : Value → Option Parts
-parts_in (of_draft (draft.Message m)) = parts_from m m.header
-parts_in other = None
+abbrev pub parts_held : Value → Option Parts
+parts_held (of_draft (draft.Message m)) = parts_from m m.header
+parts_held other = None
 
 -- the texts of a document's tree give the parts of a message
 abbrev pub ReadsAs : Forest → Parts → Type 0
-ReadsAs tree parts = (value : Value) × (at : ℕ) × (read_document tree ≡ Ok (value, at)) × (parts_in value ≡ Some parts)
+ReadsAs tree parts = (value : Value) × (at : ℕ) × (read_document tree ≡ Ok (value, at)) × (parts_held value ≡ Some parts)
 
 -- the tokens spell a message with these parts
 abbrev pub SpellsParts : List Token → Parts → Type 0

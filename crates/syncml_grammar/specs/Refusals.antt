@@ -10,7 +10,7 @@ use Rattle.syncml_shape.specs.Shape.{fits, HasShape, IsViable}
 use Rattle.syncml_shape.specs.Faults.{IsRefused as IsMisshapen}
 use Rattle.syncml_types.specs.Message.{Parts}
 use Rattle.syncml_grammar.specs.Reads.{Unread, read_document, SpellsParts}
-use Rattle.syncml_grammar.specs.Machine.{Frame, root, step, finished}
+use Rattle.syncml_grammar.specs.Machine.{Frame, root, step, finished_parts}
 use Rattle.syncml_grammar.specs.Building.{HasTaken}
 
 -- no text that these tokens close is unread, in whatever document begins with them
@@ -60,7 +60,7 @@ verdict_then at (Err reason) f = refused at reason
 
 -- the same, computed
 abbrev pub verdict_from : ℕ → List Frame → List Token → Verdict
-verdict_from at frames [] = message_or_not (finished frames)
+verdict_from at frames [] = message_or_not (finished_parts frames)
 verdict_from at frames (token ∷ tokens) =
     verdict_then at (step frames token) (λ after. verdict_from (at + 1) after tokens)
 
@@ -83,7 +83,7 @@ StepIsRefused =
 abbrev pub FinishedIsSpelled : Type 0
 FinishedIsSpelled =
     (tokens : List Token) (frames : List Frame) (parts : Parts)
-    → HasTaken frames tokens → (finished frames ≡ Some parts) ↔ SpellsParts tokens parts
+    → HasTaken frames tokens → (finished_parts frames ≡ Some parts) ↔ SpellsParts tokens parts
 
 -- tokens are all taken exactly where they begin a document and no text that they close is unread
 abbrev pub TakenIsRead : Type 0

@@ -3,13 +3,13 @@ use Rattle.std.specs.Prelude.{◌≡◌, ◌↔◌, List, ◌∷◌, ◌++◌, m
 use Rattle.wbxml_tokens.specs.declared.reason.Refusal.{Refusal}
 use Rattle.wbxml_tokens.specs.declared.token.Token.{Token}
 use Rattle.wbxml_tokens.specs.declared.token.Placed.{Placed}
-use Rattle.wbxml_tokens.specs.Taking.{Taking, taking, taken}
+use Rattle.wbxml_tokens.specs.Taking.{Taking, taking, taken_all}
 use Rattle.syncml_grammar.specs.Machine.{Frame}
-use Rattle.syncml_grammar.specs.Building.{Building, no_building, building_after, refusal_of, HasTaken, HasBuilt}
+use Rattle.syncml_grammar.specs.Building.{Building, no_building, building_after, token_refusal, HasTaken, HasBuilt}
 use Rattle.syncml_grammar.specs.Refusals.{IsRefused}
 
 abbrev pub building : Taking Building
-building = taking (λ b _. b) building_after refusal_of
+building = taking (λ b _. b) building_after token_refusal
 
 abbrev pub tokens : List Placed → List Token
 tokens placed = map (λ p. p.token) placed
@@ -22,8 +22,8 @@ HasRefused placed f =
 
 -- A builder takes all tokens exactly where the grammar does, and else tells the first refusal, at its token's place.
 pub record BuiltIsTaken : Type 0 where
-  pub built : (placed : List Placed) (b : Building) → taken building no_building placed ≡ Ok b
+  pub built : (placed : List Placed) (b : Building) → taken_all building no_building placed ≡ Ok b
       → HasBuilt b (tokens placed)
   pub taken_whole : (placed : List Placed) (frames : List Frame) → HasTaken frames (tokens placed)
-      → (b : Building) × (taken building no_building placed ≡ Ok b) × (b.frames ≡ frames)
-  pub refused : (placed : List Placed) (f : Refusal) → (taken building no_building placed ≡ Err f) ↔ HasRefused placed f
+      → (b : Building) × (taken_all building no_building placed ≡ Ok b) × (b.frames ≡ frames)
+  pub refused : (placed : List Placed) (f : Refusal) → (taken_all building no_building placed ≡ Err f) ↔ HasRefused placed f

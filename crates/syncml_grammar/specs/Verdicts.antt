@@ -3,14 +3,14 @@ use Rattle.std.specs.Prelude.{◌≡◌, None, Result, Ok, Err, ⊤}
 use Rattle.wbxml_tokens.specs.declared.token.Token.{Token}
 use Rattle.wbxml_tokens.specs.declared.reason.Stop.{Stop}
 use Rattle.wbxml_tokens.specs.declared.reason.Stop.TheVariants as stops
-use Rattle.syncml_grammar.specs.declared.verdict.Verdict.{Verdict}
-use Rattle.syncml_grammar.specs.declared.verdict.Verdict.TheVariants as verdict
+use Rattle.syncml_grammar.specs.declared.verdict.MessageVerdict.{MessageVerdict}
+use Rattle.syncml_grammar.specs.declared.verdict.MessageVerdict.TheVariants as verdict
 use Rattle.syncml_grammar.specs.Machine.{step}
 use Rattle.syncml_grammar.specs.Building.{Building}
 use Rattle.syncml_grammar.specs.Refusals.{message, unfinished, refused}
 use Rattle.syncml_grammar.specs.Refusals.{Verdict as Judgement}
 
-abbrev pub judgement : Verdict → Judgement
+abbrev pub judgement : MessageVerdict → Judgement
 judgement (verdict.Message parts) = message parts
 judgement verdict.Unfinished = unfinished
 judgement (verdict.Refused at reason) = refused at reason

@@ -2,11 +2,12 @@
 ghost use Rattle.std.specs.Prelude.{◌≡◌, ◌↔◌, Some, None as Nothing, Err as Bad, IfErr, OnOk, ok_or, List as ListOf};
 ghost use Rattle.wbxml_tokens.specs.declared.token.Token.{Token as Piece};
 ghost use Rattle.wbxml_tokens.specs.declared.token.Token.TheVariants.{Tag, End, Text, Opaque};
-ghost use Rattle.wbxml_tokens.specs.Taking.{Takes};
+ghost use Rattle.wbxml_tokens.specs.Taking.{TakesToken};
 ghost use Rattle.syncml_types.specs.Message.{Parts};
 ghost use Rattle.syncml_grammar.specs.Reads.{SpellsParts};
 ghost use Rattle.wbxml_tokens.specs.declared.reason.Stop.{Stop as Cause};
-ghost use Rattle.syncml_grammar.specs.Building.{no_building, built_by, building_after, refusal_of, told as told_by};
+ghost use Rattle.syncml_grammar.specs.Building.{no_building, built_by, building_after, token_refusal};
+ghost use Rattle.syncml_grammar.specs.Building.{reason_told as told_by};
 ghost use Rattle.syncml_grammar.specs.Building.{HasBuilt, HasStopped, IsLacking};
 
 use crate::stack::Stack;
@@ -87,11 +88,11 @@ impl Builder {
 impl Writer for Builder {
     type Error = Stop;
 
-    ghost use Rattle.syncml_grammar.specs.Building.{building_after, refusal_of, told as told_by, IsLacking};
+    ghost use Rattle.syncml_grammar.specs.Building.{building_after, token_refusal, told as told_by, IsLacking};
 
     ghost after = { building_after };
 
-    ghost refusal = { refusal_of };
+    ghost refusal = { token_refusal };
 
     ghost told = { told_by };
 
@@ -99,7 +100,7 @@ impl Writer for Builder {
 
     fn tag(&mut self, element: Element, content: bool) -> Result<(), Stop>
         ensures ok { OnOk result (self.new ≡ building_after self.old (Tag element content)) }
-        ensures taken { Takes told_by IsLacking result self.old self.new (refusal_of self.old (Tag element content)) }
+        ensures taken { TakesToken told_by IsLacking result self.old self.new (token_refusal self.old (Tag element content)) }
         ensures stops { IfErr result (λ stop. HasStopped self.new stop) }
         ensures again { (stop : Cause) → HasStopped self.old stop → result ≡ Bad stop }
     {
@@ -115,7 +116,7 @@ impl Writer for Builder {
 
     fn end(&mut self) -> Result<(), Stop>
         ensures ok { OnOk result (self.new ≡ building_after self.old End) }
-        ensures taken { Takes told_by IsLacking result self.old self.new (refusal_of self.old End) }
+        ensures taken { TakesToken told_by IsLacking result self.old self.new (token_refusal self.old End) }
         ensures stops { IfErr result (λ stop. HasStopped self.new stop) }
         ensures again { (stop : Cause) → HasStopped self.old stop → result ≡ Bad stop }
     {
@@ -131,7 +132,7 @@ impl Writer for Builder {
 
     fn text(&mut self, text: &[u8]) -> Result<(), Stop>
         ensures ok { OnOk result (self.new ≡ building_after self.old (Text text.now)) }
-        ensures taken { Takes told_by IsLacking result self.old self.new (refusal_of self.old (Text text.now)) }
+        ensures taken { TakesToken told_by IsLacking result self.old self.new (token_refusal self.old (Text text.now)) }
         ensures stops { IfErr result (λ stop. HasStopped self.new stop) }
         ensures again { (stop : Cause) → HasStopped self.old stop → result ≡ Bad stop }
     {
@@ -147,7 +148,7 @@ impl Writer for Builder {
 
     fn opaque(&mut self, bytes: &[u8]) -> Result<(), Stop>
         ensures ok { OnOk result (self.new ≡ building_after self.old (Opaque bytes.now)) }
-        ensures taken { Takes told_by IsLacking result self.old self.new (refusal_of self.old (Opaque bytes.now)) }
+        ensures taken { TakesToken told_by IsLacking result self.old self.new (token_refusal self.old (Opaque bytes.now)) }
         ensures stops { IfErr result (λ stop. HasStopped self.new stop) }
         ensures again { (stop : Cause) → HasStopped self.old stop → result ≡ Bad stop }
     {

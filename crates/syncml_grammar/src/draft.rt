@@ -2,8 +2,8 @@
 ghost use Rattle.std.specs.Prelude.{◌≡◌, IfOk, option_map};
 ghost use Rattle.syncml_grammar.specs.declared.draft.Draft.TheVariants as draft;
 ghost use Rattle.syncml_grammar.specs.Values.{of_draft};
-ghost use Rattle.syncml_grammar.specs.Reads.{parts_from, parts_in};
-ghost use Rattle.syncml_grammar.specs.Opens.{parts_of};
+ghost use Rattle.syncml_grammar.specs.Reads.{parts_from, parts_held};
+ghost use Rattle.syncml_grammar.specs.Opens.{parts_from_whole};
 ghost use Rattle.syncml_grammar.specs.Drafts.{no_item, no_loc, no_header, no_message, no_body, no_cred, no_plain};
 ghost use Rattle.syncml_grammar.specs.Drafts.{no_alert, no_block, no_status, no_results, verb_of, fresh_draft};
 
@@ -41,7 +41,7 @@ pub struct WholeParts {
 impl MessageDraft {
     /// The parts, where there is a header.
     pub(crate) fn into_parts(self) -> Option<WholeParts>
-        ensures { option_map parts_of result ≡ parts_from self self.header }
+        ensures { option_map parts_from_whole result ≡ parts_from self self.header }
     {
         let MessageDraft { header, body, last } = self;
         match header {
@@ -76,7 +76,7 @@ pub enum Draft {
 impl Draft {
     /// The parts of a message that has ended.
     pub(crate) fn into_parts(self) -> Option<WholeParts>
-        ensures { option_map parts_of result ≡ parts_in (of_draft self) }
+        ensures { option_map parts_from_whole result ≡ parts_held (of_draft self) }
     {
         match self {
             Draft::Message(message) => message.into_inner().into_parts(),

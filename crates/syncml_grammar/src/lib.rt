@@ -16,4 +16,4 @@ mod stack;
 pub mod verdict;
 
 pub use builder::Builder;
-pub use verdict::{Verdict, judge};
+pub use verdict::{MessageVerdict, judge};

@@ -2,8 +2,8 @@
 ghost use Rattle.std.specs.Prelude.{◌≡◌, ◌∷◌, [], true, false, OnOk, option_map};
 ghost use Rattle.syncml_shape.specs.Rows.{takes_text as has_text};
 ghost use Rattle.syncml_grammar.specs.Values.{holds_leaf};
-ghost use Rattle.syncml_grammar.specs.Machine.{root, began, on_end, on_text, finished};
-ghost use Rattle.syncml_grammar.specs.Opens.{frame_of, leaf_frame, leaf_content, GivesFrame, parts_of};
+ghost use Rattle.syncml_grammar.specs.Machine.{root, began, on_end, on_text, finished_parts};
+ghost use Rattle.syncml_grammar.specs.Opens.{frame_of, leaf_frame, leaf_content, GivesFrame, parts_from_whole};
 
 use crate::draft::{Draft, WholeParts};
 use crate::leaf::{Leaf, new_leaf};
@@ -14,7 +14,7 @@ use dm_base::Memory;
 use std::alloc::Global;
 use std::mem;
 use syncml_shape::rows::DOCUMENT;
-use syncml_shape::{Kind, Progress};
+use syncml_shape::{Expected, Kind};
 use wbxml_tables::Element;
 use wbxml_tokens::{Reason, Stop};
 
@@ -23,7 +23,7 @@ use wbxml_tokens::{Reason, Stop};
 pub struct Open {
     pub element: Option<Element>,
     pub kind: Kind,
-    pub progress: Progress,
+    pub progress: Expected,
     pub draft: Draft,
 }
 
@@ -99,7 +99,7 @@ impl Open {
         Open {
             element: None,
             kind: Kind::Message,
-            progress: Progress::InOrder {
+            progress: Expected::InOrder {
                 came: false,
                 rows: &DOCUMENT,
             },
@@ -120,14 +120,14 @@ impl Open {
     {
         self.element = Some(element);
         self.kind = kind;
-        self.progress = Progress::start(kind);
+        self.progress = Expected::start(kind);
         self.draft = spares.draft(kind, element)?;
         Ok(())
     }
 
     /// The parts of the message that a document holds, which are taken out of it.
     pub(crate) fn take_parts(&mut self) -> Option<WholeParts>
-        ensures { option_map parts_of result ≡ finished (frame_of self.old ∷ []) }
+        ensures { option_map parts_from_whole result ≡ finished_parts (frame_of self.old ∷ []) }
     {
         if self.progress.is_complete() {
             mem::replace(&mut self.draft, Draft::Document).into_parts()

@@ -5,7 +5,7 @@ ghost use Rattle.syncml_types.specs.declared.command.Command.TheVariants as comm
 ghost use Rattle.syncml_types.specs.declared.command.Member.TheVariants as member;
 ghost use Rattle.syncml_types.specs.declared.command.SeqMember.TheVariants as seq_member;
 ghost use Rattle.syncml_grammar.specs.declared.draft.Draft.TheVariants as drafts;
-ghost use Rattle.syncml_grammar.specs.Nodes.{with_node, is_document};
+ghost use Rattle.syncml_grammar.specs.Nodes.{with_inner, is_document};
 
 use crate::draft::{Draft, new_alert, new_block, new_plain, new_results, new_status};
 use crate::spare::Spares;
@@ -48,7 +48,7 @@ pub(crate) fn put_plain(
     mut plain: Boxed<Plain>,
 ) -> Result<(), Memory>
     requires { is_document draft.old ≡ false }
-    ensures { OnOk result (draft.new ≡ with_node draft.old element (drafts.Plain plain)) }
+    ensures { OnOk result (draft.new ≡ with_inner draft.old element (drafts.Plain plain)) }
 {
     let alloc = spares.alloc;
     match draft {
@@ -74,7 +74,7 @@ pub(crate) fn put_alert(
     mut ended: Boxed<AlertCmd>,
 ) -> Result<(), Memory>
     requires { is_document draft.old ≡ false }
-    ensures { OnOk result (draft.new ≡ with_node draft.old element (drafts.Alert ended)) }
+    ensures { OnOk result (draft.new ≡ with_inner draft.old element (drafts.Alert ended)) }
 {
     let alert = take_alert(spares.alloc, &mut ended.inner);
     spares.alert = Some(ended);
@@ -105,7 +105,7 @@ pub(crate) fn put_atomic(
     mut ended: Boxed<Block<Member>>,
 ) -> Result<(), Memory>
     requires { is_document draft.old ≡ false }
-    ensures { OnOk result (draft.new ≡ with_node draft.old element (drafts.Atomic ended)) }
+    ensures { OnOk result (draft.new ≡ with_inner draft.old element (drafts.Atomic ended)) }
 {
     let block = take_block(spares.alloc, &mut ended.inner);
     spares.atomic = Some(ended);
@@ -126,7 +126,7 @@ pub(crate) fn put_sequence(
     mut ended: Boxed<Block<SeqMember>>,
 ) -> Result<(), Memory>
     requires { is_document draft.old ≡ false }
-    ensures { OnOk result (draft.new ≡ with_node draft.old element (drafts.Sequence ended)) }
+    ensures { OnOk result (draft.new ≡ with_inner draft.old element (drafts.Sequence ended)) }
 {
     let block = take_block(spares.alloc, &mut ended.inner);
     spares.sequence = Some(ended);
@@ -156,7 +156,7 @@ pub(crate) fn put_status(
     mut status: Boxed<StatusCmd>,
 ) -> Result<(), Memory>
     requires { is_document draft.old ≡ false }
-    ensures { OnOk result (draft.new ≡ with_node draft.old element (drafts.Status status)) }
+    ensures { OnOk result (draft.new ≡ with_inner draft.old element (drafts.Status status)) }
 {
     let alloc = spares.alloc;
     match draft {
@@ -184,7 +184,7 @@ pub(crate) fn put_results(
     mut results: Boxed<ResultsCmd>,
 ) -> Result<(), Memory>
     requires { is_document draft.old ≡ false }
-    ensures { OnOk result (draft.new ≡ with_node draft.old element (drafts.Results results)) }
+    ensures { OnOk result (draft.new ≡ with_inner draft.old element (drafts.Results results)) }
 {
     let alloc = spares.alloc;
     match draft {

@@ -4,7 +4,7 @@
 ghost use Rattle.std.specs.Prelude.{◌≡◌, ◌∷◌, ◌++◌, [], false, Some, OnOk};
 ghost use Rattle.syncml_types.specs.declared.values.Header.{Header};
 ghost use Rattle.syncml_grammar.specs.declared.draft.Draft.TheVariants as drafts;
-ghost use Rattle.syncml_grammar.specs.Nodes.{header_with_loc, item_with_loc, with_node, is_document};
+ghost use Rattle.syncml_grammar.specs.Nodes.{header_with_loc, item_with_loc, with_inner, is_document};
 
 use crate::draft::{BodyDraft, Draft, new_item, new_loc};
 use crate::put_command::{put_alert, put_atomic, put_plain, put_results, put_sequence, put_status};
@@ -17,7 +17,7 @@ use wbxml_tables::Element;
 
 fn put_header(draft: &mut Draft, element: Element, header: Boxed<Header>)
     requires { is_document draft.old ≡ false }
-    ensures { draft.new ≡ with_node draft.old element (drafts.Header header) }
+    ensures { draft.new ≡ with_inner draft.old element (drafts.Header header) }
 {
     match draft {
         Draft::Message(message) => message.inner.header = Some(header),
@@ -32,7 +32,7 @@ fn put_body(
     mut body: Boxed<BodyDraft>,
 ) -> Result<(), Memory>
     requires { is_document draft.old ≡ false }
-    ensures { OnOk result (draft.new ≡ with_node draft.old element (drafts.Body body)) }
+    ensures { OnOk result (draft.new ≡ with_inner draft.old element (drafts.Body body)) }
 {
     match draft {
         Draft::Message(message) => {
@@ -57,7 +57,7 @@ fn put_item(
     mut item: Boxed<Item>,
 ) -> Result<(), Memory>
     requires { is_document draft.old ≡ false }
-    ensures { OnOk result (draft.new ≡ with_node draft.old element (drafts.Item item)) }
+    ensures { OnOk result (draft.new ≡ with_inner draft.old element (drafts.Item item)) }
 {
     match draft {
         Draft::Plain(plain) => push_item(&mut plain.inner.items, &mut item.inner)?,
@@ -96,7 +96,7 @@ fn take_loc(alloc: Global, loc: &mut Loc) -> Loc
 
 fn put_loc(spares: &mut Spares, draft: &mut Draft, element: Element, mut place: Boxed<Loc>)
     requires { is_document draft.old ≡ false }
-    ensures { draft.new ≡ with_node draft.old element (drafts.Loc place) }
+    ensures { draft.new ≡ with_inner draft.old element (drafts.Loc place) }
 {
     let loc = take_loc(spares.alloc, &mut place.inner);
     match draft {
@@ -109,7 +109,7 @@ fn put_loc(spares: &mut Spares, draft: &mut Draft, element: Element, mut place: 
 
 fn put_cred(draft: &mut Draft, element: Element, cred: Boxed<Cred>)
     requires { is_document draft.old ≡ false }
-    ensures { draft.new ≡ with_node draft.old element (drafts.Cred cred) }
+    ensures { draft.new ≡ with_inner draft.old element (drafts.Cred cred) }
 {
     match draft {
         Draft::Header(header) => header.inner.cred = Some(cred.into_inner()),
@@ -119,7 +119,7 @@ fn put_cred(draft: &mut Draft, element: Element, cred: Boxed<Cred>)
 
 fn put_chal(draft: &mut Draft, element: Element, meta: Boxed<Meta>)
     requires { is_document draft.old ≡ false }
-    ensures { draft.new ≡ with_node draft.old element (drafts.Chal meta) }
+    ensures { draft.new ≡ with_inner draft.old element (drafts.Chal meta) }
 {
     match draft {
         Draft::Status(status) => status.inner.chal = Some(meta),
@@ -136,7 +136,7 @@ fn put_meta_in_header(draft: &mut Boxed<Header>, meta: Boxed<Meta>)
 // The Meta of a Chal, or the MetInf of a Meta, stands for the whole, in its own box.
 fn put_meta(spares: &mut Spares, draft: &mut Draft, element: Element, meta: Boxed<Meta>)
     requires { is_document draft.old ≡ false }
-    ensures { draft.new ≡ with_node draft.old element (drafts.Meta meta) }
+    ensures { draft.new ≡ with_inner draft.old element (drafts.Meta meta) }
 {
     match draft {
         Draft::Header(header) => put_meta_in_header(header, meta),
@@ -160,7 +160,7 @@ fn put_part(
     child: Draft,
 ) -> Result<(), Memory>
     requires { is_document draft.old ≡ false }
-    ensures { OnOk result (draft.new ≡ with_node draft.old element child) }
+    ensures { OnOk result (draft.new ≡ with_inner draft.old element child) }
 {
     match child {
         Draft::Document => {}
@@ -198,7 +198,7 @@ pub(crate) fn put_node(
     element: Element,
     child: Draft,
 ) -> Result<(), Memory>
-    ensures { OnOk result (draft.new ≡ with_node draft.old element child) }
+    ensures { OnOk result (draft.new ≡ with_inner draft.old element child) }
 {
     if draft.is_document() {
         *draft = child;

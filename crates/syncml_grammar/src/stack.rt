@@ -3,10 +3,10 @@ ghost use Rattle.std.specs.Prelude.{◌≡◌, ◌+◌, ◌∷◌, [], None, Ok,
 ghost use Rattle.std.specs.Prelude.{option_map, List as ListOf};
 ghost use Rattle.wbxml_tokens.specs.declared.token.Token.TheVariants.{Tag, End, Text, Opaque};
 ghost use Rattle.syncml_shape.specs.Rows.{start, is_complete as may_end};
-ghost use Rattle.syncml_grammar.specs.Machine.{Frame, root, step, on_kind, finished};
+ghost use Rattle.syncml_grammar.specs.Machine.{Frame, root, step, on_kind, finished_parts};
 ghost use Rattle.syncml_grammar.specs.Values.{holds_leaf};
-ghost use Rattle.syncml_grammar.specs.Opens.{frame_of, frames_of, leaf_frame, with_leaf, Stops, GivesFrame};
-ghost use Rattle.syncml_grammar.specs.Opens.{GivesFrames, parts_of};
+ghost use Rattle.syncml_grammar.specs.Opens.{frame_of, frames_of, leaf_frame, with_open_leaf, StopsFor, GivesFrame};
+ghost use Rattle.syncml_grammar.specs.Opens.{GivesFrames, parts_from_whole};
 
 use crate::draft::WholeParts;
 use crate::open::{Open, OpenLeaf, has_leaf};
@@ -16,7 +16,7 @@ use dm_base::{List, Memory};
 use std::alloc::Global;
 use std::marker::Model;
 use std::mem;
-use syncml_shape::{Kind, Progress, tag_fault};
+use syncml_shape::{Expected, Kind, tag_fault};
 use wbxml_tables::Element;
 use wbxml_tokens::{Reason, Stop};
 
@@ -79,7 +79,7 @@ impl Nest {
         requires { holds_leaf kind ≡ false }
         ensures { GivesFrames result self.new (on_kind self.old element false kind) }
     {
-        if !Progress::start(kind).is_complete() {
+        if !Expected::start(kind).is_complete() {
             return Err(Stop::Refused(Reason::Misplaced));
         }
         self.open(element, kind)?;
@@ -108,7 +108,7 @@ impl Nest {
         content: bool,
     ) -> Result<(), Stop>
         requires { leaf.old ≡ None }
-        ensures { GivesFrames result (with_leaf leaf.new self.new) (on_kind self.old element content kind) }
+        ensures { GivesFrames result (with_open_leaf leaf.new self.new) (on_kind self.old element content kind) }
     {
         if !has_leaf(kind) {
             return self.draft(element, kind, content);
@@ -131,7 +131,7 @@ impl Nest {
         content: bool,
     ) -> Result<(), Stop>
         requires { leaf.old ≡ None }
-        ensures { GivesFrames result (with_leaf leaf.new self.new) (step self.old (Tag element content)) }
+        ensures { GivesFrames result (with_open_leaf leaf.new self.new) (step self.old (Tag element content)) }
     {
         if let Some(reason) = tag_fault(self.top.element, element) {
             return Err(Stop::Refused(reason));
@@ -155,7 +155,7 @@ impl Nest {
     }
 
     fn into_parts(self) -> Option<WholeParts>
-        ensures { option_map parts_of result ≡ finished self }
+        ensures { option_map parts_from_whole result ≡ finished_parts self }
     {
         let Nest {
             mut top,
@@ -219,11 +219,11 @@ pub(crate) struct Stack {
 impl Model for Stack {
     ghost use Rattle.std.specs.Prelude.{List};
     ghost use Rattle.syncml_grammar.specs.Machine.{Frame};
-    ghost use Rattle.syncml_grammar.specs.Opens.{with_leaf};
+    ghost use Rattle.syncml_grammar.specs.Opens.{with_open_leaf};
 
     ghost Value = { List Frame };
 
-    ghost view = { λ s. with_leaf s.leaf s.nest };
+    ghost view = { λ s. with_open_leaf s.leaf s.nest };
 }
 
 impl Stack {
@@ -274,8 +274,8 @@ impl Stack {
 
     // What is answered of a piece for which there is no room.
     fn no_room(&self) -> Stop
-        ensures text { (bytes : ListOf ℕ) → Stops result (step self.now (Text bytes)) }
-        ensures opaque { (bytes : ListOf ℕ) → Stops result (step self.now (Opaque bytes)) }
+        ensures text { (bytes : ListOf ℕ) → StopsFor result (step self.now (Text bytes)) }
+        ensures opaque { (bytes : ListOf ℕ) → StopsFor result (step self.now (Opaque bytes)) }
     {
         let takes_text = match &self.leaf {
             Some(leaf) => leaf.takes_text(),
@@ -306,7 +306,7 @@ impl Stack {
 
     /// The parts of the message, where the document is whole.
     pub fn into_parts(self) -> Option<WholeParts>
-        ensures { option_map parts_of result ≡ finished self }
+        ensures { option_map parts_from_whole result ≡ finished_parts self }
     {
         let Stack {
             alloc: _,

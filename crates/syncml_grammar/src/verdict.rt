@@ -11,7 +11,7 @@ use wbxml_tokens::{Reason, Stop, Token, Writer};
 
 /// What tokens are.
 #[derive(Drop)]
-pub enum Verdict {
+pub enum MessageVerdict {
     /// They spell this message.
     Message(Message),
     /// They begin a message.
@@ -32,7 +32,7 @@ fn put(builder: &mut Builder, token: &Token) -> Result<(), Stop>
     }
 }
 
-fn judged(alloc: Global, tokens: &[Token]) -> Result<Verdict, Memory>
+fn judged(alloc: Global, tokens: &[Token]) -> Result<MessageVerdict, Memory>
     ensures { IfOk result (λ verdict. judgement verdict ≡ verdict_of tokens.now) }
 {
     let mut builder = Builder::new(alloc);
@@ -45,13 +45,13 @@ fn judged(alloc: Global, tokens: &[Token]) -> Result<Verdict, Memory>
             }
             Err(Stop::Refused(reason)) => {
                 drop(builder);
-                return Ok(Verdict::Refused { at, reason });
+                return Ok(MessageVerdict::Refused { at, reason });
             }
         }
     }
     match builder.finish() {
-        Some(message) => Ok(Verdict::Message(message)),
-        None => Ok(Verdict::Unfinished),
+        Some(message) => Ok(MessageVerdict::Message(message)),
+        None => Ok(MessageVerdict::Unfinished),
     }
 }
 
@@ -59,7 +59,7 @@ fn judged(alloc: Global, tokens: &[Token]) -> Result<Verdict, Memory>
 /// or Misplaced where no document goes on with it, and Text or Number where it closes what doesn't read. Exactly one of
 /// these is so. `Memory` may come in place of any of these, since the message is built as its tokens are judged. The
 /// work is linear in the tokens and their texts.
-pub fn judge(alloc: Global, tokens: &[Token]) -> Result<Verdict, Memory>
+pub fn judge(alloc: Global, tokens: &[Token]) -> Result<MessageVerdict, Memory>
     ensures exact { IfOk result (λ verdict. Judges tokens.now (judgement verdict)) }
     ensures only { (other : Judgement) → Judges tokens.now other → IfOk result (λ verdict. judgement verdict ≡ other) }
 {

@@ -27,10 +27,11 @@ use Rattle.syncml_types.specs.Canonical.{members_tokens, atomic_tokens, seq_memb
 use Rattle.syncml_types.specs.Canonical.{sequence_tokens, status_tokens, results_tokens, command_tokens}
 use Rattle.syncml_parts.specs.Numbering.{with_number, numbered_members, numbered_seq_member, numbered_seq_members}
 use Rattle.syncml_parts.specs.Numbering.{ids_in_seq_member, with_numbers}
-use Rattle.syncml_parts.specs.Packing.{only_item, write_item, member_item, seq_member_item, last_of, cut_item}
+use Rattle.syncml_parts.specs.Packing.{only_item, write_item, member_item, seq_member_item, list_last, cut_item}
 use Rattle.syncml_parts.specs.Packing.{only_changed, write_changed, member_changed, seq_member_changed, last_changed}
 use Rattle.syncml_parts.specs.Packing.{cut_changed}
-use Rattle.syncml_parts.specs.Pages.{opened, PagesFollowElements, PageWithoutNumbers, with_value, PageWithoutData}
+use Rattle.syncml_parts.specs.Pages.{opened_elements, PagesFollowElements, PageWithoutNumbers, with_item_value}
+use Rattle.syncml_parts.specs.Pages.{PageWithoutData}
 use Rattle.syncml_parts.specs.Pages.{with_secret, HeaderPage}
 use Rattle.syncml_parts.proofs.Last.{last_next}
 
@@ -39,7 +40,7 @@ page_of_last : ℕ → List Element → ℕ
 page_of_last page [] = page
 page_of_last page (e ∷ es) = page_of_last (page_of e) es
 
-behind : (page : ℕ) (ts : List Token) → page_behind page ts ≡ page_of_last page (opened ts)
+behind : (page : ℕ) (ts : List Token) → page_behind page ts ≡ page_of_last page (opened_elements ts)
 unfolding page_of_last
 behind page [] = refl
 behind page (Tag e content ∷ ts) = behind (page_of e) ts
@@ -52,7 +53,7 @@ pages_follow_elements page ts us same = behind page ts ∙ ap (page_of_last page
 
 -- ---- tokens that open the same elements
 
-opened_append : (ts us : List Token) → opened (ts ++ us) ≡ opened ts ++ opened us
+opened_append : (ts us : List Token) → opened_elements (ts ++ us) ≡ opened_elements ts ++ opened_elements us
 opened_append [] us = refl
 opened_append (Tag e content ∷ ts) us = ap (λ l. e ∷ l) (opened_append ts us)
 opened_append (End ∷ ts) us = opened_append ts us
@@ -60,7 +61,7 @@ opened_append (Text text ∷ ts) us = opened_append ts us
 opened_append (Opaque bytes ∷ ts) us = opened_append ts us
 
 record Same (ts us : List Token) : Type 0 where
-  opened_same : opened ts ≡ opened us
+  opened_same : opened_elements ts ≡ opened_elements us
 
 itself : (ts : List Token) → Same ts ts
 itself ts = record { opened_same = refl }
@@ -71,7 +72,7 @@ same_page page ts us h = pages_follow_elements page ts us h.opened_same
 same_both : (ts us vs ws : List Token) → Same ts us → Same vs ws → Same (ts ++ vs) (us ++ ws)
 same_both ts us vs ws h k = record {
   opened_same =
-      opened_append ts vs ∙ ap (λ l. l ++ opened vs) h.opened_same ∙ ap (λ l. opened us ++ l) k.opened_same
+      opened_append ts vs ∙ ap (λ l. l ++ opened_elements vs) h.opened_same ∙ ap (λ l. opened_elements us ++ l) k.opened_same
       ∙ sym (opened_append us ws);
 }
 
@@ -88,9 +89,9 @@ nothing_behind : (es : List Element) → es ++ [] ≡ es
 nothing_behind [] = refl
 nothing_behind (e ∷ es) = ap (λ l. e ∷ l) (nothing_behind es)
 
-opened_element : (e : Element) (ts : List Token) → opened (element_tokens e ts) ≡ e ∷ opened ts
+opened_element : (e : Element) (ts : List Token) → opened_elements (element_tokens e ts) ≡ e ∷ opened_elements ts
 opened_element e [] = refl
-opened_element e (t ∷ ts) = ap (λ l. e ∷ l) (opened_append (t ∷ ts) (End ∷ []) ∙ nothing_behind (opened (t ∷ ts)))
+opened_element e (t ∷ ts) = ap (λ l. e ∷ l) (opened_append (t ∷ ts) (End ∷ []) ∙ nothing_behind (opened_elements (t ∷ ts)))
 
 same_element : (e : Element) (ts us : List Token) → Same ts us → Same (element_tokens e ts) (element_tokens e us)
 same_element e ts us h = record {
@@ -108,11 +109,11 @@ same_number : (e : Element) (n m : ℕ) → Same (number_tokens e n) (number_tok
 unfolding number_tokens
 same_number e n m = same_text e (decimal n) (decimal m)
 
-opened_piece : (as_text : Bool) (v : List ℕ) → opened ((if as_text then Text v else Opaque v) ∷ End ∷ []) ≡ []
+opened_piece : (as_text : Bool) (v : List ℕ) → opened_elements ((if as_text then Text v else Opaque v) ∷ End ∷ []) ≡ []
 opened_piece true v = refl
 opened_piece false v = refl
 
-opened_data : (v : List ℕ) → opened (data_tokens v) ≡ EData ∷ []
+opened_data : (v : List ℕ) → opened_elements (data_tokens v) ≡ EData ∷ []
 unfolding data_tokens
 opened_data [] = refl
 opened_data (b ∷ bs) = ap (λ l. EData ∷ l) (opened_piece (is_text (b ∷ bs)) (b ∷ bs))
@@ -180,14 +181,14 @@ same_value : (new old : List ℕ) (o : Option (List ℕ)) → o ≡ Some old
     → Same (optional data_tokens (Some new)) (optional data_tokens o)
 same_value new old o h = rw h (same_data new old)
 
-same_item : (new old : List ℕ) (i : Item) → i.value ≡ Some old → Same (item_tokens (with_value new i)) (item_tokens i)
+same_item : (new old : List ℕ) (i : Item) → i.value ≡ Some old → Same (item_tokens (with_item_value new i)) (item_tokens i)
 unfolding item_tokens
 same_item new old i h =
-    same_element EItem (item_children (with_value new i)) (item_children i)
+    same_element EItem (item_children (with_item_value new i)) (item_children i)
     (same_back _ _ _ (same_front _ _ _ (same_value new old i.value h)))
 
 same_only : (new old : List ℕ) (is : List Item) (i : Item) → only_item is ≡ Some i → i.value ≡ Some old
-    → Same (items_tokens (only_changed (with_value new) is)) (items_tokens is)
+    → Same (items_tokens (only_changed (with_item_value new) is)) (items_tokens is)
 unfolding items_tokens
 same_only new old [] i h e = absurd (cc)
 same_only new old (j ∷ []) i h e =
@@ -196,7 +197,7 @@ same_only new old (j ∷ []) i h e =
 same_only new old (j ∷ k ∷ is) i h e = absurd (cc)
 
 same_write : (new old : List ℕ) (v : Verb) (is : List Item) (i : Item) → write_item v is ≡ Some i → i.value ≡ Some old
-    → Same (items_tokens (write_changed (with_value new) v is)) (items_tokens is)
+    → Same (items_tokens (write_changed (with_item_value new) v is)) (items_tokens is)
 same_write new old verb.Add is i h e = same_only new old is i h e
 same_write new old verb.Replace is i h e = same_only new old is i h e
 same_write new old verb.Copy is i h e = itself _
@@ -205,21 +206,21 @@ same_write new old verb.Exec is i h e = itself _
 same_write new old verb.Get is i h e = itself _
 
 same_cut_member : (new old : List ℕ) (m : Member) (i : Item) → member_item m ≡ Some i → i.value ≡ Some old
-    → Same (member_tokens (member_changed (with_value new) m)) (member_tokens m)
+    → Same (member_tokens (member_changed (with_item_value new) m)) (member_tokens m)
 unfolding member_tokens plain_tokens
 same_cut_member new old (member.One c) i h e =
     same_parent _ _ _ (same_front _ _ _ (same_write new old c.verb c.items i h e))
 same_cut_member new old (member.Alert c) i h e = itself _
 
 same_cut_seq_member : (new old : List ℕ) (m : SeqMember) (i : Item) → seq_member_item m ≡ Some i → i.value ≡ Some old
-    → Same (seq_member_tokens (seq_member_changed (with_value new) m)) (seq_member_tokens m)
+    → Same (seq_member_tokens (seq_member_changed (with_item_value new) m)) (seq_member_tokens m)
 unfolding seq_member_tokens
 same_cut_seq_member new old (seq_member.Single m) i h e = same_cut_member new old m i h e
 same_cut_seq_member new old (seq_member.Atomic b) i h e = itself _
 
 same_last : {A : Type 0} (tokens : A → List Token) (item : A → Option Item) (changed : A → A) (old : List ℕ)
     → ((x : A) (i : Item) → item x ≡ Some i → i.value ≡ Some old → Same (tokens (changed x)) (tokens x))
-    → (xs : List A) (i : Item) → option_and_then item (last_of xs) ≡ Some i → i.value ≡ Some old
+    → (xs : List A) (i : Item) → option_and_then item (list_last xs) ≡ Some i → i.value ≡ Some old
     → Same (flat_map tokens (last_changed changed xs)) (flat_map tokens xs)
 same_last tokens item changed old one [] i h e = itself _
 same_last tokens item changed old one (x ∷ []) i h e = same_back [] _ _ (one x i h e)
@@ -228,7 +229,7 @@ same_last tokens item changed old one (x ∷ y ∷ xs) i h e =
     (same_last tokens item changed old one (y ∷ xs) i (ap (option_and_then item) (sym (last_next x y xs)) ∙ h) e)
 
 same_cut : (new old : List ℕ) (c : Command) (i : Item) → cut_item c ≡ Some i → i.value ≡ Some old
-    → Same (command_tokens (cut_changed (with_value new) c)) (command_tokens c)
+    → Same (command_tokens (cut_changed (with_item_value new) c)) (command_tokens c)
 unfolding command_tokens plain_tokens results_tokens atomic_tokens sequence_tokens members_tokens seq_members_tokens
 same_cut new old (command.Plain c) i h e =
     same_parent _ _ _ (same_front _ _ _ (same_write new old c.verb c.items i h e))
@@ -236,12 +237,12 @@ same_cut new old (command.Alert c) i h e = itself _
 same_cut new old (command.Atomic b) i h e =
     same_parent _ _ _
     (same_front _ _ _
-    (same_last member_tokens member_item (member_changed (with_value new)) old (same_cut_member new old) b.members i h
+    (same_last member_tokens member_item (member_changed (with_item_value new)) old (same_cut_member new old) b.members i h
     e))
 same_cut new old (command.Sequence b) i h e =
     same_parent _ _ _
     (same_front _ _ _
-    (same_last seq_member_tokens seq_member_item (seq_member_changed (with_value new)) old (same_cut_seq_member new old)
+    (same_last seq_member_tokens seq_member_item (seq_member_changed (with_item_value new)) old (same_cut_seq_member new old)
     b.members i h e))
 same_cut new old (command.Status c) i h e = itself _
 same_cut new old (command.Results c) i h e = same_parent _ _ _ (same_front _ _ _ (same_only new old c.items i h e))

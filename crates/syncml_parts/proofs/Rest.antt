@@ -21,9 +21,10 @@ use Rattle.syncml_types.specs.Canonical.{parent_tokens, element_tokens, is_text,
 use Rattle.syncml_types.specs.Canonical.{optional, loc_tokens, meta_tokens, item_children, item_tokens, items_tokens}
 use Rattle.syncml_types.specs.Canonical.{plain_tokens, member_tokens, members_tokens, atomic_tokens, seq_member_tokens}
 use Rattle.syncml_types.specs.Canonical.{seq_members_tokens, sequence_tokens, results_tokens, command_tokens}
-use Rattle.syncml_parts.specs.Packing.{data_length, only_item, write_item, member_item, seq_member_item, last_of}
+use Rattle.syncml_parts.specs.Packing.{data_length, only_item, write_item, member_item, seq_member_item, list_last}
 use Rattle.syncml_parts.specs.Packing.{cut_item, only_changed, write_changed, member_changed, seq_member_changed}
-use Rattle.syncml_parts.specs.Packing.{last_changed, cut_changed, emptied, rest_length, bytes_in, data_in, cut_data}
+use Rattle.syncml_parts.specs.Packing.{last_changed, cut_changed, without_data, rest_length, bytes_in, data_in}
+use Rattle.syncml_parts.specs.Packing.{cut_data}
 use Rattle.syncml_parts.specs.Packing.{RestAndData}
 use Rattle.syncml_types.specs.Lengths.{spelled_length}
 use Rattle.syncml_parts.proofs.Parted.{spelled_append}
@@ -80,17 +81,17 @@ unfolding data_tokens
 swaps_data b bs o h = record { before = []; after = []; whole = rw h refl; bare = refl }
 
 swaps_item : (b : ℕ) (bs : List ℕ) (i : Item) → i.value ≡ Some (b ∷ bs)
-    → Swaps (b ∷ bs) (item_tokens i) (item_tokens (emptied i))
+    → Swaps (b ∷ bs) (item_tokens i) (item_tokens (without_data i))
 unfolding item_tokens
 swaps_item b bs i h =
-    swaps_element (b ∷ bs) EItem (item_children i) (item_children (emptied i))
+    swaps_element (b ∷ bs) EItem (item_children i) (item_children (without_data i))
     (swaps_back (b ∷ bs) (flag_tokens _ i.more) _ _
     (swaps_front (b ∷ bs)
     (optional (loc_tokens _) i.target ++ optional (loc_tokens _) i.source ++ optional meta_tokens i.meta) _ _
     (swaps_data b bs i.value h)))
 
 swaps_only : (b : ℕ) (bs : List ℕ) (is : List Item) (i : Item) → only_item is ≡ Some i → i.value ≡ Some (b ∷ bs)
-    → Swaps (b ∷ bs) (items_tokens is) (items_tokens (only_changed emptied is))
+    → Swaps (b ∷ bs) (items_tokens is) (items_tokens (only_changed without_data is))
 unfolding items_tokens
 swaps_only b bs [] i h e = absurd (cc)
 swaps_only b bs (j ∷ []) i h e =
@@ -100,7 +101,7 @@ swaps_only b bs (j ∷ k ∷ is) i h e = absurd (cc)
 
 swaps_write : (b : ℕ) (bs : List ℕ) (v : Verb) (is : List Item) (i : Item) → write_item v is ≡ Some i
     → i.value ≡ Some (b ∷ bs)
-    → Swaps (b ∷ bs) (items_tokens is) (items_tokens (write_changed emptied v is))
+    → Swaps (b ∷ bs) (items_tokens is) (items_tokens (write_changed without_data v is))
 swaps_write b bs verb.Add is i h e = swaps_only b bs is i h e
 swaps_write b bs verb.Replace is i h e = swaps_only b bs is i h e
 swaps_write b bs verb.Copy is i h e = absurd (cc)
@@ -109,7 +110,7 @@ swaps_write b bs verb.Exec is i h e = absurd (cc)
 swaps_write b bs verb.Get is i h e = absurd (cc)
 
 swaps_member : (b : ℕ) (bs : List ℕ) (m : Member) (i : Item) → member_item m ≡ Some i → i.value ≡ Some (b ∷ bs)
-    → Swaps (b ∷ bs) (member_tokens m) (member_tokens (member_changed emptied m))
+    → Swaps (b ∷ bs) (member_tokens m) (member_tokens (member_changed without_data m))
 unfolding member_tokens plain_tokens
 swaps_member b bs (member.One c) i h e =
     swaps_parent (b ∷ bs) _ _ _ (swaps_front (b ∷ bs) _ _ _ (swaps_write b bs c.verb c.items i h e))
@@ -117,14 +118,14 @@ swaps_member b bs (member.Alert c) i h e = absurd (cc)
 
 swaps_seq_member : (b : ℕ) (bs : List ℕ) (m : SeqMember) (i : Item) → seq_member_item m ≡ Some i
     → i.value ≡ Some (b ∷ bs)
-    → Swaps (b ∷ bs) (seq_member_tokens m) (seq_member_tokens (seq_member_changed emptied m))
+    → Swaps (b ∷ bs) (seq_member_tokens m) (seq_member_tokens (seq_member_changed without_data m))
 unfolding seq_member_tokens
 swaps_seq_member b bs (seq_member.Single m) i h e = swaps_member b bs m i h e
 swaps_seq_member b bs (seq_member.Atomic c) i h e = absurd (cc)
 
 swaps_last : {A : Type 0} (v : List ℕ) (tokens : A → List Token) (item : A → Option Item) (changed : A → A)
     → ((x : A) (i : Item) → item x ≡ Some i → i.value ≡ Some v → Swaps v (tokens x) (tokens (changed x)))
-    → (xs : List A) (i : Item) → option_and_then item (last_of xs) ≡ Some i → i.value ≡ Some v
+    → (xs : List A) (i : Item) → option_and_then item (list_last xs) ≡ Some i → i.value ≡ Some v
     → Swaps v (flat_map tokens xs) (flat_map tokens (last_changed changed xs))
 swaps_last v tokens item changed one [] i h e = absurd (cc)
 swaps_last v tokens item changed one (x ∷ []) i h e = swaps_back v [] _ _ (one x i h e)
@@ -133,7 +134,7 @@ swaps_last v tokens item changed one (x ∷ y ∷ xs) i h e =
     (swaps_last v tokens item changed one (y ∷ xs) i (ap (option_and_then item) (sym (last_next x y xs)) ∙ h) e)
 
 swaps_command : (b : ℕ) (bs : List ℕ) (c : Command) (i : Item) → cut_item c ≡ Some i → i.value ≡ Some (b ∷ bs)
-    → Swaps (b ∷ bs) (command_tokens c) (command_tokens (cut_changed emptied c))
+    → Swaps (b ∷ bs) (command_tokens c) (command_tokens (cut_changed without_data c))
 unfolding command_tokens plain_tokens results_tokens atomic_tokens sequence_tokens members_tokens seq_members_tokens
 swaps_command b bs (command.Plain c) i h e =
     swaps_parent (b ∷ bs) _ _ _ (swaps_front (b ∷ bs) _ _ _ (swaps_write b bs c.verb c.items i h e))
@@ -141,11 +142,11 @@ swaps_command b bs (command.Alert c) i h e = absurd (cc)
 swaps_command b bs (command.Atomic k) i h e =
     swaps_parent (b ∷ bs) _ _ _
     (swaps_front (b ∷ bs) _ _ _
-    (swaps_last (b ∷ bs) member_tokens member_item (member_changed emptied) (swaps_member b bs) k.members i h e))
+    (swaps_last (b ∷ bs) member_tokens member_item (member_changed without_data) (swaps_member b bs) k.members i h e))
 swaps_command b bs (command.Sequence k) i h e =
     swaps_parent (b ∷ bs) _ _ _
     (swaps_front (b ∷ bs) _ _ _
-    (swaps_last (b ∷ bs) seq_member_tokens seq_member_item (seq_member_changed emptied) (swaps_seq_member b bs)
+    (swaps_last (b ∷ bs) seq_member_tokens seq_member_item (seq_member_changed without_data) (swaps_seq_member b bs)
     k.members i h e))
 swaps_command b bs (command.Status c) i h e = absurd (cc)
 swaps_command b bs (command.Results c) i h e =
@@ -198,7 +199,7 @@ by_bytes : (page : ℕ) (c : Command) (i : Item) (o : Option (List ℕ)) → cut
 by_bytes page c i None is e some = absurd (omega (arith, some))
 by_bytes page c i (Some []) is e some = absurd (omega (arith, some))
 by_bytes page c i (Some (b ∷ bs)) is e some =
-    swapped_long (b ∷ bs) page (command_tokens c) (command_tokens (cut_changed emptied c)) (swaps_command b bs c i is e)
+    swapped_long (b ∷ bs) page (command_tokens c) (command_tokens (cut_changed without_data c)) (swaps_command b bs c i is e)
 
 by_item : (page : ℕ) (c : Command) (o : Option Item) → cut_item c ≡ o → 0 < length (data_in o)
     → length (spelled page (command_tokens c)) ≡ rest_length page c + data_length (data_in o)

@@ -11,7 +11,8 @@ use Rattle.syncml_types.specs.declared.command.SeqMember.TheVariants as seq_memb
 use Rattle.syncml_types.specs.declared.command.Command.{Command}
 use Rattle.syncml_types.specs.declared.command.Command.TheVariants as command
 use Rattle.syncml_types.specs.Message.{IsShortData, HasShortData, HasShortMember, HasShortSeqMember, HasShortItems}
-use Rattle.syncml_parts.specs.Packing.{only_item, write_item, member_item, seq_member_item, last_of, cut_item, bytes_in}
+use Rattle.syncml_parts.specs.Packing.{only_item, write_item, member_item, seq_member_item, list_last, cut_item}
+use Rattle.syncml_parts.specs.Packing.{bytes_in}
 use Rattle.syncml_parts.specs.Packing.{data_in, cut_data}
 use Rattle.syncml_parts.proofs.Last.{last_next}
 
@@ -45,7 +46,7 @@ short_seq_member (seq_member.Single m) h = short_member m h
 short_seq_member (seq_member.Atomic b) h = tt
 
 short_last : {A : Type 0} (P : A → Type 0) (item : A → Option Item) → ((x : A) → P x → IfSome (item x) HasShortData)
-    → (xs : List A) → AllByRecursion P xs → IfSome (option_and_then item (last_of xs)) HasShortData
+    → (xs : List A) → AllByRecursion P xs → IfSome (option_and_then item (list_last xs)) HasShortData
 short_last P item one [] h = tt
 short_last P item one (x ∷ []) h = one x h.0
 short_last P item one (x ∷ y ∷ xs) h = rw (last_next x y xs) (short_last P item one (y ∷ xs) h.1)

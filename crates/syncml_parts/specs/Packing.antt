@@ -86,15 +86,15 @@ seq_member_item (seq_member.Single m) = member_item m
 seq_member_item (seq_member.Atomic b) = None
 
 -- the last of a list
-abbrev pub last_of : {A : Type 0} → List A → Option A
-last_of xs = slice_get xs (length xs - 1)
+abbrev pub list_last : {A : Type 0} → List A → Option A
+list_last xs = slice_get xs (length xs - 1)
 
 -- that of Results, of an Add or Replace with one item, and of a container whose last member is one
 abbrev pub cut_item : Command → Option Item
 cut_item (command.Plain c) = write_item c.verb c.items
 cut_item (command.Alert c) = None
-cut_item (command.Atomic b) = option_and_then member_item (last_of b.members)
-cut_item (command.Sequence b) = option_and_then seq_member_item (last_of b.members)
+cut_item (command.Atomic b) = option_and_then member_item (list_last b.members)
+cut_item (command.Sequence b) = option_and_then seq_member_item (list_last b.members)
 cut_item (command.Status c) = None
 cut_item (command.Results c) = only_item c.items
 
@@ -134,12 +134,12 @@ cut_changed f (command.Results c) = command.Results (record c { items = only_cha
 
 -- ---- a command's length without the Data of that item
 
-abbrev pub emptied : Item → Item
-emptied i = record i { value = Some [] }
+abbrev pub without_data : Item → Item
+without_data i = record i { value = Some [] }
 
 -- all but the token of the Data: with the Data emptied, and the END that Data has where it isn't empty
 abbrev pub rest_length : ℕ → Command → ℕ
-rest_length page c = length (spelled page (command_tokens (cut_changed emptied c))) + 1
+rest_length page c = length (spelled page (command_tokens (cut_changed without_data c))) + 1
 
 abbrev pub bytes_in : Option (List ℕ) → List ℕ
 bytes_in None = []

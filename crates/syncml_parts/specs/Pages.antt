@@ -14,16 +14,16 @@ use Rattle.syncml_parts.specs.Numbering.{with_numbers}
 use Rattle.syncml_parts.specs.Packing.{cut_item, cut_changed}
 
 -- the elements that tokens open, in order
-abbrev pub opened : List Token → List Element
-opened [] = []
-opened (Tag e content ∷ ts) = e ∷ opened ts
-opened (End ∷ ts) = opened ts
-opened (Text text ∷ ts) = opened ts
-opened (Opaque bytes ∷ ts) = opened ts
+abbrev pub opened_elements : List Token → List Element
+opened_elements [] = []
+opened_elements (Tag e content ∷ ts) = e ∷ opened_elements ts
+opened_elements (End ∷ ts) = opened_elements ts
+opened_elements (Text text ∷ ts) = opened_elements ts
+opened_elements (Opaque bytes ∷ ts) = opened_elements ts
 
 abbrev pub PagesFollowElements : Type 0
 PagesFollowElements =
-    (page : ℕ) (ts us : List Token) → opened ts ≡ opened us → page_behind page ts ≡ page_behind page us
+    (page : ℕ) (ts us : List Token) → opened_elements ts ≡ opened_elements us → page_behind page ts ≡ page_behind page us
 
 -- CmdIDs open nothing
 abbrev pub PageWithoutNumbers : Type 0
@@ -31,8 +31,8 @@ PageWithoutNumbers =
     (page first : ℕ) (c : Command)
     → page_behind page (command_tokens (with_numbers first c)) ≡ page_behind page (command_tokens c)
 
-abbrev pub with_value : List ℕ → Item → Item
-with_value value i = record i { value = Some value }
+abbrev pub with_item_value : List ℕ → Item → Item
+with_item_value value i = record i { value = Some value }
 
 -- nor does the Data of the item that may be cut, empty or not
 abbrev pub PageWithoutData : Type 0
@@ -40,7 +40,7 @@ PageWithoutData =
     (page : ℕ) (c : Command) (i : Item) (old new : List ℕ)
     → cut_item c ≡ Some i
     → i.value ≡ Some old
-    → page_behind page (command_tokens (cut_changed (with_value new) c)) ≡ page_behind page (command_tokens c)
+    → page_behind page (command_tokens (cut_changed (with_item_value new) c)) ≡ page_behind page (command_tokens c)
 
 -- a header of another session and message, with other Data in its Cred
 abbrev pub with_secret : List ℕ → Option Cred → Option Cred

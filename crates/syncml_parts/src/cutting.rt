@@ -5,14 +5,14 @@ ghost use Rattle.std.specs.Borrow.{sem};
 ghost use Rattle.syncml_parts.specs.Lends.{lends_last, lends_only, lends_written, lends_in_member, lends_in_seq_member};
 ghost use Rattle.syncml_parts.specs.Lends.{lends_in_members, lends_in_seq_members, lends_cut};
 ghost use Rattle.syncml_parts.specs.Packing as Spec;
-ghost use Rattle.syncml_parts.specs.Packing.{last_of, only_item, write_item};
+ghost use Rattle.syncml_parts.specs.Packing.{list_last, only_item, write_item};
 
 use dm_base::List;
 use syncml_types::{Command, Item, Member, SeqMember, Verb};
 
 fn last_mut<T>(list: &mut List<T>) -> Option<&mut T>
     ensures* writes_back { sem 𝓛 (lends_last T.row list.entry result) }
-    ensures value { option_copied_mut result ≡ last_of list.old }
+    ensures value { option_copied_mut result ≡ list_last list.old }
 {
     let count = list.len();
     if count == 0 {
@@ -66,14 +66,14 @@ fn seq_member_item(member: &mut SeqMember) -> Option<&mut Item>
 
 fn atomic_item(members: &mut List<Member>) -> Option<&mut Item>
     ensures* writes_back { sem 𝓛 (lends_in_members members.entry result) }
-    ensures value { option_copied_mut result ≡ option_and_then Spec.member_item (last_of members.old) }
+    ensures value { option_copied_mut result ≡ option_and_then Spec.member_item (list_last members.old) }
 {
     member_item(last_mut(members)?)
 }
 
 fn sequence_item(members: &mut List<SeqMember>) -> Option<&mut Item>
     ensures* writes_back { sem 𝓛 (lends_in_seq_members members.entry result) }
-    ensures value { option_copied_mut result ≡ option_and_then Spec.seq_member_item (last_of members.old) }
+    ensures value { option_copied_mut result ≡ option_and_then Spec.seq_member_item (list_last members.old) }
 {
     seq_member_item(last_mut(members)?)
 }

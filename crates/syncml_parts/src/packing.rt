@@ -4,7 +4,7 @@ ghost use Rattle.wbxml_tokens.specs.Spelling.{spelled, page_behind};
 ghost use Rattle.syncml_types.specs.Message.{IsShortData, HasShortItems};
 ghost use Rattle.syncml_types.specs.Canonical.{command_tokens};
 ghost use Rattle.syncml_parts.specs.Packing as Spec;
-ghost use Rattle.syncml_parts.specs.Packing.{last_of, only_item, write_item, BoundsData, RestAndData, SpellsCommands};
+ghost use Rattle.syncml_parts.specs.Packing.{list_last, only_item, write_item, BoundsData, RestAndData, SpellsCommands};
 ghost use Rattle.syncml_parts.specs.Packing.{SpellsInParts};
 ghost use Rattle.syncml_parts.specs.Pages.{PagesFollowElements, PageWithoutNumbers, PageWithoutData, HeaderPage};
 
@@ -62,25 +62,25 @@ fn seq_member_item(member: &SeqMember) -> Option<&Item>
 }
 
 fn last_member(members: &[Member]) -> Option<&Member>
-    ensures { option_map (λ member. member.now) result ≡ last_of members.now }
+    ensures { option_map (λ member. member.now) result ≡ list_last members.now }
 {
     members.last()
 }
 
 fn last_seq_member(members: &[SeqMember]) -> Option<&SeqMember>
-    ensures { option_map (λ member. member.now) result ≡ last_of members.now }
+    ensures { option_map (λ member. member.now) result ≡ list_last members.now }
 {
     members.last()
 }
 
 fn atomic_item(members: &[Member]) -> Option<&Item>
-    ensures { option_map (λ item. item.now) result ≡ option_and_then Spec.member_item (last_of members.now) }
+    ensures { option_map (λ item. item.now) result ≡ option_and_then Spec.member_item (list_last members.now) }
 {
     member_item(last_member(members)?)
 }
 
 fn sequence_item(members: &[SeqMember]) -> Option<&Item>
-    ensures { option_map (λ item. item.now) result ≡ option_and_then Spec.seq_member_item (last_of members.now) }
+    ensures { option_map (λ item. item.now) result ≡ option_and_then Spec.seq_member_item (list_last members.now) }
 {
     seq_member_item(last_seq_member(members)?)
 }

@@ -7,7 +7,7 @@ use Rattle.syncml_shape.specs.declared.rows.Kind.{Kind}
 use Rattle.wbxml_tokens.specs.declared.token.Token.{Token}
 use Rattle.wbxml_tokens.specs.declared.token.Token.TheVariants.{Tag, End, Text, Opaque}
 use Rattle.syncml_shape.specs.Forest.{Forest, nothing, text, opaque, bare, full, spelling}
-use Rattle.syncml_shape.specs.Rows.{Content, start, next, is_complete, takes_text}
+use Rattle.syncml_shape.specs.Rows.{Content, start, next_child, is_complete, takes_text}
 use Rattle.syncml_shape.specs.Shape.{fits}
 use Rattle.syncml_shape.specs.Steps.{Open, content_child, then_steps, steps, spellings, AllFit, Closes}
 
@@ -34,7 +34,7 @@ steps-spelling (opaque b f) c s l h =
     let both = and_true (takes_text c) (fits c f) h in
     taken (takes_text c) (c ∷ s) (λ s'. steps s' (spelling f ++ End ∷ l)) both.0 ∙ steps-spelling f c s l both.1
 steps-spelling (bare e f) c s l h =
-    (elim (next c e)
+    (elim (next_child c e)
     as (λ o. IsTrue (elim o as (λ _. Bool) [ None ↦ false | Some x ↦ is_complete (start x.0) && fits x.1 f ])
     → then_steps (content_child s false o) (λ s'. steps s' (spelling f ++ End ∷ l)) ≡ steps s l) [
       | None ↦ λ h'. cc
@@ -43,7 +43,7 @@ steps-spelling (bare e f) c s l h =
           ∙ steps-spelling f x.1 s l both.1
     ]) h
 steps-spelling (full e i f) c s l h =
-    (elim (next c e)
+    (elim (next_child c e)
     as (λ o. IsTrue (elim o as (λ _. Bool) [ None ↦ false | Some x ↦ fits (start x.0) i && fits x.1 f ])
     → then_steps (content_child s true o) (λ s'. steps s' ((spelling i ++ End ∷ spelling f) ++ End ∷ l)) ≡ steps s l) [
       | None ↦ λ h'. cc
@@ -70,7 +70,7 @@ with_piece c s l t g sp ft h r = elim r.trees as (λ fs. l ≡ spellings fs → 
 with_end : (c : Content) (s : Open) (l : List Token) → IsTrue (is_complete c) → Closes s l → Closes (c ∷ s) (End ∷ l)
 with_end c s l h r = record { trees = nothing ∷ r.trees; spelled = ap (λ m. End ∷ m) r.spelled; fit = (h, r.fit) }
 
-with_bare : (c : Content) (s : Open) (e : Element) (x : Kind × Content) (l : List Token) → next c e ≡ Some x
+with_bare : (c : Content) (s : Open) (e : Element) (x : Kind × Content) (l : List Token) → next_child c e ≡ Some x
     → IsTrue (is_complete (start x.0)) → Closes (x.1 ∷ s) l → Closes (c ∷ s) (Tag e false ∷ l)
 with_bare c s e x l n h r =
     elim r.trees as (λ fs. l ≡ spellings fs → AllFit (x.1 ∷ s) fs → Closes (c ∷ s) (Tag e false ∷ l)) [
@@ -79,7 +79,7 @@ with_bare c s e x l n h r =
           record { trees = bare e f ∷ fs; spelled = ap (λ m. Tag e false ∷ m) eq; fit = (rw (n, fits) (rw h a.0), a.1) }
     ] r.spelled r.fit
 
-with_full : (c : Content) (s : Open) (e : Element) (x : Kind × Content) (l : List Token) → next c e ≡ Some x
+with_full : (c : Content) (s : Open) (e : Element) (x : Kind × Content) (l : List Token) → next_child c e ≡ Some x
     → Closes (start x.0 ∷ x.1 ∷ s) l → Closes (c ∷ s) (Tag e true ∷ l)
 with_full c s e x l n r =
     elim r.trees as (λ fs. l ≡ spellings fs → AllFit (start x.0 ∷ x.1 ∷ s) fs → Closes (c ∷ s) (Tag e true ∷ l)) [
@@ -110,15 +110,15 @@ closes (Opaque b ∷ l) (c ∷ s) h =
     let was = was_taken (takes_text c) (c ∷ s) (λ s'. steps s' l) [] h in
     with_piece c s l (Opaque b) (opaque b) (λ f. refl) (λ f. refl) was.0 (closes l (c ∷ s) was.1)
 closes (Tag e true ∷ l) (c ∷ s) h =
-    (elim (next c e)
-    as (λ o. next c e ≡ o → then_steps (content_child s true o) (λ s'. steps s' l) ≡ Some []
+    (elim (next_child c e)
+    as (λ o. next_child c e ≡ o → then_steps (content_child s true o) (λ s'. steps s' l) ≡ Some []
     → Closes (c ∷ s) (Tag e true ∷ l)) [
       | None ↦ λ n h'. cc
       | Some x ↦ λ n h'. with_full c s e x l n (closes l (start x.0 ∷ x.1 ∷ s) h')
     ]) refl h
 closes (Tag e false ∷ l) (c ∷ s) h =
-    (elim (next c e)
-    as (λ o. next c e ≡ o → then_steps (content_child s false o) (λ s'. steps s' l) ≡ Some []
+    (elim (next_child c e)
+    as (λ o. next_child c e ≡ o → then_steps (content_child s false o) (λ s'. steps s' l) ≡ Some []
     → Closes (c ∷ s) (Tag e false ∷ l)) [
       | None ↦ λ n h'. cc
       | Some x ↦ λ n h'. let was = was_taken (is_complete (start x.0)) (x.1 ∷ s) (λ s'. steps s' l) [] h' in

@@ -6,11 +6,11 @@ use Rattle.wbxml_tokens.specs.declared.reason.Reason.{Reason}
 use Rattle.wbxml_tokens.specs.declared.reason.Stop.{Stop}
 use Rattle.wbxml_tokens.specs.declared.reason.Stop.TheVariants as stops
 use Rattle.wbxml_tokens.specs.declared.token.Token.{Token}
-use Rattle.syncml_shape.specs.declared.outline.Verdict.{Verdict}
+use Rattle.syncml_shape.specs.declared.outline.ShapeVerdict.{ShapeVerdict}
 use Rattle.syncml_shape.specs.Forest.{Forest}
 use Rattle.syncml_shape.specs.Shape.{HasShape}
 use Rattle.syncml_shape.specs.Faults.{IsRefused}
-use Rattle.syncml_shape.specs.Machine.{Frame, step, is_whole}
+use Rattle.syncml_shape.specs.Machine.{Frame, step, may_end}
 use Rattle.syncml_shape.specs.Outline.{HasTaken, GivesStep, Judges, verdict_of}
 use Rattle.syncml_shape.proofs.Judging.{takes_one, refused_here, refused_only, whole_shaped, shaped_whole}
 use Rattle.syncml_shape.proofs.Judging.{verdict_judges, one_verdict}
@@ -39,17 +39,17 @@ answer_refused (Err (stops.Refused other)) s after t before reason x h = (
       ap (λ w. Err (stops.Refused w)) same_reason,
 )
 
-pub answer_whole : (b : Bool) (s : List Frame) (tokens : List Token) → b ≡ is_whole s → HasTaken s tokens
+pub answer_whole : (b : Bool) (s : List Frame) (tokens : List Token) → b ≡ may_end s → HasTaken s tokens
     → IsTrue b ↔ ((tree : Forest) × HasShape tokens tree)
 answer_whole b s tokens x h =
     (λ w. whole_shaped tokens s h (sym x ∙ w), λ shaped. x ∙ shaped_whole tokens s shaped.0 h shaped.1)
 
-pub answer_exact : (r : Result Verdict Memory) (tokens : List Token) → IfOk r (λ v. v ≡ verdict_of tokens)
+pub answer_exact : (r : Result ShapeVerdict Memory) (tokens : List Token) → IfOk r (λ v. v ≡ verdict_of tokens)
     → IfOk r (λ v. Judges tokens v)
 answer_exact (Ok v) tokens x = subst (Judges tokens) (sym x) (verdict_judges tokens)
 answer_exact (Err e) tokens x = x
 
-pub answer_only : (r : Result Verdict Memory) (tokens : List Token) (other : Verdict)
+pub answer_only : (r : Result ShapeVerdict Memory) (tokens : List Token) (other : ShapeVerdict)
     → IfOk r (λ v. v ≡ verdict_of tokens) → Judges tokens other → IfOk r (λ v. v ≡ other)
 answer_only (Ok v) tokens other x j = x ∙ one_verdict tokens other j
 answer_only (Err e) tokens other x j = x

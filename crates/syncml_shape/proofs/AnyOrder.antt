@@ -11,8 +11,8 @@ use Rattle.syncml_shape.specs.declared.rows.TheConstants as table
 use Rattle.syncml_shape.specs.Forest.{Forest, nothing, text, opaque, bare, full}
 use Rattle.syncml_shape.specs.Rows.{same, in_order, in_any_order, start, none_came, meta_place, after_meta}
 use Rattle.syncml_shape.specs.Shape.{fits}
-use Rattle.syncml_shape.specs.Children.{Child, child_of, children, has_text, meta_kind, AllOfMeta, AllOther}
-use Rattle.syncml_shape.specs.Children.{AreDistinct, IsWrapped}
+use Rattle.syncml_shape.specs.Children.{Child, as_child, children_in, has_text, meta_kind, AllOfMeta, AllOther}
+use Rattle.syncml_shape.specs.Children.{AreUnlike, IsWrapped}
 use Rattle.syncml_shape.specs.Laws.{FitsInAnyOrder, FitsMeta}
 use Rattle.syncml_shape.proofs.Accepts.{and_true}
 use Rattle.syncml_shape.proofs.Completes.{and_both}
@@ -126,7 +126,7 @@ AllFree came (child ∷ rest) = (has_come table.META came child.element ≡ fals
 
 record AnyOrder (came : List Bool) (all : List Child) : Type 0 where
   of_meta : AllOfMeta all
-  distinct : AreDistinct all
+  distinct : AreUnlike all
   free : AllFree came all
 
 free_before : (all : List Child) (came : List Bool) (e : Element) (x : Kind × ℕ) (r : Row table.META came e 0 x)
@@ -159,20 +159,20 @@ at_index came at index h = ap (λ n. set came n true) (h ∙ zero_more index)
 meta_child : (came : List Bool) (child : Child) (f : Forest) (o : Option (Kind × ℕ))
     → meta_place 0 table.META came child.element ≡ o
     → ((more : List Bool) → IsTrue (fits (in_any_order false more) f)
-    → (has_text f ≡ false) × AnyOrder more (children f))
+    → (has_text f ≡ false) × AnyOrder more (children_in f))
     → IsTrue (elim (after_meta came o) as (λ _. Bool) [
       | None ↦ false
       | Some x ↦ fits (start x.0) child.inner && fits x.1 f
     ])
-    → (has_text f ≡ false) × AnyOrder came (child ∷ children f)
+    → (has_text f ≡ false) × AnyOrder came (child ∷ children_in f)
 meta_child came child f None is ih h = cc
 meta_child came child f (Some x) is ih h =
     let both = and_true (fits (start x.0) child.inner) (fits (in_any_order false (set came x.1 true)) f) h in
     let rest = ih (set came x.1 true) both.1 in
     let row = row_of_place table.META came child.element 0 x is in
     let before =
-    free_before (children f) came child.element x row
-    (subst (λ l. AllFree l (children f)) (at_index came x.1 row.index row.place) rest.1.free) in (
+    free_before (children_in f) came child.element x row
+    (subst (λ l. AllFree l (children_in f)) (at_index came x.1 row.index row.place) rest.1.free) in (
       rest.0,
       record {
         of_meta = ((x.0, row.kind, both.0), rest.1.of_meta);
@@ -182,7 +182,7 @@ meta_child came child f (Some x) is ih h =
     )
 
 fit_any : (f : Forest) (came : List Bool) → IsTrue (fits (in_any_order false came) f)
-    → (has_text f ≡ false) × AnyOrder came (children f)
+    → (has_text f ≡ false) × AnyOrder came (children_in f)
 fit_any nothing came h = (refl, record { of_meta = tt; distinct = tt; free = tt })
 fit_any (text bytes f) came h = cc
 fit_any (opaque bytes f) came h = cc
@@ -191,8 +191,8 @@ fit_any (bare e f) came h =
 fit_any (full e inner f) came h =
     meta_child came (record { element = e; inner = inner }) f (meta_place 0 table.META came e) refl (fit_any f) h
 
-child_fits : (came : List Bool) (child : Child) (f : Forest) → AnyOrder came (child ∷ children f)
-    → ((more : List Bool) → AnyOrder more (children f) → IsTrue (fits (in_any_order false more) f))
+child_fits : (came : List Bool) (child : Child) (f : Forest) → AnyOrder came (child ∷ children_in f)
+    → ((more : List Bool) → AnyOrder more (children_in f) → IsTrue (fits (in_any_order false more) f))
     → IsTrue (elim (after_meta came (meta_place 0 table.META came child.element)) as (λ _. Bool) [
       | None ↦ false
       | Some x ↦ fits (start x.0) child.inner && fits x.1 f
@@ -202,8 +202,8 @@ child_fits came child f any ih =
     let found = place_of_row table.META came child.element 0 kind any.of_meta.0.1 any.free.0 in
     let row = row_of_place table.META came child.element 0 (kind, found.0) found.1 in
     let free =
-    subst (λ l. AllFree l (children f)) (sym (at_index came found.0 row.index row.place))
-    (free_after (children f) came child.element (kind, found.0) row any.distinct.0 any.free.1) in
+    subst (λ l. AllFree l (children_in f)) (sym (at_index came found.0 row.index row.place))
+    (free_after (children_in f) came child.element (kind, found.0) row any.distinct.0 any.free.1) in
     subst (λ o.
     IsTrue (elim (after_meta came o) as (λ _. Bool) [
       | None ↦ false
@@ -212,7 +212,7 @@ child_fits came child f any ih =
     (and_both (fits (start kind) child.inner) (fits (in_any_order false (set came found.0 true)) f) any.of_meta.0.2
     (ih (set came found.0 true) (record { of_meta = any.of_meta.1; distinct = any.distinct.1; free = free })))
 
-any_fits : (f : Forest) (came : List Bool) → has_text f ≡ false → AnyOrder came (children f)
+any_fits : (f : Forest) (came : List Bool) → has_text f ≡ false → AnyOrder came (children_in f)
     → IsTrue (fits (in_any_order false came) f)
 any_fits nothing came t any = refl
 any_fits (text bytes f) came t any = cc
@@ -252,7 +252,7 @@ pub fits_in_any_order : FitsInAnyOrder
 fits_in_any_order f = (
   λ h. let any = fit_any f none_came h in (any.0, any.1.of_meta, any.1.distinct),
   λ parts. any_fits f none_came parts.0
-      (record { of_meta = parts.1; distinct = parts.2; free = all_free (children f) parts.1 }),
+      (record { of_meta = parts.1; distinct = parts.2; free = all_free (children_in f) parts.1 }),
 )
 
 -- ---- a Meta, of which one MetInf may hold the children
@@ -264,7 +264,7 @@ empty_fits (opaque bytes f) h = cc
 empty_fits (bare e f) h = cc
 empty_fits (full e inner f) h = cc
 
-no_children : (f : Forest) → has_text f ≡ false → children f ≡ [] → f ≡ nothing
+no_children : (f : Forest) → has_text f ≡ false → children_in f ≡ [] → f ≡ nothing
 no_children nothing t h = refl
 no_children (text bytes f) t h = cc
 no_children (opaque bytes f) t h = cc
@@ -281,7 +281,7 @@ Behind wrap e inner f =
     ]
 
 wrapped_or_not : (e : Element) (inner f tree : Forest) → has_text tree ≡ has_text f
-    → children tree ≡ child_of e inner ∷ children f
+    → children_in tree ≡ as_child e inner ∷ children_in f
     → fits (in_any_order false none_came) tree ≡ Behind false e inner f
     → IsTrue (Behind true e inner f) → IsTrue (fits (in_any_order false none_came) tree) ⊎ IsWrapped tree
 wrapped_or_not e inner f tree t all is h =
@@ -298,8 +298,8 @@ wrapped_or_not e inner f tree t all is h =
           inr (
             inner,
             t ∙ ap has_text none,
-            all ∙ ap (λ c. child_of e inner ∷ children c) none
-                ∙ ap (λ (n : Element). child_of n inner ∷ []) (same_only e EMetInf w),
+            all ∙ ap (λ c. as_child e inner ∷ children_in c) none
+                ∙ ap (λ (n : Element). as_child n inner ∷ []) (same_only e EMetInf w),
             both.0,
           )
       | false ↦ λ w h'. inl (is ∙ h')
@@ -350,10 +350,10 @@ wrapped_meta nothing w = let h = w.2 in cc
 wrapped_meta (text bytes f) w = let h = w.1 in cc
 wrapped_meta (opaque bytes f) w = let h = w.1 in cc
 wrapped_meta (bare e f) w =
-    let is = same_child (child_of e nothing) (child_of EMetInf w.0) (children f) [] w.2 in
+    let is = same_child (as_child e nothing) (as_child EMetInf w.0) (children_in f) [] w.2 in
     wrapped_behind e nothing f w.0 (ap (λ c. c.element) is.0) (ap (λ c. c.inner) is.0) (no_children f w.1 is.1) w.3
 wrapped_meta (full e inner f) w =
-    let is = same_child (child_of e inner) (child_of EMetInf w.0) (children f) [] w.2 in
+    let is = same_child (as_child e inner) (as_child EMetInf w.0) (children_in f) [] w.2 in
     wrapped_behind e inner f w.0 (ap (λ c. c.element) is.0) (ap (λ c. c.inner) is.0) (no_children f w.1 is.1) w.3
 
 pub fits_meta : FitsMeta

@@ -12,11 +12,12 @@ use Rattle.syncml_shape.specs.declared.rows.Kind.TheVariants as kinds
 use Rattle.syncml_shape.specs.declared.rows.TheConstants as table
 use Rattle.syncml_shape.specs.declared.rows.Choice.{Choice}
 use Rattle.syncml_shape.specs.declared.rows.Choice.TheVariants.{One, Commands, AtomicMembers, SequenceMembers}
-use Rattle.syncml_shape.specs.declared.rows.Row.{Row}
+use Rattle.syncml_shape.specs.declared.rows.ChildRow.{ChildRow}
 use Rattle.wbxml_tokens.specs.declared.token.Token.{Token}
 use Rattle.wbxml_tokens.specs.declared.token.Token.TheVariants.{Tag, End, Text, Opaque}
 use Rattle.syncml_shape.specs.Forest.{Forest, nothing, text, opaque, bare, full, spelling}
-use Rattle.syncml_shape.specs.Rows.{Content, document, in_order, in_any_order, pieces, start, next, in_row, next_row}
+use Rattle.syncml_shape.specs.Rows.{Content, document, in_order, in_any_order, pieces, start, next_child, in_row}
+use Rattle.syncml_shape.specs.Rows.{next_row}
 use Rattle.syncml_shape.specs.Rows.{after_row, after_meta, meta_place, kind_in, is_complete, takes_text, same}
 use Rattle.syncml_shape.specs.Shape.{fits, IsViable}
 use Rattle.syncml_shape.specs.Steps.{Open, content_child, content_step, then_steps, steps, spellings, AllFit, Closes}
@@ -37,7 +38,7 @@ example_kind AtomicMembers = kinds.Plain
 example_kind SequenceMembers = kinds.Plain
 
 -- one element for each row that still wants one
-abbrev finish_rows : (Kind → Forest) → Bool → List Row → Forest
+abbrev finish_rows : (Kind → Forest) → Bool → List ChildRow → Forest
 finish_rows ex came [] = nothing
 finish_rows ex came (row ∷ rows) =
     if not came && row.required
@@ -61,11 +62,11 @@ example_fits kinds.Message = refl
 example_fits _ = refl
 
 -- no later row has what this row has
-abbrev avoids : Choice → List Row → Bool
+abbrev avoids : Choice → List ChildRow → Bool
 avoids c [] = true
 avoids c (row ∷ rows) = is_none (kind_in c (example_of row.choice)) && avoids c rows
 
-abbrev are_distinct : List Row → Bool
+abbrev are_distinct : List ChildRow → Bool
 are_distinct [] = true
 are_distinct (row ∷ rows) = avoids row.choice rows && are_distinct rows
 
@@ -96,7 +97,7 @@ pub none_of : {A : Type 0} (o : Option A) → IsTrue (is_none o) → o ≡ None
 none_of None h = refl
 none_of (Some x) h = cc
 
-finish_outside : (ex : Kind → Forest) (c : Choice) (rows : List Row) → IsTrue (avoids c rows)
+finish_outside : (ex : Kind → Forest) (c : Choice) (rows : List ChildRow) → IsTrue (avoids c rows)
     → BeginsOutside c (finish_rows ex false rows)
 finish_outside ex c [] h = tt
 finish_outside ex c (row ∷ rows) h =
@@ -114,19 +115,19 @@ or_of true b h = refl
 or_of false true h = cc
 or_of false false h = refl
 
-complete_after : (came : Bool) (row : Row) (rows : List Row) → (not came && row.required) ≡ false
+complete_after : (came : Bool) (row : ChildRow) (rows : List ChildRow) → (not came && row.required) ≡ false
     → is_complete (in_order came (row ∷ rows)) ≡ is_complete (in_order false rows)
 complete_after came row [] h = rw (or_of came row.required h)
 complete_after came row (r ∷ rows) h = rw (or_of came row.required h)
 
-next_after : (came : Bool) (row : Row) (rows : List Row) (e : Element) → (not came && row.required) ≡ false
-    → kind_in row.choice e ≡ None → next (in_order came (row ∷ rows)) e ≡ next (in_order false rows) e
+next_after : (came : Bool) (row : ChildRow) (rows : List ChildRow) (e : Element) → (not came && row.required) ≡ false
+    → kind_in row.choice e ≡ None → next_child (in_order came (row ∷ rows)) e ≡ next_child (in_order false rows) e
 next_after came row rows e h n =
     ap (λ o. after_row (in_row o came row rows (next_row false rows e))) n
     ∙ ap (λ (t : Bool). after_row (if t then None else next_row false rows e)) h
 
 -- what begins outside a row that is not wanted any more is what the later rows allow
-skip : (came : Bool) (row : Row) (rows : List Row) (f : Forest) → (not came && row.required) ≡ false
+skip : (came : Bool) (row : ChildRow) (rows : List ChildRow) (f : Forest) → (not came && row.required) ≡ false
     → BeginsOutside row.choice f → IsTrue (fits (in_order false rows) f) → IsTrue (fits (in_order came (row ∷ rows)) f)
 skip came row rows nothing h o fit = complete_after came row rows h ∙ fit
 skip came row rows (text b f) h o fit = absurd o
@@ -147,14 +148,14 @@ pub and_both : (a b : Bool) → IsTrue a → IsTrue b → IsTrue (a && b)
 and_both true b p q = q
 and_both false b p q = cc
 
-next_own : (came : Bool) (row : Row) (rows : List Row) → came ≡ false
-    → next (in_order came (row ∷ rows)) (example_of row.choice)
+next_own : (came : Bool) (row : ChildRow) (rows : List ChildRow) → came ≡ false
+    → next_child (in_order came (row ∷ rows)) (example_of row.choice)
     ≡ Some (example_kind row.choice, in_order true (row ∷ rows))
 next_own came row rows w =
     ap (λ o. after_row (in_row o came row rows (next_row false rows (example_of row.choice)))) (own_kind row.choice)
     ∙ ap (λ (m : Bool). after_row (if m && not row.many then None else Some (example_kind row.choice, row ∷ rows))) w
 
-fits_full : (c : Content) (e : Element) (x : Kind × Content) (i f : Forest) → next c e ≡ Some x
+fits_full : (c : Content) (e : Element) (x : Kind × Content) (i f : Forest) → next_child c e ≡ Some x
     → IsTrue (fits (start x.0) i) → IsTrue (fits x.1 f) → IsTrue (fits c (full e i f))
 fits_full c e x i f n p q = rw (n, fits) (and_both (fits (start x.0) i) (fits x.1 f) p q)
 
@@ -162,7 +163,7 @@ and_false : (a b : Bool) → (not a && b) ≡ true → a ≡ false
 and_false true b h = cc
 and_false false b h = refl
 
-finish_fits : (rows : List Row) (came : Bool) → IsTrue (are_distinct rows)
+finish_fits : (rows : List ChildRow) (came : Bool) → IsTrue (are_distinct rows)
     → IsTrue (fits (in_order came rows) (finish_rows example came rows))
 finish_fits [] came h = refl
 finish_fits (row ∷ rows) came h =
@@ -187,8 +188,8 @@ content_finish (in_order came rows) g = finish_fits rows came g
 content_finish (in_any_order wrap came) g = refl
 content_finish pieces g = refl
 
-in_row_good : (o : Option Kind) (came : Bool) (row : Row) (rows : List Row) (later : Option (Kind × List Row))
-    (x : Kind × List Row) → IsTrue (are_distinct (row ∷ rows)) → (later ≡ Some x → IsTrue (are_distinct x.1))
+in_row_good : (o : Option Kind) (came : Bool) (row : ChildRow) (rows : List ChildRow) (later : Option (Kind × List ChildRow))
+    (x : Kind × List ChildRow) → IsTrue (are_distinct (row ∷ rows)) → (later ≡ Some x → IsTrue (are_distinct x.1))
     → in_row o came row rows later ≡ Some x → IsTrue (are_distinct x.1)
 in_row_good (Some kind) came row rows later x g below h =
     (elim (came && not row.many)
@@ -203,15 +204,15 @@ in_row_good None came row rows later x g below h =
       | false ↦ below
     ]) h
 
-next_row_good : (rows : List Row) (came : Bool) (e : Element) (x : Kind × List Row) → IsTrue (are_distinct rows)
+next_row_good : (rows : List ChildRow) (came : Bool) (e : Element) (x : Kind × List ChildRow) → IsTrue (are_distinct rows)
     → next_row came rows e ≡ Some x → IsTrue (are_distinct x.1)
 next_row_good [] came e x g h = cc
 next_row_good (row ∷ rows) came e x g h =
     in_row_good (kind_in row.choice e) came row rows (next_row false rows e) x g
     (next_row_good rows false e x (and_true (avoids row.choice rows) (are_distinct rows) g).1) h
 
-after_row_good : (o : Option (Kind × List Row)) (x : Kind × Content)
-    → ((y : Kind × List Row) → o ≡ Some y → IsTrue (are_distinct y.1)) → after_row o ≡ Some x → IsGood x.1
+after_row_good : (o : Option (Kind × List ChildRow)) (x : Kind × Content)
+    → ((y : Kind × List ChildRow) → o ≡ Some y → IsTrue (are_distinct y.1)) → after_row o ≡ Some x → IsGood x.1
 after_row_good None x g h = cc
 after_row_good (Some y) x g h = let e : in_order true y.1 ≡ x.1 = cc in subst IsGood e (g y refl)
 
@@ -220,7 +221,7 @@ after_meta_good : (came : List Bool) (o : Option (Kind × ℕ)) (x : Kind × Con
 after_meta_good came None x h = cc
 after_meta_good came (Some y) x h = let eq : in_any_order false (set came y.1 true) ≡ x.1 = cc in subst IsGood eq tt
 
-next_good : (c : Content) (e : Element) (x : Kind × Content) → IsGood c → next c e ≡ Some x → IsGood x.1
+next_good : (c : Content) (e : Element) (x : Kind × Content) → IsGood c → next_child c e ≡ Some x → IsGood x.1
 next_good (in_order came rows) e x g h = after_row_good (next_row came rows e) x (λ y. next_row_good rows came e y g) h
 next_good (in_any_order wrap came) e x g h =
     (elim (wrap && same e EMetInf)
@@ -256,7 +257,7 @@ step_good t [] s' g h = cc
 step_good End (c ∷ s) s' g h = if_good (is_complete c) s s' g.1 h
 step_good (Text b) (c ∷ s) s' g h = if_good (takes_text c) (c ∷ s) s' g h
 step_good (Opaque b) (c ∷ s) s' g h = if_good (takes_text c) (c ∷ s) s' g h
-step_good (Tag e b) (c ∷ s) s' g h = with_child_good s b (next c e) s' g.1 (λ x. next_good c e x g.0) h
+step_good (Tag e b) (c ∷ s) s' g h = with_child_good s b (next_child c e) s' g.1 (λ x. next_good c e x g.0) h
 
 steps_good : (l : List Token) (s s' : Open) → AllGood s → steps s l ≡ Some s' → AllGood s'
 steps_good [] s s' g h = let e : s ≡ s' = cc in subst AllGood e g

@@ -8,7 +8,7 @@ use Rattle.wbxml_tables.specs.declared.Element.{Element}
 use Rattle.wbxml_tokens.specs.declared.token.Token.{Token}
 use Rattle.wbxml_tokens.specs.declared.token.Token.TheVariants.{Tag, End, Text, Opaque}
 use Rattle.syncml_shape.specs.declared.rows.Kind.{Kind}
-use Rattle.syncml_shape.specs.Rows.{Content, start, next, is_complete, takes_text}
+use Rattle.syncml_shape.specs.Rows.{Content, start, next_child, is_complete, takes_text}
 use Rattle.syncml_shape.specs.Faults.{tag_fault, innermost, open_after, reason_in, or_misplaced}
 use Rattle.syncml_shape.specs.Machine.{Frame, began, with_child, with_tag, with_end, with_text, step}
 use Rattle.syncml_shape.specs.Steps.{Open}
@@ -77,7 +77,7 @@ if_some false s h = cc
 
 child_taken : (f : Frame) (s : List Frame) (es : List Element) (e : Element) (b : Bool) (x : Kind × Content)
     (after : List Frame) → AllNamed (f ∷ s) → AreOf (f ∷ s) es
-    → next f.content e ≡ Some x → with_child f s e b x ≡ Ok after → Taken (f ∷ s) after es (Tag e b)
+    → next_child f.content e ≡ Some x → with_child f s e b x ≡ Ok after → Taken (f ∷ s) after es (Tag e b)
 child_taken f s es e true x after n a is h =
     let was = next_named f.content f.element e x n.0 is in
     let eq : began e x.0 ∷ record f { content = x.1 } ∷ s ≡ after = cc in
@@ -98,7 +98,7 @@ child_taken f s es e false x after n a is h =
 
 tag_taken : (f : Frame) (s : List Frame) (es : List Element) (e : Element) (b : Bool) (fault : Option Reason)
     (o : Option (Kind × Content)) (after : List Frame)
-    → AllNamed (f ∷ s) → AreOf (f ∷ s) es → next f.content e ≡ o → with_tag f s e b fault o ≡ Ok after
+    → AllNamed (f ∷ s) → AreOf (f ∷ s) es → next_child f.content e ≡ o → with_tag f s e b fault o ≡ Ok after
     → Taken (f ∷ s) after es (Tag e b)
 tag_taken f s es e b (Some reason) o after n a is h = cc
 tag_taken f s es e b None None after n a is h = cc
@@ -133,7 +133,7 @@ pub step_taken : (t : Token) (s : List Frame) (es : List Element) (after : List 
     → step s t ≡ Ok after → Taken s after es t
 step_taken t [] es after n a h = absurd a
 step_taken (Tag e b) (f ∷ s) es after n a h =
-    tag_taken f s es e b (tag_fault f.element e) (next f.content e) after n a refl h
+    tag_taken f s es e b (tag_fault f.element e) (next_child f.content e) after n a refl h
 step_taken End (f ∷ s) es after n a h = end_taken f s es after n a h
 step_taken (Text b) (f ∷ s) es after n a h = text_taken f s es (Text b) after n a refl refl h
 step_taken (Opaque b) (f ∷ s) es after n a h = text_taken f s es (Opaque b) after n a refl refl h
@@ -155,18 +155,18 @@ none_of_no_child s false = tt
 
 -- a tag that is refused for its name may not come
 fault_may_not : (f : Frame) (e : Element) (reason : Reason) (o : Option (Kind × Content)) → IsNamed f.element f.content
-    → tag_fault f.element e ≡ Some reason → next f.content e ≡ o → o ≡ None
+    → tag_fault f.element e ≡ Some reason → next_child f.content e ≡ o → o ≡ None
 fault_may_not f e reason None n fault is = refl
 fault_may_not f e reason (Some x) n fault is =
     let none : tag_fault f.element e ≡ None = (next_named f.content f.element e x n is).faultless in cc
 
-tag_none : (f : Frame) (s : List Frame) (e : Element) (b : Bool) → next f.content e ≡ None
+tag_none : (f : Frame) (s : List Frame) (e : Element) (b : Bool) → next_child f.content e ≡ None
     → LeavesNone (content_step (contents_of (f ∷ s)) (Tag e b))
 tag_none f s e b is =
     subst (λ o. LeavesNone (content_child (contents_of s) b o)) (sym is) (none_of_no_child (contents_of s) b)
 
 child_refused : (f : Frame) (s : List Frame) (e : Element) (b : Bool) (x : Kind × Content) (reason : Reason)
-    → next f.content e ≡ Some x → with_child f s e b x ≡ Err reason
+    → next_child f.content e ≡ Some x → with_child f s e b x ≡ Err reason
     → LeavesNone (content_step (contents_of (f ∷ s)) (Tag e b)) × (reason ≡ Misplaced)
 child_refused f s e true x reason is h = cc
 child_refused f s e false x reason is h =
@@ -178,7 +178,7 @@ child_refused f s e false x reason is h =
 
 tag_refused : (f : Frame) (s : List Frame) (e : Element) (b : Bool) (fault : Option Reason)
     (o : Option (Kind × Content)) (reason : Reason) → IsNamed f.element f.content
-    → tag_fault f.element e ≡ fault → next f.content e ≡ o → with_tag f s e b fault o ≡ Err reason
+    → tag_fault f.element e ≡ fault → next_child f.content e ≡ o → with_tag f s e b fault o ≡ Err reason
     → LeavesNone (content_step (contents_of (f ∷ s)) (Tag e b)) × (reason ≡ or_misplaced fault)
 tag_refused f s e b (Some r) o reason n fault is h = (tag_none f s e b (is ∙ fault_may_not f e r o n fault is), cc)
 tag_refused f s e b None None reason n fault is h = (tag_none f s e b is, cc)
@@ -204,7 +204,7 @@ pub step_refused : (t : Token) (s : List Frame) (es : List Element) (reason : Re
     → step s t ≡ Err reason → NotTaken s es t reason
 step_refused t [] es reason n a h = absurd a
 step_refused (Tag e b) (f ∷ s) es reason n a h =
-    let was = tag_refused f s e b (tag_fault f.element e) (next f.content e) reason n.0 refl refl h in
+    let was = tag_refused f s e b (tag_fault f.element e) (next_child f.content e) reason n.0 refl refl h in
     record { none = was.0; named = was.1 ∙ ap (λ p. or_misplaced (tag_fault p e)) (head-of f s es a) }
 step_refused End (f ∷ s) es reason n a h = let was = end_refused f s reason h in record { none = was.0; named = was.1 }
 step_refused (Text b) (f ∷ s) es reason n a h = let was = text_refused f s reason h in

@@ -7,13 +7,13 @@ use Rattle.wbxml_tokens.specs.declared.reason.Reason.{Reason}
 use Rattle.wbxml_tables.specs.declared.Element.{Element}
 use Rattle.wbxml_tokens.specs.declared.token.Token.{Token}
 use Rattle.wbxml_tokens.specs.declared.token.Token.TheVariants.{Tag, End}
-use Rattle.syncml_shape.specs.declared.outline.Verdict.{Verdict}
-use Rattle.syncml_shape.specs.declared.outline.Verdict.TheVariants as verdict
+use Rattle.syncml_shape.specs.declared.outline.ShapeVerdict.{ShapeVerdict}
+use Rattle.syncml_shape.specs.declared.outline.ShapeVerdict.TheVariants as verdict
 use Rattle.syncml_shape.specs.Forest.{Forest, spelling}
-use Rattle.syncml_shape.specs.Rows.{Content, document, is_complete, next}
+use Rattle.syncml_shape.specs.Rows.{Content, document, is_complete, next_child}
 use Rattle.syncml_shape.specs.Shape.{HasShape, IsViable}
 use Rattle.syncml_shape.specs.Faults.{tag_fault, innermost, open_behind, open_elements, open_after, IsRefused}
-use Rattle.syncml_shape.specs.Machine.{Frame, root, step, with_tag, is_whole}
+use Rattle.syncml_shape.specs.Machine.{Frame, root, step, with_tag, may_end}
 use Rattle.syncml_shape.specs.Laws.{FaultsHaveNoShape, FitsIsStepped, ClosingIsFit, ViableIsOpen, ViableIsTaken}
 use Rattle.syncml_shape.specs.Laws.{JudgedIsComputed}
 use Rattle.syncml_shape.specs.Outline.{then_outline, outline_from, HasTaken, Judges, whole_or_not, verdict_then}
@@ -154,17 +154,17 @@ was_true : (b : Bool) (s : Open) → (if b then Some s else None) ≡ Some [] �
 was_true true s h = (refl, cc)
 was_true false s h = cc
 
-whole_closes : (s : List Frame) → IsTrue (is_whole s) → content_step (contents_of s) End ≡ Some []
+whole_closes : (s : List Frame) → IsTrue (may_end s) → content_step (contents_of s) End ≡ Some []
 whole_closes [] h = cc
 whole_closes (f ∷ []) h = some_where (is_complete f.content) [] h
 whole_closes (f ∷ g ∷ s) h = cc
 
-closed_whole : (s : List Frame) → content_step (contents_of s) End ≡ Some [] → IsTrue (is_whole s)
+closed_whole : (s : List Frame) → content_step (contents_of s) End ≡ Some [] → IsTrue (may_end s)
 closed_whole [] h = cc
 closed_whole (f ∷ []) h = (was_true (is_complete f.content) [] h).0
 closed_whole (f ∷ g ∷ s) h = let is = (was_true (is_complete f.content) (contents_of (g ∷ s)) h).1 in cc
 
-pub whole_shaped : (tokens : List Token) (s : List Frame) → HasTaken s tokens → IsTrue (is_whole s)
+pub whole_shaped : (tokens : List Token) (s : List Frame) → HasTaken s tokens → IsTrue (may_end s)
     → (tree : Forest) × HasShape tokens tree
 whole_shaped tokens s h w =
     let closed : opened (tokens ++ End ∷ []) ≡ Some [] = opened-one tokens s End h ∙ whole_closes s w in
@@ -172,7 +172,7 @@ whole_shaped tokens s h w =
     (tree.0, record { spelled = append_cancel_right tokens (spelling tree.0) (End ∷ []) tree.1; fitting = tree.2 })
 
 pub shaped_whole : (tokens : List Token) (s : List Frame) (tree : Forest) → HasTaken s tokens → HasShape tokens tree
-    → IsTrue (is_whole s)
+    → IsTrue (may_end s)
 shaped_whole tokens s tree h shape =
     closed_whole s (sym (opened-one tokens s End h) ∙ ap (λ l. opened (l ++ End ∷ [])) shape.spelled
     ∙ steps-spelling tree document [] [] shape.fitting)
@@ -182,20 +182,20 @@ shaped_viable tokens tree shape = ([], tree, subst (λ l. HasShape l tree) (sym 
 
 -- ---- the verdict on a whole list
 
-judges_end : (tokens : List Token) (s : List Frame) → HasTaken s tokens → Judges tokens (whole_or_not (is_whole s))
+judges_end : (tokens : List Token) (s : List Frame) → HasTaken s tokens → Judges tokens (whole_or_not (may_end s))
 judges_end tokens s h =
-    elim (is_whole s) as (λ (b : Bool). is_whole s ≡ b → Judges tokens (whole_or_not b)) [
+    elim (may_end s) as (λ (b : Bool). may_end s ≡ b → Judges tokens (whole_or_not b)) [
       | true ↦ λ w. whole_shaped tokens s h w
       | false ↦ λ w. (
         taken_viable tokens s h,
-        λ tree shape. let yes : is_whole s ≡ true = shaped_whole tokens s tree h shape in cc,
+        λ tree shape. let yes : may_end s ≡ true = shaped_whole tokens s tree h shape in cc,
       )
     ] refl
 
 judges_from : (tokens before : List Token) (s : List Frame) (at : ℕ) → HasTaken s before → length before ≡ at
     → Judges (before ++ tokens) (verdict_from at s tokens)
 judges_from [] before s at h len =
-    subst (λ l. Judges l (whole_or_not (is_whole s))) (sym (append-nil before)) (judges_end before s h)
+    subst (λ l. Judges l (whole_or_not (may_end s))) (sym (append-nil before)) (judges_end before s h)
 judges_from (t ∷ tokens) before s at h len =
     elim (step s t) as (λ o. step s t ≡ o
     → Judges (before ++ t ∷ tokens) (verdict_then at o (λ m. verdict_from (at + 1) m tokens))) [
@@ -225,14 +225,14 @@ verdict-append (t ∷ a) b s frames at h =
     ]) refl h
 
 verdict-taken : (tokens : List Token) (s : List Frame) → HasTaken s tokens
-    → verdict_of tokens ≡ whole_or_not (is_whole s)
+    → verdict_of tokens ≡ whole_or_not (may_end s)
 verdict-taken tokens s h = ap verdict_of (sym (append-nil tokens)) ∙ verdict-append tokens [] (root ∷ []) s 0 h
 
 not_whole : (b : Bool) → (IsTrue b → ⊥) → b ≡ false
 not_whole true never = absurd (never refl)
 not_whole false never = refl
 
-pub one_verdict : (tokens : List Token) (v : Verdict) → Judges tokens v → verdict_of tokens ≡ v
+pub one_verdict : (tokens : List Token) (v : ShapeVerdict) → Judges tokens v → verdict_of tokens ≡ v
 one_verdict tokens verdict.Whole j =
     let took = viable_taken tokens (shaped_viable tokens j.0 j.1) in
     verdict-taken tokens took.0 took.1 ∙ ap whole_or_not (shaped_whole tokens took.0 j.0 took.1 j.1)
@@ -240,7 +240,7 @@ one_verdict tokens verdict.Unfinished j =
     let took = viable_taken tokens j.0 in
     verdict-taken tokens took.0 took.1
     ∙ ap whole_or_not
-    (not_whole (is_whole took.0) (λ w. let tree = whole_shaped tokens took.0 took.1 w in j.1 tree.0 tree.1))
+    (not_whole (may_end took.0) (λ w. let tree = whole_shaped tokens took.0 took.1 w in j.1 tree.0 tree.1))
 one_verdict tokens (verdict.Refused at reason) j =
     let took = viable_taken j.0 j.5.viable in
     ap verdict_of j.3 ∙ verdict-append j.0 (j.1 ∷ j.2) (root ∷ []) took.0 0 took.1
@@ -254,7 +254,7 @@ fault_stops : (f : Frame) (s m : List Frame) (e : Element) (content : Bool) (rea
     → tag_fault f.element e ≡ Some reason → step (f ∷ s) (Tag e content) ≡ Ok m → ⊥
 fault_stops f s m e content reason fault h =
     let stopped : step (f ∷ s) (Tag e content) ≡ Err reason =
-    ap (λ o. with_tag f s e content o (next f.content e)) fault in cc
+    ap (λ o. with_tag f s e content o (next_child f.content e)) fault in cc
 
 no_step : (before : List Token) (s m : List Frame) (e : Element) (content : Bool) (reason : Reason) → HasTaken s before
     → tag_fault (innermost (open_elements before)) e ≡ Some reason

@@ -11,12 +11,12 @@ use Rattle.syncml_shape.specs.declared.rows.Kind.{Kind}
 use Rattle.syncml_shape.specs.declared.rows.Kind.TheVariants as kinds
 use Rattle.syncml_shape.specs.declared.rows.Choice.{Choice}
 use Rattle.syncml_shape.specs.declared.rows.Choice.TheVariants.{One, Commands, AtomicMembers, SequenceMembers}
-use Rattle.syncml_shape.specs.declared.rows.Row.{Row}
+use Rattle.syncml_shape.specs.declared.rows.ChildRow.{ChildRow}
 use Rattle.syncml_shape.specs.declared.rows.MetaRow.{MetaRow}
 use Rattle.syncml_shape.specs.declared.rows.TheConstants as table
 use Rattle.syncml_shape.specs.Rows.{same, atomic_member, sequence_member, command, kind_in, Content, in_order}
 use Rattle.syncml_shape.specs.Rows.{in_any_order, pieces, start, in_row, next_row, after_row, meta_place, after_meta}
-use Rattle.syncml_shape.specs.Rows.{next}
+use Rattle.syncml_shape.specs.Rows.{next_child}
 use Rattle.syncml_shape.specs.Faults.{tag_fault}
 use Rattle.syncml_shape.proofs.Accepts.{and_true}
 use Rattle.syncml_shape.proofs.Completes.{none_of}
@@ -31,7 +31,7 @@ allows p Commands = is_none (tag_fault p EAtomic) && is_none (tag_fault p ESeque
 allows p AtomicMembers = true
 allows p SequenceMembers = is_none (tag_fault p EAtomic)
 
-abbrev pub allows_rows : Option Element → List Row → Bool
+abbrev pub allows_rows : Option Element → List ChildRow → Bool
 allows_rows p [] = true
 allows_rows p (row ∷ rows) = allows p row.choice && allows_rows p rows
 
@@ -47,7 +47,7 @@ is_sound Commands = true
 is_sound AtomicMembers = true
 is_sound SequenceMembers = true
 
-abbrev pub are_sound : List Row → Bool
+abbrev pub are_sound : List ChildRow → Bool
 are_sound [] = true
 are_sound (row ∷ rows) = is_sound row.choice && are_sound rows
 
@@ -153,14 +153,14 @@ pub record IsNamedNext (p : Option Element) (e : Element) (x : Kind × Content) 
   pub rest : IsNamed p x.1
   pub child : IsNamed (Some e) (start x.0)
 
-record IsNamedRow (p : Option Element) (e : Element) (x : Kind × List Row) : Type 0 where
+record IsNamedRow (p : Option Element) (e : Element) (x : Kind × List ChildRow) : Type 0 where
   faultless : tag_fault p e ≡ None
   here : IsTrue (allows_rows p x.1)
   below : IsTrue (are_sound x.1)
   child : IsTrue (allows_content (Some e) (start x.0))
 
-named_row : (p : Option Element) (row : Row) (rows : List Row) (e : Element) (came : Bool) (o : Option Kind)
-    (later : Option (Kind × List Row)) (x : Kind × List Row)
+named_row : (p : Option Element) (row : ChildRow) (rows : List ChildRow) (e : Element) (came : Bool) (o : Option Kind)
+    (later : Option (Kind × List ChildRow)) (x : Kind × List ChildRow)
     → kind_in row.choice e ≡ o → IsTrue (allows_rows p (row ∷ rows)) → IsTrue (are_sound (row ∷ rows))
     → (later ≡ Some x → IsNamedRow p e x)
     → in_row o came row rows later ≡ Some x → IsNamedRow p e x
@@ -185,7 +185,7 @@ named_row p row rows e came None later x k a s below h =
       | false ↦ below
     ]) h
 
-named_rows : (rows : List Row) (p : Option Element) (came : Bool) (e : Element) (x : Kind × List Row)
+named_rows : (rows : List ChildRow) (p : Option Element) (came : Bool) (e : Element) (x : Kind × List ChildRow)
     → IsTrue (allows_rows p rows) → IsTrue (are_sound rows)
     → next_row came rows e ≡ Some x → IsNamedRow p e x
 named_rows [] p came e x a s h = cc
@@ -194,8 +194,8 @@ named_rows (row ∷ rows) p came e x a s h =
     (named_rows rows p false e x (and_true (allows p row.choice) (allows_rows p rows) a).1
     (and_true (is_sound row.choice) (are_sound rows) s).1) h
 
-after_named : (p : Option Element) (e : Element) (o : Option (Kind × List Row)) (x : Kind × Content)
-    → ((y : Kind × List Row) → o ≡ Some y → IsNamedRow p e y)
+after_named : (p : Option Element) (e : Element) (o : Option (Kind × List ChildRow)) (x : Kind × Content)
+    → ((y : Kind × List ChildRow) → o ≡ Some y → IsNamedRow p e y)
     → after_row o ≡ Some x → IsNamedNext p e x
 after_named p e None x n h = cc
 after_named p e (Some y) x n h =
@@ -271,7 +271,7 @@ wrap_named p e x is h =
       child = record { here = refl; below = refl };
     }))
 
-pub next_named : (c : Content) (p : Option Element) (e : Element) (x : Kind × Content) → IsNamed p c → next c e ≡ Some x
+pub next_named : (c : Content) (p : Option Element) (e : Element) (x : Kind × Content) → IsNamed p c → next_child c e ≡ Some x
     → IsNamedNext p e x
 next_named (in_order came rows) p e x n h =
     after_named p e (next_row came rows e) x (λ y. named_rows rows p came e y n.here n.below) h

@@ -6,7 +6,7 @@ use Rattle.wbxml_tables.specs.declared.Element.TheVariants.{EMetInf}
 use Rattle.syncml_shape.specs.declared.rows.Kind.{Kind}
 use Rattle.syncml_shape.specs.declared.rows.Kind.TheVariants as kinds
 use Rattle.syncml_shape.specs.declared.rows.Choice.{Choice}
-use Rattle.syncml_shape.specs.declared.rows.Row.{Row}
+use Rattle.syncml_shape.specs.declared.rows.ChildRow.{ChildRow}
 use Rattle.syncml_shape.specs.declared.rows.MetaRow.{MetaRow}
 use Rattle.syncml_shape.specs.Table as table
 use Rattle.syncml_shape.specs.Forest.{Forest, nothing, text, opaque, bare, full}
@@ -18,12 +18,12 @@ pub record Child : Type 0 where
   pub element : Element
   pub inner : Forest
 
-abbrev pub children : Forest → List Child
-children nothing = []
-children (text bytes rest) = children rest
-children (opaque bytes rest) = children rest
-children (bare e rest) = record { element = e; inner = nothing } ∷ children rest
-children (full e inner rest) = record { element = e; inner = inner } ∷ children rest
+abbrev pub children_in : Forest → List Child
+children_in nothing = []
+children_in (text bytes rest) = children_in rest
+children_in (opaque bytes rest) = children_in rest
+children_in (bare e rest) = record { element = e; inner = nothing } ∷ children_in rest
+children_in (full e inner rest) = record { element = e; inner = inner } ∷ children_in rest
 
 abbrev pub has_text : Forest → Bool
 has_text nothing = false
@@ -33,20 +33,20 @@ has_text (bare e rest) = has_text rest
 has_text (full e inner rest) = has_text rest
 
 -- the child is allowed there, and what stands in it fits what it holds there
-abbrev pub IsOf : Choice → Child → Type 0
-IsOf choice child = (kind : Kind) × (kind_in choice child.element ≡ Some kind) × IsTrue (fits (start kind) child.inner)
+abbrev pub FitsChoice : Choice → Child → Type 0
+FitsChoice choice child = (kind : Kind) × (kind_in choice child.element ≡ Some kind) × IsTrue (fits (start kind) child.inner)
 
 abbrev pub AllOf : Choice → List Child → Type 0
 AllOf choice [] = ⊤
-AllOf choice (child ∷ rest) = IsOf choice child × AllOf choice rest
+AllOf choice (child ∷ rest) = FitsChoice choice child × AllOf choice rest
 
 -- at least one where the row is required, and at most one where it hasn't many
-pub record IsInNumber (row : Row) (here : List Child) : Type 0 where
+pub record IsInNumber (row : ChildRow) (here : List Child) : Type 0 where
   pub enough : row.required ≡ true → 0 < length here
   pub single : row.many ≡ false → length here ≤ 1
 
 -- the children are those of the rows one after the other, of each row as many as it has
-abbrev pub FollowRows : List Row → List Child → Type 0
+abbrev pub FollowRows : List ChildRow → List Child → Type 0
 FollowRows [] all = all ≡ []
 FollowRows (row ∷ rows) all =
     (here : List Child) × (rest : List Child)
@@ -71,15 +71,15 @@ AllOther e [] = ⊤
 AllOther e (child ∷ rest) = (child.element ≡ e → ⊥) × AllOther e rest
 
 -- no two children are of one element
-abbrev pub AreDistinct : List Child → Type 0
-AreDistinct [] = ⊤
-AreDistinct (child ∷ rest) = AllOther child.element rest × AreDistinct rest
+abbrev pub AreUnlike : List Child → Type 0
+AreUnlike [] = ⊤
+AreUnlike (child ∷ rest) = AllOther child.element rest × AreUnlike rest
 
-abbrev pub child_of : Element → Forest → Child
-child_of e inner = record { element = e; inner = inner }
+abbrev pub as_child : Element → Forest → Child
+as_child e inner = record { element = e; inner = inner }
 
 -- the one child is a MetInf, and what stands in it fits it
 abbrev pub IsWrapped : Forest → Type 0
 IsWrapped tree =
-    (inner : Forest) × (has_text tree ≡ false) × (children tree ≡ child_of EMetInf inner ∷ [])
+    (inner : Forest) × (has_text tree ≡ false) × (children_in tree ≡ as_child EMetInf inner ∷ [])
     × IsTrue (fits (start kinds.MetInf) inner)

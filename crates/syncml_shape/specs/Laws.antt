@@ -7,12 +7,12 @@ use Rattle.wbxml_tokens.specs.declared.token.Token.TheVariants.{Tag, End}
 use Rattle.syncml_shape.specs.declared.rows.Kind.{Kind}
 use Rattle.syncml_shape.specs.declared.rows.Kind.TheVariants as kinds
 use Rattle.syncml_shape.specs.Table as table
-use Rattle.syncml_shape.specs.declared.rows.Row.{Row}
-use Rattle.syncml_shape.specs.declared.outline.Verdict.{Verdict}
+use Rattle.syncml_shape.specs.declared.rows.ChildRow.{ChildRow}
+use Rattle.syncml_shape.specs.declared.outline.ShapeVerdict.{ShapeVerdict}
 use Rattle.syncml_shape.specs.Forest.{Forest, spelling}
 use Rattle.syncml_shape.specs.Rows.{Content, document, in_order, start}
 use Rattle.syncml_shape.specs.Shape.{fits, HasShape, IsViable}
-use Rattle.syncml_shape.specs.Children.{children, has_text, FollowRows, AllOfMeta, AreDistinct, IsWrapped}
+use Rattle.syncml_shape.specs.Children.{children_in, has_text, FollowRows, AllOfMeta, AreUnlike, IsWrapped}
 use Rattle.syncml_shape.specs.Faults.{tag_fault, innermost, open_elements}
 use Rattle.syncml_shape.specs.Steps.{Open, steps, Closes}
 use Rattle.syncml_shape.specs.Machine.{Frame}
@@ -25,20 +25,20 @@ OneTree = (tokens : List Token) (a b : Forest) → HasShape tokens a → HasShap
 -- what fits an element with rows is children that follow the rows, without text between them
 abbrev pub FitsInOrder : Type 0
 FitsInOrder =
-    (kind : Kind) (rows : List Row) (tree : Forest) → start kind ≡ in_order false rows
-    → IsTrue (fits (start kind) tree) ↔ ((has_text tree ≡ false) × FollowRows rows (children tree))
+    (kind : Kind) (rows : List ChildRow) (tree : Forest) → start kind ≡ in_order false rows
+    → IsTrue (fits (start kind) tree) ↔ ((has_text tree ≡ false) × FollowRows rows (children_in tree))
 
 -- so it is of a document, which is one SyncML
 abbrev pub DocumentInOrder : Type 0
 DocumentInOrder =
     (tree : Forest) → IsTrue (fits document tree)
-    ↔ ((has_text tree ≡ false) × FollowRows table.document (children tree))
+    ↔ ((has_text tree ≡ false) × FollowRows table.document (children_in tree))
 
 -- what fits a MetInf is children of a Meta, in any order, no two of one element
 abbrev pub FitsInAnyOrder : Type 0
 FitsInAnyOrder =
     (tree : Forest) → IsTrue (fits (start kinds.MetInf) tree)
-    ↔ ((has_text tree ≡ false) × AllOfMeta (children tree) × AreDistinct (children tree))
+    ↔ ((has_text tree ≡ false) × AllOfMeta (children_in tree) × AreUnlike (children_in tree))
 
 -- what fits a Meta is what fits a MetInf, or one MetInf that holds it
 abbrev pub FitsMeta : Type 0
@@ -73,4 +73,4 @@ ViableIsTaken = (tokens : List Token) → IsViable tokens ↔ ((frames : List Fr
 
 -- of each list of tokens exactly one thing is judged, and it is the computed one
 abbrev pub JudgedIsComputed : Type 0
-JudgedIsComputed = (tokens : List Token) (verdict : Verdict) → Judges tokens verdict ↔ (verdict_of tokens ≡ verdict)
+JudgedIsComputed = (tokens : List Token) (verdict : ShapeVerdict) → Judges tokens verdict ↔ (verdict_of tokens ≡ verdict)

@@ -6,7 +6,7 @@ use Rattle.wbxml_tables.specs.declared.Element.{Element}
 use Rattle.wbxml_tokens.specs.declared.token.Token.{Token}
 use Rattle.wbxml_tokens.specs.declared.token.Token.TheVariants.{Tag, End, Text, Opaque}
 use Rattle.syncml_shape.specs.declared.rows.Kind.{Kind}
-use Rattle.syncml_shape.specs.Rows.{Content, document, start, next, is_complete, takes_text}
+use Rattle.syncml_shape.specs.Rows.{Content, document, start, next_child, is_complete, takes_text}
 use Rattle.syncml_shape.specs.Faults.{tag_fault}
 
 -- an open element and what may still come in it; the document has no element
@@ -40,20 +40,20 @@ abbrev pub with_text : Frame → List Frame → Result (List Frame) Reason
 with_text top below = if takes_text top.content then Ok (top ∷ below) else Err Misplaced
 
 -- a tag that isn't refused for its name
-abbrev pub with_name : List Frame → Element → Bool → Result (List Frame) Reason
-with_name [] e content = Err Misplaced
-with_name (top ∷ below) e content = with_tag top below e content None (next top.content e)
+abbrev pub with_known_tag : List Frame → Element → Bool → Result (List Frame) Reason
+with_known_tag [] e content = Err Misplaced
+with_known_tag (top ∷ below) e content = with_tag top below e content None (next_child top.content e)
 
 -- the open elements behind one more token, the innermost first, or why it is refused
 abbrev pub step : List Frame → Token → Result (List Frame) Reason
 step [] token = Err Misplaced
-step (top ∷ below) (Tag e content) = with_tag top below e content (tag_fault top.element e) (next top.content e)
+step (top ∷ below) (Tag e content) = with_tag top below e content (tag_fault top.element e) (next_child top.content e)
 step (top ∷ below) End = with_end top below
 step (top ∷ below) (Text bytes) = with_text top below
 step (top ∷ below) (Opaque bytes) = with_text top below
 
 -- whether the document may end here
-abbrev pub is_whole : List Frame → Bool
-is_whole [] = false
-is_whole (top ∷ []) = is_complete top.content
-is_whole (top ∷ parent ∷ below) = false
+abbrev pub may_end : List Frame → Bool
+may_end [] = false
+may_end (top ∷ []) = is_complete top.content
+may_end (top ∷ parent ∷ below) = false

@@ -5,12 +5,12 @@ use Rattle.wbxml_tokens.specs.declared.reason.Stop.{Stop}
 use Rattle.wbxml_tokens.specs.declared.reason.Stop.TheVariants as stops
 use Rattle.wbxml_tokens.specs.declared.token.Token.{Token}
 use Rattle.syncml_shape.specs.declared.outline.Entry.{Entry}
-use Rattle.syncml_shape.specs.declared.outline.Verdict.{Verdict}
-use Rattle.syncml_shape.specs.declared.outline.Verdict.TheVariants as verdict
+use Rattle.syncml_shape.specs.declared.outline.ShapeVerdict.{ShapeVerdict}
+use Rattle.syncml_shape.specs.declared.outline.ShapeVerdict.TheVariants as verdict
 use Rattle.syncml_shape.specs.Forest.{Forest}
 use Rattle.syncml_shape.specs.Shape.{HasShape, IsViable}
 use Rattle.syncml_shape.specs.Faults.{IsRefusedAt}
-use Rattle.syncml_shape.specs.Machine.{Frame, root, step, is_whole}
+use Rattle.syncml_shape.specs.Machine.{Frame, root, step, may_end}
 use Rattle.syncml_shape.specs.Progress.{content_of}
 
 abbrev pub frame_of : Entry → Frame
@@ -51,24 +51,24 @@ Opens (Err (stops.Refused reason)) before after parent child = ⊥
 Opens (Err stops.Memory) before after parent child = Unit {0}
 
 -- what is answered of a whole list: its tokens are a document, or begin one, or one of them is refused
-abbrev pub Judges : List Token → Verdict → Type 0
+abbrev pub Judges : List Token → ShapeVerdict → Type 0
 Judges tokens verdict.Whole = (tree : Forest) × HasShape tokens tree
 Judges tokens verdict.Unfinished = IsViable tokens × ((tree : Forest) → HasShape tokens tree → ⊥)
 Judges tokens (verdict.Refused at reason) = IsRefusedAt tokens at reason
 
-abbrev pub whole_or_not : Bool → Verdict
+abbrev pub whole_or_not : Bool → ShapeVerdict
 whole_or_not true = verdict.Whole
 whole_or_not false = verdict.Unfinished
 
-abbrev pub verdict_then : ℕ → Result (List Frame) Reason → (List Frame → Verdict) → Verdict
+abbrev pub verdict_then : ℕ → Result (List Frame) Reason → (List Frame → ShapeVerdict) → ShapeVerdict
 verdict_then at (Ok frames) f = f frames
 verdict_then at (Err reason) f = verdict.Refused at reason
 
 -- the same, computed
-abbrev pub verdict_from : ℕ → List Frame → List Token → Verdict
-verdict_from at frames [] = whole_or_not (is_whole frames)
+abbrev pub verdict_from : ℕ → List Frame → List Token → ShapeVerdict
+verdict_from at frames [] = whole_or_not (may_end frames)
 verdict_from at frames (token ∷ tokens) =
     verdict_then at (step frames token) (λ after. verdict_from (at + 1) after tokens)
 
-abbrev pub verdict_of : List Token → Verdict
+abbrev pub verdict_of : List Token → ShapeVerdict
 verdict_of tokens = verdict_from 0 (root ∷ []) tokens

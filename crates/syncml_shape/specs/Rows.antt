@@ -10,7 +10,7 @@ use Rattle.syncml_shape.specs.declared.rows.Kind.{Kind}
 use Rattle.syncml_shape.specs.declared.rows.Kind.TheVariants as kinds
 use Rattle.syncml_shape.specs.declared.rows.Choice.{Choice}
 use Rattle.syncml_shape.specs.declared.rows.Choice.TheVariants.{One, Commands, AtomicMembers, SequenceMembers}
-use Rattle.syncml_shape.specs.declared.rows.Row.{Row}
+use Rattle.syncml_shape.specs.declared.rows.ChildRow.{ChildRow}
 use Rattle.syncml_shape.specs.declared.rows.MetaRow.{MetaRow}
 use Rattle.syncml_shape.specs.Table as table
 
@@ -50,7 +50,7 @@ kind_in SequenceMembers e = sequence_member e
 -- What may still come in an open element.
 pub data Content : Type 0 where
   -- the rows from that of the last child on, and whether a child of the first of them has come
-  in_order : Bool → List Row → Content
+  in_order : Bool → List ChildRow → Content
   -- of a Meta: whether one MetInf may still stand for the rest, and of each row whether its child has come
   in_any_order : Bool → List Bool → Content
   -- pieces of text
@@ -63,17 +63,17 @@ none_came = false ∷ false ∷ false ∷ false ∷ false ∷ false ∷ false �
 -- what may come in an element that has just begun
 abbrev pub start : Kind → Content
 start kinds.Message = in_order false table.message
-start kinds.Header = in_order false table.header
-start kinds.Body = in_order false table.body
+start kinds.Header = in_order false table.header_rows
+start kinds.Body = in_order false table.body_rows
 start kinds.Plain = in_order false table.plain
-start kinds.Exec = in_order false table.exec
-start kinds.Alert = in_order false table.alert
+start kinds.Exec = in_order false table.exec_rows
+start kinds.Alert = in_order false table.alert_rows
 start kinds.Atomic = in_order false table.atomic
 start kinds.Sequence = in_order false table.sequence
 start kinds.Status = in_order false table.status
 start kinds.Results = in_order false table.results
-start kinds.Item = in_order false table.item
-start kinds.Loc = in_order false table.loc
+start kinds.Item = in_order false table.item_rows
+start kinds.Loc = in_order false table.loc_rows
 start kinds.Cred = in_order false table.cred
 start kinds.Chal = in_order false table.chal
 start kinds.Meta = in_any_order true none_came
@@ -91,15 +91,15 @@ document = in_order false table.document
 
 -- A child that the first row has or hasn't: what it holds and the rows from its row on, or what the later rows say.
 -- A row of which no child has come must not be passed over where it is required.
-abbrev pub in_row : Option Kind → Bool → Row → List Row → Option (Kind × List Row) → Option (Kind × List Row)
+abbrev pub in_row : Option Kind → Bool → ChildRow → List ChildRow → Option (Kind × List ChildRow) → Option (Kind × List ChildRow)
 in_row (Some kind) came row rows later = if came && not row.many then None else Some (kind, row ∷ rows)
 in_row None came row rows later = if not came && row.required then None else later
 
-abbrev pub next_row : Bool → List Row → Element → Option (Kind × List Row)
+abbrev pub next_row : Bool → List ChildRow → Element → Option (Kind × List ChildRow)
 next_row came [] e = None
 next_row came (row ∷ rows) e = in_row (kind_in row.choice e) came row rows (next_row false rows e)
 
-abbrev pub after_row : Option (Kind × List Row) → Option (Kind × Content)
+abbrev pub after_row : Option (Kind × List ChildRow) → Option (Kind × Content)
 after_row None = None
 after_row (Some x) = Some (x.0, in_order true x.1)
 
@@ -115,14 +115,14 @@ after_meta came None = None
 after_meta came (Some x) = Some (x.0, in_any_order false (set came x.1 true))
 
 -- what the child that comes next holds, and what may come behind it; None where it may not come
-abbrev pub next : Content → Element → Option (Kind × Content)
-next (in_order came rows) e = after_row (next_row came rows e)
-next (in_any_order wrap came) e =
+abbrev pub next_child : Content → Element → Option (Kind × Content)
+next_child (in_order came rows) e = after_row (next_row came rows e)
+next_child (in_any_order wrap came) e =
     if wrap && same e EMetInf then Some (kinds.MetInf, in_order false [])
     else after_meta came (meta_place 0 table.meta came e)
-next pieces e = None
+next_child pieces e = None
 
-abbrev pub all_optional : List Row → Bool
+abbrev pub all_optional : List ChildRow → Bool
 all_optional [] = true
 all_optional (row ∷ rows) = not row.required && all_optional rows
 

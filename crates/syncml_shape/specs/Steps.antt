@@ -4,7 +4,7 @@ use Rattle.wbxml_tokens.specs.declared.token.Token.{Token}
 use Rattle.wbxml_tokens.specs.declared.token.Token.TheVariants.{Tag, End, Text, Opaque}
 use Rattle.syncml_shape.specs.declared.rows.Kind.{Kind}
 use Rattle.syncml_shape.specs.Forest.{Forest, spelling}
-use Rattle.syncml_shape.specs.Rows.{Content, start, next, is_complete, takes_text}
+use Rattle.syncml_shape.specs.Rows.{Content, start, next_child, is_complete, takes_text}
 use Rattle.syncml_shape.specs.Shape.{fits}
 
 -- of each open element, the innermost first, and last of the document
@@ -22,7 +22,7 @@ content_step [] token = None
 content_step (c ∷ s) End = if is_complete c then Some s else None
 content_step (c ∷ s) (Text bytes) = if takes_text c then Some (c ∷ s) else None
 content_step (c ∷ s) (Opaque bytes) = if takes_text c then Some (c ∷ s) else None
-content_step (c ∷ s) (Tag e content) = content_child s content (next c e)
+content_step (c ∷ s) (Tag e content) = content_child s content (next_child c e)
 
 abbrev pub then_steps : Option Open → (Open → Option Open) → Option Open
 then_steps None f = None

@@ -13,47 +13,47 @@ use Rattle.syncml_shape.specs.declared.rows.Kind.{Kind}
 use Rattle.syncml_shape.specs.declared.rows.Kind.TheVariants as a
 use Rattle.syncml_shape.specs.declared.rows.Choice.{Choice}
 use Rattle.syncml_shape.specs.declared.rows.Choice.TheVariants.{One, Commands, AtomicMembers, SequenceMembers}
-use Rattle.syncml_shape.specs.declared.rows.Row.{Row}
+use Rattle.syncml_shape.specs.declared.rows.ChildRow.{ChildRow}
 use Rattle.syncml_shape.specs.declared.rows.MetaRow.{MetaRow}
 use Rattle.syncml_shape.specs.declared.rows.TheConstants as code
 
 -- `e` in a grammar: exactly once
-abbrev pub once : Element → Kind → Row
+abbrev pub once : Element → Kind → ChildRow
 once e kind = record { choice = One e kind; required = true; many = false }
 
 -- `e?`: at most once
-abbrev pub maybe : Element → Kind → Row
+abbrev pub maybe : Element → Kind → ChildRow
 maybe e kind = record { choice = One e kind; required = false; many = false }
 
 -- `e*`: any number
-abbrev pub any : Element → Kind → Row
+abbrev pub any : Element → Kind → ChildRow
 any e kind = record { choice = One e kind; required = false; many = true }
 
 -- `e+`: at least once
-abbrev pub some : Element → Kind → Row
+abbrev pub some : Element → Kind → ChildRow
 some e kind = record { choice = One e kind; required = true; many = true }
 
 -- `(..)*`: any number, each any of these
-abbrev pub any_of : Choice → Row
+abbrev pub any_of : Choice → ChildRow
 any_of choice = record { choice = choice; required = false; many = true }
 
 -- `(..)+`: at least one, each any of these
-abbrev pub some_of : Choice → Row
+abbrev pub some_of : Choice → ChildRow
 some_of choice = record { choice = choice; required = true; many = true }
 
 -- ---- the children of each element
 
 -- a document
-abbrev pub document : List Row
+abbrev pub document : List ChildRow
 document = once ESyncML a.Message ∷ []
 
 -- SyncML
-abbrev pub message : List Row
+abbrev pub message : List ChildRow
 message = once ESyncHdr a.Header ∷ once ESyncBody a.Body ∷ []
 
 -- SyncHdr
-abbrev pub header : List Row
-header =
+abbrev pub header_rows : List ChildRow
+header_rows =
     once EVerDTD a.Text
     ∷ once EVerProto a.Text
     ∷ once ESessionID a.Text
@@ -67,31 +67,31 @@ header =
     ∷ []
 
 -- SyncBody
-abbrev pub body : List Row
-body = any_of Commands ∷ maybe EFinal a.Flag ∷ []
+abbrev pub body_rows : List ChildRow
+body_rows = any_of Commands ∷ maybe EFinal a.Flag ∷ []
 
 -- Add, Copy, Delete, Get, Replace
-abbrev pub plain : List Row
+abbrev pub plain : List ChildRow
 plain = once ECmdID a.Id ∷ maybe ENoResp a.Flag ∷ maybe EMeta a.Meta ∷ some EItem a.Item ∷ []
 
 -- Exec
-abbrev pub exec : List Row
-exec = once ECmdID a.Id ∷ maybe ENoResp a.Flag ∷ maybe EMeta a.Meta ∷ maybe ECorrelator a.Text ∷ once EItem a.Item ∷ []
+abbrev pub exec_rows : List ChildRow
+exec_rows = once ECmdID a.Id ∷ maybe ENoResp a.Flag ∷ maybe EMeta a.Meta ∷ maybe ECorrelator a.Text ∷ once EItem a.Item ∷ []
 
 -- Alert
-abbrev pub alert : List Row
-alert = once ECmdID a.Id ∷ maybe ENoResp a.Flag ∷ once EData a.Code ∷ maybe ECorrelator a.Text ∷ any EItem a.Item ∷ []
+abbrev pub alert_rows : List ChildRow
+alert_rows = once ECmdID a.Id ∷ maybe ENoResp a.Flag ∷ once EData a.Code ∷ maybe ECorrelator a.Text ∷ any EItem a.Item ∷ []
 
 -- Atomic
-abbrev pub atomic : List Row
+abbrev pub atomic : List ChildRow
 atomic = once ECmdID a.Id ∷ maybe ENoResp a.Flag ∷ maybe EMeta a.Meta ∷ some_of AtomicMembers ∷ []
 
 -- Sequence
-abbrev pub sequence : List Row
+abbrev pub sequence : List ChildRow
 sequence = once ECmdID a.Id ∷ maybe ENoResp a.Flag ∷ maybe EMeta a.Meta ∷ some_of SequenceMembers ∷ []
 
 -- Status
-abbrev pub status : List Row
+abbrev pub status : List ChildRow
 status =
     once ECmdID a.Id
     ∷ once EMsgRef a.Id
@@ -105,7 +105,7 @@ status =
     ∷ []
 
 -- Results
-abbrev pub results : List Row
+abbrev pub results : List ChildRow
 results =
     once ECmdID a.Id
     ∷ maybe EMsgRef a.Id
@@ -117,8 +117,8 @@ results =
     ∷ []
 
 -- Item
-abbrev pub item : List Row
-item =
+abbrev pub item_rows : List ChildRow
+item_rows =
     maybe ETarget a.Loc
     ∷ maybe ESource a.Loc
     ∷ maybe EMeta a.Meta
@@ -127,15 +127,15 @@ item =
     ∷ []
 
 -- Target, Source
-abbrev pub loc : List Row
-loc = once ELocURI a.Text ∷ maybe ELocName a.Text ∷ []
+abbrev pub loc_rows : List ChildRow
+loc_rows = once ELocURI a.Text ∷ maybe ELocName a.Text ∷ []
 
 -- Cred
-abbrev pub cred : List Row
+abbrev pub cred : List ChildRow
 cred = maybe EMeta a.Meta ∷ once EData a.Bytes ∷ []
 
 -- Chal
-abbrev pub chal : List Row
+abbrev pub chal : List ChildRow
 chal = once EMeta a.Meta ∷ []
 
 abbrev pub in_meta : Element → Kind → MetaRow
@@ -158,17 +158,17 @@ meta =
 pub record RowsAreTable : Type 0 where
   pub of_document : code.DOCUMENT ≡ document
   pub of_message : code.MESSAGE ≡ message
-  pub of_header : code.HEADER ≡ header
-  pub of_body : code.BODY ≡ body
+  pub of_header : code.HEADER ≡ header_rows
+  pub of_body : code.BODY ≡ body_rows
   pub of_plain : code.PLAIN ≡ plain
-  pub of_exec : code.EXEC ≡ exec
-  pub of_alert : code.ALERT ≡ alert
+  pub of_exec : code.EXEC ≡ exec_rows
+  pub of_alert : code.ALERT ≡ alert_rows
   pub of_atomic : code.ATOMIC ≡ atomic
   pub of_sequence : code.SEQUENCE ≡ sequence
   pub of_status : code.STATUS ≡ status
   pub of_results : code.RESULTS ≡ results
-  pub of_item : code.ITEM ≡ item
-  pub of_loc : code.LOC ≡ loc
+  pub of_item : code.ITEM ≡ item_rows
+  pub of_loc : code.LOC ≡ loc_rows
   pub of_cred : code.CRED ≡ cred
   pub of_chal : code.CHAL ≡ chal
   pub of_meta : code.META ≡ meta

@@ -9,7 +9,7 @@ pub mod progress;
 pub mod rows;
 
 pub use fault::{is_left_out, tag_fault};
-pub use outline::{Outline, Verdict, judge};
-pub use place::{Place, place_of};
-pub use progress::{MetaProgress, Progress};
-pub use rows::{Choice, Kind, MetaRow, Row};
+pub use outline::{Outline, ShapeVerdict, judge};
+pub use place::{ChildPlace, place_of};
+pub use progress::{Expected, MetaProgress};
+pub use rows::{ChildRow, Choice, Kind, MetaRow};

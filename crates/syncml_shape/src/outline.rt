@@ -4,15 +4,15 @@ ghost use Rattle.wbxml_tokens.specs.declared.token.Token.TheVariants.{Tag, End, 
 ghost use Rattle.wbxml_tokens.specs.declared.reason.Reason.{Reason as Why};
 ghost use Rattle.wbxml_tokens.specs.declared.reason.Stop.TheVariants.{Refused};
 ghost use Rattle.wbxml_tokens.specs.declared.token.Token.{Token as Piece};
-ghost use Rattle.syncml_shape.specs.declared.outline.Verdict.{Verdict as Judgement};
+ghost use Rattle.syncml_shape.specs.declared.outline.ShapeVerdict.{ShapeVerdict as Judgement};
 ghost use Rattle.syncml_shape.specs.Forest.{Forest};
 ghost use Rattle.syncml_shape.specs.Shape.{HasShape};
 ghost use Rattle.syncml_shape.specs.Faults.{IsRefused};
-ghost use Rattle.syncml_shape.specs.Machine.{root, step, with_name, is_whole as may_end_here};
+ghost use Rattle.syncml_shape.specs.Machine.{root, step, with_known_tag, may_end as may_end_here};
 ghost use Rattle.syncml_shape.specs.Outline.{frame_of, HasTaken, Judges, Opens, GivesStep, verdict_of};
 
 use crate::fault::tag_fault;
-use crate::progress::Progress;
+use crate::progress::Expected;
 use crate::rows::DOCUMENT;
 use dm_base::{List, Memory};
 use std::alloc::Global;
@@ -24,7 +24,7 @@ use wbxml_tokens::{Reason, Stop, Token};
 #[derive(Clone, Copy, Debug)]
 struct Entry {
     element: Option<Element>,
-    progress: Progress,
+    progress: Expected,
 }
 
 /// The open elements of a document behind the tokens that were taken. Behind an error it is as before.
@@ -53,7 +53,7 @@ impl Outline {
         Outline {
             top: Entry {
                 element: None,
-                progress: Progress::InOrder {
+                progress: Expected::InOrder {
                     came: false,
                     rows: &DOCUMENT,
                 },
@@ -89,14 +89,14 @@ impl Outline {
 
     // A tag that isn't refused for its name.
     fn child(&mut self, element: Element, content: bool) -> Result<(), Stop>
-        ensures step { GivesStep result self.new (with_name self.old element content) }
+        ensures step { GivesStep result self.new (with_known_tag self.old element content) }
         ensures err { OnErr result (self.new ≡ self.old) }
     {
         let mut parent = self.top;
         let Some(kind) = parent.progress.next(element) else {
             return Err(Stop::Refused(Reason::Misplaced));
         };
-        let progress = Progress::start(kind);
+        let progress = Expected::start(kind);
         if content {
             return self.push(
                 parent,
@@ -179,7 +179,7 @@ impl Outline {
 
 /// What tokens are.
 #[derive(Clone, Copy, Debug, PartialEq, Eq)]
-pub enum Verdict {
+pub enum ShapeVerdict {
     /// A document.
     Whole,
     /// The beginning of one.
@@ -188,7 +188,7 @@ pub enum Verdict {
     Refused { at: usize, reason: Reason },
 }
 
-fn judged(alloc: Global, tokens: &[Token]) -> Result<Verdict, Memory>
+fn judged(alloc: Global, tokens: &[Token]) -> Result<ShapeVerdict, Memory>
     ensures { IfOk result (λ v. v ≡ verdict_of tokens.now) }
 {
     let mut outline = Outline::new(alloc);
@@ -196,19 +196,19 @@ fn judged(alloc: Global, tokens: &[Token]) -> Result<Verdict, Memory>
         match outline.go_on(token) {
             Ok(()) => {}
             Err(Stop::Memory) => return Err(Memory),
-            Err(Stop::Refused(reason)) => return Ok(Verdict::Refused { at, reason }),
+            Err(Stop::Refused(reason)) => return Ok(ShapeVerdict::Refused { at, reason }),
         }
     }
     if outline.may_end() {
-        Ok(Verdict::Whole)
+        Ok(ShapeVerdict::Whole)
     } else {
-        Ok(Verdict::Unfinished)
+        Ok(ShapeVerdict::Unfinished)
     }
 }
 
 /// Says of tokens whether they are a document, begin one, or which is refused first and why. Exactly one of these is
 /// so.
-pub fn judge(alloc: Global, tokens: &[Token]) -> Result<Verdict, Memory>
+pub fn judge(alloc: Global, tokens: &[Token]) -> Result<ShapeVerdict, Memory>
     ensures exact { IfOk result (λ verdict. Judges tokens.now verdict) }
     ensures only { (other : Judgement) → Judges tokens.now other → IfOk result (λ verdict. verdict ≡ other) }
 {

@@ -1,24 +1,27 @@
 // What may still come in an open element.
 ghost use Rattle.std.specs.Prelude.{◌≡◌, ◌&&◌, ◌+◌, ◌<◌, ◌≤◌, Some, None, false, length, drop, MatchOption, IfNone};
 ghost use Rattle.syncml_shape.specs.Rows.{same, atomic_member, sequence_member, command, kind_in, next_row, meta_place};
-ghost use Rattle.syncml_shape.specs.Rows.{after_meta, start as start_of, in_order as of_rows, next};
+ghost use Rattle.syncml_shape.specs.Rows.{after_meta, start as start_of, in_order as of_rows, next_child};
 ghost use Rattle.syncml_shape.specs.Rows.{is_complete as may_end, takes_text as has_text, all_optional};
-ghost use Rattle.syncml_shape.specs.Progress.{content_of, IsNext, IsNextInMeta};
+ghost use Rattle.syncml_shape.specs.Progress.{content_of, IsNextChild, IsNextInMeta};
 ghost use Rattle.wbxml_tables.specs.declared.Element.TheVariants.{EMetInf};
 ghost use Rattle.syncml_shape.specs.declared.rows.TheConstants.{META as META_ROWS};
 
 use crate::rows::{
-    ALERT, ATOMIC, BODY, CHAL, CRED, Choice, EXEC, HEADER, ITEM, Kind, LOC, MESSAGE, META, MetaRow,
-    PLAIN, RESULTS, Row, SEQUENCE, STATUS,
+    ALERT, ATOMIC, BODY, CHAL, CRED, ChildRow, Choice, EXEC, HEADER, ITEM, Kind, LOC, MESSAGE,
+    META, MetaRow, PLAIN, RESULTS, SEQUENCE, STATUS,
 };
 use wbxml_tables::Element;
 
 /// What may still come in an open element.
 #[derive(Clone, Copy, Debug)]
-pub enum Progress {
+pub enum Expected {
     /// Children in the order of rows. `rows` begins with the row of the last child, and `came` says that one of it has
     /// come.
-    InOrder { came: bool, rows: &'static [Row] },
+    InOrder {
+        came: bool,
+        rows: &'static [ChildRow],
+    },
     /// The children of a Meta, or of its MetInf.
     InAnyOrder(MetaProgress),
     /// Pieces of text.
@@ -78,7 +81,7 @@ pub fn kind_of(choice: Choice, element: Element) -> Option<Kind>
 }
 
 // What the child that comes next holds, and the index of its row.
-fn row_of(rows: &[Row], came: bool, element: Element) -> Option<(Kind, usize)>
+fn row_of(rows: &[ChildRow], came: bool, element: Element) -> Option<(Kind, usize)>
     ensures { MatchOption result (next_row came rows.now element ≡ None)
         (λ x. (next_row came rows.now element ≡ Some (x.0, drop x.1 rows.now)) × (x.1 < length rows.now)) }
 {
@@ -137,7 +140,7 @@ fn next_in_meta(meta: &mut MetaProgress, element: Element) -> Option<Kind>
     }
 }
 
-fn are_optional(rows: &[Row]) -> bool
+fn are_optional(rows: &[ChildRow]) -> bool
     ensures { result ≡ all_optional rows.now }
 {
     for row in rows {
@@ -148,15 +151,15 @@ fn are_optional(rows: &[Row]) -> bool
     true
 }
 
-fn in_order(rows: &'static [Row]) -> Progress
+fn in_order(rows: &'static [ChildRow]) -> Expected
     ensures { content_of result ≡ of_rows false rows.now }
 {
-    Progress::InOrder { came: false, rows }
+    Expected::InOrder { came: false, rows }
 }
 
-impl Progress {
+impl Expected {
     /// What may come in an element that holds this and has just begun.
-    pub fn start(kind: Kind) -> Progress
+    pub fn start(kind: Kind) -> Expected
         ensures { content_of result ≡ start_of kind }
     {
         match kind {
@@ -174,15 +177,15 @@ impl Progress {
             Kind::Loc => in_order(&LOC),
             Kind::Cred => in_order(&CRED),
             Kind::Chal => in_order(&CHAL),
-            Kind::Meta => Progress::InAnyOrder(MetaProgress {
+            Kind::Meta => Expected::InAnyOrder(MetaProgress {
                 wrap: true,
                 came: [false; 8],
             }),
-            Kind::MetInf => Progress::InAnyOrder(MetaProgress {
+            Kind::MetInf => Expected::InAnyOrder(MetaProgress {
                 wrap: false,
                 came: [false; 8],
             }),
-            Kind::Text | Kind::Bytes | Kind::Id | Kind::Code | Kind::Size => Progress::Pieces,
+            Kind::Text | Kind::Bytes | Kind::Id | Kind::Code | Kind::Size => Expected::Pieces,
             Kind::Flag => in_order(&[]),
         }
     }
@@ -192,12 +195,12 @@ impl Progress {
         ensures { result ≡ may_end (content_of self.now) }
     {
         match self {
-            Progress::InOrder { came, rows } => match rows {
+            Expected::InOrder { came, rows } => match rows {
                 [] => true,
                 [row, rest @ ..] => (*came || !row.required) && are_optional(rest),
             },
-            Progress::InAnyOrder(_) => true,
-            Progress::Pieces => true,
+            Expected::InAnyOrder(_) => true,
+            Expected::Pieces => true,
         }
     }
 
@@ -206,7 +209,7 @@ impl Progress {
         ensures { result ≡ has_text (content_of self.now) }
     {
         match self {
-            Progress::Pieces => true,
+            Expected::Pieces => true,
             _ => false,
         }
     }
@@ -214,11 +217,11 @@ impl Progress {
     /// Goes on behind a child, and says what it holds. None where it may not come; then nothing is changed. The work is
     /// bounded by the number of rows, and it takes no memory.
     pub fn next(&mut self, element: Element) -> Option<Kind>
-        ensures found { IsNext result self.new (next (content_of self.old) element) }
+        ensures found { IsNextChild result self.new (next_child (content_of self.old) element) }
         ensures none { IfNone result (self.new ≡ self.old) }
     {
         match self {
-            Progress::InOrder { came, rows } => match row_of(rows, *came, element) {
+            Expected::InOrder { came, rows } => match row_of(rows, *came, element) {
                 None => None,
                 Some((kind, at)) => {
                     *came = true;
@@ -226,14 +229,14 @@ impl Progress {
                     Some(kind)
                 }
             },
-            Progress::InAnyOrder(meta) => {
+            Expected::InAnyOrder(meta) => {
                 if may_wrap(meta, element) {
                     *self = in_order(&[]);
                     return Some(Kind::MetInf);
                 }
                 next_in_meta(meta, element)
             }
-            Progress::Pieces => None,
+            Expected::Pieces => None,
         }
     }
 }

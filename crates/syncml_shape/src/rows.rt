@@ -52,7 +52,7 @@ pub enum Choice {
 
 /// One row of an element's children, which stand in the order of its rows.
 #[derive(Clone, Copy, Debug, PartialEq, Eq)]
-pub struct Row {
+pub struct ChildRow {
     pub choice: Choice,
     /// At least one is needed.
     pub required: bool,
@@ -88,7 +88,7 @@ macro_rules! row {
         row!(Choice::$choice, true, true)
     };
     ($choice:expr, $required:literal, $many:literal) => {
-        Row {
+        ChildRow {
             choice: $choice,
             required: $required,
             many: $many,
@@ -97,13 +97,13 @@ macro_rules! row {
 }
 
 /// What a document holds.
-pub const DOCUMENT: [Row; 1] = [row!(ESyncML: Message)];
+pub const DOCUMENT: [ChildRow; 1] = [row!(ESyncML: Message)];
 
 /// The children of SyncML.
-pub const MESSAGE: [Row; 2] = [row!(ESyncHdr: Header), row!(ESyncBody: Body)];
+pub const MESSAGE: [ChildRow; 2] = [row!(ESyncHdr: Header), row!(ESyncBody: Body)];
 
 /// The children of SyncHdr.
-pub const HEADER: [Row; 10] = [
+pub const HEADER: [ChildRow; 10] = [
     row!(EVerDTD: Text),
     row!(EVerProto: Text),
     row!(ESessionID: Text),
@@ -117,10 +117,10 @@ pub const HEADER: [Row; 10] = [
 ];
 
 /// The children of SyncBody.
-pub const BODY: [Row; 2] = [row!([Commands]*), row!(EFinal?: Flag)];
+pub const BODY: [ChildRow; 2] = [row!([Commands]*), row!(EFinal?: Flag)];
 
 /// The children of Add, Copy, Delete, Get and Replace.
-pub const PLAIN: [Row; 4] = [
+pub const PLAIN: [ChildRow; 4] = [
     row!(ECmdID: Id),
     row!(ENoResp?: Flag),
     row!(EMeta?: Meta),
@@ -128,7 +128,7 @@ pub const PLAIN: [Row; 4] = [
 ];
 
 /// The children of Exec.
-pub const EXEC: [Row; 5] = [
+pub const EXEC: [ChildRow; 5] = [
     row!(ECmdID: Id),
     row!(ENoResp?: Flag),
     row!(EMeta?: Meta),
@@ -137,7 +137,7 @@ pub const EXEC: [Row; 5] = [
 ];
 
 /// The children of Alert.
-pub const ALERT: [Row; 5] = [
+pub const ALERT: [ChildRow; 5] = [
     row!(ECmdID: Id),
     row!(ENoResp?: Flag),
     row!(EData: Code),
@@ -146,7 +146,7 @@ pub const ALERT: [Row; 5] = [
 ];
 
 /// The children of Atomic.
-pub const ATOMIC: [Row; 4] = [
+pub const ATOMIC: [ChildRow; 4] = [
     row!(ECmdID: Id),
     row!(ENoResp?: Flag),
     row!(EMeta?: Meta),
@@ -154,7 +154,7 @@ pub const ATOMIC: [Row; 4] = [
 ];
 
 /// The children of Sequence.
-pub const SEQUENCE: [Row; 4] = [
+pub const SEQUENCE: [ChildRow; 4] = [
     row!(ECmdID: Id),
     row!(ENoResp?: Flag),
     row!(EMeta?: Meta),
@@ -162,7 +162,7 @@ pub const SEQUENCE: [Row; 4] = [
 ];
 
 /// The children of Status.
-pub const STATUS: [Row; 9] = [
+pub const STATUS: [ChildRow; 9] = [
     row!(ECmdID: Id),
     row!(EMsgRef: Id),
     row!(ECmdRef: Code),
@@ -175,7 +175,7 @@ pub const STATUS: [Row; 9] = [
 ];
 
 /// The children of Results.
-pub const RESULTS: [Row; 7] = [
+pub const RESULTS: [ChildRow; 7] = [
     row!(ECmdID: Id),
     row!(EMsgRef?: Id),
     row!(ECmdRef: Code),
@@ -186,7 +186,7 @@ pub const RESULTS: [Row; 7] = [
 ];
 
 /// The children of Item.
-pub const ITEM: [Row; 5] = [
+pub const ITEM: [ChildRow; 5] = [
     row!(ETarget?: Loc),
     row!(ESource?: Loc),
     row!(EMeta?: Meta),
@@ -195,13 +195,13 @@ pub const ITEM: [Row; 5] = [
 ];
 
 /// The children of Target and Source.
-pub const LOC: [Row; 2] = [row!(ELocURI: Text), row!(ELocName?: Text)];
+pub const LOC: [ChildRow; 2] = [row!(ELocURI: Text), row!(ELocName?: Text)];
 
 /// The children of Cred.
-pub const CRED: [Row; 2] = [row!(EMeta?: Meta), row!(EData: Bytes)];
+pub const CRED: [ChildRow; 2] = [row!(EMeta?: Meta), row!(EData: Bytes)];
 
 /// The children of Chal.
-pub const CHAL: [Row; 1] = [row!(EMeta: Meta)];
+pub const CHAL: [ChildRow; 1] = [row!(EMeta: Meta)];
 
 macro_rules! meta_row {
     ($element:ident: $kind:ident) => {

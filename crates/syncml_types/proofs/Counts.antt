@@ -6,7 +6,7 @@ use Rattle.wbxml_tokens.specs.Spelling.{token_bytes, page_after, spelled, page_b
 use Rattle.syncml_types.specs.declared.lengths.Counter.{Counter}
 use Rattle.syncml_types.specs.Message.{Parts}
 use Rattle.syncml_types.specs.Canonical.{canonical, message_tokens}
-use Rattle.syncml_types.specs.Lengths.{up_to_most, spelled_length, counter_after, counted}
+use Rattle.syncml_types.specs.Lengths.{up_to_most, spelled_length, counter_after, counter_past}
 
 most : (a : ℕ) → a ≤ 2 ^ 64 - 1 → a ≡ up_to_most (a + 0)
 most a h = omega (arith, h)
@@ -18,7 +18,7 @@ most_fits : (n : ℕ) → up_to_most n ≤ 2 ^ 64 - 1
 most_fits n = omega arith
 
 pub given_counted : (c : Counter) (tokens : List Token) → c.count ≤ 2 ^ 64 - 1
-    → given counter_after c tokens ≡ counted c tokens
+    → given counter_after c tokens ≡ counter_past c tokens
 given_counted c [] h = ap (λ n. record { count = n; page = c.page }) (most c.count h)
 given_counted c (t ∷ ts) h =
     given_counted (counter_after c t) ts (most_fits (c.count + length (token_bytes c.page t)))

@@ -18,7 +18,7 @@ use Rattle.syncml_types.specs.declared.command.Command.TheVariants as command
 use Rattle.syncml_types.specs.declared.message.Unfit.{Unfit}
 use Rattle.syncml_types.specs.declared.message.Unfit.TheVariants as unfit
 use Rattle.syncml_types.specs.Message.{Parts, IsShortData, HasShortData, HasShortMember, HasShortSeqMember}
-use Rattle.syncml_types.specs.Message.{HasShortItems, CanBeSpelled}
+use Rattle.syncml_types.specs.Message.{HasShortItems, FitsSpelling}
 use Rattle.syncml_types.specs.Canonical.{canonical}
 use Rattle.syncml_types.proofs.Pieces.{texts_short, data_short}
 use Rattle.syncml_types.specs.Fitness.{all_of, is_in_limit, item_data, header_data, member_data, seq_member_data}
@@ -73,7 +73,7 @@ short_cred : (o : Option Cred) → all_of (λ (c : Cred). is_in_limit c.value) o
 short_cred None h = tt
 short_cred (Some c) h = short_is c.value h
 
-pub spellable_data : (h : Header) (body : List Command) → message_data is_in_limit h body ≡ true → CanBeSpelled h body
+pub spellable_data : (h : Header) (body : List Command) → message_data is_in_limit h body ≡ true → FitsSpelling h body
 unfolding header_data
 spellable_data h body e =
     let parts = and_parts (header_data is_in_limit h) (list_all (command_data is_in_limit) body) e in
@@ -82,7 +82,7 @@ spellable_data h body e =
       body = each (command_data is_in_limit) HasShortItems short_command body parts.1;
     }
 
-pub spellable : (h : Header) (body : List Command) → IsFit h body → CanBeSpelled h body
+pub spellable : (h : Header) (body : List Command) → IsFit h body → FitsSpelling h body
 spellable h body fit = spellable_data h body fit.short_data
 
 -- ---- long Data makes a long spelling

@@ -24,5 +24,5 @@ abbrev pub counter_after : Counter → Token → Counter
 counter_after c t = record { count = up_to_most (c.count + length (token_bytes c.page t)); page = page_after c.page t }
 
 -- and after all of these
-abbrev pub counted : Counter → List Token → Counter
-counted c tokens = record { count = spelled_length c.count c.page tokens; page = page_behind c.page tokens }
+abbrev pub counter_past : Counter → List Token → Counter
+counter_past c tokens = record { count = spelled_length c.count c.page tokens; page = page_behind c.page tokens }

@@ -55,6 +55,6 @@ HasShortItems (command.Status c) = AllByRecursion HasShortData c.items
 HasShortItems (command.Results c) = AllByRecursion HasShortData c.items
 
 -- no Data is too long for a spelling
-pub record CanBeSpelled (h : Header) (commands : List Command) : Type 0 where
+pub record FitsSpelling (h : Header) (commands : List Command) : Type 0 where
   pub cred : IfSome h.cred (λ (c : Cred). IsShortData c.value)
   pub body : AllByRecursion HasShortItems commands

@@ -1,7 +1,7 @@
 // The lengths of canonical spellings, which take no memory.
 ghost use Rattle.std.specs.Prelude.{◌≡◌, ◌<◌, ◌+◌, ◌^◌, IfSome, OnOk, length};
 ghost use Rattle.wbxml_tokens.specs.Spelling.{given, page_behind};
-ghost use Rattle.syncml_types.specs.Message.{IsShortData, HasShortItems, CanBeSpelled};
+ghost use Rattle.syncml_types.specs.Message.{IsShortData, HasShortItems, FitsSpelling};
 ghost use Rattle.syncml_types.specs.Canonical.{canonical, command_tokens};
 ghost use Rattle.syncml_types.specs.Lengths.{counter_after, head_tokens, spelled_length, up_to_most};
 
@@ -97,7 +97,7 @@ fn put_head(counter: &mut Counter, header: &Header) -> Result<(), Never>
 /// How many bytes the canonical spelling of a message of these parts has.
 #[tactic(auto, using(crate::proofs::Counts::given_counted, crate::proofs::Counts::canonical_counted))]
 pub(crate) fn parts_length(header: &Header, body: &List<Command>, last: bool) -> u64
-    requires { CanBeSpelled header.now body.now }
+    requires { FitsSpelling header.now body.now }
     ensures { result ≡ up_to_most (length
         (canonical (record { header = header.now; body = body.now; last = last }))) }
 {

@@ -1,6 +1,6 @@
 // A whole message.
 ghost use Rattle.std.specs.Prelude.{◌≡◌, IfOk};
-ghost use Rattle.syncml_types.specs.Message.{Parts, CanBeSpelled};
+ghost use Rattle.syncml_types.specs.Message.{Parts, FitsSpelling};
 ghost use Rattle.syncml_types.specs.Fitness.{IsFit, first_unfit as first_of, told_unfit};
 
 use crate::command::Command;
@@ -69,7 +69,7 @@ impl Message {
     pub fn header(&self) -> &Header
         ensures value { result.now ≡ self.now.header }
         ensures fit { IsFit self.now.header self.now.body }
-        ensures spellable { CanBeSpelled self.now.header self.now.body }
+        ensures spellable { FitsSpelling self.now.header self.now.body }
     {
         &self.header.inner
     }
@@ -79,7 +79,7 @@ impl Message {
     pub fn body(&self) -> &List<Command>
         ensures value { result.now ≡ self.now.body }
         ensures fit { IsFit self.now.header self.now.body }
-        ensures spellable { CanBeSpelled self.now.header self.now.body }
+        ensures spellable { FitsSpelling self.now.header self.now.body }
     {
         &self.body
     }

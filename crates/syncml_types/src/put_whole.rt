@@ -2,7 +2,7 @@
 ghost use Rattle.std.specs.Prelude.{◌≡◌, OnOk, IfSome};
 ghost use Rattle.std.specs.List.{AllByRecursion};
 ghost use Rattle.wbxml_tokens.specs.Spelling.{given};
-ghost use Rattle.syncml_types.specs.Message.{IsShortData, HasShortItems, CanBeSpelled};
+ghost use Rattle.syncml_types.specs.Message.{IsShortData, HasShortItems, FitsSpelling};
 ghost use Rattle.syncml_types.specs.Canonical.{header_tokens, body_tokens, is_empty_body, message_tokens};
 
 use crate::command::Command;
@@ -65,7 +65,7 @@ pub fn put_parts<W: Writer>(
     body: &List<Command>,
     last: bool,
 ) -> Result<(), W::Error>
-    requires { CanBeSpelled header.now body.now }
+    requires { FitsSpelling header.now body.now }
     ensures { OnOk result (w.new ≡ given W.after w.old
         (message_tokens (record { header = header.now; body = body.now; last = last }))) }
 {

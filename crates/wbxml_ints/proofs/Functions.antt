@@ -4,38 +4,39 @@ use Rattle.std.proofs.Common.{◌⊎◌, refl, sym, ap, ◌∙◌, subst, rules,
 use Rattle.std.specs.Prelude.{Bool, true, false, nat_lt, if◌then◌else◌}
 use Rattle.wbxml_ints.specs.declared.Mb.{Mb}
 use Rattle.wbxml_ints.specs.declared.Mb.TheVariants as mb
-use Rattle.wbxml_ints.specs.Multibyte.{IsDigitsFrom, IsDigits, AreBytes, AllGoOn, whole_of, integer_from, integer_at}
+use Rattle.wbxml_ints.specs.Multibyte.{IsDigitsFrom, IsDigits, AreBytes, AllGoOn, whole_number, integer_from}
+use Rattle.wbxml_ints.specs.Multibyte.{integer_at}
 use Rattle.wbxml_ints.specs.Multibyte.{IsTooBig, Finds}
 
 ends : (value used left b : ℕ) (bs : List ℕ) → b < 128
-    → integer_from value used (suc left) (b ∷ bs) ≡ whole_of (value * 128 + b) (suc used)
+    → integer_from value used (suc left) (b ∷ bs) ≡ whole_number (value * 128 + b) (suc used)
 ends value used left b bs small =
     let low : nat_lt b 128 ≡ true = grind arith in
-    ap (λ (c : Bool). if c then whole_of (value * 128 + b) (suc used)
+    ap (λ (c : Bool). if c then whole_number (value * 128 + b) (suc used)
     else integer_from (value * 128 + (b - 128)) (suc used) left bs) low
 
 goes_on : (value used left b : ℕ) (bs : List ℕ) → 128 ≤ b
     → integer_from value used (suc left) (b ∷ bs) ≡ integer_from (value * 128 + (b - 128)) (suc used) left bs
 goes_on value used left b bs large =
     let high : nat_lt b 128 ≡ false = grind arith in
-    ap (λ (c : Bool). if c then whole_of (value * 128 + b) (suc used)
+    ap (λ (c : Bool). if c then whole_number (value * 128 + b) (suc used)
     else integer_from (value * 128 + (b - 128)) (suc used) left bs) high
 
 -- digits lead to their number
 digits_lead : (bytes : List ℕ) (n value used left k : ℕ) → k ≤ length bytes → IsDigitsFrom n value left (take k bytes)
-    → integer_from value used left bytes ≡ whole_of n (used + k)
+    → integer_from value used left bytes ≡ whole_number n (used + k)
 digits_lead bytes n value used left zero few h = absurd h
 digits_lead [] n value used left (suc k) few h = absurd h
 digits_lead (b ∷ bs) n value used zero (suc k) few h = absurd h
 digits_lead (b ∷ bs) n value used (suc left) (suc zero) few h =
     let one : suc used ≡ used + 1 = omega arith in
-    ends value used left b bs h.0 ∙ ap (λ m. whole_of m (suc used)) (sym h.1) ∙ ap (whole_of n) one
+    ends value used left b bs h.0 ∙ ap (λ m. whole_number m (suc used)) (sym h.1) ∙ ap (whole_number n) one
 digits_lead (b ∷ []) n value used (suc left) (suc (suc k)) few h = absurd (omega (arith, few))
 digits_lead (b ∷ c ∷ bs) n value used (suc left) (suc (suc k)) few h =
     let more : suc used + suc k ≡ used + suc (suc k) = omega arith in
     goes_on value used left b (c ∷ bs) h.0
     ∙ digits_lead (c ∷ bs) n (value * 128 + (b - 128)) (suc used) left (suc k) (omega (arith, few)) h.2
-    ∙ ap (whole_of n) more
+    ∙ ap (whole_number n) more
 
 all_go_on : (bytes : List ℕ) (value used left : ℕ) → length bytes < left → AllGoOn bytes
     → integer_from value used left bytes ≡ mb.More
@@ -52,18 +53,18 @@ no_end [] value used (suc left) enough h = absurd (omega (arith, enough))
 no_end (b ∷ bs) value used (suc left) enough h =
     goes_on value used left b bs h.0 ∙ no_end bs (value * 128 + (b - 128)) (suc used) left (omega (arith, enough)) h.1
 
-fits : (n used : ℕ) → n < 2 ^ 32 → whole_of n used ≡ mb.Value n used
+fits : (n used : ℕ) → n < 2 ^ 32 → whole_number n used ≡ mb.Value n used
 fits n used small =
     let low : nat_lt n (2 ^ 32) ≡ true = grind arith in ap (λ (c : Bool). if c then mb.Value n used else mb.TooBig) low
 
-passes : (n used : ℕ) → 2 ^ 32 ≤ n → whole_of n used ≡ mb.TooBig
+passes : (n used : ℕ) → 2 ^ 32 ≤ n → whole_number n used ≡ mb.TooBig
 passes n used large =
     let high : nat_lt n (2 ^ 32) ≡ false = grind arith in
     ap (λ (c : Bool). if c then mb.Value n used else mb.TooBig) high
 
-from_none : (n k : ℕ) → whole_of n (0 + k) ≡ whole_of n k
+from_none : (n k : ℕ) → whole_number n (0 + k) ≡ whole_number n k
 from_none n k =
-    let same : 0 + k ≡ k = omega arith in ap (whole_of n) same
+    let same : 0 + k ≡ k = omega arith in ap (whole_number n) same
 
 pub found_is_at : (bytes : List ℕ) (found : Mb) → Finds bytes found → found ≡ integer_at bytes
 found_is_at bytes (mb.Value n k) h = sym (digits_lead bytes n 0 0 5 k h.0 h.1.0 ∙ from_none n k ∙ fits n k h.1.1)
@@ -111,7 +112,7 @@ digits_read (b ∷ bs) value used (suc left) n m fit is =
     (digits_read bs (value * 128 + (b - 128)) (suc used) left n m fit.1)
   where
     digits_first : (value used left b n m : ℕ) (bs : List ℕ) (c : Bool) → nat_lt b 128 ≡ c → b < 256
-        → (if c then whole_of (value * 128 + b) (suc used)
+        → (if c then whole_number (value * 128 + b) (suc used)
         else integer_from (value * 128 + (b - 128)) (suc used) left bs) ≡ mb.Value n m
         → (integer_from (value * 128 + (b - 128)) (suc used) left bs ≡ mb.Value n m
         → Digits n m (value * 128 + (b - 128)) (suc used) left bs)
@@ -159,7 +160,7 @@ passes_read (b ∷ bs) value used (suc left) fit is =
     (passes_read bs (value * 128 + (b - 128)) (suc used) left fit.1)
   where
     passes_first : (value used left b : ℕ) (bs : List ℕ) (c : Bool) → nat_lt b 128 ≡ c → b < 256
-        → (if c then whole_of (value * 128 + b) (suc used)
+        → (if c then whole_number (value * 128 + b) (suc used)
         else integer_from (value * 128 + (b - 128)) (suc used) left bs) ≡ mb.TooBig
         → (integer_from (value * 128 + (b - 128)) (suc used) left bs ≡ mb.TooBig
         → Passes (value * 128 + (b - 128)) left bs) → Passes value (suc left) (b ∷ bs)

@@ -38,15 +38,15 @@ Finds bytes mb.More = (length bytes < 5) × AllGoOn bytes
 Finds bytes mb.TooBig = IsTooBig bytes
 
 -- a number whose last digit was found
-abbrev pub whole_of : ℕ → ℕ → Mb
-whole_of number used = if nat_lt number (2 ^ 32) then mb.Value number used else mb.TooBig
+abbrev pub whole_number : ℕ → ℕ → Mb
+whole_number number used = if nat_lt number (2 ^ 32) then mb.Value number used else mb.TooBig
 
 -- digits that stand for a value, and behind them, with so many bytes left, these bytes
 abbrev pub integer_from : ℕ → ℕ → ℕ → List ℕ → Mb
 integer_from value used zero bytes = mb.TooBig
 integer_from value used (suc left) [] = mb.More
 integer_from value used (suc left) (b ∷ bs) =
-    if nat_lt b 128 then whole_of (value * 128 + b) (suc used)
+    if nat_lt b 128 then whole_number (value * 128 + b) (suc used)
     else integer_from (value * 128 + (b - 128)) (suc used) left bs
 
 -- what stands at the front of bytes, as a function of them
@@ -77,6 +77,6 @@ shortest n =
 -- ---- how a number is read
 
 -- the number of five digits, each without its highest bit
-abbrev pub number_in : List ℕ → ℕ
-number_in (a ∷ b ∷ c ∷ d ∷ e ∷ []) = (((a % 128 * 128 + b % 128) * 128 + c % 128) * 128 + d % 128) * 128 + e % 128
-number_in other = 0
+abbrev pub number_of_five : List ℕ → ℕ
+number_of_five (a ∷ b ∷ c ∷ d ∷ e ∷ []) = (((a % 128 * 128 + b % 128) * 128 + c % 128) * 128 + d % 128) * 128 + e % 128
+number_of_five other = 0

@@ -2,7 +2,8 @@
 #![tactic(auto)]
 
 ghost use Rattle.std.specs.Prelude.{◌≡◌, ◌<◌, ◌≤◌, ◌+◌, ◌/◌, ◌%◌, List, ℕ, length};
-ghost use Rattle.wbxml_ints.specs.Multibyte.{IsMultibyte, Finds, OneIsFound, integer_at, number_in, whole_of, shortest};
+ghost use Rattle.wbxml_ints.specs.Multibyte.{IsMultibyte, Finds, OneIsFound, integer_at, number_of_five, whole_number};
+ghost use Rattle.wbxml_ints.specs.Multibyte.{shortest};
 
 use std::marker::Model;
 
@@ -110,7 +111,7 @@ pub fn write_mb(number: u32) -> MbText
 
 // The number of five digits, each without the bit that says that more follow.
 fn number_of(digits: [u8; 5]) -> u64
-    ensures { result ≡ number_in digits }
+    ensures { result ≡ number_of_five digits }
 {
     let [a, b, c, d, e] = digits;
     let mut number = (a % 128) as u64;
@@ -122,7 +123,7 @@ fn number_of(digits: [u8; 5]) -> u64
 
 // A number whose last digit was found.
 fn whole(digits: [u8; 5], used: usize) -> Mb
-    ensures { result ≡ whole_of (number_in digits) used }
+    ensures { result ≡ whole_number (number_of_five digits) used }
 {
     let number = number_of(digits);
     if number < 1 << 32 {

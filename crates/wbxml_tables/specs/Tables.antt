@@ -1,7 +1,7 @@
 -- The code pages: page 0 is the representation protocol, page 1 the meta information.
 use Rattle.std.specs.Prelude.{◌≡◌, ◌==◌, ◌&&◌, ◌++◌, ◌∷◌, [], ℕ, Bool, true, not, if◌then◌else◌, List, Option, Some}
 use Rattle.std.specs.Prelude.{None, codes}
-use Rattle.wbxml_tables.specs.declared.Row.{Row}
+use Rattle.wbxml_tables.specs.declared.CodeRow.{CodeRow}
 use Rattle.wbxml_tables.specs.declared.TheConstants as table
 use Rattle.wbxml_tables.specs.declared.Element.{Element}
 use Rattle.wbxml_tables.specs.declared.Element.TheVariants.{EAdd, EAlert, EArchive, EAtomic, EChal, ECmd, ECmdID}
@@ -117,8 +117,8 @@ code_on_page EMaxObjSize = 0x15
 code_on_page EFieldLevel = 0x16
 
 -- an element has this code on this page
-abbrev pub IsAt : ℕ → ℕ → Element → Type 0
-IsAt page code element = (page_of element ≡ page) × (code_on_page element ≡ code)
+abbrev pub HasCode : ℕ → ℕ → Element → Type 0
+HasCode page code element = (page_of element ≡ page) × (code_on_page element ≡ code)
 
 -- elements with the same code on the same page are the same
 abbrev pub CodesAreDistinct : Type 0
@@ -203,7 +203,7 @@ name_in_text EFieldLevel = codes "FieldLevel"
 -- ---- the tables
 
 -- the element of the first row with this page and code
-abbrev pub element_in : List Row → ℕ → ℕ → Option Element
+abbrev pub element_in : List CodeRow → ℕ → ℕ → Option Element
 element_in [] page code = None
 element_in (r ∷ rows) page code = if r.page == page && r.code == code then Some r.element else element_in rows page code
 
@@ -212,16 +212,16 @@ unfoldable pub element_at : ℕ → ℕ → Option Element
 element_at page code = element_in (table.PROTOCOL.rows ++ table.META.rows) page code
 
 -- no row has this page and code
-abbrev pub is_absent : ℕ → ℕ → List Row → Bool
+abbrev pub is_absent : ℕ → ℕ → List CodeRow → Bool
 is_absent page code [] = true
 is_absent page code (r ∷ rows) = not (r.page == page && r.code == code) && is_absent page code rows
 
 -- no two rows have the same page and code
-abbrev pub are_distinct : List Row → Bool
+abbrev pub are_distinct : List CodeRow → Bool
 are_distinct [] = true
 are_distinct (r ∷ rows) = is_absent r.page r.code rows && are_distinct rows
 
 -- each row is of this page
-abbrev pub are_on_page : ℕ → List Row → Bool
+abbrev pub are_on_page : ℕ → List CodeRow → Bool
 are_on_page page [] = true
 are_on_page page (r ∷ rows) = r.page == page && are_on_page page rows

@@ -5,7 +5,7 @@ ghost use Rattle.std.specs.Prelude.{◌≡◌, true, IfSome, IfNone};
 ghost use Rattle.wbxml_tables.specs.declared.Element.{Element};
 ghost use Rattle.wbxml_tables.specs.declared.TheConstants as table;
 ghost use Rattle.wbxml_tables.specs.Tables.{page_of, code_on_page, name_in_text, element_at, is_absent, are_distinct};
-ghost use Rattle.wbxml_tables.specs.Tables.{IsAt, CodesAreDistinct, are_on_page};
+ghost use Rattle.wbxml_tables.specs.Tables.{HasCode, CodesAreDistinct, are_on_page};
 
 /// An element of the representation protocol (page 0) or of the meta information (page 1), named with an E in front.
 /// Its number is 256 times its page, plus its code on that page.
@@ -88,7 +88,7 @@ pub enum Element {
 
 /// A row of a code page.
 #[derive(Clone, Copy, Debug, PartialEq, Eq)]
-pub struct Row {
+pub struct CodeRow {
     pub page: u8,
     pub code: u8,
     pub element: Element,
@@ -96,11 +96,11 @@ pub struct Row {
 
 /// A code page of `N` elements.
 pub struct Table<const N: usize> {
-    pub rows: [Row; N],
+    pub rows: [CodeRow; N],
 }
 
 // Whether no row has this page and code.
-fn is_free(page: u8, code: u8, rows: &[Row]) -> bool
+fn is_free(page: u8, code: u8, rows: &[CodeRow]) -> bool
     ensures { result ≡ is_absent page code rows.now }
 {
     for row in rows {
@@ -252,7 +252,7 @@ macro_rules! name_arms {
 macro_rules! table_of_page_0 {
     ($value:expr; { $($page:literal $code:literal $element:ident $name:literal;)* } { $($rest:tt)* }) => {
         Table {
-            rows: [$(Row {
+            rows: [$(CodeRow {
                 page: $page,
                 code: $code,
                 element: Element::$element,
@@ -264,7 +264,7 @@ macro_rules! table_of_page_0 {
 macro_rules! table_of_page_1 {
     ($value:expr; { $($rest:tt)* } { $($page:literal $code:literal $element:ident $name:literal;)* }) => {
         Table {
-            rows: [$(Row {
+            rows: [$(CodeRow {
                 page: $page,
                 code: $code,
                 element: Element::$element,
@@ -281,8 +281,8 @@ pub const META: Table<18> = rows!(table_of_page_1, ());
 
 // The element whose page and code these are.
 fn row_of(page: u8, code: u8) -> Option<Element>
-    ensures found { IfSome result (λ e. IsAt page code e) }
-    ensures none { IfNone result ((e : Element) → IsAt page code e → ⊥) }
+    ensures found { IfSome result (λ e. HasCode page code e) }
+    ensures none { IfNone result ((e : Element) → HasCode page code e → ⊥) }
 {
     rows!(element_arms, (page, code))
 }
@@ -292,8 +292,8 @@ fn row_of(page: u8, code: u8) -> Option<Element>
 #[tactic(auto, using(crate::proofs::Rows::same_row))]
 pub fn element_of(page: u8, code: u8) -> Option<Element>
     ensures row { result ≡ element_at page code }
-    ensures found { IfSome result (λ e. IsAt page code e) }
-    ensures none { IfNone result ((e : Element) → IsAt page code e → ⊥) }
+    ensures found { IfSome result (λ e. HasCode page code e) }
+    ensures none { IfNone result ((e : Element) → HasCode page code e → ⊥) }
 {
     row_of(page, code)
 }

@@ -11,8 +11,8 @@ use Rattle.wbxml_tokens.specs.declared.reason.FeedError.TheVariants as errors
 use Rattle.wbxml_tokens.specs.declared.token.Placed.{Placed}
 use Rattle.wbxml_tokens.specs.Fronts.{Front, more, wrong, head, switch, token}
 use Rattle.wbxml_tokens.specs.Reading.{Reader, Reading, begun_by, most_bytes, taken_by, is_whole, found, size_of}
-use Rattle.wbxml_tokens.specs.Reading.{refuse, met, limit, step_within, step_from, step, reads}
-use Rattle.wbxml_tokens.specs.Taking.{Taking, Stops, StopsAmong, Feeds, taken, ◌>>=◌}
+use Rattle.wbxml_tokens.specs.Reading.{refuse, met, limit, step_within, step_from, step_byte, reads}
+use Rattle.wbxml_tokens.specs.Taking.{Taking, Stops, StopsAmong, Feeds, taken_all, ◌>>=◌}
 use Rattle.wbxml_tokens.specs.Parts.{IsReached, IsBeyond, EndsPiece}
 use Rattle.wbxml_tokens.proofs.Steps.{reads-append, stays, found_settled}
 use Rattle.wbxml_tokens.proofs.Turns.{part_size, reads-told, taken-append, stops_before}
@@ -47,22 +47,22 @@ from_takes : (x : Reading) (b : ℕ) (o : Option Refusal) → x.refused ≡ o �
 from_takes x b (Some f) e h = absurd (some_is_none f (sym e ∙ h))
 from_takes x b None e h = within_takes x b (limit x.reader) h
 
-takes_on : (x : Reading) (b : ℕ) (bs : List ℕ) (o : Option Refusal) → (step x b).refused ≡ o
-    → (reads (step x b) bs).refused ≡ None
-    → ((reads (step x b) bs).refused ≡ None
-    → taken_by (reads (step x b) bs).reader ≡ taken_by (step x b).reader + length bs)
-    → taken_by (reads (step x b) bs).reader ≡ taken_by x.reader + length (b ∷ bs)
+takes_on : (x : Reading) (b : ℕ) (bs : List ℕ) (o : Option Refusal) → (step_byte x b).refused ≡ o
+    → (reads (step_byte x b) bs).refused ≡ None
+    → ((reads (step_byte x b) bs).refused ≡ None
+    → taken_by (reads (step_byte x b) bs).reader ≡ taken_by (step_byte x b).reader + length bs)
+    → taken_by (reads (step_byte x b) bs).reader ≡ taken_by x.reader + length (b ∷ bs)
 takes_on x b bs (Some f) e h later =
-    absurd (some_is_none f (sym e ∙ ap (λ y. y.refused) (sym (stays (step x b) f bs e)) ∙ h))
+    absurd (some_is_none f (sym e ∙ ap (λ y. y.refused) (sym (stays (step_byte x b) f bs e)) ∙ h))
 takes_on x b bs None e h later =
-    let one : taken_by (step x b).reader ≡ suc (taken_by x.reader) = from_takes x b x.refused refl e in
+    let one : taken_by (step_byte x b).reader ≡ suc (taken_by x.reader) = from_takes x b x.refused refl e in
     omega (arith, one, later h)
 
 pub takes_all : (bytes : List ℕ) (x : Reading) → (reads x bytes).refused ≡ None
     → taken_by (reads x bytes).reader ≡ taken_by x.reader + length bytes
 unfolding reads
 takes_all [] x h = omega arith
-takes_all (b ∷ bs) x h = takes_on x b bs (step x b).refused refl h (takes_all bs (step x b))
+takes_all (b ∷ bs) x h = takes_on x b bs (step_byte x b).refused refl h (takes_all bs (step_byte x b))
 
 -- ---- no byte is taken behind the last
 
@@ -77,12 +77,12 @@ limit_refuses x reason at (b ∷ bytes) sound is place some =
     ∙ stays (refuse x at reason) (record { at = at; reason = reason }) bytes refl
 
 stops_beyond : {W : Type 0} (k : Taking W) (left : W → W → Type 0) (w v : W) (x : Reading) (reason : Reason) (at : ℕ)
-    (bytes : List ℕ) → taken k w x.tokens ≡ Ok v
+    (bytes : List ℕ) → taken_all k w x.tokens ≡ Ok v
     → x.refused ≡ None → limit x.reader ≡ Some reason → taken_by x.reader ≡ at → 0 < length bytes
     → Stops k left (errors.Refused (record { at = at; reason = reason })) w v (reads x bytes)
 stops_beyond k left w v x reason at bytes handed sound is place some =
     let stopped : reads x bytes ≡ refuse x at reason = limit_refuses x reason at bytes sound is place some in
-    inr (ap (λ y. taken k w y.tokens) stopped ∙ handed, ap (λ y. y.refused) stopped)
+    inr (ap (λ y. taken_all k w y.tokens) stopped ∙ handed, ap (λ y. y.refused) stopped)
 
 full_limit : (r : Reader) → is_whole r.extent ≡ false → taken_by r ≡ most_bytes → limit r ≡ Some reasons.Toolong
 full_limit r open_ full =
@@ -100,7 +100,7 @@ whole_limit r whole =
 
 -- the refusal behind a piece of which all that may be taken was taken
 pub beyond : {W : Type 0} (k : Taking W) (left : W → W → Type 0) (w v : W) (x : Reading) (bytes : List ℕ)
-    (e : FeedError) → taken k w x.tokens ≡ Ok v
+    (e : FeedError) → taken_all k w x.tokens ≡ Ok v
     → x.refused ≡ None → IsReached x.reader → taken_by x.reader ≡ most_bytes → 0 < length bytes → IsBeyond e x.reader
     → Stops k left e w v (reads x bytes)
 beyond k left w v x bytes e handed sound reached full some (inl (whole, is)) =
@@ -118,7 +118,7 @@ in_two x n piece = ap (reads x) (sym (take-append-drop n piece)) ∙ reads-appen
 -- what the two parts of a piece give
 pub ends : {W : Type 0} (k : Taking W) (left : W → W → Type 0) (answer : Result Unit FeedError) (r s : Reader) (w v : W)
     (n : ℕ) (piece within rest : List ℕ)
-    → within ≡ take n piece → rest ≡ drop n piece → (taken k w (reads (begun_by r) within).tokens ≡ Ok v)
+    → within ≡ take n piece → rest ≡ drop n piece → (taken_all k w (reads (begun_by r) within).tokens ≡ Ok v)
     × ((reads (begun_by r) within).refused ≡ None)
     → s ≡ (reads (begun_by r) within).reader → IsReached s → (0 < length rest → taken_by s ≡ most_bytes)
     → EndsPiece answer s rest
@@ -167,11 +167,11 @@ stops_longer : {W : Type 0} (k : Taking W) (left : W → W → Type 0) (e : Feed
     (bytes : List ℕ) → Stops k left e w v x → Stops k left e w v (reads x bytes)
 stops_longer k left (errors.Refused f) w v x bytes (inl refused) =
     let later : List Placed = (reads (record x { tokens = [] }) bytes).tokens in
-    inl (ap (taken k w) (longer x bytes) ∙ taken-append k w x.tokens later
-    ∙ ap (λ r. r >>= (λ z. taken k z later)) refused)
+    inl (ap (taken_all k w) (longer x bytes) ∙ taken-append k w x.tokens later
+    ∙ ap (λ r. r >>= (λ z. taken_all k z later)) refused)
 stops_longer k left (errors.Refused f) w v x bytes (inr (all, refused)) =
     let same : reads x bytes ≡ x = stays x f bytes refused in
-    inr (ap (λ y. taken k w y.tokens) same ∙ all, ap (λ y. y.refused) same ∙ refused)
+    inr (ap (λ y. taken_all k w y.tokens) same ∙ all, ap (λ y. y.refused) same ∙ refused)
 stops_longer k left errors.Memory w v x bytes h =
     subst (StopsAmong k left w v) (sym (longer x bytes))
     (stops_before k left w v x.tokens (reads (record x { tokens = [] }) bytes).tokens h)

@@ -11,7 +11,7 @@ use Rattle.wbxml_tokens.specs.declared.extent.Extent.{Extent}
 use Rattle.wbxml_tokens.specs.Fronts.{Front, more, wrong, head, switch, token, front}
 use Rattle.wbxml_tokens.specs.Reading.{Reader, Reading, begun_by, most_bytes, is_whole, extent_after, taken_by, refuse}
 use Rattle.wbxml_tokens.specs.Reading.{limit, step_within, reads}
-use Rattle.wbxml_tokens.specs.Taking.{told}
+use Rattle.wbxml_tokens.specs.Taking.{told_before}
 use Rattle.wbxml_tokens.specs.Spelled.{SpellsTokens, none, switch as a_switch, token as a_token}
 use Rattle.wbxml_tokens.proofs.Steps.{Walks, stays}
 use Rattle.wbxml_tokens.proofs.Turns.{after_part, found_in_body, walks_first}
@@ -29,7 +29,7 @@ switch_front page other table bytes low =
     let below : nat_lt other 2 ≡ true = grind arith in
     ap (λ (c : Bool). if c then switch other else wrong 0 reasons.Tag) below
 
-told-told : (a b : List Placed) (x : Reading) → told a (told b x) ≡ told (a ++ b) x
+told-told : (a b : List Placed) (x : Reading) → told_before a (told_before b x) ≡ told_before (a ++ b) x
 told-told a b x = ap (λ t. record x { tokens = t }) (sym (append_assoc a b x.tokens))
 
 -- tokens that are spelled are read
@@ -37,7 +37,7 @@ pub spelled_read : {table : List ℕ} {page at last : ℕ} {extent end : Extent}
     → SpellsTokens table page at extent tokens bytes last end
     → at + length bytes ≤ most_bytes
     → reads (begun_by (body_at table page at extent)) bytes
-    ≡ told tokens (begun_by (body_at table last (at + length bytes) end))
+    ≡ told_before tokens (begun_by (body_at table last (at + length bytes) end))
 unfolding reads
 spelled_read {table} {page} {at} {extent = extent} none room =
     let same : at ≡ at + 0 = omega arith in ap (λ n. begun_by (body_at table page n extent)) same
@@ -47,7 +47,7 @@ spelled_read {table} {page} {at} {last} {extent} {end} {tokens}
     after_part (body_at table page at extent) (0x00 ∷ other ∷ bytes) (switch other) (refl, open_, room) tt
     (sym (found_in_body (body_at table page at extent) (0x00 ∷ other ∷ bytes) refl)
     ∙ switch_front page other table bytes low)
-    ∙ spelled_read rest (omega (arith, room)) ∙ ap (λ n. told tokens (begun_by (body_at table last n end))) place
+    ∙ spelled_read rest (omega (arith, room)) ∙ ap (λ n. told_before tokens (begun_by (body_at table last n end))) place
 spelled_read {table} {page} {at} {last} {extent} {end}
     (a_token {tokens = tokens} t first rest bytes open_ spells later is) room =
     let r : Reader = body_at table page at extent in
@@ -55,13 +55,13 @@ spelled_read {table} {page} {at} {last} {extent} {end}
     let place : at + length first + length rest ≡ at + length bytes = omega (arith, size) in
     after_part r bytes (token t (length first)) (refl, open_, room) tt
     (sym (found_in_body r bytes refl) ∙ ap (front page table) is ∙ spelled_front page table t first rest spells)
-    ∙ ap (λ y. told (record { at = at; token = t } ∷ [])
+    ∙ ap (λ y. told_before (record { at = at; token = t } ∷ [])
     (reads (begun_by (body_at table page (at + length first) (extent_after extent t))) y))
     (ap (drop (length first)) is ∙ drop_at first rest (length first) refl)
-    ∙ ap (told (record { at = at; token = t } ∷ [])) (spelled_read later (omega (arith, room, size)))
+    ∙ ap (told_before (record { at = at; token = t } ∷ [])) (spelled_read later (omega (arith, room, size)))
     ∙ told-told (record { at = at; token = t } ∷ []) tokens
     (begun_by (body_at table last (at + length first + length rest) end))
-    ∙ ap (λ n. told (record { at = at; token = t } ∷ tokens) (begun_by (body_at table last n end))) place
+    ∙ ap (λ n. told_before (record { at = at; token = t } ∷ tokens) (begun_by (body_at table last n end))) place
 
 -- ---- what is read is spelled
 
@@ -83,7 +83,7 @@ some_not_none f e = cc
 -- behind a part that is spelled
 spelt_on : (table : List ℕ) (page at page2 at2 : ℕ) (extent extent2 : Extent) (bytes rest : List ℕ) (size : ℕ)
     (tokens : List Placed) (x y : Reading)
-    → x ≡ told tokens y → rest ≡ drop size bytes → at2 ≡ at + size → size ≤ length bytes
+    → x ≡ told_before tokens y → rest ≡ drop size bytes → at2 ≡ at + size → size ≤ length bytes
     → ((body : List ℕ) (last : ℕ) (end : Extent) → SpellsTokens table page2 at2 extent2 y.tokens body last end
     → SpellsTokens table page at extent (tokens ++ y.tokens) (take size bytes ++ body) last end)
     → IsSpelt table page2 at2 extent2 rest y → IsSpelt table page at extent bytes x
@@ -156,7 +156,7 @@ Again table n =
 one_part : (n : ℕ) (table : List ℕ) (page at page2 : ℕ) (extent extent2 : Extent) (bytes : List ℕ) (size : ℕ)
     (tokens : List Placed) → Again table n
     → reads (begun_by (body_at table page at extent)) bytes
-    ≡ told tokens (reads (begun_by (body_at table page2 (at + size) extent2)) (drop size bytes))
+    ≡ told_before tokens (reads (begun_by (body_at table page2 (at + size) extent2)) (drop size bytes))
     → 0 < size → size ≤ length bytes → length bytes ≤ suc n → AreBytes bytes → at + length bytes ≤ most_bytes
     → (reads (begun_by (body_at table page at extent)) bytes).refused ≡ None
     → ((later : List Placed) (body : List ℕ) (last : ℕ) (end : Extent)

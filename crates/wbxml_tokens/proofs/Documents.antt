@@ -8,9 +8,9 @@ use Rattle.wbxml_tokens.specs.declared.token.Placed.{Placed}
 use Rattle.wbxml_tokens.specs.declared.extent.Extent.{Extent}
 use Rattle.wbxml_tokens.specs.declared.extent.Extent.TheVariants as extents
 use Rattle.wbxml_tokens.specs.Fronts.{Front, more, wrong, head, switch, token, prologue_at}
-use Rattle.wbxml_tokens.specs.Reading.{at_start, begun_by, most_bytes, reads, reading}
-use Rattle.wbxml_tokens.specs.Taking.{told}
-use Rattle.wbxml_tokens.specs.Spelled.{IsPrologue, SpellsTokens, IsReadSo, SpelledIsRead, ReadIsSpelled}
+use Rattle.wbxml_tokens.specs.Reading.{first_reader, begun_by, most_bytes, reads, reading}
+use Rattle.wbxml_tokens.specs.Taking.{told_before}
+use Rattle.wbxml_tokens.specs.Spelled.{IsPrologue, SpellsTokens, IsReadSo, SpelledTokensAreRead, ReadIsSpelled}
 use Rattle.wbxml_tokens.proofs.Steps.{Walks}
 use Rattle.wbxml_tokens.proofs.Turns.{after_part, walks_first}
 use Rattle.wbxml_tokens.proofs.Spells.{bytes_after}
@@ -19,11 +19,11 @@ use Rattle.wbxml_tokens.proofs.Heads.{prologue_front, prologue_there, OfPrologue
 
 -- a whole prologue leads to the body
 pub entered_body : (bytes table : List ℕ) (used : ℕ) → length bytes ≤ most_bytes → prologue_at bytes ≡ head table used
-    → reading bytes ≡ told [] (reads (begun_by (body_at table 0 used extents.Before)) (drop used bytes))
+    → reading bytes ≡ told_before [] (reads (begun_by (body_at table 0 used extents.Before)) (drop used bytes))
 entered_body bytes table used room is =
     let place : 0 + used ≡ used = omega arith in
-    after_part at_start bytes (head table used) (refl, refl, omega (arith, room)) tt is
-    ∙ ap (λ n. told [] (reads (begun_by (body_at table 0 n extents.Before)) (drop used bytes))) place
+    after_part first_reader bytes (head table used) (refl, refl, omega (arith, room)) tt is
+    ∙ ap (λ n. told_before [] (reads (begun_by (body_at table 0 n extents.Before)) (drop used bytes))) place
 
 -- a document that spells tokens leads to a reader of the body
 pub spelled_reading : (table prologue body : List ℕ) (tokens : List Placed) (page : ℕ) (extent : Extent)
@@ -31,17 +31,17 @@ pub spelled_reading : (table prologue body : List ℕ) (tokens : List Placed) (p
     → SpellsTokens table 0 (length prologue) extents.Before tokens body page extent
     → length (prologue ++ body) ≤ most_bytes
     → reading (prologue ++ body)
-    ≡ told [] (told tokens (begun_by (body_at table page (length prologue + length body) extent)))
+    ≡ told_before [] (told_before tokens (begun_by (body_at table page (length prologue + length body) extent)))
 spelled_reading table prologue body tokens page extent is_prologue spells room =
     entered_body (prologue ++ body) table (length prologue) room (prologue_front table prologue body is_prologue)
-    ∙ ap (λ y. told [] (reads (begun_by (body_at table 0 (length prologue) extents.Before)) y))
+    ∙ ap (λ y. told_before [] (reads (begun_by (body_at table 0 (length prologue) extents.Before)) y))
     (drop_at prologue body (length prologue) refl)
-    ∙ ap (told []) (spelled_read spells (omega (arith, room, length-append prologue body)))
+    ∙ ap (told_before []) (spelled_read spells (omega (arith, room, length-append prologue body)))
 
-pub spelled_is_read : SpelledIsRead
+pub spelled_is_read : SpelledTokensAreRead
 spelled_is_read table prologue body tokens page extent is_prologue spells room =
     let all : reading (prologue ++ body)
-    ≡ told [] (told tokens (begun_by (body_at table page (length prologue + length body) extent))) =
+    ≡ told_before [] (told_before tokens (begun_by (body_at table page (length prologue + length body) extent))) =
     spelled_reading table prologue body tokens page extent is_prologue spells room in
     (ap (λ x. x.tokens) all ∙ append-nil tokens, ap (λ x. x.refused) all, ap (λ x. x.reader.extent) all)
 
@@ -54,12 +54,12 @@ Known bytes =
 known_by : (bytes : List ℕ) (f : Front) → AreBytes bytes → length bytes ≤ most_bytes → (reading bytes).refused ≡ None
     → prologue_at bytes ≡ f → Known bytes
 known_by bytes more fit room sound is =
-    let walked : Walks (begun_by at_start) bytes bytes more =
-    subst (Walks (begun_by at_start) bytes bytes) is (walks_first at_start bytes (refl, refl, omega (arith, room))) in
+    let walked : Walks (begun_by first_reader) bytes bytes more =
+    subst (Walks (begun_by first_reader) bytes bytes) is (walks_first first_reader bytes (refl, refl, omega (arith, room))) in
     inr (ap (λ x. x.tokens) walked, is, ap (λ x. x.reader.extent) walked)
 known_by bytes (wrong at reason) fit room sound is =
-    let walked : Walks (begun_by at_start) bytes bytes (wrong at reason) =
-    subst (Walks (begun_by at_start) bytes bytes) is (walks_first at_start bytes (refl, refl, omega (arith, room))) in
+    let walked : Walks (begun_by first_reader) bytes bytes (wrong at reason) =
+    subst (Walks (begun_by first_reader) bytes bytes) is (walks_first first_reader bytes (refl, refl, omega (arith, room))) in
     absurd (refused_none (reading bytes) (record { at = 0 + at; reason = reason }) walked.0 sound)
 known_by bytes (head table used) fit room sound is =
     let there = prologue_there bytes table used fit is in

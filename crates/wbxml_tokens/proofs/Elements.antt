@@ -14,9 +14,11 @@ use Rattle.wbxml_tokens.specs.declared.token.Placed.{Placed}
 use Rattle.wbxml_tokens.specs.declared.extent.Extent.{Extent}
 use Rattle.wbxml_tokens.specs.declared.extent.Extent.TheVariants as extents
 use Rattle.wbxml_tokens.specs.Fronts.{Front, more, wrong, head, switch, token}
-use Rattle.wbxml_tokens.specs.Reading.{Reader, Reading, at_start, begun_by, most_bytes, taken_by, is_whole, behind_end}
-use Rattle.wbxml_tokens.specs.Reading.{extent_after, found, met, limit, step_within, step_from, step, reads, reading}
-use Rattle.wbxml_tokens.specs.Reading.{ended, refusal_of}
+use Rattle.wbxml_tokens.specs.Reading.{Reader, Reading, first_reader, begun_by, most_bytes, taken_by, is_whole}
+use Rattle.wbxml_tokens.specs.Reading.{behind_end}
+use Rattle.wbxml_tokens.specs.Reading.{extent_after, found, met, limit, step_within, step_from, step_byte, reads}
+use Rattle.wbxml_tokens.specs.Reading.{reading}
+use Rattle.wbxml_tokens.specs.Reading.{refused_at_end, refusal_of}
 use Rattle.wbxml_tokens.specs.Spelled.{IsWrong, IsWrongPrologue, RefusedAt, in_prologue, in_body, trailing}
 use Rattle.wbxml_tokens.specs.Spelled.{unfinished_prologue, unfinished_body}
 use Rattle.wbxml_tokens.specs.Whole.{IsContent, nothing, with_text, with_opaque, with_tag, with_element, IsElement}
@@ -242,10 +244,10 @@ from_follows x b None h = within_follows x b (limit x.reader) refl h
 reads_follow : (bytes : List ℕ) (x : Reading) → Follows x → Follows (reads x bytes)
 unfolding reads
 reads_follow [] x h = h
-reads_follow (b ∷ bytes) x h = reads_follow bytes (step x b) (from_follows x b x.refused h)
+reads_follow (b ∷ bytes) x h = reads_follow bytes (step_byte x b) (from_follows x b x.refused h)
 
 reading_follows : (bytes : List ℕ) → Follows (reading bytes)
-reading_follows bytes = reads_follow bytes (begun_by at_start) refl
+reading_follows bytes = reads_follow bytes (begun_by first_reader) refl
 
 pub element_of_whole : (bytes : List ℕ) → is_whole (reading bytes).reader.extent ≡ true → IsElement (tokens_read bytes)
 element_of_whole bytes h =
@@ -267,7 +269,7 @@ none_by false f h = absurd cc
 abbrev cut_by : Reader → Refusal
 cut_by r = record { at = taken_by r; reason = reasons.Truncated }
 
-whole_by : (bytes : List ℕ) (o : Option Refusal) → (reading bytes).refused ≡ o → ended o (reading bytes).reader ≡ None
+whole_by : (bytes : List ℕ) (o : Option Refusal) → (reading bytes).refused ≡ o → refused_at_end o (reading bytes).reader ≡ None
     → ((reading bytes).refused ≡ None) × IsElement (tokens_read bytes)
 whole_by bytes (Some f) e h = absurd cc
 whole_by bytes None e h =
@@ -276,7 +278,7 @@ whole_by bytes None e h =
 ended_so : (bytes : List ℕ) (c : Bool) → (reading bytes).refused ≡ None → is_whole (reading bytes).reader.extent ≡ c
     → refusal_of bytes ≡ (if c then None else Some (cut_by (reading bytes).reader))
 ended_so bytes c sound e =
-    ap (λ o. ended o (reading bytes).reader) sound
+    ap (λ o. refused_at_end o (reading bytes).reader) sound
     ∙ ap (λ (d : Bool). if d then None else Some (cut_by (reading bytes).reader)) e
 
 pub document_is_element : DocumentIsElement
@@ -293,7 +295,7 @@ not_truncated bytes at reason (unfinished_prologue is long) e = cc
 not_truncated bytes at reason (unfinished_body s open_ begun long) e = cc
 
 taken_of : (bytes : List ℕ) → (reading bytes).refused ≡ None → taken_by (reading bytes).reader ≡ length bytes
-taken_of bytes sound = omega (arith, takes_all bytes (begun_by at_start) sound)
+taken_of bytes sound = omega (arith, takes_all bytes (begun_by first_reader) sound)
 
 same_refusal : (f g : Refusal) → Some f ≡ Some g → f ≡ g
 same_refusal f g e = cc
@@ -309,7 +311,7 @@ true_false : true ≡ false → ⊥
 true_false e = cc
 
 cut_by_refusal : (bytes : List ℕ) (at : ℕ) (o : Option Refusal) → AreBytes bytes → (reading bytes).refused ≡ o
-    → ended o (reading bytes).reader ≡ Some (record { at = at; reason = reasons.Truncated })
+    → refused_at_end o (reading bytes).reader ≡ Some (record { at = at; reason = reasons.Truncated })
     → ((reading bytes).refused ≡ None) × (IsElement (tokens_read bytes) → ⊥) × (at ≡ length bytes)
 cut_by_refusal bytes at (Some f) fit e h =
     absurd (not_truncated bytes at reasons.Truncated ((refused_is_told bytes at reasons.Truncated fit).0 (e ∙ h)) refl)

@@ -11,7 +11,7 @@ use Rattle.wbxml_ints.specs.Multibyte.{IsMultibyte, AreBytes, integer_at}
 use Rattle.wbxml_ints.proofs.Functions.{at_is_found}
 use Rattle.wbxml_tokens.specs.declared.reason.Reason.TheVariants as reasons
 use Rattle.wbxml_tokens.specs.Fronts.{Front, more, wrong, head, switch, token, integer_then, identifier_number}
-use Rattle.wbxml_tokens.specs.Fronts.{identifier_text, utf_8, table_string, is_identified, head_of, table_in}
+use Rattle.wbxml_tokens.specs.Fronts.{identifier_text, utf_8, table_string, is_identified, identified_head, table_in}
 use Rattle.wbxml_tokens.specs.Fronts.{charset_in, behind_identifier, index_in, identifier_in, prologue_at}
 use Rattle.wbxml_tokens.specs.Spelled.{IsIdentifier, IsPrologue}
 use Rattle.wbxml_tokens.proofs.Spells.{integer_front, bytes_behind}
@@ -30,9 +30,9 @@ same_bytes a b e = search rules
 table_front : (index : Option ℕ) (at : ℕ) (table rest : List ℕ) → is_identified index table ≡ true
     → table_in index (length table) at (table ++ rest) ≡ head table (at + length table)
 table_front index at table rest h =
-    ap (λ (c : Bool). if c then head_of index (take (length table) (table ++ rest)) (at + length table) else more)
+    ap (λ (c : Bool). if c then identified_head index (take (length table) (table ++ rest)) (at + length table) else more)
     enough
-    ∙ ap (λ t. head_of index t (at + length table)) (take_at table rest (length table) refl)
+    ∙ ap (λ t. identified_head index t (at + length table)) (take_at table rest (length table) refl)
     ∙ ap (λ (c : Bool). if c then head table (at + length table) else wrong 1 reasons.Publicid) h
   where
     enough : nat_le (length table) (length (table ++ rest)) ≡ true
@@ -138,7 +138,7 @@ head_is index strings t n u true e is =
 head_is index strings t n u false e is = absurd cc
 
 table_there : (index : Option ℕ) (count at : ℕ) (bytes t : List ℕ) (u : ℕ) (c : Bool) → nat_le count (length bytes) ≡ c
-    → (if c then head_of index (take count bytes) (at + count) else more) ≡ head t u
+    → (if c then identified_head index (take count bytes) (at + count) else more) ≡ head t u
     → (count ≤ length bytes) × (take count bytes ≡ t) × (u ≡ at + count) × (is_identified index t ≡ true)
 table_there index count at bytes t u false e is = absurd cc
 table_there index count at bytes t u true e is =
@@ -316,7 +316,7 @@ of_if false f g a b = b
 
 of_table : (index : Option ℕ) (count at : ℕ) (bytes : List ℕ) → OfPrologue (table_in index count at bytes)
 of_table index count at bytes =
-    of_if (nat_le count (length bytes)) (head_of index (take count bytes) (at + count)) more
+    of_if (nat_le count (length bytes)) (identified_head index (take count bytes) (at + count)) more
     (of_if (is_identified index (take count bytes)) (head (take count bytes) (at + count)) (wrong 1 reasons.Publicid) tt
     tt) tt
 

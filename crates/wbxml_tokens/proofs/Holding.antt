@@ -10,7 +10,7 @@ use Rattle.wbxml_tokens.specs.declared.token.Placed.{Placed}
 use Rattle.wbxml_tokens.specs.declared.token.Token.TheVariants.{Text}
 use Rattle.wbxml_tokens.specs.Fronts.{more, token, until_zero, text_in, front}
 use Rattle.wbxml_tokens.specs.Reading.{Reader, Reading, begun_by, most_bytes, taken_by, is_whole, found, reads}
-use Rattle.wbxml_tokens.specs.Taking.{Taking, Stops, StopsAmong, Feeds, GivesAll, taken}
+use Rattle.wbxml_tokens.specs.Taking.{Taking, Stops, StopsAmong, Feeds, GivesAll, taken_all}
 use Rattle.wbxml_tokens.specs.Parts.{IsReached}
 use Rattle.wbxml_tokens.proofs.Steps.{reads-append, walk, Walks}
 use Rattle.wbxml_tokens.proofs.Turns.{nothing, found_in_body}
@@ -39,9 +39,9 @@ read_again r piece h some =
 pub feeds_all : {W : Type 0} (k : Taking W) (left : W → W → Type 0) (used : ℕ) (r s : Reader) (w v : W) (bytes : List ℕ)
     (x : Reading)
     → GivesAll k left (Ok used) r s w v bytes → x ≡ reads (begun_by r) bytes
-    → (taken k w x.tokens ≡ Ok v) × (x.refused ≡ None) × (x.reader ≡ record s { held = drop used bytes })
+    → (taken_all k w x.tokens ≡ Ok v) × (x.refused ≡ None) × (x.reader ≡ record s { held = drop used bytes })
 feeds_all k left used r s w v bytes x (few, tokens, handed, same, begun, empty) is = (
-  ap (λ y. taken k w y.tokens) (is ∙ same) ∙ ap (taken k w) (append-nil tokens) ∙ handed,
+  ap (λ y. taken_all k w y.tokens) (is ∙ same) ∙ ap (taken_all k w) (append-nil tokens) ∙ handed,
   ap (λ y. y.refused) (is ∙ same),
   ap (λ y. y.reader) (is ∙ same),
 )
@@ -57,8 +57,8 @@ pub before_all : {W : Type 0} (k : Taking W) (left : W → W → Type 0) (w : W)
 before_all k left w tokens = (0, w, refl, inl refl)
 
 pub behind_all : {W : Type 0} (k : Taking W) (left : W → W → Type 0) (w v : W) (tokens : List Placed)
-    → taken k w tokens ≡ Ok v → StopsAmong k left w v tokens
-behind_all k left w v tokens h = (length tokens, v, ap (taken k w) (take-length tokens) ∙ h, inl refl)
+    → taken_all k w tokens ≡ Ok v → StopsAmong k left w v tokens
+behind_all k left w v tokens h = (length tokens, v, ap (taken_all k w) (take-length tokens) ∙ h, inl refl)
 
 -- ---- texts that go on
 
@@ -127,7 +127,7 @@ read_text r piece h some room is =
 pub text_feeds : {W : Type 0} (k : Taking W) (left : W → W → Type 0) (answer : Result Unit FeedError) (w : W)
     (s : Reader) (x : Reading) (same : Type 0)
     → OnOk answer (begun_by s ≡ x) → IfErr answer (λ e. (e ≡ errors.Memory) × same) → Feeds k left answer w w x
-text_feeds k left (Ok u) w s x same ok err = (ap (λ y. taken k w y.tokens) (sym ok), ap (λ y. y.refused) (sym ok))
+text_feeds k left (Ok u) w s x same ok err = (ap (λ y. taken_all k w y.tokens) (sym ok), ap (λ y. y.refused) (sym ok))
 text_feeds k left (Err e) w s x same ok err =
     subst (λ y. Stops k left y w w x) (sym err.0) (before_all k left w x.tokens)
 

@@ -9,16 +9,17 @@ use Rattle.wbxml_tokens.specs.declared.reason.FeedError.TheVariants as errors
 use Rattle.wbxml_tokens.specs.declared.token.Placed.{Placed}
 use Rattle.wbxml_tokens.specs.Fronts.{Front, front, prologue_at}
 use Rattle.wbxml_tokens.specs.Reading.{Reader, Reading, begun_by, most_bytes, is_whole, found, reads}
-use Rattle.wbxml_tokens.specs.Taking.{Taking, Stops, GivesPart, GivesNoToken, GivesFirst, GivesAll, told, taken}
+use Rattle.wbxml_tokens.specs.Taking.{Taking, Stops, GivesPart, GivesNoToken, GivesFirst, GivesAll, told_before}
+use Rattle.wbxml_tokens.specs.Taking.{taken_all}
 use Rattle.wbxml_tokens.proofs.Turns.{nothing, stops_told, taken_both, first_given}
 
 -- so many bytes were read, and their tokens handed on
 pub record SoFar {W : Type 0} (k : Taking W) (first w : W) (start r : Reader) (bytes : List ℕ) (at : ℕ) : Type 0 where
   pub tokens : List Placed
-  pub handed : taken k first tokens ≡ Ok w
-  pub same : reads (begun_by start) bytes ≡ told tokens (reads (begun_by r) (drop at bytes))
+  pub handed : taken_all k first tokens ≡ Ok w
+  pub same : reads (begun_by start) bytes ≡ told_before tokens (reads (begun_by r) (drop at bytes))
 
-told-append : (a b : List Placed) (x : Reading) → told a (told b x) ≡ told (a ++ b) x
+told-append : (a b : List Placed) (x : Reading) → told_before a (told_before b x) ≡ told_before (a ++ b) x
 told-append a b x = ap (λ t. record x { tokens = t }) (sym (append_assoc a b x.tokens))
 
 pub so_far_none : {W : Type 0} (k : Taking W) (w : W) (r : Reader) (bytes : List ℕ) → SoFar k w w r r bytes 0
@@ -33,9 +34,9 @@ so_far_on k left first w v start r s bytes at (suc n) so some (few, tokens, hand
   tokens = so.tokens ++ tokens;
   handed = taken_both k first w v so.tokens tokens so.handed handed;
   same =
-      so.same ∙ ap (told so.tokens) on
+      so.same ∙ ap (told_before so.tokens) on
       ∙ told-append so.tokens tokens (reads (begun_by s) (drop (suc n) (drop at bytes)))
-      ∙ ap (λ y. told (so.tokens ++ tokens) (reads (begun_by s) y)) (drop-drop (suc n) at bytes);
+      ∙ ap (λ y. told_before (so.tokens ++ tokens) (reads (begun_by s) y)) (drop-drop (suc n) at bytes);
 }
 
 -- the next part isn't whole
@@ -52,10 +53,10 @@ all_but_one {W} k left first w v start r s bytes at n so few none h = from_zero 
       few,
       so.tokens ++ tokens,
       taken_both k first w v so.tokens tokens so.handed handed,
-      so.same ∙ ap (told so.tokens) all
+      so.same ∙ ap (told_before so.tokens) all
           ∙ ap (λ t. record { tokens = t; refused = None; reader = record r { held = drop at bytes } })
           (tokens_same tokens empty)
-          ∙ ap (λ x. told (so.tokens ++ tokens) (begun_by (record x { held = drop at bytes }))) (sym same),
+          ∙ ap (λ x. told_before (so.tokens ++ tokens) (begun_by (record x { held = drop at bytes }))) (sym same),
       ap (λ x. found x (drop at bytes)) same ∙ begun,
       λ whole. absurd (never (ap (λ x. is_whole x.extent) (sym same) ∙ whole) open_),
     )
@@ -76,8 +77,8 @@ all_of_them k left first w start r bytes at so few all none =
       few,
       so.tokens,
       so.handed,
-      so.same ∙ ap (λ y. told so.tokens (reads (begun_by r) y)) empty
-          ∙ ap (λ h. told so.tokens (begun_by (record r { held = h }))) (none ∙ sym empty),
+      so.same ∙ ap (λ y. told_before so.tokens (reads (begun_by r) y)) empty
+          ∙ ap (λ h. told_before so.tokens (begun_by (record r { held = h }))) (none ∙ sym empty),
       ap (found r) empty ∙ nothing r,
       λ _. empty,
     )
@@ -105,9 +106,9 @@ all_after k left (Ok used) first w v start r s bytes n so few (small, tokens, ha
       omega (arith, small, few, length-drop n bytes),
       so.tokens ++ tokens,
       taken_both k first w v so.tokens tokens so.handed handed,
-      so.same ∙ ap (told so.tokens) same
+      so.same ∙ ap (told_before so.tokens) same
           ∙ told-append so.tokens tokens (begun_by (record s { held = drop used (drop n bytes) }))
-          ∙ ap (λ h. told (so.tokens ++ tokens) (begun_by (record s { held = h }))) there,
+          ∙ ap (λ h. told_before (so.tokens ++ tokens) (begun_by (record s { held = h }))) there,
       ap (found s) (sym there) ∙ begun,
       λ whole. sym there ∙ empty whole,
     )
@@ -117,7 +118,7 @@ all_after k left (Err e) first w v start r s bytes n so few h = stopped k left e
 pub head_given : {W : Type 0} (k : Taking W) (left : W → W → Type 0) (answer : Result ℕ FeedError) (r s : Reader)
     (w : W) (part : Front)
     → GivesNoToken answer r s part → GivesPart k left answer r s w w part
-head_given k left (Ok n) r s w part (size, behind_it, none, is_taken) = (size, behind_it, ap (taken k w) none, is_taken)
+head_given k left (Ok n) r s w part (size, behind_it, none, is_taken) = (size, behind_it, ap (taken_all k w) none, is_taken)
 head_given k left (Err (errors.Refused f)) r s w part h = inl (h, refl)
 head_given k left (Err errors.Memory) r s w part h = ((0, w, refl, inl refl), h)
 

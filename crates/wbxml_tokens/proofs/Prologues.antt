@@ -11,7 +11,8 @@ use Rattle.wbxml_ints.proofs.Functions.{at_is_found, big_is_found}
 use Rattle.wbxml_tokens.specs.declared.reason.Reason.{Reason}
 use Rattle.wbxml_tokens.specs.declared.reason.Reason.TheVariants as reasons
 use Rattle.wbxml_tokens.specs.Fronts.{Front, more, wrong, head, integer_then, identifier_number, identifier_text, utf_8}
-use Rattle.wbxml_tokens.specs.Fronts.{table_string, is_identified, head_of, table_in, charset_in, behind_identifier}
+use Rattle.wbxml_tokens.specs.Fronts.{table_string, is_identified, identified_head, table_in, charset_in}
+use Rattle.wbxml_tokens.specs.Fronts.{behind_identifier}
 use Rattle.wbxml_tokens.specs.Fronts.{index_in, identifier_in, prologue_at}
 use Rattle.wbxml_tokens.specs.Spelled.{IsVersion, IsIdentifierBy, IsIndexOfText, UpToIdentifier, UpToIndex, UpToCharset}
 use Rattle.wbxml_tokens.specs.Spelled.{UpToCount, UpToInteger, IsWrongPrologue, WrongPrologueIsRefused}
@@ -142,9 +143,9 @@ not_identified index table none = either (is_identified (Some index) table) refl
 text_wrong : (index at : ℕ) (table rest : List ℕ) → (IsIndexOfText table index → ⊥)
     → table_in (Some index) (length table) at (table ++ rest) ≡ wrong 1 reasons.Publicid
 text_wrong index at table rest none =
-    ap (λ (c : Bool). if c then head_of (Some index) (take (length table) (table ++ rest)) (at + length table)
+    ap (λ (c : Bool). if c then identified_head (Some index) (take (length table) (table ++ rest)) (at + length table)
     else more) enough
-    ∙ ap (λ t. head_of (Some index) t (at + length table)) (take_at table rest (length table) refl)
+    ∙ ap (λ t. identified_head (Some index) t (at + length table)) (take_at table rest (length table) refl)
     ∙ ap (λ (c : Bool). if c then head table (at + length table) else wrong 1 reasons.Publicid)
     (not_identified index table none)
   where
@@ -236,7 +237,7 @@ head_told all before count bytes (Some index) n at false e h is spells few = (
 table_told : (all before count bytes : List ℕ) (index : Option ℕ) (n at : ℕ) (c : Bool) → nat_le n (length bytes) ≡ c
     → UpToCount index before
     → all ≡ before ++ (count ++ bytes) → IsMultibyte n count
-    → Told all (if c then head_of index (take n bytes) (at + n) else more)
+    → Told all (if c then identified_head index (take n bytes) (at + n) else more)
 table_told all before count bytes index n at false e h is spells = tt
 table_told all before count bytes index n at true e h is spells =
     head_told all before count bytes index n (at + n) (is_identified index (take n bytes)) refl h is spells

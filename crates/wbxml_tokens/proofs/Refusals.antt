@@ -12,9 +12,9 @@ use Rattle.wbxml_tokens.specs.declared.token.Placed.{Placed}
 use Rattle.wbxml_tokens.specs.declared.extent.Extent.{Extent}
 use Rattle.wbxml_tokens.specs.declared.extent.Extent.TheVariants as extents
 use Rattle.wbxml_tokens.specs.Fronts.{Front, more, wrong, head, switch, token, front, prologue_at}
-use Rattle.wbxml_tokens.specs.Reading.{Reader, Reading, at_start, begun_by, most_bytes, taken_by, is_whole}
+use Rattle.wbxml_tokens.specs.Reading.{Reader, Reading, first_reader, begun_by, most_bytes, taken_by, is_whole}
 use Rattle.wbxml_tokens.specs.Reading.{extent_after, refuse, limit, reads, reading}
-use Rattle.wbxml_tokens.specs.Taking.{told}
+use Rattle.wbxml_tokens.specs.Taking.{told_before}
 use Rattle.wbxml_tokens.specs.Spelled.{IsPrologue, SpellsTokens, none, switch as a_switch, token as a_token, IsWrong}
 use Rattle.wbxml_tokens.specs.Spelled.{ReadsUpTo, RefusedAt, in_prologue, in_body, trailing, unfinished_prologue}
 use Rattle.wbxml_tokens.specs.Spelled.{unfinished_body, RefusedIsTold}
@@ -193,7 +193,7 @@ front_room bytes = omega (arith, length-take most_bytes bytes)
 in_two : (bytes : List ℕ) → reading bytes ≡ reads (reading (take most_bytes bytes)) (drop most_bytes bytes)
 in_two bytes =
     ap reading (sym (take-append-drop most_bytes bytes))
-    ∙ reads-append (begun_by at_start) (take most_bytes bytes) (drop most_bytes bytes)
+    ∙ reads-append (begun_by first_reader) (take most_bytes bytes) (drop most_bytes bytes)
 
 refused_front : (bytes : List ℕ) (g : Refusal) → (reading (take most_bytes bytes)).refused ≡ Some g
     → (reading bytes).refused ≡ Some g
@@ -203,18 +203,18 @@ refused_front bytes g h =
 -- the bytes up to a place lead to a reader of the body
 up_to : (bytes table rest : List ℕ) (page at : ℕ) (extent : Extent) (s : ReadsUpTo bytes table page at extent rest)
     → at ≤ most_bytes
-    → reading bytes ≡ told [] (told s.tokens (reads (begun_by (body_at table page at extent)) rest))
+    → reading bytes ≡ told_before [] (told_before s.tokens (reads (begun_by (body_at table page at extent)) rest))
 up_to bytes table rest page at extent s room =
     let short : length (s.prologue ++ s.body) ≤ most_bytes =
     omega (arith, room, s.place, length-append s.prologue s.body) in
-    let start : reading (s.prologue ++ s.body) ≡ told [] (told s.tokens (begun_by (body_at table page at extent))) =
+    let start : reading (s.prologue ++ s.body) ≡ told_before [] (told_before s.tokens (begun_by (body_at table page at extent))) =
     spelled_reading table s.prologue s.body s.tokens page extent s.is_prologue s.spells short
-    ∙ ap (λ n. told [] (told s.tokens (begun_by (body_at table page n extent)))) (sym s.place) in
+    ∙ ap (λ n. told_before [] (told_before s.tokens (begun_by (body_at table page n extent)))) (sym s.place) in
     ap reading (s.whole ∙ sym (append_assoc s.prologue s.body rest))
-    ∙ reads-append (begun_by at_start) (s.prologue ++ s.body) rest
+    ∙ reads-append (begun_by first_reader) (s.prologue ++ s.body) rest
     ∙ ap (λ x. reads x rest) start
-    ∙ reads-told [] (told s.tokens (begun_by (body_at table page at extent))) rest
-    ∙ ap (told []) (reads-told s.tokens (begun_by (body_at table page at extent)) rest)
+    ∙ reads-told [] (told_before s.tokens (begun_by (body_at table page at extent))) rest
+    ∙ ap (told_before []) (reads-told s.tokens (begun_by (body_at table page at extent)) rest)
 
 place_within : (bytes table rest : List ℕ) (page at : ℕ) (extent : Extent) → ReadsUpTo bytes table page at extent rest
     → at + length rest ≡ length bytes
@@ -261,7 +261,7 @@ long_refused : (bytes : List ℕ) → (reading (take most_bytes bytes)).refused 
 long_refused bytes sound open_ long =
     let x : Reading = reading (take most_bytes bytes) in
     let full : taken_by x.reader ≡ most_bytes =
-    takes_all (take most_bytes bytes) (begun_by at_start) sound ∙ all_there in
+    takes_all (take most_bytes bytes) (begun_by first_reader) sound ∙ all_there in
     ap (λ y. y.refused) (in_two bytes
     ∙ limit_refuses x reasons.Toolong most_bytes (drop most_bytes bytes) sound (full_limit x.reader open_ full) full
     (omega (arith, long, length-drop most_bytes bytes)))
@@ -285,8 +285,8 @@ told_sound bytes table rest page at extent s room open_ begun =
 begun_sound : (bytes : List ℕ) → length bytes ≤ most_bytes → prologue_at bytes ≡ more
     → ((reading bytes).refused ≡ None) × (is_whole (reading bytes).reader.extent ≡ false)
 begun_sound bytes room is =
-    let walked : Walks (begun_by at_start) bytes bytes more =
-    subst (Walks (begun_by at_start) bytes bytes) is (walks_first at_start bytes (refl, refl, omega (arith, room))) in
+    let walked : Walks (begun_by first_reader) bytes bytes more =
+    subst (Walks (begun_by first_reader) bytes bytes) is (walks_first first_reader bytes (refl, refl, omega (arith, room))) in
     (ap (λ x. x.refused) walked, ap (λ x. is_whole x.reader.extent) walked)
 
 bytes_left : (a b : List ℕ) → AreBytes (a ++ b) → AreBytes b
@@ -298,9 +298,9 @@ told_refused : (bytes : List ℕ) (at : ℕ) (reason : Reason) → AreBytes byte
     → (reading bytes).refused ≡ Some (record { at = at; reason = reason })
 told_refused bytes at reason fit (in_prologue h) =
     let first : List ℕ = take most_bytes bytes in
-    let walked : Walks (begun_by at_start) first first (wrong at reason) =
-    subst (Walks (begun_by at_start) first first) (wrong_prologue_refused first at reason h)
-    (walks_first at_start first (refl, refl, omega (arith, front_room bytes))) in
+    let walked : Walks (begun_by first_reader) first first (wrong at reason) =
+    subst (Walks (begun_by first_reader) first first) (wrong_prologue_refused first at reason h)
+    (walks_first first_reader first (refl, refl, omega (arith, front_room bytes))) in
     let same : 0 + at ≡ at = omega arith in
     refused_front bytes (record { at = at; reason = reason })
     (walked.0 ∙ ap (λ n. Some (record { at = n; reason = reason })) same)
@@ -384,9 +384,9 @@ front_by bytes f more fit h is =
     (begun_sound (take most_bytes bytes) (front_room bytes) is).0)
 front_by bytes f (wrong at reason) fit h is =
     let first : List ℕ = take most_bytes bytes in
-    let walked : Walks (begun_by at_start) first first (wrong at reason) =
-    subst (Walks (begun_by at_start) first first) is
-    (walks_first at_start first (refl, refl, omega (arith, front_room bytes))) in
+    let walked : Walks (begun_by first_reader) first first (wrong at reason) =
+    subst (Walks (begun_by first_reader) first first) is
+    (walks_first first_reader first (refl, refl, omega (arith, front_room bytes))) in
     let same : f ≡ record { at = 0 + at; reason = reason } =
     same_refusal f (record { at = 0 + at; reason = reason }) (sym h ∙ walked.0) in
     let place : at ≡ f.at = omega (arith, ap (λ x. x.at) same) in

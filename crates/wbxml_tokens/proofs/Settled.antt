@@ -7,13 +7,14 @@ use Rattle.std.proofs.lemmas.List.{drop_at, take_at, take-append-le, length-drop
 use Rattle.std.proofs.Math.Seq.{take-add}
 use Rattle.wbxml_ints.specs.declared.Mb.{Mb}
 use Rattle.wbxml_ints.specs.declared.Mb.TheVariants as mb
-use Rattle.wbxml_ints.specs.Multibyte.{integer_from, integer_at, whole_of}
+use Rattle.wbxml_ints.specs.Multibyte.{integer_from, integer_at, whole_number}
 use Rattle.wbxml_tables.specs.declared.Element.{Element}
 use Rattle.wbxml_tables.specs.Tables.{element_at}
 use Rattle.wbxml_tokens.specs.declared.reason.Reason.TheVariants as reasons
 use Rattle.wbxml_tokens.specs.declared.token.Token.TheVariants.{End, Text, Opaque}
 use Rattle.wbxml_tokens.specs.Fronts.{Front, more, wrong, head, switch, token, until_zero, integer_then, switch_in}
-use Rattle.wbxml_tokens.specs.Fronts.{text_in, table_text_in, opaque_in, tag_in, tag_of, front, is_identified, head_of}
+use Rattle.wbxml_tokens.specs.Fronts.{text_in, table_text_in, opaque_in, tag_in, tag_of, front, is_identified}
+use Rattle.wbxml_tokens.specs.Fronts.{identified_head}
 use Rattle.wbxml_tokens.specs.Fronts.{table_in, charset_in, behind_identifier, index_in, identifier_in, prologue_at}
 use Rattle.wbxml_tokens.specs.Reading.{size_of}
 
@@ -44,7 +45,7 @@ first_settled : (value used left b : ℕ) (bs : List ℕ) (c : Bool) → nat_lt 
     → SettledInteger (integer_from (value * 128 + (b - 128)) (suc used) left) (suc used) bs
     (integer_from (value * 128 + (b - 128)) (suc used) left bs)
     → SettledInteger (integer_from value used (suc left)) used (b ∷ bs)
-    (if c then whole_of (value * 128 + b) (suc used) else integer_from (value * 128 + (b - 128)) (suc used) left bs)
+    (if c then whole_number (value * 128 + b) (suc used) else integer_from (value * 128 + (b - 128)) (suc used) left bs)
 first_settled value used left b bs true e h =
     whole_settled value used left b bs (nat_lt (value * 128 + b) (2 ^ 32)) e refl
 first_settled value used left b bs false e h =
@@ -304,15 +305,15 @@ head_either index count at bytes true few e = (
   refl,
   few,
   λ b.
-      ap (λ (c : Bool). if c then head_of index (take count (take count bytes ++ b)) (at + count) else more)
+      ap (λ (c : Bool). if c then identified_head index (take count (take count bytes ++ b)) (at + count) else more)
       (fits_front count bytes b few)
-      ∙ ap (λ x. head_of index x (at + count)) (same_front count bytes b few)
+      ∙ ap (λ x. identified_head index x (at + count)) (same_front count bytes b few)
       ∙ ap (λ (c : Bool). if c then head (take count bytes) (at + count) else wrong 1 reasons.Publicid) e,
 )
 head_either index count at bytes false few e =
-    λ b. ap (λ (c : Bool). if c then head_of index (take count (bytes ++ b)) (at + count) else more)
+    λ b. ap (λ (c : Bool). if c then identified_head index (take count (bytes ++ b)) (at + count) else more)
     (longer_fits count bytes b few)
-    ∙ ap (λ x. head_of index x (at + count)) (take-append-le count bytes b few)
+    ∙ ap (λ x. identified_head index x (at + count)) (take-append-le count bytes b few)
     ∙ ap (λ (c : Bool). if c then head (take count bytes) (at + count) else wrong 1 reasons.Publicid) e
   where
     longer_fits : (count : ℕ) (bytes b : List ℕ) → count ≤ length bytes → nat_le count (length (bytes ++ b)) ≡ true
@@ -320,7 +321,7 @@ head_either index count at bytes false few e =
         let there : count ≤ length (bytes ++ b) = omega (arith, length-append bytes b, few) in grind arith
 
 count_either : (index : Option ℕ) (count at : ℕ) (bytes : List ℕ) (c : Bool) → nat_le count (length bytes) ≡ c
-    → Settles at (table_in index count at) bytes (if c then head_of index (take count bytes) (at + count) else more)
+    → Settles at (table_in index count at) bytes (if c then identified_head index (take count bytes) (at + count) else more)
 count_either index count at bytes false e = tt
 count_either index count at bytes true e =
     head_either index count at bytes (is_identified index (take count bytes)) (search rules) refl

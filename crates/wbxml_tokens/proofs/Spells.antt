@@ -11,14 +11,14 @@ use Rattle.wbxml_ints.proofs.Functions.{found_is_at, at_is_found}
 use Rattle.wbxml_tables.proofs.Rows.{row_is_right}
 use Rattle.wbxml_tables.specs.declared.Element.{Element}
 use Rattle.wbxml_tables.specs.declared.Element.TheVariants as elements
-use Rattle.wbxml_tables.specs.Tables.{page_of, code_on_page, element_at, IsAt}
+use Rattle.wbxml_tables.specs.Tables.{page_of, code_on_page, element_at, HasCode}
 use Rattle.wbxml_tokens.specs.declared.reason.Reason.TheVariants as reasons
 use Rattle.wbxml_tokens.specs.declared.token.Token.{Token}
 use Rattle.wbxml_tokens.specs.declared.token.Token.TheVariants.{Tag, End, Text, Opaque}
 use Rattle.wbxml_tokens.specs.Spelling.{tag_byte}
 use Rattle.wbxml_tokens.specs.Fronts.{Front, more, wrong, head, switch, token, until_zero, table_string, integer_then}
 use Rattle.wbxml_tokens.specs.Fronts.{switch_in, text_in, table_text_in, opaque_in, tag_in, tag_of, front}
-use Rattle.wbxml_tokens.specs.Spelled.{HasNoZero, IsSpelled}
+use Rattle.wbxml_tokens.specs.Spelled.{HasNoZero, SpellsToken}
 
 -- ---- what is spelled stands at the front
 
@@ -95,7 +95,7 @@ end_front : (page : ℕ) (table rest : List ℕ) → front page table (0x01 ∷ 
 unfolding front
 end_front page table rest = refl
 
-pub spelled_front : (page : ℕ) (table : List ℕ) (t : Token) (first rest : List ℕ) → IsSpelled page table t first
+pub spelled_front : (page : ℕ) (table : List ℕ) (t : Token) (first rest : List ℕ) → SpellsToken page table t first
     → front page table (first ++ rest) ≡ token t (length first)
 spelled_front page table (Tag e content) first rest (on, is) =
     subst (λ y. front page table (y ++ rest) ≡ token (Tag e content) (length y)) (sym is)
@@ -131,7 +131,7 @@ bytes_behind (suc n) (b ∷ bs) h = bytes_behind n bs h.1
 
 -- the part is spelled by its bytes
 abbrev SpeltBy : ℕ → List ℕ → List ℕ → Front → Type 0
-SpeltBy page table bytes (token t used) = (used ≤ length bytes) × IsSpelled page table t (take used bytes)
+SpeltBy page table bytes (token t used) = (used ≤ length bytes) × SpellsToken page table t (take used bytes)
 SpeltBy page table bytes (switch other) = (other < 2) × (bytes ≡ 0x00 ∷ other ∷ drop 2 bytes)
 SpeltBy page table bytes (head strings used) = ⊥
 SpeltBy page table bytes other = ⊤
@@ -219,7 +219,7 @@ found_spelt : (page : ℕ) (table bs : List ℕ) (x : ℕ) (o : Option Element) 
     → SpeltBy page table (x ∷ bs) (tag_in o (nat_le 0x40 x))
 found_spelt page table bs x None high is = tt
 found_spelt page table bs x (Some e) high is =
-    let right : IsAt page (x % 0x40) e = row_is_right page (x % 0x40) e is in
+    let right : HasCode page (x % 0x40) e = row_is_right page (x % 0x40) e is in
     (omega arith, (right.0, ap (λ y. y ∷ []) (content_is e x (nat_le 0x40 x) refl high right.1)))
 
 tag_spelt : (page : ℕ) (table bs : List ℕ) (x : ℕ) (c : Bool) → (nat_le 0x80 x || nat_lt (x % 0x40) 5) ≡ c
@@ -267,7 +267,7 @@ first_spelt page table x bs false false false false false fit e0 e1 e3 e83 ec3 =
 
 pub front_spelt : (page : ℕ) (table bytes : List ℕ) (t : Token) (used : ℕ) → AreBytes bytes
     → front page table bytes ≡ token t used
-    → (used ≤ length bytes) × IsSpelled page table t (take used bytes)
+    → (used ≤ length bytes) × SpellsToken page table t (take used bytes)
 unfolding front
 front_spelt page table [] t used fit is = absurd cc
 front_spelt page table (x ∷ bs) t used fit is =
@@ -299,7 +299,7 @@ no_head page table (x ∷ bs) strings used fit is =
     refl)
 
 -- no token is spelled by no byte
-nothing_spelled : (page : ℕ) (table : List ℕ) (t : Token) → IsSpelled page table t [] → ⊥
+nothing_spelled : (page : ℕ) (table : List ℕ) (t : Token) → SpellsToken page table t [] → ⊥
 nothing_spelled page table (Tag e content) h = absurd (no_cons (tag_byte e content) [] h.1)
   where
     no_cons : (b : ℕ) (bs : List ℕ) → [] ≡ b ∷ bs → ⊥
@@ -318,7 +318,7 @@ nothing_spelled page table (Opaque content) h = absurd (no_cons 0xc3 (h.0 ++ con
     no_cons : (b : ℕ) (bs : List ℕ) → [] ≡ b ∷ bs → ⊥
     no_cons b bs e = cc
 
-some_bytes : (page : ℕ) (table bytes : List ℕ) (t : Token) (used : ℕ) → IsSpelled page table t (take used bytes)
+some_bytes : (page : ℕ) (table bytes : List ℕ) (t : Token) (used : ℕ) → SpellsToken page table t (take used bytes)
     → 0 < used
 some_bytes page table bytes t zero h = absurd (nothing_spelled page table t h)
 some_bytes page table bytes t (suc used) h = omega arith

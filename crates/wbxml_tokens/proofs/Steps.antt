@@ -8,21 +8,21 @@ use Rattle.std.specs.Prelude.{◌==◌, Bool, true, false, if◌then◌else◌, 
 use Rattle.wbxml_tokens.specs.declared.reason.Reason.TheVariants as reasons
 use Rattle.wbxml_tokens.specs.declared.reason.Refusal.{Refusal}
 use Rattle.wbxml_tokens.specs.Fronts.{Front, more, wrong, head, switch, token, front, prologue_at}
-use Rattle.wbxml_tokens.specs.Reading.{Reader, Reading, most_bytes, is_whole, taken_by, found, size_of, behind}
-use Rattle.wbxml_tokens.specs.Reading.{tokens_of, refuse, met, limit, step_within, step_from, step, reads}
+use Rattle.wbxml_tokens.specs.Reading.{Reader, Reading, most_bytes, is_whole, taken_by, found, size_of, reader_behind}
+use Rattle.wbxml_tokens.specs.Reading.{tokens_of, refuse, met, limit, step_within, step_from, step_byte, reads}
 use Rattle.wbxml_tokens.proofs.Settled.{Settles, front_settled, prologue_settled}
 
 pub reads-append : (x : Reading) (a b : List ℕ) → reads x (a ++ b) ≡ reads (reads x a) b
 unfolding reads
 reads-append x [] b = refl
-reads-append x (byte ∷ a) b = reads-append (step x byte) a b
+reads-append x (byte ∷ a) b = reads-append (step_byte x byte) a b
 
 -- a refusal stays
 pub stays : (x : Reading) (f : Refusal) (bytes : List ℕ) → x.refused ≡ Some f → reads x bytes ≡ x
 unfolding reads
 stays x f [] is = refl
 stays x f (byte ∷ bytes) is =
-    let same : step x byte ≡ x = ap (λ o. step_from o x byte) is in ap (λ y. reads y bytes) same ∙ stays x f bytes is
+    let same : step_byte x byte ≡ x = ap (λ o. step_from o x byte) is in ap (λ y. reads y bytes) same ∙ stays x f bytes is
 
 pub found_settled : (r : Reader) (bytes : List ℕ) → Settles 0 (found r) bytes (found r bytes)
 found_settled r bytes = in_body_or_not r.is_in_body
@@ -42,7 +42,7 @@ no_limit r open_ room =
 
 one_step : (x : Reading) (byte : ℕ) → x.refused ≡ None → is_whole x.reader.extent ≡ false
     → taken_by x.reader < most_bytes
-    → step x byte ≡ met x (x.reader.held ++ byte ∷ []) (found x.reader (x.reader.held ++ byte ∷ []))
+    → step_byte x byte ≡ met x (x.reader.held ++ byte ∷ []) (found x.reader (x.reader.held ++ byte ∷ []))
 one_step x byte sound open_ room =
     ap (λ o. step_from o x byte) sound ∙ ap (λ o. step_within o x byte) (no_limit x.reader open_ room)
 
@@ -50,7 +50,7 @@ one_step x byte sound open_ room =
 abbrev pub past : Reading → Front → Reading
 past x part = record x {
   tokens = x.tokens ++ tokens_of x.reader.place part;
-  reader = record (behind x.reader part) { held = [] };
+  reader = record (reader_behind x.reader part) { held = [] };
 }
 
 -- what reading more bytes gives, by what stands at the front of all bytes since the place
@@ -91,13 +91,13 @@ part_met : (x : Reading) (bytes : List ℕ) (part : Front) → IsPart part → d
 part_met x bytes more p e = absurd p
 part_met x bytes (wrong at reason) p e = absurd p
 part_met x bytes (head table size) p e =
-    ap (λ k. record x { tokens = x.tokens ++ []; reader = record (behind x.reader (head table size)) { held = k } }) e
+    ap (λ k. record x { tokens = x.tokens ++ []; reader = record (reader_behind x.reader (head table size)) { held = k } }) e
 part_met x bytes (switch page) p e =
-    ap (λ k. record x { tokens = x.tokens ++ []; reader = record (behind x.reader (switch page)) { held = k } }) e
+    ap (λ k. record x { tokens = x.tokens ++ []; reader = record (reader_behind x.reader (switch page)) { held = k } }) e
 part_met x bytes (token t size) p e =
     ap (λ k. record x {
       tokens = x.tokens ++ record { at = x.reader.place; token = t } ∷ [];
-      reader = record (behind x.reader (token t size)) { held = k };
+      reader = record (reader_behind x.reader (token t size)) { held = k };
     }) e
 
 pub more_is_none : (part : Front) → IsPart part → more ≡ part → ⊥
@@ -117,7 +117,7 @@ has_all r h b part k p begun few settled = elim (cases_lt (length h) k) [
       ∙ ap (λ y. found r (y ++ drop k h)) (sym (take-append-le k h (b ∷ []) below)) ∙ settled (drop k h)))
 ]
 
-walk_part : (x : Reading) (h bs : List ℕ) (b : ℕ) (part : Front) → IsPart part → step x b ≡ met x (h ++ b ∷ []) part
+walk_part : (x : Reading) (h bs : List ℕ) (b : ℕ) (part : Front) → IsPart part → step_byte x b ≡ met x (h ++ b ∷ []) part
     → found x.reader h ≡ more
     → (k : ℕ) → size_of part ≡ 0 + k → k ≤ length (h ++ b ∷ [])
     → ((rest : List ℕ) → found x.reader (take k (h ++ b ∷ []) ++ rest) ≡ part)
@@ -140,7 +140,7 @@ walk_part x h bs b part p stepped begun k is few settled =
     (ap (λ y. reads y bs) (stepped ∙ part_met x (h ++ b ∷ []) part p empty) ∙ ap (reads (past x part)) rest))
 
 walk_by : (x : Reading) (h bs : List ℕ) (b : ℕ) (g : Front) → found x.reader (h ++ b ∷ []) ≡ g
-    → step x b ≡ met x (h ++ b ∷ []) g
+    → step_byte x b ≡ met x (h ++ b ∷ []) g
     → found x.reader h ≡ more → Settles 0 (found x.reader) (h ++ b ∷ []) g
     → (found x.reader (h ++ b ∷ []) ≡ more
     → Walks (holding x (h ++ b ∷ [])) ((h ++ b ∷ []) ++ bs) bs (found x.reader ((h ++ b ∷ []) ++ bs)))
@@ -172,7 +172,7 @@ walk [] h x sound held open_ room begun =
     let none : found x.reader (h ++ []) ≡ more = ap (found x.reader) (append-nil h) ∙ begun in
     subst (Walks x (h ++ []) []) (sym none) (ap (holding x) (held ∙ sym (append-nil h)))
 walk (b ∷ bs) h x sound held open_ room begun =
-    let stepped : step x b ≡ met x (h ++ b ∷ []) (found x.reader (h ++ b ∷ [])) =
+    let stepped : step_byte x b ≡ met x (h ++ b ∷ []) (found x.reader (h ++ b ∷ [])) =
     one_step x b sound open_ (omega (arith, room, ap length held))
     ∙ ap (λ y. met x (y ++ b ∷ []) (found x.reader (y ++ b ∷ []))) held in
     walk_by x h bs b (found x.reader (h ++ b ∷ [])) refl stepped begun (found_settled x.reader (h ++ b ∷ []))

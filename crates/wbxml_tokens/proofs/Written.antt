@@ -15,7 +15,7 @@ use Rattle.wbxml_tokens.specs.declared.token.Placed.{Placed}
 use Rattle.wbxml_tokens.specs.declared.extent.Extent.{Extent}
 use Rattle.wbxml_tokens.specs.declared.extent.Extent.TheVariants as extents
 use Rattle.wbxml_tokens.specs.Reading.{most_bytes, extent_after, is_whole, refusal_of}
-use Rattle.wbxml_tokens.specs.Spelling.{Written, written_after, given, prologue, tag_byte, token_bytes, page_after}
+use Rattle.wbxml_tokens.specs.Spelling.{WrittenSoFar, written_after, given, prologue, tag_byte, token_bytes, page_after}
 use Rattle.wbxml_tokens.specs.Spelling.{spelled, page_behind}
 use Rattle.wbxml_tokens.specs.Spelled.{IsPrologue, SpellsTokens, none, switch as a_switch, token as a_token}
 use Rattle.wbxml_tokens.specs.Whole.{IsElement, extent_behind, tokens_read}
@@ -164,7 +164,7 @@ is_prologue = record {
   whole = refl;
 }
 
-pub given_bytes : (w : Written) (ts : List Token)
+pub given_bytes : (w : WrittenSoFar) (ts : List Token)
     → given written_after w ts ≡ record { bytes = w.bytes ++ spelled w.page ts; page = page_behind w.page ts }
 given_bytes w [] = ap (λ b. record w { bytes = b }) (sym (append-nil w.bytes))
 given_bytes w (t ∷ ts) =
@@ -204,7 +204,7 @@ in_element extent (t ∷ ts) ends = (
 
 pub written_is_read : WrittenIsRead
 written_is_read ts all element room =
-    let w : Written = given written_after at_prologue ts in
+    let w : WrittenSoFar = given written_after at_prologue ts in
     let s : IsWrittenOf ts w =
     written_is_spelled ts all (in_element extents.Before ts ((element_is_whole ts).0 element).1) in
     let read =

@@ -7,7 +7,7 @@ use Rattle.wbxml_ints.specs.declared.Mb.TheVariants as mb
 use Rattle.wbxml_ints.specs.Multibyte.{IsTooBig, AreBytes, integer_at}
 use Rattle.wbxml_ints.proofs.Functions.{found_is_at, at_is_found, big_is_found}
 use Rattle.wbxml_tables.specs.declared.Element.{Element}
-use Rattle.wbxml_tables.specs.Tables.{element_at, IsAt}
+use Rattle.wbxml_tables.specs.Tables.{element_at, HasCode}
 use Rattle.wbxml_tables.proofs.Rows.{none_at, no_row}
 use Rattle.wbxml_tokens.specs.declared.reason.Reason.{Reason}
 use Rattle.wbxml_tokens.specs.declared.reason.Reason.TheVariants as reasons
@@ -143,7 +143,7 @@ found_wrong : (page : ℕ) (table bs : List ℕ) (x : ℕ) (o : Option Element) 
 found_wrong page table bs x (Some e) is small high = tt
 found_wrong page table bs x None is small high = (refl, inr (x, bs, refl, (small, high, λ e at. absent e at)))
   where
-    absent : (e : Element) → IsAt page (x % 0x40) e → ⊥
+    absent : (e : Element) → HasCode page (x % 0x40) e → ⊥
     absent e at = none_at page (x % 0x40) e is at
 
 tag_wrong : (page : ℕ) (table bs : List ℕ) (x : ℕ) (c : Bool) → (nat_le 0x80 x || nat_lt (x % 0x40) 5) ≡ c

@@ -93,12 +93,12 @@ is_identified None table = true
 is_identified (Some index) table = nat_lt index (length table) && bytes_eq (table_string table index) identifier_text
 
 -- a whole prologue, whose identifier is judged with its table
-abbrev pub head_of : Option ℕ → List ℕ → ℕ → Front
-head_of index table used = if is_identified index table then head table used else wrong 1 reasons.Publicid
+abbrev pub identified_head : Option ℕ → List ℕ → ℕ → Front
+identified_head index table used = if is_identified index table then head table used else wrong 1 reasons.Publicid
 
 abbrev pub table_in : Option ℕ → ℕ → ℕ → List ℕ → Front
 table_in index count at bytes =
-    if nat_le count (length bytes) then head_of index (take count bytes) (at + count) else more
+    if nat_le count (length bytes) then identified_head index (take count bytes) (at + count) else more
 
 abbrev pub charset_in : Option ℕ → ℕ → ℕ → ℕ → List ℕ → Front
 charset_in index place charset at bytes =

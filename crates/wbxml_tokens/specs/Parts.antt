@@ -5,7 +5,7 @@ use Rattle.wbxml_tokens.specs.declared.reason.Refusal.{Refusal}
 use Rattle.wbxml_tokens.specs.declared.reason.FeedError.{FeedError}
 use Rattle.wbxml_tokens.specs.declared.reason.FeedError.TheVariants as errors
 use Rattle.wbxml_tokens.specs.declared.reason.Reason.TheVariants as reasons
-use Rattle.wbxml_tokens.specs.declared.prologue.Head.{Head}
+use Rattle.wbxml_tokens.specs.declared.prologue.WholePrologue.{WholePrologue}
 use Rattle.wbxml_tokens.specs.Fronts.{Front, more, wrong, head}
 use Rattle.wbxml_tokens.specs.declared.spot.Spot.{Spot}
 use Rattle.wbxml_tokens.specs.declared.reader.State.{State}
@@ -23,13 +23,13 @@ reader_at s table = record {
 }
 
 -- what reading a prologue gives
-abbrev pub GivesHead : Result (Option Head) Refusal → Front → Type 0
+abbrev pub GivesHead : Result (Option WholePrologue) Refusal → Front → Type 0
 GivesHead (Ok None) part = part ≡ more
 GivesHead (Ok (Some h)) part = part ≡ head h.table.now h.size
 GivesHead (Err f) part = part ≡ wrong f.at f.reason
 
 -- a prologue of at most so many bytes
-abbrev pub Keeps : Result (Option Head) Refusal → ℕ → Type 0
+abbrev pub Keeps : Result (Option WholePrologue) Refusal → ℕ → Type 0
 Keeps (Ok None) count = ⊤
 Keeps (Ok (Some h)) count = h.size ≤ count
 Keeps (Err f) count = f.at < 2 ^ 32

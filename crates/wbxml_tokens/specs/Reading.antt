@@ -57,8 +57,8 @@ pub record Reading : Type 0 where
   pub refused : Option Refusal
   pub reader : Reader
 
-abbrev pub at_start : Reader
-at_start = record { place = 0; held = []; is_in_body = false; table = []; page = 0; extent = extents.Before }
+abbrev pub first_reader : Reader
+first_reader = record { place = 0; held = []; is_in_body = false; table = []; page = 0; extent = extents.Before }
 
 abbrev pub begun_by : Reader → Reading
 begun_by r = record { tokens = []; refused = None; reader = r }
@@ -80,12 +80,12 @@ size_of (switch page) = 2
 size_of (token t used) = used
 
 -- a reader behind a part
-abbrev pub behind : Reader → Front → Reader
-behind r more = r
-behind r (wrong at reason) = r
-behind r (head table used) = record r { place = r.place + used; is_in_body = true; table = table }
-behind r (switch page) = record r { place = r.place + 2; page = page }
-behind r (token t used) = record r { place = r.place + used; extent = extent_after r.extent t }
+abbrev pub reader_behind : Reader → Front → Reader
+reader_behind r more = r
+reader_behind r (wrong at reason) = r
+reader_behind r (head table used) = record r { place = r.place + used; is_in_body = true; table = table }
+reader_behind r (switch page) = record r { place = r.place + 2; page = page }
+reader_behind r (token t used) = record r { place = r.place + used; extent = extent_after r.extent t }
 
 -- the tokens of a part that begins at a place
 abbrev pub tokens_of : ℕ → Front → List Placed
@@ -101,7 +101,7 @@ met x bytes more = record x { reader = record x.reader { held = bytes } }
 met x bytes (wrong at reason) = refuse x (x.reader.place + at) reason
 met x bytes part = record x {
   tokens = x.tokens ++ tokens_of x.reader.place part;
-  reader = record (behind x.reader part) { held = drop (size_of part) bytes };
+  reader = record (reader_behind x.reader part) { held = drop (size_of part) bytes };
 }
 
 -- why it takes no further byte
@@ -119,22 +119,22 @@ step_from (Some refusal) x byte = x
 step_from None x byte = step_within (limit x.reader) x byte
 
 -- one more byte
-abbrev pub step : Reading → ℕ → Reading
-step x byte = step_from x.refused x byte
+abbrev pub step_byte : Reading → ℕ → Reading
+step_byte x byte = step_from x.refused x byte
 
 -- more bytes
 unfoldable pub reads : Reading → List ℕ → Reading
 reads x [] = x
-reads x (byte ∷ bytes) = reads (step x byte) bytes
+reads x (byte ∷ bytes) = reads (step_byte x byte) bytes
 
 -- what a reader has of these bytes
 abbrev pub reading : List ℕ → Reading
-reading bytes = reads (begun_by at_start) bytes
+reading bytes = reads (begun_by first_reader) bytes
 
-abbrev pub ended : Option Refusal → Reader → Option Refusal
-ended (Some refusal) r = Some refusal
-ended None r = if is_whole r.extent then None else Some (record { at = taken_by r; reason = reasons.Truncated })
+abbrev pub refused_at_end : Option Refusal → Reader → Option Refusal
+refused_at_end (Some refusal) r = Some refusal
+refused_at_end None r = if is_whole r.extent then None else Some (record { at = taken_by r; reason = reasons.Truncated })
 
 -- why these bytes are no whole document, where nothing follows them
 abbrev pub refusal_of : List ℕ → Option Refusal
-refusal_of bytes = ended (reading bytes).refused (reading bytes).reader
+refusal_of bytes = refused_at_end (reading bytes).refused (reading bytes).reader

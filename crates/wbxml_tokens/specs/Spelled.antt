@@ -4,7 +4,7 @@ use Rattle.std.specs.Prelude.{◌≡◌, ◌↔◌, ◌+◌, ◌%◌, ◌<◌, �
 use Rattle.std.specs.Prelude.{Option, None, Some}
 use Rattle.wbxml_ints.specs.Multibyte.{IsMultibyte, IsTooBig, AreBytes}
 use Rattle.wbxml_tables.specs.declared.Element.{Element}
-use Rattle.wbxml_tables.specs.Tables.{page_of, IsAt}
+use Rattle.wbxml_tables.specs.Tables.{page_of, HasCode}
 use Rattle.wbxml_tokens.specs.declared.reason.Reason.{Reason}
 use Rattle.wbxml_tokens.specs.declared.reason.Reason.TheVariants as reasons
 use Rattle.wbxml_tokens.specs.declared.token.Token.{Token}
@@ -34,11 +34,11 @@ IsOfTable table text bytes =
     × (text ≡ table_string table index)
 
 -- the bytes spell the token, on this page and with this string table
-abbrev pub IsSpelled : ℕ → List ℕ → Token → List ℕ → Type 0
-IsSpelled page table (Tag e content) bytes = (page_of e ≡ page) × (bytes ≡ tag_byte e content ∷ [])
-IsSpelled page table End bytes = bytes ≡ 0x01 ∷ []
-IsSpelled page table (Text text) bytes = IsInline text bytes ⊎ IsOfTable table text bytes
-IsSpelled page table (Opaque content) bytes =
+abbrev pub SpellsToken : ℕ → List ℕ → Token → List ℕ → Type 0
+SpellsToken page table (Tag e content) bytes = (page_of e ≡ page) × (bytes ≡ tag_byte e content ∷ [])
+SpellsToken page table End bytes = bytes ≡ 0x01 ∷ []
+SpellsToken page table (Text text) bytes = IsInline text bytes ⊎ IsOfTable table text bytes
+SpellsToken page table (Opaque content) bytes =
     (number : List ℕ) × (bytes ≡ 0xc3 ∷ number ++ content) × IsMultibyte (length content) number
 
 -- Bytes of the body spell the placed tokens: from a page, a place and an extent of the one element on, up to a page and
@@ -51,7 +51,7 @@ pub data SpellsTokens (table : List ℕ) : ℕ → ℕ → Extent → List Place
       → SpellsTokens table page at extent tokens (0x00 ∷ other ∷ bytes) last end
   token : {page at last : ℕ} {extent end : Extent} {tokens : List Placed} (t : Token) (first rest bytes : List ℕ)
       → is_whole extent ≡ false
-      → IsSpelled page table t first
+      → SpellsToken page table t first
       → SpellsTokens table page (at + length first) (extent_after extent t) tokens rest last end → bytes ≡ first ++ rest
       → SpellsTokens table page at extent (record { at = at; token = t } ∷ tokens) bytes last end
 
@@ -96,8 +96,8 @@ pub record IsReadSo (bytes : List ℕ) (tokens : List Placed) : Type 0 where
 
 -- What spells tokens is read as them, in a document that isn't too long: they are read, with their places, and nothing
 -- is refused.
-abbrev pub SpelledIsRead : Type 0
-SpelledIsRead =
+abbrev pub SpelledTokensAreRead : Type 0
+SpelledTokensAreRead =
     (table prologue body : List ℕ) (tokens : List Placed) (page : ℕ) (extent : Extent) → IsPrologue table prologue
     → SpellsTokens table 0 (length prologue) extents.Before tokens body page extent
     → length (prologue ++ body) ≤ most_bytes
@@ -120,7 +120,7 @@ IsNoToken b =
 
 -- a tag whose code no element has on this page
 abbrev pub IsNoTag : ℕ → ℕ → Type 0
-IsNoTag page b = (b < 0x80) × (5 ≤ b % 0x40) × ((e : Element) → IsAt page (b % 0x40) e → ⊥)
+IsNoTag page b = (b < 0x80) × (5 ≤ b % 0x40) × ((e : Element) → HasCode page (b % 0x40) e → ⊥)
 
 -- why the part at the front of bytes of the body is refused, at its first byte
 abbrev pub IsWrong : ℕ → List ℕ → List ℕ → Reason → Type 0
@@ -221,7 +221,7 @@ pub record IsUnfinishedPrologue (bytes : List ℕ) : Type 0 where
 
 -- a part of the body that isn't whole: no token and no page switch stands at the front of the bytes, and it isn't wrong
 pub record IsUnfinishedPart (page : ℕ) (table bytes : List ℕ) : Type 0 where
-  pub no_token : (t : Token) (first rest : List ℕ) → bytes ≡ first ++ rest → IsSpelled page table t first → ⊥
+  pub no_token : (t : Token) (first rest : List ℕ) → bytes ≡ first ++ rest → SpellsToken page table t first → ⊥
   pub no_switch : (other : ℕ) (rest : List ℕ) → bytes ≡ 0x00 ∷ other ∷ rest → other < 2 → ⊥
   pub not_wrong : (reason : Reason) → IsWrong page table bytes reason → ⊥
 

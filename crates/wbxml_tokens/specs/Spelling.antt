@@ -40,12 +40,12 @@ page_behind page [] = page
 page_behind page (t ∷ ts) = page_behind (page_after page t) ts
 
 -- what a writer has written, and the page of its last tag
-pub record Written : Type 0 where
+pub record WrittenSoFar : Type 0 where
   pub bytes : List ℕ
   pub page : ℕ
 
 -- what it has written after one more token
-abbrev pub written_after : Written → Token → Written
+abbrev pub written_after : WrittenSoFar → Token → WrittenSoFar
 written_after w t = record { bytes = w.bytes ++ token_bytes w.page t; page = page_after w.page t }
 
 -- an element whose content is a text

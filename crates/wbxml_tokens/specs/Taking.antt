@@ -10,18 +10,19 @@ use Rattle.wbxml_tokens.specs.declared.reason.Stop.TheVariants as stops
 use Rattle.wbxml_tokens.specs.declared.token.Token.{Token}
 use Rattle.wbxml_tokens.specs.declared.token.Placed.{Placed}
 use Rattle.wbxml_tokens.specs.Fronts.{Front, more, wrong}
-use Rattle.wbxml_tokens.specs.Reading.{Reader, Reading, begun_by, found, is_whole, reads, size_of, behind, tokens_of}
+use Rattle.wbxml_tokens.specs.Reading.{Reader, Reading, begun_by, found, is_whole, reads, size_of, reader_behind}
+use Rattle.wbxml_tokens.specs.Reading.{tokens_of}
 
 -- an error says why a token is refused, or that it is another error, which leaves the writer so
-abbrev pub Tells : {W : Type 0} → (W → W → Type 0) → W → W → Option Reason → Option Reason → Type 0
-Tells left old new (Some reason) refusal = refusal ≡ Some reason
-Tells left old new None refusal = left old new
+abbrev pub TellsReason : {W : Type 0} → (W → W → Type 0) → W → W → Option Reason → Option Reason → Type 0
+TellsReason left old new (Some reason) refusal = refusal ≡ Some reason
+TellsReason left old new None refusal = left old new
 
 -- a token is taken exactly where it isn't refused
-abbrev pub Takes : {W E : Type 0} → (E → Option Reason) → (W → W → Type 0) → Result Unit E → W → W → Option Reason
+abbrev pub TakesToken : {W E : Type 0} → (E → Option Reason) → (W → W → Type 0) → Result Unit E → W → W → Option Reason
     → Type 0
-Takes reason left (Ok u) old new refusal = refusal ≡ None
-Takes reason left (Err e) old new refusal = Tells left old new (reason e) refusal
+TakesToken reason left (Ok u) old new refusal = refusal ≡ None
+TakesToken reason left (Err e) old new refusal = TellsReason left old new (reason e) refusal
 
 -- what a taker is, as the three functions of its trait
 pub record Taking (W : Type 0) : Type 0 where
@@ -42,9 +43,9 @@ abbrev pub ◌>>=◌ : {A B E : Type 0} → Result A E → (A → Result B E) �
 (Err e) >>= f = Err e
 
 -- a taker after these tokens, or its first refusal, at the token's place
-abbrev pub taken : {W : Type 0} → Taking W → W → List Placed → Result W Refusal
-taken k w [] = Ok w
-taken k w (p ∷ ps) = taken_one k (k.refusal (k.placed w p.at) p.token) w p >>= (λ v. taken k v ps)
+abbrev pub taken_all : {W : Type 0} → Taking W → W → List Placed → Result W Refusal
+taken_all k w [] = Ok w
+taken_all k w (p ∷ ps) = taken_one k (k.refusal (k.placed w p.at) p.token) w p >>= (λ v. taken_all k v ps)
 
 -- the first refusal is the taker's, or else the reader's
 abbrev pub IsFirst : {W : Type 0} → Result W Refusal → W → Option Refusal → Refusal → Type 0
@@ -56,24 +57,24 @@ IsLeft k left old new = (new ≡ old) ⊎ ((at : ℕ) × left (k.placed old at) 
 
 -- want of memory came after some of the tokens
 abbrev pub StopsAmong : {W : Type 0} → Taking W → (W → W → Type 0) → W → W → List Placed → Type 0
-StopsAmong {W} k left old new tokens = (n : ℕ) × (w : W) × (taken k old (take n tokens) ≡ Ok w) × IsLeft k left w new
+StopsAmong {W} k left old new tokens = (n : ℕ) × (w : W) × (taken_all k old (take n tokens) ≡ Ok w) × IsLeft k left w new
 
 -- why feeding stopped: a refusal, or want of memory
 abbrev pub Stops : {W : Type 0} → Taking W → (W → W → Type 0) → FeedError → W → W → Reading → Type 0
-Stops k left (errors.Refused f) old new x = IsFirst (taken k old x.tokens) new x.refused f
+Stops k left (errors.Refused f) old new x = IsFirst (taken_all k old x.tokens) new x.refused f
 Stops k left errors.Memory old new x = StopsAmong k left old new x.tokens
 
 -- what feeding gives: the tokens of the reading were handed on
 abbrev pub Feeds : {W A : Type 0} → Taking W → (W → W → Type 0) → Result A FeedError → W → W → Reading → Type 0
-Feeds k left (Ok a) old new x = (taken k old x.tokens ≡ Ok new) × (x.refused ≡ None)
+Feeds k left (Ok a) old new x = (taken_all k old x.tokens ≡ Ok new) × (x.refused ≡ None)
 Feeds k left (Err e) old new x = Stops k left e old new x
 
 -- ---- one part
 
 -- a refusal of the reader's own
-abbrev pub Refuses : ℕ → Front → Refusal → Type 0
-Refuses place (wrong at reason) f = f ≡ record { at = place + at; reason = reason }
-Refuses place other f = ⊥
+abbrev pub RefusesPart : ℕ → Front → Refusal → Type 0
+RefusesPart place (wrong at reason) f = f ≡ record { at = place + at; reason = reason }
+RefusesPart place other f = ⊥
 
 abbrev pub IsTaken : Front → Type 0
 IsTaken (wrong at reason) = ⊥
@@ -84,9 +85,9 @@ IsTaken other = ⊤
 abbrev pub GivesPart : {W : Type 0} → Taking W → (W → W → Type 0) → Result ℕ FeedError → Reader → Reader → W → W → Front
     → Type 0
 GivesPart k left (Ok size) old new w v part =
-    (size ≡ size_of part) × (new ≡ behind old part) × (taken k w (tokens_of old.place part) ≡ Ok v) × IsTaken part
+    (size ≡ size_of part) × (new ≡ reader_behind old part) × (taken_all k w (tokens_of old.place part) ≡ Ok v) × IsTaken part
 GivesPart k left (Err (errors.Refused f)) old new w v part =
-    (Refuses old.place part f × (v ≡ w)) ⊎ (taken k w (tokens_of old.place part) ≡ Err f)
+    (RefusesPart old.place part f × (v ≡ w)) ⊎ (taken_all k w (tokens_of old.place part) ≡ Err f)
 GivesPart k left (Err errors.Memory) old new w v part =
     StopsAmong k left w v (tokens_of old.place part) × IsTaken part
 
@@ -100,43 +101,43 @@ abbrev pub stop_at : ℕ → Stop → FeedError
 stop_at place (stops.Refused reason) = errors.Refused (record { at = place; reason = reason })
 stop_at place stops.Memory = errors.Memory
 
-abbrev pub told_at : ℕ → Result ℕ Stop → Result ℕ FeedError
-told_at place (Ok n) = Ok n
-told_at place (Err stop) = Err (stop_at place stop)
+abbrev pub stopped_at : ℕ → Result ℕ Stop → Result ℕ FeedError
+stopped_at place (Ok n) = Ok n
+stopped_at place (Err stop) = Err (stop_at place stop)
 
 -- what reading a part without tokens gives; of one that the reader refuses no want of memory is told
 abbrev pub GivesNoToken : Result ℕ FeedError → Reader → Reader → Front → Type 0
 GivesNoToken (Ok size) old new part =
-    (size ≡ size_of part) × (new ≡ behind old part) × (tokens_of old.place part ≡ []) × IsTaken part
-GivesNoToken (Err (errors.Refused f)) old new part = Refuses old.place part f
+    (size ≡ size_of part) × (new ≡ reader_behind old part) × (tokens_of old.place part ≡ []) × IsTaken part
+GivesNoToken (Err (errors.Refused f)) old new part = RefusesPart old.place part f
 GivesNoToken (Err errors.Memory) old new part = IsTaken part
 
 -- ---- the parts at the front of bytes
 
 -- a reading with these tokens before its own
-abbrev pub told : List Placed → Reading → Reading
-told tokens x = record x { tokens = tokens ++ x.tokens }
+abbrev pub told_before : List Placed → Reading → Reading
+told_before tokens x = record x { tokens = tokens ++ x.tokens }
 
 -- so many bytes were a part, and reading goes on behind them; none were, and they all are held
-abbrev pub GoesOn : ℕ → List Placed → Reader → Reader → List ℕ → Type 0
-GoesOn zero tokens old new bytes =
+abbrev pub PassesPart : ℕ → List Placed → Reader → Reader → List ℕ → Type 0
+PassesPart zero tokens old new bytes =
     (tokens ≡ []) × (new ≡ old) × (found old bytes ≡ more) × (is_whole old.extent ≡ false)
     × (reads (begun_by old) bytes ≡ begun_by (record old { held = bytes }))
-GoesOn (suc n) tokens old new bytes =
-    reads (begun_by old) bytes ≡ told tokens (reads (begun_by new) (drop (suc n) bytes))
+PassesPart (suc n) tokens old new bytes =
+    reads (begun_by old) bytes ≡ told_before tokens (reads (begun_by new) (drop (suc n) bytes))
 
 -- what reading the first part of bytes gives, where nothing is held
 abbrev pub GivesFirst : {W : Type 0} → Taking W → (W → W → Type 0) → Result ℕ FeedError → Reader → Reader → W → W
     → List ℕ → Type 0
 GivesFirst k left (Ok size) old new w v bytes =
-    (size ≤ length bytes) × (tokens : List Placed) × (taken k w tokens ≡ Ok v) × GoesOn size tokens old new bytes
+    (size ≤ length bytes) × (tokens : List Placed) × (taken_all k w tokens ≡ Ok v) × PassesPart size tokens old new bytes
 GivesFirst k left (Err e) old new w v bytes = Stops k left e w v (reads (begun_by old) bytes)
 
 -- all whole parts were read, and the bytes behind them are held
 abbrev pub GivesAll : {W : Type 0} → Taking W → (W → W → Type 0) → Result ℕ FeedError → Reader → Reader → W → W → List ℕ
     → Type 0
 GivesAll k left (Ok used) old new w v bytes =
-    (used ≤ length bytes) × (tokens : List Placed) × (taken k w tokens ≡ Ok v)
-    × (reads (begun_by old) bytes ≡ told tokens (begun_by (record new { held = drop used bytes })))
+    (used ≤ length bytes) × (tokens : List Placed) × (taken_all k w tokens ≡ Ok v)
+    × (reads (begun_by old) bytes ≡ told_before tokens (begun_by (record new { held = drop used bytes })))
     × (found new (drop used bytes) ≡ more) × (is_whole new.extent ≡ true → drop used bytes ≡ [])
 GivesAll k left (Err e) old new w v bytes = Stops k left e w v (reads (begun_by old) bytes)

@@ -8,11 +8,11 @@ use Rattle.wbxml_tokens.specs.declared.token.Placed.{Placed}
 use Rattle.wbxml_tokens.specs.Reading.{Reader, reading}
 
 -- tokens that wait, and the place of the next
-pub record Waiting : Type 0 where
+pub record WaitingTokens : Type 0 where
   pub at : ℕ
   pub tokens : List Placed
 
-abbrev pub waiting_after : Waiting → Token → Waiting
+abbrev pub waiting_after : WaitingTokens → Token → WaitingTokens
 waiting_after w t = record w { tokens = w.tokens ++ record { at = w.at; token = t } ∷ [] }
 
 -- tokens that wait, the first refusal, and the reader of what follows
@@ -34,10 +34,10 @@ TellsRefusal (Err (errors.Refused f)) refusal = refusal ≡ Some f
 TellsRefusal (Err errors.Memory) refusal = ⊤
 
 -- what an answer leaves: the same after want of memory, else what has read these bytes
-abbrev pub Leaves : Result Unit FeedError → Held → Held → List ℕ → List Placed → Type 0
-Leaves (Ok u) old new bytes given = HasRead new bytes given
-Leaves (Err (errors.Refused f)) old new bytes given = HasRead new bytes given
-Leaves (Err errors.Memory) old new bytes given = new ≡ old
+abbrev pub LeavesHeld : Result Unit FeedError → Held → Held → List ℕ → List Placed → Type 0
+LeavesHeld (Ok u) old new bytes given = HasRead new bytes given
+LeavesHeld (Err (errors.Refused f)) old new bytes given = HasRead new bytes given
+LeavesHeld (Err errors.Memory) old new bytes given = new ≡ old
 
 abbrev pub IsRefusal : Result Unit Refusal → Option Refusal → Type 0
 IsRefusal (Ok u) refusal = refusal ≡ None

@@ -6,13 +6,13 @@ use Rattle.wbxml_tokens.specs.declared.token.Token.TheVariants.{Tag, End, Text, 
 use Rattle.wbxml_tokens.specs.declared.token.Placed.{Placed}
 use Rattle.wbxml_tokens.specs.declared.extent.Extent.{Extent}
 use Rattle.wbxml_tokens.specs.declared.extent.Extent.TheVariants as extents
-use Rattle.wbxml_tokens.specs.Spelling.{Written, written_after, given as given_to, prologue}
+use Rattle.wbxml_tokens.specs.Spelling.{WrittenSoFar, written_after, given as given_to, prologue}
 use Rattle.wbxml_tokens.specs.Reading.{most_bytes, extent_after, is_whole, refusal_of}
 use Rattle.wbxml_tokens.specs.Spelled.{HasNoZero, IsPrologue, SpellsTokens}
 use Rattle.wbxml_tokens.specs.Whole.{IsElement, extent_behind, tokens_read}
 
 -- a writer that was given no token
-abbrev pub at_prologue : Written
+abbrev pub at_prologue : WrittenSoFar
 at_prologue = record { bytes = prologue; page = 0 }
 
 -- A token that has a spelling as it stands: the byte 00 would end a text, and an opaque's length is an integer of 32
@@ -29,7 +29,7 @@ AreInElement extent [] = ⊤
 AreInElement extent (t ∷ ts) = (is_whole extent ≡ false) × AreInElement (extent_after extent t) ts
 
 -- these bytes are a prologue without strings, and a body that spells the tokens up to this page
-pub record IsWrittenOf (given : List Token) (w : Written) : Type 0 where
+pub record IsWrittenOf (given : List Token) (w : WrittenSoFar) : Type 0 where
   pub body : List ℕ
   pub placed : List Placed
   pub whole : w.bytes ≡ prologue ++ body

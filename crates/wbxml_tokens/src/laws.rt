@@ -1,5 +1,6 @@
 // What is read of bytes, what they spell, and what is written.
-ghost use Rattle.wbxml_tokens.specs.Spelled.{SpelledIsRead, ReadIsSpelled, WrongIsRefused, WrongPrologueIsRefused};
+ghost use Rattle.wbxml_tokens.specs.Spelled.{SpelledTokensAreRead, ReadIsSpelled, WrongIsRefused};
+ghost use Rattle.wbxml_tokens.specs.Spelled.{WrongPrologueIsRefused};
 ghost use Rattle.wbxml_tokens.specs.Spelled.{UnfinishedPrologueWaits, UnfinishedPartWaits, RefusedIsTold};
 ghost use Rattle.wbxml_tokens.specs.Whole.{ElementIsWhole, DocumentIsElement, CutIsTruncated};
 ghost use Rattle.wbxml_tokens.specs.Written.{WrittenIsSpelled, WrittenIsRead};
@@ -8,7 +9,7 @@ ghost use Rattle.wbxml_tokens.specs.Written.{WrittenIsSpelled, WrittenIsRead};
 /// exactly these are read, and nothing is refused.
 #[tactic(auto, using(crate::proofs::Documents::spelled_is_read))]
 pub fn spelled_is_read()
-    ensures { SpelledIsRead }
+    ensures { SpelledTokensAreRead }
 {}
 
 /// Law: where nothing is refused, the tokens that are read are spelled by the bytes, from a whole prologue up to a

@@ -8,7 +8,7 @@ ghost use Rattle.wbxml_tokens.specs.declared.token.Token.TheVariants as pieces;
 ghost use Rattle.wbxml_tokens.specs.Fronts as Spec;
 ghost use Rattle.wbxml_tokens.specs.Fronts.{front, until_zero, table_string};
 ghost use Rattle.wbxml_tokens.specs.Reading.{depth_of};
-ghost use Rattle.wbxml_tokens.specs.Taking.{taking, told_at, GivesPart};
+ghost use Rattle.wbxml_tokens.specs.Taking.{taking, stopped_at, GivesPart};
 ghost use Rattle.wbxml_tokens.specs.Parts.{reader_at, HasRoom};
 
 use crate::reason::{Reason, Stop};
@@ -40,7 +40,7 @@ fn hand_tag<T: Taker>(
     requires room { HasRoom spot.old size }
     requires some { 0 < size }
     ensures gives { (table : List ℕ)
-        → GivesPart (taking T.placed T.after T.refusal) T.left (told_at spot.old.place result)
+        → GivesPart (taking T.placed T.after T.refusal) T.left (stopped_at spot.old.place result)
         (reader_at spot.old table) (reader_at spot.new table) taker.old taker.new
         (Spec.token (pieces.Tag element content) size) }
     ensures room { OnOk result (depth_of spot.new.extent ≤ spot.new.place) }
@@ -62,7 +62,7 @@ fn hand_end<T: Taker>(spot: &mut Spot, size: usize, taker: &mut T) -> Result<usi
     requires room { HasRoom spot.old size }
     requires some { 0 < size }
     ensures gives { (table : List ℕ)
-        → GivesPart (taking T.placed T.after T.refusal) T.left (told_at spot.old.place result)
+        → GivesPart (taking T.placed T.after T.refusal) T.left (stopped_at spot.old.place result)
         (reader_at spot.old table) (reader_at spot.new table) taker.old taker.new (Spec.token pieces.End size) }
     ensures room { OnOk result (depth_of spot.new.extent ≤ spot.new.place) }
     ensures place { OnErr result (spot.new.place ≡ spot.old.place) }
@@ -89,7 +89,7 @@ fn hand_text<T: Taker>(
     requires room { HasRoom spot.old size }
     requires some { 0 < size }
     ensures gives { (table : List ℕ)
-        → GivesPart (taking T.placed T.after T.refusal) T.left (told_at spot.old.place result)
+        → GivesPart (taking T.placed T.after T.refusal) T.left (stopped_at spot.old.place result)
         (reader_at spot.old table) (reader_at spot.new table) taker.old taker.new
         (Spec.token (pieces.Text text.now) size) }
     ensures room { OnOk result (depth_of spot.new.extent ≤ spot.new.place) }
@@ -117,7 +117,7 @@ fn hand_opaque<T: Taker>(
     requires some { 0 < size }
     requires short { length bytes.now < 2 ^ 32 }
     ensures gives { (table : List ℕ)
-        → GivesPart (taking T.placed T.after T.refusal) T.left (told_at spot.old.place result)
+        → GivesPart (taking T.placed T.after T.refusal) T.left (stopped_at spot.old.place result)
         (reader_at spot.old table) (reader_at spot.new table) taker.old taker.new
         (Spec.token (pieces.Opaque bytes.now) size) }
     ensures room { OnOk result (depth_of spot.new.extent ≤ spot.new.place) }
@@ -137,7 +137,7 @@ fn hand_opaque<T: Taker>(
 fn tag<T: Taker>(spot: &mut Spot, byte: u8, taker: &mut T) -> Result<usize, Stop>
     requires room { HasRoom spot.old 1 }
     ensures gives { (table : List ℕ)
-        → GivesPart (taking T.placed T.after T.refusal) T.left (told_at spot.old.place result)
+        → GivesPart (taking T.placed T.after T.refusal) T.left (stopped_at spot.old.place result)
         (reader_at spot.old table) (reader_at spot.new table) taker.old taker.new (Spec.tag_of spot.old.page byte) }
     ensures room { OnOk result (depth_of spot.new.extent ≤ spot.new.place) }
     ensures place { OnErr result (spot.new.place ≡ spot.old.place) }
@@ -155,7 +155,7 @@ fn tag<T: Taker>(spot: &mut Spot, byte: u8, taker: &mut T) -> Result<usize, Stop
 fn text<T: Taker>(spot: &mut Spot, bytes: &[u8], taker: &mut T) -> Result<usize, Stop>
     requires room { HasRoom spot.old (length bytes.now + 1) }
     ensures gives { (table : List ℕ)
-        → GivesPart (taking T.placed T.after T.refusal) T.left (told_at spot.old.place result)
+        → GivesPart (taking T.placed T.after T.refusal) T.left (stopped_at spot.old.place result)
         (reader_at spot.old table) (reader_at spot.new table) taker.old taker.new
         (Spec.text_in (until_zero bytes.now) bytes.now) }
     ensures room { OnOk result (depth_of spot.new.extent ≤ spot.new.place) }
@@ -186,7 +186,7 @@ fn table_text<T: Taker>(
     taker: &mut T,
 ) -> Result<usize, Stop>
     requires room { HasRoom spot.old (length bytes.now + 1) }
-    ensures gives { GivesPart (taking T.placed T.after T.refusal) T.left (told_at spot.old.place result)
+    ensures gives { GivesPart (taking T.placed T.after T.refusal) T.left (stopped_at spot.old.place result)
         (reader_at spot.old table.now) (reader_at spot.new table.now) taker.old taker.new
         (Spec.integer_then 0 1 (integer_at bytes.now) bytes.now (Spec.table_text_in table.now)) }
     ensures room { OnOk result (depth_of spot.new.extent ≤ spot.new.place) }
@@ -210,7 +210,7 @@ fn table_text<T: Taker>(
 fn opaque<T: Taker>(spot: &mut Spot, bytes: &[u8], taker: &mut T) -> Result<usize, Stop>
     requires room { HasRoom spot.old (length bytes.now + 1) }
     ensures gives { (table : List ℕ)
-        → GivesPart (taking T.placed T.after T.refusal) T.left (told_at spot.old.place result)
+        → GivesPart (taking T.placed T.after T.refusal) T.left (stopped_at spot.old.place result)
         (reader_at spot.old table) (reader_at spot.new table) taker.old taker.new
         (Spec.integer_then 0 1 (integer_at bytes.now) bytes.now Spec.opaque_in) }
     ensures room { OnOk result (depth_of spot.new.extent ≤ spot.new.place) }
@@ -241,7 +241,7 @@ pub(crate) fn part<T: Taker>(
     taker: &mut T,
 ) -> Result<usize, Stop>
     requires room { HasRoom spot.old (length bytes.now) }
-    ensures gives { GivesPart (taking T.placed T.after T.refusal) T.left (told_at spot.old.place result)
+    ensures gives { GivesPart (taking T.placed T.after T.refusal) T.left (stopped_at spot.old.place result)
         (reader_at spot.old table.now) (reader_at spot.new table.now) taker.old taker.new
         (front spot.old.page table.now bytes.now) }
     ensures room { OnOk result (depth_of spot.new.extent ≤ spot.new.place) }

@@ -17,14 +17,14 @@ const UTF_8: u32 = 106;
 
 /// A whole prologue.
 #[derive(Clone, Copy)]
-pub(crate) struct Head<'a> {
+pub(crate) struct WholePrologue<'a> {
     /// The string table, which may be empty.
     pub table: &'a [u8],
     /// How many bytes the prologue has.
     pub size: usize,
 }
 
-type Answer<'a> = Result<Option<Head<'a>>, Refusal>;
+type Answer<'a> = Result<Option<WholePrologue<'a>>, Refusal>;
 
 fn refuse<'a>(at: usize, reason: Reason) -> Answer<'a>
     requires { at < 2 ^ 32 }
@@ -63,7 +63,7 @@ fn table_in<'a>(index: Option<u32>, count: u32, at: usize, bytes: &'a [u8]) -> A
     if !is_identified(index, table) {
         return refuse(1, Reason::Publicid);
     }
-    Ok(Some(Head {
+    Ok(Some(WholePrologue {
         table,
         size: at + count,
     }))

@@ -13,13 +13,13 @@ use wbxml_tables::Element;
 
 /// Tokens that wait, in their order.
 #[derive(Drop)]
-pub(crate) struct Queue {
+pub(crate) struct TokenQueue {
     alloc: Global,
     at: u64,
     tokens: VecDeque<Placed>,
 }
 
-impl Model for Queue {
+impl Model for TokenQueue {
     ghost use Rattle.wbxml_tokens.specs.Waiting.{Waiting};
 
     ghost Value = { Waiting };
@@ -27,12 +27,12 @@ impl Model for Queue {
     ghost view = { λ q. record { at = q.at; tokens = q.tokens.items } };
 }
 
-impl Queue {
+impl TokenQueue {
     /// A queue in which no token waits.
-    pub fn new(alloc: Global) -> Queue
+    pub fn new(alloc: Global) -> TokenQueue
         ensures { result.tokens ≡ [] }
     {
-        Queue {
+        TokenQueue {
             alloc,
             at: 0,
             tokens: VecDeque::new(alloc),
@@ -70,7 +70,7 @@ impl Queue {
     }
 }
 
-impl Writer for Queue {
+impl Writer for TokenQueue {
     type Error = Memory;
 
     ghost use Rattle.std.specs.Prelude.{◌≡◌, None};
@@ -103,7 +103,7 @@ impl Writer for Queue {
     }
 }
 
-impl Taker for Queue {
+impl Taker for TokenQueue {
     ghost placed = { λ q at. record q { at = at } };
 
     fn place(&mut self, at: u64) {

@@ -3,7 +3,8 @@ ghost use Rattle.std.specs.Prelude.{◌≡◌, ◌<◌, ◌≤◌, ◌+◌, ◌-
 ghost use Rattle.std.specs.Prelude.{length, take, drop, IfOk, IfErr, OnOk, OnErr};
 ghost use Rattle.wbxml_tokens.specs.declared.reason.FeedError.TheVariants as errors;
 ghost use Rattle.wbxml_tokens.specs.Fronts.{more};
-ghost use Rattle.wbxml_tokens.specs.Reading.{most_bytes, found, taken_by, begun_by, at_start, ended, reads};
+ghost use Rattle.wbxml_tokens.specs.Reading.{most_bytes, found, taken_by, begun_by, first_reader, refused_at_end};
+ghost use Rattle.wbxml_tokens.specs.Reading.{reads};
 ghost use Rattle.wbxml_tokens.specs.Taking.{taking, Feeds};
 ghost use Rattle.wbxml_tokens.specs.Parts.{reader_of, IsReached, IsBeyond, EndsPiece};
 
@@ -169,7 +170,7 @@ impl Model for Reader {
 impl Reader {
     /// A reader that has read nothing.
     pub fn new(alloc: Global) -> Reader
-        ensures { result ≡ at_start }
+        ensures { result ≡ first_reader }
     {
         Reader {
             state: State {
@@ -248,7 +249,7 @@ impl Reader {
 
     /// Why the bytes so far are no whole document, where nothing follows them.
     pub fn refusal_at_end(&self) -> Option<Refusal>
-        ensures { result ≡ ended Nothing self.now }
+        ensures { result ≡ refused_at_end Nothing self.now }
     {
         if self.state.spot.extent.is_whole() {
             return None;

@@ -2,7 +2,7 @@
 ghost use Rattle.std.specs.Prelude.{◌≡◌, ◌<◌, ◌≤◌, ◌+◌, ◌-◌, [], true, false, ℕ, List, length, drop, IfOk, OnOk, OnErr};
 ghost use Rattle.wbxml_tokens.specs.Reading.{is_whole};
 ghost use Rattle.wbxml_tokens.specs.Fronts.{prologue_at};
-ghost use Rattle.wbxml_tokens.specs.Taking.{taking, told_at, GivesFirst, GivesAll, GivesNoToken};
+ghost use Rattle.wbxml_tokens.specs.Taking.{taking, stopped_at, GivesFirst, GivesAll, GivesNoToken};
 ghost use Rattle.wbxml_tokens.specs.Parts.{reader_at, HasRoom};
 
 use crate::part::part;
@@ -23,7 +23,7 @@ fn next_part<T: Taker>(
     requires room { HasRoom spot.old (length bytes.now) }
     requires body { spot.old.is_in_body ≡ true }
     requires some { 0 < length bytes.now }
-    ensures gives { GivesFirst (taking T.placed T.after T.refusal) T.left (told_at spot.old.place result)
+    ensures gives { GivesFirst (taking T.placed T.after T.refusal) T.left (stopped_at spot.old.place result)
         (reader_at spot.old table.now) (reader_at spot.new table.now) taker.old taker.new bytes.now }
     ensures room { IfOk result (λ size. HasRoom spot.new (length bytes.now - size)) }
     ensures place { OnErr result (spot.new.place ≡ spot.old.place) }

@@ -1,7 +1,7 @@
 // The tokens of a body, and what takes them one after the other.
 ghost use Rattle.std.specs.Prelude.{◌≡◌, ◌<◌, ◌^◌, ℕ, length, Option as Maybe, OnOk};
 ghost use Rattle.wbxml_tokens.specs.declared.reason.Reason.{Reason as Cause};
-ghost use Rattle.wbxml_tokens.specs.Taking.{Takes};
+ghost use Rattle.wbxml_tokens.specs.Taking.{TakesToken};
 ghost use Rattle.wbxml_tokens.specs.Spelling.{given, leaf_tokens};
 ghost use Rattle.wbxml_tokens.specs.declared.token.Token.{Token as Piece};
 ghost use Rattle.wbxml_tokens.specs.declared.token.Token.TheVariants.{Tag, End, Text, Opaque};
@@ -45,15 +45,15 @@ pub trait Writer {
 
     fn tag(&mut self, element: Element, content: bool) -> Result<(), Self::Error>
         ensures ok { OnOk result (self.new ≡ after self.old (Tag element content)) }
-        ensures taken { Takes told left result self.old self.new (refusal self.old (Tag element content)) };
+        ensures taken { TakesToken told left result self.old self.new (refusal self.old (Tag element content)) };
 
     fn end(&mut self) -> Result<(), Self::Error>
         ensures ok { OnOk result (self.new ≡ after self.old End) }
-        ensures taken { Takes told left result self.old self.new (refusal self.old End) };
+        ensures taken { TakesToken told left result self.old self.new (refusal self.old End) };
 
     fn text(&mut self, text: &[u8]) -> Result<(), Self::Error>
         ensures ok { OnOk result (self.new ≡ after self.old (Text text.now)) }
-        ensures taken { Takes told left result self.old self.new (refusal self.old (Text text.now)) };
+        ensures taken { TakesToken told left result self.old self.new (refusal self.old (Text text.now)) };
 
     /// An element whose content is a text: its tag, the text and its end. Where one of them isn't taken, nothing is
     /// promised of those before it.
@@ -68,7 +68,7 @@ pub trait Writer {
     fn opaque(&mut self, bytes: &[u8]) -> Result<(), Self::Error>
         requires { length bytes.now < 2 ^ 32 }
         ensures ok { OnOk result (self.new ≡ after self.old (Opaque bytes.now)) }
-        ensures taken { Takes told left result self.old self.new (refusal self.old (Opaque bytes.now)) };
+        ensures taken { TakesToken told left result self.old self.new (refusal self.old (Opaque bytes.now)) };
 }
 
 /// A writer that a reader hands its tokens to: before each token it is told the token's place.

@@ -5,9 +5,9 @@ ghost use Rattle.wbxml_tokens.specs.declared.reason.FeedError.TheVariants as err
 ghost use Rattle.wbxml_tokens.specs.declared.reason.Refusal.{Refusal as ARefusal};
 ghost use Rattle.wbxml_tokens.specs.declared.token.Placed.{Placed as APlaced};
 ghost use Rattle.wbxml_tokens.specs.Reading.{reading, refusal_of};
-ghost use Rattle.wbxml_tokens.specs.Waiting.{HasRead, TellsRefusal, Leaves, IsRefusal};
+ghost use Rattle.wbxml_tokens.specs.Waiting.{HasRead, TellsRefusal, LeavesHeld, IsRefusal};
 
-use crate::queue::Queue;
+use crate::queue::TokenQueue;
 use crate::reader::Reader;
 use crate::reason::{FeedError, Refusal};
 use crate::token::Placed;
@@ -18,7 +18,7 @@ use std::marker::Model;
 #[derive(Drop)]
 pub struct Tokens {
     reader: Reader,
-    queue: Queue,
+    queue: TokenQueue,
     refused: Option<Refusal>,
 }
 
@@ -37,7 +37,7 @@ impl Tokens {
     {
         Tokens {
             reader: Reader::new(alloc),
-            queue: Queue::new(alloc),
+            queue: TokenQueue::new(alloc),
             refused: None,
         }
     }
@@ -48,7 +48,7 @@ impl Tokens {
         ensures refused { (bytes : List ℕ) (given : List APlaced) → HasRead self.old bytes given
             → TellsRefusal result (reading (bytes ++ piece.now)).refused }
         ensures read { (bytes : List ℕ) (given : List APlaced) → HasRead self.old bytes given
-            → Leaves result self.old self.new (bytes ++ piece.now) given }
+            → LeavesHeld result self.old self.new (bytes ++ piece.now) given }
         ensures kept { (refusal : ARefusal) → result ≡ Bad (errors.Refused refusal) → self.new.refused ≡ Just refusal }
         ensures memory { result ≡ Bad errors.Memory → self.new ≡ self.old }
     {
@@ -74,7 +74,7 @@ impl Tokens {
         ensures refused { (bytes : List ℕ) (given : List APlaced) → HasRead self.old bytes given
             → TellsRefusal result (reading (bytes ++ piece.now)).refused }
         ensures read { (bytes : List ℕ) (given : List APlaced) → HasRead self.old bytes given
-            → Leaves result self.old self.new (bytes ++ piece.now) given }
+            → LeavesHeld result self.old self.new (bytes ++ piece.now) given }
         ensures kept { (refusal : ARefusal) → result ≡ Bad (errors.Refused refusal) → self.new.refused ≡ Just refusal }
         ensures again { IfSome self.old.refused (λ refusal.
             (result ≡ Bad (errors.Refused refusal)) × (self.new ≡ self.old)) }

@@ -2,7 +2,7 @@
 ghost use Rattle.std.specs.Prelude.{◌≡◌, ◌≤◌, ◌<◌, ◌+◌, ◌^◌, ◌∷◌, ◌++◌, [], length, vec_len, vec_capacity};
 ghost use Rattle.std.specs.Prelude.{IfOk, OnOk, OnErr};
 ghost use Rattle.wbxml_tokens.specs.declared.token.Token.TheVariants.{Tag, End, Text, Opaque};
-ghost use Rattle.wbxml_tokens.specs.Spelling.{Written, written_after, given, leaf_tokens, prologue};
+ghost use Rattle.wbxml_tokens.specs.Spelling.{WrittenSoFar, written_after, given, leaf_tokens, prologue};
 
 use crate::token::Writer;
 use dm_base::{Bytes, Memory};
@@ -20,9 +20,9 @@ pub struct TokenWriter {
 }
 
 impl Model for TokenWriter {
-    ghost use Rattle.wbxml_tokens.specs.Spelling.{Written};
+    ghost use Rattle.wbxml_tokens.specs.Spelling.{WrittenSoFar};
 
-    ghost Value = { Written };
+    ghost Value = { WrittenSoFar };
 
     ghost view = { λ w. record { bytes = w.bytes.items; page = w.page } };
 }

@@ -2,7 +2,7 @@ use Rattle.std.proofs.Common.{◌≡◌, ◌∷◌, [], Some, IfOk, sym, subst}
 use Rattle.dm_uri.specs.Grammar.{printed}
 use Rattle.dm_tree.specs.Rows.{nodes}
 use Rattle.dm_commands.specs.Outcomes.{asked_by, node_at}
-use Rattle.dm_commands.specs.Finding.{found_at, found_by, node_value, prop_found}
+use Rattle.dm_commands.specs.Finding.{found_node, found_by, node_value, prop_found}
 use Rattle.dm_commands.proofs.finds.found_by_query.Goals as goal
 
 pub returns-in-Plain : goal.returns-in-Plain
@@ -12,7 +12,7 @@ returns-in-Plain c =
     (λ found. found ≡ found_by (asked_by c.args.caller.now c.args.tree.now.clock) m c.args.uri.now q))
     (sym c.in-Plain.is)
     (subst (λ p. IfOk c.found_node.result
-    (λ found. found ≡ found_at (printed c.args.uri.now) (node_at m p) (Some (node_value m p)) ∷ []))
+    (λ found. found ≡ found_node (printed c.args.uri.now) (node_at m p) (Some (node_value m p)) ∷ []))
     c.requires.place.path c.found_node.ensures)
 
 pub returns-in-Prop : goal.returns-in-Prop

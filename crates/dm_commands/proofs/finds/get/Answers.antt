@@ -1,6 +1,6 @@
 use Rattle.std.proofs.Common.{false, refl}
 use Rattle.dm_tree.specs.Rows.{nodes}
-use Rattle.dm_commands.specs.Outcomes.{asked_by, found_in}
+use Rattle.dm_commands.specs.Outcomes.{asked_by, done_finding}
 use Rattle.dm_commands.specs.Table.{get_refusals}
 use Rattle.dm_commands.specs.Finding.{found_by}
 use Rattle.dm_commands.specs.Promises.{none_moved}
@@ -11,7 +11,7 @@ pub returns-in-Err : goal.returns-in-Err
 returns-in-Err c =
     let m = nodes c.args.tree.now.rows in
     let s = asked_by c.args.caller.now c.args.tree.now.clock in
-    first-refused (get_refusals s m c.args.uri.now) (found_in m (found_by s m c.args.uri.now c.args.uri.now.query))
+    first-refused (get_refusals s m c.args.uri.now) (done_finding m (found_by s m c.args.uri.now c.args.uri.now.query))
     c.in-Err.code none_moved
     c.args.journal.now c.args.tree.now c.refuse.result c.in-Err.ensures.judged (c.refuse.ensures none_moved)
 
@@ -19,7 +19,7 @@ pub returns : goal.returns
 returns c =
     let m = nodes c.args.tree.now.rows in
     let s = asked_by c.args.caller.now c.args.tree.now.clock in
-    none-refused (get_refusals s m c.args.uri.now) (found_in m (found_by s m c.args.uri.now c.args.uri.now.query))
+    none-refused (get_refusals s m c.args.uri.now) (done_finding m (found_by s m c.args.uri.now c.args.uri.now.query))
     none_moved
     c.args.journal.now c.args.tree.now (record { code = 200; results = c.in_ok-results.results; started = false })
     c.in-Ok.ensures.judged

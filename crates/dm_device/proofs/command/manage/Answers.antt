@@ -1,6 +1,6 @@
 use Rattle.std.proofs.Common.{ap, ◌∙◌}
-use Rattle.dm_replay.specs.Events.{place_of as place_in}
-use Rattle.dm_replay.specs.Trace.{ids_of}
+use Rattle.dm_replay.specs.Events.{account_place as place_in}
+use Rattle.dm_replay.specs.Trace.{servers_of}
 use Rattle.dm_start.specs.Start.{told_of}
 use Rattle.dm_device.specs.Outsides.{outside_of}
 use Rattle.dm_device.proofs.Devices.{account_runs, answer_is_late, answer_is_managed, wanting}
@@ -9,7 +9,7 @@ use Rattle.dm_device.proofs.command.manage.Goals as goal
 pub returns-in-Ok-clause-runs : goal.returns-in-Ok-clause-runs
 returns-in-Ok-clause-runs g c =
     account_runs c.args.words.now (told_of c.args.start) c.in-Some.account c.in-Ok.client.machine _ _ _ _ _
-    (c.in-Some.ensures.place ∙ ap (place_in (ids_of c.args.start.accounts)) c.as_slice.ensures) c.in-Ok.ensures.machine
+    (c.in-Some.ensures.place ∙ ap (place_in (servers_of c.args.start.accounts)) c.as_slice.ensures) c.in-Ok.ensures.machine
     c.run.ensures.runs
 
 pub returns-in-Ok-clause-untouched : goal.returns-in-Ok-clause-untouched

@@ -1,7 +1,7 @@
 use Rattle.std.proofs.Common.{ap, length, ◌∙◌}
 use Rattle.dm_machine.specs.Machine.{Machine}
 use Rattle.dm_machine.proofs.Accounts.{accounts_stay}
-use Rattle.dm_session.specs.View.{Whole}
+use Rattle.dm_session.specs.View.{WholeMachine}
 use Rattle.dm_device.proofs.Talking.{body_heard, body_wants}
 use Rattle.dm_device.proofs.sessions.hear.Goals as goal
 
@@ -21,4 +21,4 @@ returns-in-Err-clause-turns g c =
     c.next-nonce.ensures.left
 
 pub returns-in-Err-clause-accounts : goal.returns-in-Err-clause-accounts
-returns-in-Err-clause-accounts g c = ap (λ (w : Whole). length w.machine.accounts) c.in-Err.ensures.err
+returns-in-Err-clause-accounts g c = ap (λ (w : WholeMachine). length w.machine.accounts) c.in-Err.ensures.err

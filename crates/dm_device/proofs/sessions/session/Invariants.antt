@@ -1,13 +1,13 @@
 use Rattle.std.proofs.Common.{◌≡◌, ◌≤◌, ◌-◌, ◌+◌, ◌*◌, length}
 use Rattle.dm_outside.specs.Calls.{IsIdle}
-use Rattle.dm_device.specs.Sessions.{IsGoing}
+use Rattle.dm_device.specs.Sessions.{IsWithinLimits}
 use Rattle.dm_device.proofs.Talking.{SoFar}
 use Rattle.dm_device.proofs.sessions.session.Given as goal
 
 abbrev pub invariant-exchanges : goal.invariant-exchanges
 invariant-exchanges g l = record {
   idle : IsIdle (g.D.Dialer.told l.dialer);
-  going : IsGoing l.tally;
+  going : IsWithinLimits l.tally;
   so_far : SoFar (g.D.Dialer.told l.fn.dialer) (g.D.Dialer.told l.dialer) (g.N.Nonces.left l.fn.nonces)
       (g.N.Nonces.left l.nonces) l.fn.client.machine l.client.machine l.tally l.address l.path;
   accounts : length l.client.machine.accounts ≡ length l.fn.client.machine.accounts;

@@ -1,6 +1,6 @@
 use Rattle.std.proofs.Common.{◌+◌, ◌∷◌, length, length-append, sym, ap, subst, ◌∙◌, arith}
 use Rattle.dm_fields.specs.Refusing.{Refuses}
-use Rattle.dm_job.specs.Reading.{after_line}
+use Rattle.dm_job.specs.Reading.{reading_after}
 use Rattle.dm_job.specs.Texts.{segments, job_in, job_from, job_of}
 use Rattle.dm_job.proofs.Turns.{goes_on, read_line, refused_line, last_line, has_job, ends_all, bad_all}
 use Rattle.dm_job.proofs.parsing.read_all.Goals as goal
@@ -49,4 +49,4 @@ returns-in-Err c =
     (λ why is. sym c.lines.invariant.left
     ∙ refused_line c.lines.number c.lines.reader c.lines.rest.now c.in-Some.line.now c.in-Some.behind.now why
     c.in-Some.ensures.1 (sym c.if-is_long.ensures)
-    (subst (Refuses (after_line c.lines.reader c.in-Some.line.now)) is c.in-Err.ensures.bad))
+    (subst (Refuses (reading_after c.lines.reader c.in-Some.line.now)) is c.in-Err.ensures.bad))

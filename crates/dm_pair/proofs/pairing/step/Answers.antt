@@ -1,6 +1,6 @@
 use Rattle.dm_machine.specs.Events.{loss, act}
 use Rattle.dm_replay.proofs.Answering.{on_ok}
-use Rattle.dm_pair.specs.declared.events.Event.TheVariants as event
+use Rattle.dm_pair.specs.declared.events.PairEvent.TheVariants as event
 use Rattle.dm_pair.specs.Seen.{seen}
 use Rattle.dm_pair.proofs.Wording.{loss_sends, act_sends}
 use Rattle.dm_pair.proofs.Both.{step_open, step_up, step_down, step_loss, step_act, end_words, end_state, words_then}

@@ -1,5 +1,5 @@
 use Rattle.std.proofs.Common.{Ok, arith, length}
-use Rattle.dm_pair.specs.declared.events.Event.TheVariants as event
+use Rattle.dm_pair.specs.declared.events.PairEvent.TheVariants as event
 use Rattle.dm_pair.specs.Seen.{seen}
 use Rattle.dm_pair.proofs.Turns.{shorter, said_of, events_end, event_goes_on, event_halts}
 use Rattle.dm_pair.proofs.Within.{same_counts}

@@ -1,7 +1,7 @@
 use Rattle.std.proofs.Common.{◌∙◌, ◌+◌, ap, sym, subst, arith, length}
-use Rattle.dm_pair.specs.Events.{IsOf}
+use Rattle.dm_pair.specs.Events.{IsPairEvent}
 use Rattle.dm_pair.specs.Texts.{happening, behind_text}
-use Rattle.dm_pair.specs.From.{rest_of}
+use Rattle.dm_pair.specs.From.{rest_written}
 use Rattle.dm_pair.specs.Seen.{seen}
 use Rattle.dm_pair.proofs.Writing.{writes_same, writes_rest, event_written}
 use Rattle.dm_pair.proofs.text.run_events.Goals as goal
@@ -9,7 +9,7 @@ use Rattle.dm_pair.proofs.text.run_events.Goals as goal
 pub returns-in-Err : goal.returns-in-Err
 returns-in-Err c =
     writes_same c.halted.result _ _
-    (writes_rest c.halted.result (rest_of c.events.number (happening c.args.ids.now (seen c.events.pairing))
+    (writes_rest c.halted.result (rest_written c.events.number (happening c.args.ids.now (seen c.events.pairing))
     c.events.rest.now) c.in-Err.halt c.events.out c.halted.ensures c.in-Err.ensures.halt)
     (sym c.events.invariant.written)
 
@@ -21,7 +21,7 @@ returns-in-None c =
 
 pub answer-requires-clause-event : goal.answer-requires-clause-event
 answer-requires-clause-event c =
-    subst (λ n. IsOf n (length c.events.pairing.ups) (length c.events.pairing.downs) c.in-Some.event)
+    subst (λ n. IsPairEvent n (length c.events.pairing.ups) (length c.events.pairing.downs) c.in-Some.event)
     c.events.invariant.accounts (rw c.in-Some.is at c.in-Ok.ensures.range)
 
 pub events-preserved : goal.events-preserved
@@ -37,6 +37,6 @@ events-preserved c =
       accounts = c.events.invariant.accounts ∙ sym c.in_ok-answer-in-Some.ensures.accounts;
       written = event_written _ _ _ c.events.out c.answer.new.out _ c.events.invariant.written said
           c.in_ok-answer-in-Some.ensures.told
-          ∙ ap (λ q. behind_text c.answer.new.out (rest_of (c.events.number + 1) (happening c.args.ids.now q)
+          ∙ ap (λ q. behind_text c.answer.new.out (rest_written (c.events.number + 1) (happening c.args.ids.now q)
           c.in-Ok.next.1.now)) (sym c.in_ok-answer-in-Some.ensures.state);
     }

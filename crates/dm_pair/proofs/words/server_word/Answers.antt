@@ -1,4 +1,4 @@
-use Rattle.dm_server.specs.declared.answers.Answer.TheVariants as served
+use Rattle.dm_server.specs.declared.answers.ServerAnswer.TheVariants as served
 use Rattle.dm_pair.proofs.Wording.{word_said}
 use Rattle.dm_pair.proofs.words.server_word.Goals as goal
 

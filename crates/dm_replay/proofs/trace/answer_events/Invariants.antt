@@ -1,6 +1,6 @@
 use Rattle.std.proofs.Common.{◌≡◌, ◌<◌, ◌≤◌, ◌+◌, ◌^◌, length}
 use Rattle.dm_base.specs.Lines.{room, CountsTaken}
-use Rattle.dm_replay.specs.From.{seen, SoFar}
+use Rattle.dm_replay.specs.From.{input_to_come, SoFar}
 use Rattle.dm_replay.proofs.Asked.{Answered}
 use Rattle.dm_replay.proofs.trace.answer_events.Given as goal
 
@@ -9,7 +9,7 @@ invariant-events g l = record {
   few : l.number + room l.lines < 2 ^ 60;
   limit : l.lines.taken ≤ 67108865;
   accounts : length l.ids ≡ length l.client.machine.accounts;
-  so_far : SoFar (seen l.fn.lines (g.S.Source.left l.fn.src)) (seen l.lines (g.S.Source.left l.src))
+  so_far : SoFar (input_to_come l.fn.lines (g.S.Source.left l.fn.src)) (input_to_come l.lines (g.S.Source.left l.src))
       (g.K.Sink.got l.fn.out) (g.K.Sink.got l.out)
       l.version l.ids l.fn.first l.fn.client.machine l.number l.client.machine l.due;
   answered : Answered l.fn.lines l.lines (g.S.Source.left l.fn.src) (g.S.Source.left l.src)

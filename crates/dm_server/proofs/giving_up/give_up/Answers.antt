@@ -2,7 +2,7 @@ use Rattle.std.proofs.Common.{◌∙◌, List, ap, subst, sym}
 use Rattle.std.specs.List.{AllByRecursion}
 use Rattle.dm_job.specs.declared.job.JobEntry.{JobEntry}
 use Rattle.dm_service.specs.Ready.{IsReadyEntry}
-use Rattle.dm_server.specs.Working.{with_account, sent_without, AreInARow, IsRow}
+use Rattle.dm_server.specs.Working.{with_account, sent_without, AreInARow, IsRange}
 use Rattle.dm_server.proofs.Lefts.{given_up_is, holds_left}
 use Rattle.dm_server.proofs.Rows.{newest_in_a_row, newest_ready}
 use Rattle.dm_server.proofs.giving_up.give_up.Goals as goal
@@ -25,7 +25,7 @@ returns-clause-given_up c account p g before =
     c.in_ok-without_job.field-0 c.in_ok-sent.sent
     (record { filled = c.requires.job.filled; numbered = c.requires.job.numbered })
     (record { within = c.requires.holds.place.within; behind = c.requires.holds.place.behind })
-    (subst (λ (given : List JobEntry). IsRow given c.in_ok-first.first c.in_ok-first.count) c.newest.ensures
+    (subst (λ (given : List JobEntry). IsRange given c.in_ok-first.first c.in_ok-first.count) c.newest.ensures
     c.in_ok-first.ensures) c.place_before.ensures c.runs_after.ensures c.in_ok-without_job.ensures
     (c.in_ok-sent.ensures ∙ ap (sent_without c.in_ok-first.first c.in_ok-first.count) c.as_slice.ensures)
     c.in_ok-without.ensures

@@ -1,7 +1,7 @@
 use Rattle.std.proofs.Common.{ap, refl, sym, ◌+◌}
 use Rattle.syncml_types.specs.declared.values.Header.{Header}
 use Rattle.dm_pack.specs.Filling.{fill}
-use Rattle.dm_service.specs.declared.progress.Progress.{Progress}
+use Rattle.dm_service.specs.declared.progress.ServiceProgress.{ServiceProgress}
 use Rattle.dm_service.specs.Sending.{goes_out}
 use Rattle.dm_service.specs.Service.{entries_of}
 use Rattle.dm_server.specs.Inside.{at_work}
@@ -42,6 +42,6 @@ returns-clause-reply c =
     let p = c.args.work.now.progress in
     let f = fill (entries_of c.args.outbox.now.queue) c.in_ok-header.header p.standing.room p.standing.heard in
     record {
-      answered = ap (λ (x : Progress). x.answered) (c.progress_after.ensures f c.in_ok-filled.ensures.tail);
+      answered = ap (λ (x : ServiceProgress). x.answered) (c.progress_after.ensures f c.in_ok-filled.ensures.tail);
       spelled = c.in_ok-filled.ensures.bytes;
     }

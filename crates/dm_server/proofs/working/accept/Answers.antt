@@ -2,7 +2,7 @@ use Rattle.std.proofs.Common.{◌∙◌, ap, refl, sym}
 use Rattle.dm_auth.specs.declared.accounts.Account.{Account}
 use Rattle.dm_headers.specs.declared.checks.Side.TheVariants.{User}
 use Rattle.dm_headers.specs.Standings.{hears}
-use Rattle.dm_server.specs.Working.{behind}
+use Rattle.dm_server.specs.Working.{machine_behind}
 use Rattle.dm_server.proofs.Steps.{accepted_is, can_work, fault_is_told, with_standing}
 use Rattle.dm_server.proofs.working.accept.Goals as goal
 
@@ -25,7 +25,7 @@ returns-clause-state c before =
     let h = hears User job.account s.progress.standing m nonce in
     let heard = c.in_ok-heard.ensures.tells in
     let account = c.renewed_by.result.now in
-    ap (λ (a : Account). behind job a c.in_ok-next.next c.by_status.new.outbox c.by_status.new.gathering
+    ap (λ (a : Account). machine_behind job a c.in_ok-next.next c.by_status.new.outbox c.by_status.new.gathering
     c.by_status.new.findings before) (sym c.renewed_by.ensures)
     ∙ accepted_is job c.args.run s.progress (with_standing s.progress c.in_ok-heard.heard.standing) s.outbox s.gathering
     c.args.findings.now before m nonce account c.in_ok-heard.heard.status _

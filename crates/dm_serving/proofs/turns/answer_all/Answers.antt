@@ -1,5 +1,5 @@
 use Rattle.std.proofs.Common.{refl, Ok, Err, ◌∙◌, ◌+◌}
-use Rattle.dm_serving.specs.Turns.{TurnDoes, AllCame, AllDo}
+use Rattle.dm_serving.specs.Turns.{VisitDoes, AllCame, AllDo}
 use Rattle.dm_serving.proofs.Gathering.{told_same, told_then, first_came, one_came, one_ended}
 use Rattle.dm_serving.proofs.turns.answer_all.Goals as goal
 
@@ -14,7 +14,7 @@ pub returns-in-Err-clause-turns : goal.returns-in-Err-clause-turns
 returns-in-Err-clause-turns g c =
     let m = g.X.Core.machine in
     told_then _ _ _ (AllCame m c.loop.counter c.args.core.now c.loop.core)
-    (TurnDoes m c.loop.core c.answer_one.new.core (Err c.in-Err.fault))
+    (VisitDoes m c.loop.core c.answer_one.new.core (Err c.in-Err.fault))
     (AllDo m c.args.count c.args.core.now c.answer_one.new.core (Err c.in-Err.fault))
     (one_ended m c.loop.counter c.args.count c.args.core.now c.loop.core c.answer_one.new.core c.in-Err.fault c.loop-test.true)
     c.loop.invariant.so_far c.in-Err.ensures.turn
@@ -25,7 +25,7 @@ loop-preserved g c =
     record {
       empty = c.answer_one.ensures.empty;
       so_far = told_then _ _ _ (AllCame m c.loop.counter c.args.core.now c.loop.core)
-          (TurnDoes m c.loop.core c.answer_one.new.core (Ok tt))
+          (VisitDoes m c.loop.core c.answer_one.new.core (Ok tt))
           (AllCame m (c.loop.counter + 1) c.args.core.now c.answer_one.new.core)
           (one_came m c.loop.counter c.args.core.now c.loop.core c.answer_one.new.core)
           c.loop.invariant.so_far c.in-Ok.ensures.turn;

@@ -2,7 +2,7 @@ use Rattle.std.proofs.Common.{◌∙◌, ap, length}
 use Rattle.std.specs.Option.{option_to_list}
 use Rattle.dm_pack.specs.Filling.{fill}
 use Rattle.dm_machine.specs.Sending.{moved_on}
-use Rattle.dm_session.specs.Working.{told, waiting_with}
+use Rattle.dm_session.specs.Working.{rest_told, waiting_with}
 use Rattle.dm_session.proofs.Machines.{moved_by, sent_machine}
 use Rattle.dm_session.proofs.Sendable.{own_header, own_header_ready}
 use Rattle.dm_session.proofs.answering.answer.Goals as goal
@@ -18,7 +18,7 @@ pub returns-clause-state : goal.returns-clause-state
 returns-clause-state c accounts uri =
     let e = c.args.engine.now in
     let w = c.args.work.now in
-    let r = told w.rest.now accounts uri in
+    let r = rest_told w.rest.now accounts uri in
     let waiting = waiting_with c.args.status c.args.queue.now c.args.made in
     let p = moved_by w.progress (length (option_to_list c.args.status)) in
     let h = c.in_ok-header.header in

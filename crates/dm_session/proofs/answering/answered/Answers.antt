@@ -10,7 +10,7 @@ use Rattle.dm_machine.proofs.StaysSending.{apart}
 use Rattle.dm_machine.proofs.StaysWaiting.{run_ready}
 use Rattle.dm_session.specs.Inside.{machine_of}
 use Rattle.dm_session.specs.Stays.{body_covers}
-use Rattle.dm_session.specs.Working as Working
+use Rattle.dm_session.specs.Working
 use Rattle.dm_session.proofs.Frames.{keeps_then_none}
 use Rattle.dm_session.proofs.Outcomes.{again_answered, answered_or_ended, heard_front, heard_run, or_ends_if}
 use Rattle.dm_session.proofs.Outcomes.{or_ends_heard}
@@ -61,7 +61,7 @@ returns-then-is_denied-clause-state c accounts uri p h is at =
     let e = c.args.engine.now in
     let q = c.args.queue.now in
     let work = c.args.work.now in
-    let r = Working.told work.rest.now accounts uri in
+    let r = Working.rest_told work.rest.now accounts uri in
     let m = c.args.message in
     let before = machine_of e q r in
     let ran = c.in_ok-made.ensures.ran before refl refl (sym c.requires.can_work.goes_on.max_obj) in
@@ -117,7 +117,7 @@ returns-clause-state c accounts uri p h is at =
     let e = c.args.engine.now in
     let q = c.args.queue.now in
     let work = c.args.work.now in
-    let r = Working.told work.rest.now accounts uri in
+    let r = Working.rest_told work.rest.now accounts uri in
     let m = c.args.message in
     let before = machine_of e q r in
     let ran = c.in_ok-made-2.ensures.ran before refl refl (sym c.requires.can_work.goes_on.max_obj) in

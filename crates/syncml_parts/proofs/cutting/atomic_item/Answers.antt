@@ -2,7 +2,7 @@ use borrow.Follows.Closed.{read_of}
 use Rattle.std.proofs.Common.{◌≡◌, Some, option_and_then, sym, ap, ◌∙◌}
 use Rattle.std.specs.Option.{ghost_name_of, option_copied_mut}
 use Rattle.syncml_types.specs.declared.values.Item.{Item}
-use Rattle.syncml_parts.specs.Packing.{last_of, member_item, member_changed}
+use Rattle.syncml_parts.specs.Packing.{list_last, member_item, member_changed}
 use Rattle.syncml_parts.proofs.Last.{last_is, last_same}
 use Rattle.syncml_parts.proofs.cutting.atomic_item.Goals as goal
 
@@ -10,7 +10,7 @@ pub returns : goal.returns
 returns c =
     let members = c.args.members.now in
     let last = c.in_ok-last_mut.field-0.now in
-    let is : last_of members ≡ Some last = sym c.last_mut.ensures.value ∙ ap option_copied_mut c.in_ok-last_mut.was in (
+    let is : list_last members ≡ Some last = sym c.last_mut.ensures.value ∙ ap option_copied_mut c.in_ok-last_mut.was in (
       λ i. read_of (ghost_name_of c.member_item.result)
           (λ (w : Item). last_is (member_changed (λ _. w)) members last is i) (last_same members last is i),
       record { writes_back = tt; value = c.member_item.ensures.value ∙ sym (ap (option_and_then member_item) is) },

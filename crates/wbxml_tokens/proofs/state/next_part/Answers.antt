@@ -1,6 +1,6 @@
 use Rattle.std.proofs.Common.{refl, subst, sym, ◌∙◌, ◌≤◌, ◌-◌, length}
 use Rattle.wbxml_tokens.specs.Fronts.{front}
-use Rattle.wbxml_tokens.specs.Taking.{taking, GivesPart, stop_at, told_at}
+use Rattle.wbxml_tokens.specs.Taking.{taking, GivesPart, stop_at, stopped_at}
 use Rattle.wbxml_tokens.specs.Reading.{depth_of}
 use Rattle.wbxml_tokens.specs.declared.reason.Stop.TheVariants as stops
 use Rattle.wbxml_tokens.specs.declared.reason.Reason.TheVariants as reasons
@@ -19,12 +19,12 @@ returns-then-is_whole-clause-gives g c =
 pub returns-clause-gives : goal.returns-clause-gives
 returns-clause-gives g c =
     first_given (taking g.T.Taker.placed g.T.Writer.after g.T.Writer.refusal) g.T.Writer.left
-    (told_at c.args.spot.now.place c.part.result) (reader_at c.args.spot.now c.args.table.now)
+    (stopped_at c.args.spot.now.place c.part.result) (reader_at c.args.spot.now c.args.table.now)
     (reader_at c.part.new.spot c.args.table.now) c.args.taker.now c.part.new.taker c.args.bytes.now refl
     (sym c.is_whole.ensures ∙ c.if-is_whole.false)
     c.requires.room.1
     (subst (GivesPart (taking g.T.Taker.placed g.T.Writer.after g.T.Writer.refusal) g.T.Writer.left
-    (told_at c.args.spot.now.place c.part.result) (reader_at c.args.spot.now c.args.table.now)
+    (stopped_at c.args.spot.now.place c.part.result) (reader_at c.args.spot.now c.args.table.now)
     (reader_at c.part.new.spot c.args.table.now) c.args.taker.now c.part.new.taker)
     (found_in_body (reader_at c.args.spot.now c.args.table.now) c.args.bytes.now c.requires.body) c.part.ensures.gives)
 
@@ -32,7 +32,7 @@ pub returns-clause-room : goal.returns-clause-room
 returns-clause-room g c =
     if_ok_back c.args.spot.now.place c.part.result (λ size. HasRoom c.part.new.spot (length c.args.bytes.now - size))
     (room_given (taking g.T.Taker.placed g.T.Writer.after g.T.Writer.refusal) g.T.Writer.left
-    (told_at c.args.spot.now.place c.part.result)
+    (stopped_at c.args.spot.now.place c.part.result)
     (reader_at c.args.spot.now c.args.table.now)
     c.part.new.spot c.args.table.now c.args.taker.now c.part.new.taker
     (front c.args.spot.now.page c.args.table.now c.args.bytes.now) c.args.bytes.now

@@ -1,7 +1,7 @@
 use Rattle.std.proofs.Common.{◌∙◌, ap, arith, length, take}
 use Rattle.std.proofs.lemmas.List.{length-take}
 use Rattle.syncml_parts.specs.Packing.{cut_changed}
-use Rattle.syncml_parts.specs.Pages.{with_value}
+use Rattle.syncml_parts.specs.Pages.{with_item_value}
 use Rattle.syncml_parts.specs.Numbering.{with_numbers, ids_in}
 use Rattle.dm_pack.specs.Measures.{marked, apart_value, apart_sent}
 use Rattle.dm_pack.proofs.Parts.{kept_ids, part_made}
@@ -26,7 +26,7 @@ pub returns : goal.returns
 returns c =
     let apart = c.self.inside.apart in
     c.put_value.ensures
-    ∙ ap (cut_changed (with_value c.in_ok-value.value))
+    ∙ ap (cut_changed (with_item_value c.in_ok-value.value))
     (c.in_ok-mark_part.ensures
     ∙ ap (cut_changed (marked c.size_of.result))
     (c.set_ids.ensures.command ∙ ap (with_numbers c.args.first) c.in_ok-command.ensures))

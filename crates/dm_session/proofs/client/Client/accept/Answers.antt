@@ -1,13 +1,13 @@
 use Rattle.std.proofs.Common.{◌≡◌, ◌∙◌, ap, subst, sym, refl, Ok, true}
 use Rattle.std.specs.Prelude.{option_map}
-use Rattle.dm_atomic.specs.Marks as Marks
+use Rattle.dm_atomic.specs.Marks
 use Rattle.dm_atomic.specs.Marks.{whole_of}
 use Rattle.dm_atomic.specs.Updates.{TellsStarted}
 use Rattle.dm_machine.specs.Events.{message}
 use Rattle.dm_machine.specs.Machine.{Machine}
 use Rattle.dm_machine.specs.Events.{takes}
 use Rattle.dm_session.specs.Inside.{machine_of, session_in}
-use Rattle.dm_session.specs.View.{Whole}
+use Rattle.dm_session.specs.View.{WholeMachine}
 use Rattle.dm_session.proofs.Clients.{back_goes_on, same_client, drafted_lives, steady_of}
 use Rattle.dm_session.specs.Stays.{body_covers}
 use Rattle.dm_session.proofs.Kept.{stay_is, stay_settled, seen_stay}
@@ -42,7 +42,7 @@ pub invariant_of-self-in-Ok : goal.invariant_of-self-in-Ok
 invariant_of-self-in-Ok c =
     let e = c.self.inside.engine in
     let r = c.self.inside.rest in
-    let old = ap (λ (w : Whole). w.machine) c.self.view_is in
+    let old = ap (λ (w : WholeMachine). w.machine) c.self.view_is in
     let came = message (Ok c.args.message) c.args.nonce.now.bytes in
     drafted_lives c.accept.new.engine c.settle.new.self c.accept.new.queue r c.take_up.new.self
     c.in-Some.session.progress.account c.in-Ok.draft (machine_of e c.self.inside.queue r) (session_in c.in-Some.session)

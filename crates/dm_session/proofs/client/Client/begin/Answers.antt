@@ -3,7 +3,7 @@ use Rattle.std.proofs.lemmas.Bool.{lt-ltb}
 use Rattle.std.specs.Prelude.{nat_lt, true}
 use Rattle.dm_tree.specs.Rows.{nodes}
 use Rattle.dm_atomic.specs.Engine.{state_of}
-use Rattle.dm_atomic.specs.Marks as Marks
+use Rattle.dm_atomic.specs.Marks
 use Rattle.dm_atomic.specs.Marks.{whole_of}
 use Rattle.dm_atomic.specs.Updates.{TellsStarted}
 use Rattle.dm_atomic.proofs.Tellings.{quiet_keeps}
@@ -16,7 +16,7 @@ use Rattle.dm_machine.specs.Machine.{Machine}
 use Rattle.dm_machine.specs.Events.{opened}
 use Rattle.dm_machine.specs.History.{answer_now}
 use Rattle.dm_session.specs.Inside.{machine_of, session_in}
-use Rattle.dm_session.specs.View.{Whole}
+use Rattle.dm_session.specs.View.{WholeMachine}
 use Rattle.dm_session.proofs.Clients.{back_goes_on, same_client, begun_is, begun_lives, begun_machine_is, begun_next}
 use Rattle.dm_session.proofs.Clients.{begun_answer, begun_some}
 use Rattle.dm_session.proofs.Kept.{stay_is, stay_settled, seen_stay, kept_seen, kept_self}
@@ -66,7 +66,7 @@ invariant_of-self-in-Ok c =
     (machine_of e c.self.inside.queue r) c.args.account c.args.kind c.begin.ensures c.settle.ensures.sound
     (c.settle.ensures.max_obj ∙ c.abandon.ensures.max_obj ∙ c.self.invariant.goes_on.max_obj) c.in-Ok.ensures.spelled is
     c.self.invariant.goes_on.ready
-    (subst (λ (w : Whole). c.args.account < length w.machine.accounts) (sym c.self.view_is) c.requires)
+    (subst (λ (w : WholeMachine). c.args.account < length w.machine.accounts) (sym c.self.view_is) c.requires)
     c.ranges.session.fits c.settle.ensures.past
     (c.settle.ensures.parked (c.abandon.ensures.marks.parked c.self.invariant.none_left))
     (subst (λ (w : Marks.Whole). TellsStarted w.state) (sym c.settle.ensures.whole)
@@ -84,7 +84,7 @@ pub returns-in-Ok-clause-answer : goal.returns-in-Ok-clause-answer
 returns-in-Ok-clause-answer c =
     let e = c.self.inside.engine in
     let r = c.self.inside.rest in
-    let old = ap (λ (w : Whole). w.machine) c.self.view_is in
+    let old = ap (λ (w : WholeMachine). w.machine) c.self.view_is in
     let later = lt-ltb r.begun c.args.session c.if-session-self.false in
     let is =
     begun_is e c.abandon.new.self c.settle.new.self c.self.inside.queue c.in-Ok.queue r c.args.account c.args.kind
@@ -100,7 +100,7 @@ pub returns-in-Ok-clause-ok : goal.returns-in-Ok-clause-ok
 returns-in-Ok-clause-ok c =
     let e = c.self.inside.engine in
     let r = c.self.inside.rest in
-    let old = ap (λ (w : Whole). w.machine) c.self.view_is in
+    let old = ap (λ (w : WholeMachine). w.machine) c.self.view_is in
     let later = lt-ltb r.begun c.args.session c.if-session-self.false in
     let is =
     begun_is e c.abandon.new.self c.settle.new.self c.self.inside.queue c.in-Ok.queue r c.args.account c.args.kind

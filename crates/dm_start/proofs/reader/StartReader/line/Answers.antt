@@ -1,15 +1,15 @@
 use Rattle.std.proofs.Common.{subst}
-use Rattle.dm_start.specs.Start.{after_line, section_at, Reads}
+use Rattle.dm_start.specs.Start.{after_line, section_at, ReadsSection}
 use Rattle.dm_start.proofs.Sections.{when_read, when_last, when_bad, when_err}
 use Rattle.dm_start.proofs.Sound.{sound_read}
 use Rattle.dm_start.proofs.reader.StartReader.line.Goals as goal
 
 -- what is answered, by the place that the reader had come to
 reads : (c : goal.After-after_line)
-    → Reads (after_line (section_at c.args.self.now) c.args.text.now) (section_at c.args.self.now)
+    → ReadsSection (after_line (section_at c.args.self.now) c.args.text.now) (section_at c.args.self.now)
     (section_at c.after_line.new.place) c.after_line.result
 reads c =
-    subst (λ p. Reads (after_line (section_at p) c.args.text.now) (section_at p) (section_at c.after_line.new.place)
+    subst (λ p. ReadsSection (after_line (section_at p) c.args.text.now) (section_at p) (section_at c.after_line.new.place)
     c.after_line.result) c.self.view_is c.after_line.ensures.read
 
 pub invariant_of-self : goal.invariant_of-self

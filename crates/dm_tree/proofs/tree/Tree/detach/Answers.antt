@@ -1,6 +1,6 @@
 use Rattle.dm_tree.specs.declared.rows.Change.TheVariants as change
 use Rattle.dm_tree.proofs.Common.{◌≡◌, ◌∙◌, sym, subst, ap, true, false, Tree, IsShaped, IsTree, IsParkedTop, nodes}
-use Rattle.dm_tree.proofs.Common.{ids, attached_as, TakesBack, IsSized, IsTaken, TakesEditBack}
+use Rattle.dm_tree.proofs.Common.{ids, attached_as, TakesBack, IsSized, CanBeTakenOut, TakesEditBack}
 use Rattle.dm_tree.proofs.EqualTrees.{tree_kept}
 use Rattle.dm_tree.proofs.CutTrees.{IsCut, tree-cut}
 use Rattle.dm_tree.proofs.InvariantKept.{back_again, may_take}
@@ -8,8 +8,8 @@ use Rattle.dm_tree.proofs.tree.Tree.detach.Goals as goal
 
 pub take_out-requires-clause-attached : goal.take_out-requires-clause-attached
 take_out-requires-clause-attached c =
-    subst (λ (t : Tree). IsTaken t.rows c.row.result) (sym c.self.view_is)
-    (subst (IsTaken c.args.self.now.rows) (sym c.row.ensures)
+    subst (λ (t : Tree). CanBeTakenOut t.rows c.row.result) (sym c.self.view_is)
+    (subst (CanBeTakenOut c.args.self.now.rows) (sym c.row.ensures)
     (may_take c.args.self.now.rows (tree_kept c.self.view_is c.self.invariant.tree) c.args.id c.requires.live
     c.requires.removable))
 

@@ -1,5 +1,6 @@
 use Rattle.dm_tree.specs.Nodes.{made}
-use Rattle.dm_tree.proofs.Common.{inl, inr, ◌≡◌, ◌∙◌, sym, subst, ap, refl, arith, ◌∷◌, ◌++◌, [], ℕ, List, true, false, Node, Row}
+use Rattle.dm_tree.proofs.Common.{inl, inr, ◌≡◌, ◌∙◌, sym, subst, ap, refl, arith, ◌∷◌, ◌++◌, [], ℕ, List, true, false}
+use Rattle.dm_tree.proofs.Common.{Node, Row}
 use Rattle.dm_tree.proofs.Common.{IsStamp, Tree, IsTree, path_of, new_row, IsPlaced}
 use Rattle.dm_tree.proofs.EqualTrees.{tree_kept}
 use Rattle.dm_tree.proofs.RowMaps.{get_nodes, none_of}

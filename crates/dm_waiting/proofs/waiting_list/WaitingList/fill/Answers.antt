@@ -6,7 +6,7 @@ use Rattle.dm_pack.specs.Filling.{fill, CanBeTaken}
 use Rattle.dm_service.specs.Service.{Waiting}
 use Rattle.dm_service.specs.Sending.{goes_out}
 use Rattle.dm_waiting.specs.Held.{IsNumbered}
-use Rattle.dm_waiting.specs.Inside.{IsOf}
+use Rattle.dm_waiting.specs.Inside.{IsMessageOf}
 use Rattle.dm_waiting.proofs.Beside.{entries_are}
 use Rattle.dm_waiting.proofs.Filling.{is_of, ready_entries}
 use Rattle.dm_waiting.proofs.Out.{out_numbered}
@@ -23,7 +23,7 @@ note-requires c =
     c.self.view_is in
     let f = c.in_ok-filled.filled in
     let e = c.in_ok-filled.ensures in
-    subst (λ (es : List Entry). IsOf es f) (sym are)
+    subst (λ (es : List Entry). IsMessageOf es f) (sym are)
     (is_of c.self.inside.queue c.args.header c.args.room c.args.heard f e.message e.bytes e.whole e.cut e.taken e.within
     c.requires.room.1)
 

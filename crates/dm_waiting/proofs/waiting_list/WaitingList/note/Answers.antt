@@ -1,6 +1,6 @@
 use Rattle.std.proofs.Common.{List, ◌≡◌, length, arith, sym, ap, subst, ◌∙◌}
 use Rattle.dm_pack.specs.Entries.{Entry}
-use Rattle.dm_waiting.specs.Inside.{IsOf}
+use Rattle.dm_waiting.specs.Inside.{IsMessageOf}
 use Rattle.dm_waiting.proofs.Beside.{entries_are, beside_long}
 use Rattle.dm_waiting.proofs.Filling.{whole_there, part_there, id_there, id_small, queue_there}
 use Rattle.dm_waiting.proofs.Held.{front_again, front_longer}
@@ -11,7 +11,7 @@ pub id_at-requires : goal.id_at-requires
 id_at-requires c =
     let are = entries_are c.self.inside.queue c.self.inside.loads.items c.args.self.now c.self.invariant
     c.self.view_is in
-    let of = subst (λ (es : List Entry). IsOf es c.args.filled.now) are c.requires in
+    let of = subst (λ (es : List Entry). IsMessageOf es c.args.filled.now) are c.requires in
     let low : length c.self.inside.loads.items ≡ length c.self.inside.queue = beside_long c.self.inside.queue
     c.self.inside.loads.items c.self.invariant in
     let there = whole_there c.self.inside.queue c.args.filled.now c.loop-at.at of c.loop-at-test.true in
@@ -22,7 +22,7 @@ pub index-requires : goal.index-requires
 index-requires c =
     let are = entries_are c.self.inside.queue c.self.inside.loads.items c.args.self.now c.self.invariant
     c.self.view_is in
-    let of = subst (λ (es : List Entry). IsOf es c.args.filled.now) are c.requires in
+    let of = subst (λ (es : List Entry). IsMessageOf es c.args.filled.now) are c.requires in
     let low : length c.self.inside.loads.items ≡ length c.self.inside.queue = beside_long c.self.inside.queue
     c.self.inside.loads.items c.self.invariant in
     let there = of.taken.whole_there in
@@ -33,7 +33,7 @@ pub push_held-requires-clause-command : goal.push_held-requires-clause-command
 push_held-requires-clause-command c =
     let are = entries_are c.self.inside.queue c.self.inside.loads.items c.args.self.now c.self.invariant
     c.self.view_is in
-    let of = subst (λ (es : List Entry). IsOf es c.args.filled.now) are c.requires in
+    let of = subst (λ (es : List Entry). IsMessageOf es c.args.filled.now) are c.requires in
     let low : length c.self.inside.loads.items ≡ length c.self.inside.queue = beside_long c.self.inside.queue
     c.self.inside.loads.items c.self.invariant in
     let test = c.loop-at-test.true in
@@ -47,7 +47,7 @@ pub push_held-requires-clause-small : goal.push_held-requires-clause-small
 push_held-requires-clause-small c =
     let are = entries_are c.self.inside.queue c.self.inside.loads.items c.args.self.now c.self.invariant
     c.self.view_is in
-    let of = subst (λ (es : List Entry). IsOf es c.args.filled.now) are c.requires in
+    let of = subst (λ (es : List Entry). IsMessageOf es c.args.filled.now) are c.requires in
     let low : length c.self.inside.loads.items ≡ length c.self.inside.queue = beside_long c.self.inside.queue
     c.self.inside.loads.items c.self.invariant in
     let there = of.taken.whole_there in
@@ -59,7 +59,7 @@ pub loop-at-preserved : goal.loop-at-preserved
 loop-at-preserved c =
     let are = entries_are c.self.inside.queue c.self.inside.loads.items c.args.self.now c.self.invariant
     c.self.view_is in
-    let of = subst (λ (es : List Entry). IsOf es c.args.filled.now) are c.requires in
+    let of = subst (λ (es : List Entry). IsMessageOf es c.args.filled.now) are c.requires in
     let low : length c.self.inside.loads.items ≡ length c.self.inside.queue = beside_long c.self.inside.queue
     c.self.inside.loads.items c.self.invariant in
     let test = c.loop-at-test.true in
@@ -80,7 +80,7 @@ pub id_at-requires-then-filled-gt0 : goal.id_at-requires-then-filled-gt0
 id_at-requires-then-filled-gt0 c =
     let are = entries_are c.self.inside.queue c.self.inside.loads.items c.args.self.now c.self.invariant
     c.self.view_is in
-    let of = subst (λ (es : List Entry). IsOf es c.args.filled.now) are c.requires in
+    let of = subst (λ (es : List Entry). IsMessageOf es c.args.filled.now) are c.requires in
     let low : length c.self.inside.loads.items ≡ length c.self.inside.queue = beside_long c.self.inside.queue
     c.self.inside.loads.items c.self.invariant in
     let there = part_there c.self.inside.queue c.args.filled.now of c.if-filled-gt0.true in
@@ -91,7 +91,7 @@ pub index-requires-then-filled-gt0 : goal.index-requires-then-filled-gt0
 index-requires-then-filled-gt0 c =
     let are = entries_are c.self.inside.queue c.self.inside.loads.items c.args.self.now c.self.invariant
     c.self.view_is in
-    let of = subst (λ (es : List Entry). IsOf es c.args.filled.now) are c.requires in
+    let of = subst (λ (es : List Entry). IsMessageOf es c.args.filled.now) are c.requires in
     let low : length c.self.inside.loads.items ≡ length c.self.inside.queue = beside_long c.self.inside.queue
     c.self.inside.loads.items c.self.invariant in
     let there = queue_there c.self.inside.queue c.args.filled.now of c.if-filled-gt0.true in
@@ -101,7 +101,7 @@ pub push_held-requires-then-filled-gt0-clause-command : goal.push_held-requires-
 push_held-requires-then-filled-gt0-clause-command c =
     let are = entries_are c.self.inside.queue c.self.inside.loads.items c.args.self.now c.self.invariant
     c.self.view_is in
-    let of = subst (λ (es : List Entry). IsOf es c.args.filled.now) are c.requires in
+    let of = subst (λ (es : List Entry). IsMessageOf es c.args.filled.now) are c.requires in
     let low : length c.self.inside.loads.items ≡ length c.self.inside.queue = beside_long c.self.inside.queue
     c.self.inside.loads.items c.self.invariant in
     let id = id_there c.self.inside.queue c.args.filled.now c.args.filled.now.whole c.id_at-then-filled-gt0.result
@@ -115,7 +115,7 @@ pub push_held-requires-then-filled-gt0-clause-small : goal.push_held-requires-th
 push_held-requires-then-filled-gt0-clause-small c =
     let are = entries_are c.self.inside.queue c.self.inside.loads.items c.args.self.now c.self.invariant
     c.self.view_is in
-    let of = subst (λ (es : List Entry). IsOf es c.args.filled.now) are c.requires in
+    let of = subst (λ (es : List Entry). IsMessageOf es c.args.filled.now) are c.requires in
     let low : length c.self.inside.loads.items ≡ length c.self.inside.queue = beside_long c.self.inside.queue
     c.self.inside.loads.items c.self.invariant in
     (list_at c.args.filled.now.whole c.self.inside.queue c.self.inside.loads.items c.index-then-filled-gt0.result.now
@@ -126,7 +126,7 @@ pub returns-in_ok-push_held-2-clause-ok : goal.returns-in_ok-push_held-2-clause-
 returns-in_ok-push_held-2-clause-ok c =
     let are = entries_are c.self.inside.queue c.self.inside.loads.items c.args.self.now c.self.invariant
     c.self.view_is in
-    let of = subst (λ (es : List Entry). IsOf es c.args.filled.now) are c.requires in
+    let of = subst (λ (es : List Entry). IsMessageOf es c.args.filled.now) are c.requires in
     let low : length c.self.inside.loads.items ≡ length c.self.inside.queue = beside_long c.self.inside.queue
     c.self.inside.loads.items c.self.invariant in
     let end : c.loop-at.at ≡ c.args.filled.now.whole = omega (arith, c.loop-at-test.false) in

@@ -2,7 +2,7 @@ use Rattle.std.proofs.Common.{refl, sym, ap, ◌∙◌, ◌≡◌, subst, take, 
 use Rattle.std.specs.Prelude.{Ok, Err, None}
 use Rattle.wbxml_tokens.specs.declared.reason.FeedError.TheVariants as errors
 use Rattle.wbxml_tokens.specs.Reading.{begun_by, reads}
-use Rattle.wbxml_tokens.specs.Taking.{Stops, taken}
+use Rattle.wbxml_tokens.specs.Taking.{Stops, taken_all}
 use Rattle.wbxml_tokens.specs.Waiting.{HasRead}
 use Rattle.wbxml_tokens.proofs.Queueing.{queueing, is_same, fed_ok, fed_refused, waiting_kept}
 use Rattle.wbxml_tokens.proofs.tokens.Tokens.read.Goals as goal
@@ -11,7 +11,7 @@ pub returns-in-Ok-clause-refused : goal.returns-in-Ok-clause-refused
 returns-in-Ok-clause-refused c bytes given r =
     (fed_ok c.args.self.now bytes c.args.piece.now given c.feed.new.self c.self.inside.queue c.feed.new.taker r
     c.requires (ap (λ h. h.waiting) c.self.view_is)
-    (subst (λ x. (taken queueing c.self.inside.queue (reads (begun_by x) c.args.piece.now).tokens ≡ Ok c.feed.new.taker)
+    (subst (λ x. (taken_all queueing c.self.inside.queue (reads (begun_by x) c.args.piece.now).tokens ≡ Ok c.feed.new.taker)
     × ((reads (begun_by x) c.args.piece.now).refused ≡ None))
     (ap (λ h. h.reader) c.self.view_is) c.in-Ok.ensures.feeds)
     (c.in-Ok.ensures.ok ∙ ap (λ h. (reads (begun_by h.reader) c.args.piece.now).reader) c.self.view_is)).0
@@ -23,7 +23,7 @@ returns-in-Ok-clause-read c bytes given r =
     (sym (ap (λ h. h.refused) c.self.view_is ∙ c.requires))
     (fed_ok c.args.self.now bytes c.args.piece.now given c.feed.new.self c.self.inside.queue c.feed.new.taker r
     c.requires (ap (λ h. h.waiting) c.self.view_is)
-    (subst (λ x. (taken queueing c.self.inside.queue (reads (begun_by x) c.args.piece.now).tokens ≡ Ok c.feed.new.taker)
+    (subst (λ x. (taken_all queueing c.self.inside.queue (reads (begun_by x) c.args.piece.now).tokens ≡ Ok c.feed.new.taker)
     × ((reads (begun_by x) c.args.piece.now).refused ≡ None))
     (ap (λ h. h.reader) c.self.view_is) c.in-Ok.ensures.feeds)
     (c.in-Ok.ensures.ok ∙ ap (λ h. (reads (begun_by h.reader) c.args.piece.now).reader) c.self.view_is)).1
