@@ -27,13 +27,13 @@ pub struct JobReader {
 
 impl Model for JobReader {
     ghost use Rattle.dm_job.specs.declared.draft.Reading.{Reading as Progress};
-    ghost use Rattle.dm_job.specs.Measures.{IsGoing};
+    ghost use Rattle.dm_job.specs.Measures.{IsUnderWay};
 
     ghost Value = { Progress };
 
     ghost view = { λ r. r.reading };
 
-    ghost invariant = { λ r. IsGoing r.reading };
+    ghost invariant = { λ r. IsUnderWay r.reading };
 }
 
 fn first_line(line: &[u8]) -> Result<Reading, LineError>

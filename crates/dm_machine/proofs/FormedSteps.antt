@@ -291,7 +291,7 @@ module _ (s : Setting) (stamp : IsStamp s.clock) (m : Nodes) (formed : IsWellFor
             there = there;
             removable = tests.1.1.0;
             free = free_beside uri.path step.value tests.1.1.1.1.1.0;
-            paths_fit = negated (paths_fit m uri.path step.value) tests.1.1.1.1.1.1.0;
+            fits = negated (paths_fit m uri.path step.value) tests.1.1.1.1.1.1.0;
             named = and_from (has_name_form step.value) (is_short_name step.value)
                 (negated (has_name_form step.value) tests.1.1.1.0) (negated (is_short_name step.value) tests.1.1.1.1.0);
             node = held_changed s.clock (node_at m uri.path) stamp held.value held.acl held.title;

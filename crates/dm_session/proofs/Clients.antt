@@ -188,7 +188,7 @@ clocked_sound e f q r s sound m w p none_left stamp = record {
   farewell = s.farewell;
   settled = p ∙ s.settled;
   none_left = none_left;
-  rest_told = subst (λ (x : engine.Whole). TellsStarted x.state) (sym w) s.told;
+  told = subst (λ (x : engine.Whole). TellsStarted x.state) (sym w) s.told;
   closed = λ h. ap (λ (x : engine.Whole). x.state.group) w ∙ s.closed h;
 }
 
@@ -295,7 +295,7 @@ begun_lives g q r x number first c account kind e s m spelled is ready low small
       farewell = tt;
       settled = settled;
       none_left = none_left;
-      rest_told = tells;
+      told = tells;
       closed = λ h. absurd (cc);
     })
 
@@ -338,7 +338,7 @@ drafted_lives f g q r x at d c s m nonce e t o is w k sound obj ready event spel
           farewell;
       settled = settled;
       none_left = none_left;
-      rest_told = subst (λ (y : Machine). TellsStarted y.engine) (sym goes)
+      told = subst (λ (y : Machine). TellsStarted y.engine) (sym goes)
           (stays_steady c (message (Ok m) nonce) steady).started;
       closed = λ h. ap (λ (y : engine.Whole). y.state.group) w
           ∙ closed_behind c s.progress m nonce f q

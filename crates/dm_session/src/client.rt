@@ -53,20 +53,20 @@ pub struct Client {
 }
 
 impl Model for Client {
-    ghost use Rattle.dm_session.specs.View.{Whole};
+    ghost use Rattle.dm_session.specs.View.{WholeMachine};
 
-    ghost Value = { Whole };
+    ghost Value = { WholeMachine };
 
     ghost use Rattle.std.specs.FinMap as map;
     ghost use Rattle.std.specs.Coded.{codes};
 
     ghost coded = { Prim.hlevel (codes, map.code) };
 
-    ghost use Rattle.dm_session.specs.Inside.{whole_client, IsSound};
+    ghost use Rattle.dm_session.specs.Inside.{whole_client, IsConsistent};
 
     ghost view = { whole_client };
 
-    ghost invariant = { IsSound };
+    ghost invariant = { IsConsistent };
 }
 
 // The Correlator with which an update was started.

@@ -23,7 +23,7 @@ fn plain_path(uri: Uri) -> Option<Path>
 }
 
 /// The path of a URI without a query. None comes exactly where the text is none.
-pub(crate) fn path_in(alloc: Global, text: &[u8]) -> Result<Option<Path>, Memory>
+pub fn path_in(alloc: Global, text: &[u8]) -> Result<Option<Path>, Memory>
     ensures path { IfOk result (λ path. path ≡ Spec.path_in text.now) }
     ensures within { IfOk result (λ path. IfSome path (λ p. IsTrue (is_within_limits p))) }
 {

@@ -15,7 +15,9 @@ pub mod telling;
 mod texts;
 mod updates;
 
+pub use forms::path_in;
+pub use new_nodes::{NodePlace, spot_of};
 pub use pieces::put_tree;
 pub use reader::StartReader;
 pub use telling::Start;
-pub use texts::tree_text;
+pub use texts::{put_front, tree_text};

@@ -17,7 +17,7 @@ use std::alloc::Global;
 
 /// Where a new node comes.
 #[derive(Drop)]
-pub(crate) struct NodePlace {
+pub struct NodePlace {
     pub parent: NodeId,
     pub name: Name,
 }
@@ -72,8 +72,9 @@ fn takes_child(permanent: bool, above: View) -> bool
     above.interior && (above.permanent || !permanent)
 }
 
-// Where the node at a path would come. None comes exactly where none may come there, limits and room aside.
-fn spot_of(tree: &Tree, path: Path, permanent: bool) -> Option<NodePlace>
+/// Where the node at a path would come. None comes exactly where none may come there, limits and room aside. It takes no
+/// memory.
+pub fn spot_of(tree: &Tree, path: Path, permanent: bool) -> Option<NodePlace>
     ensures { MatchOption result (IsNoSpot tree.now.rows path permanent) (IsSpot tree.now.rows path permanent) }
 {
     // Its contract says that the root is there.

@@ -35,11 +35,11 @@ pub struct StartReader {
 }
 
 impl Model for StartReader {
-    ghost use Rattle.dm_start.specs.declared.reader.SectionPlace.{Place};
+    ghost use Rattle.dm_start.specs.declared.reader.SectionPlace.{SectionPlace};
     ghost use Rattle.dm_start.specs.Start.{section_at};
     ghost use Rattle.dm_start.specs.Soundness.{IsSoundSection, HasNoneParked};
 
-    ghost Value = { Place };
+    ghost Value = { SectionPlace };
 
     ghost view = { λ r. r.place };
 

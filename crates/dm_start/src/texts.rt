@@ -73,8 +73,9 @@ fn put_type(out: &mut Bytes, view: View) -> Result<(), Memory>
     put_hex(out, view.value.media.as_slice())
 }
 
-/// Appends the line of a node as far as a leaf's value.
-pub(crate) fn put_front(
+/// Appends the line of a node as far as a leaf's value, in version 2 or, where another number is given, 1. `Memory` is
+/// the only error; what was appended by then stays.
+pub fn put_front(
     alloc: Global,
     out: &mut Bytes,
     tree: &Tree,

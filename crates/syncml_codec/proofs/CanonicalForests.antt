@@ -273,7 +273,7 @@ pub skips : (e : Element) (k : Kind) (r m came : Bool) (rows : List ChildRow) �
     → (came || not r) ≡ true
     → Covers (in_order came (row e k r m ∷ rows)) (in_order false rows)
 skips e k r m came rows none over = record {
-  next_child = λ other x h.
+  next = λ other x h.
       (elim (same e other)
       as (λ (b : Bool). same e other ≡ b
       → after_row (in_row (if b then Some k else None) came (row e k r m) rows (next_row false rows other)) ≡ Some x) [
@@ -290,7 +290,7 @@ skips e k r m came rows none over = record {
 pub ends : (last : ChildRow) (came : Bool) → (came || not last.required) ≡ true
     → Covers (in_order came (last ∷ [])) (in_order false [])
 ends last came over = record {
-  next_child = λ other x h. none_some x h;
+  next = λ other x h. none_some x h;
   complete = λ h. and_both (came || not last.required) true over refl;
   no_text = refl;
 }
@@ -298,7 +298,7 @@ ends last came over = record {
 -- a Meta in which no MetInf comes
 pub unwrapped : Covers (in_any_order true none_came) (in_any_order false none_came)
 unwrapped = record {
-  next_child = λ other x h.
+  next = λ other x h.
       (elim (same other EMetInf)
       as (λ (b : Bool). same other EMetInf ≡ b
       → (if true && b then Some (kinds.MetInf, in_order false []) else next_child (in_any_order false none_came) other)

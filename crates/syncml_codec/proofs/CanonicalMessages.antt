@@ -140,7 +140,7 @@ commands_end false = refl
 -- no command is Final
 commands_pass : (came : Bool) → Covers (in_order came table.BODY) (in_order false (drop 1 table.BODY))
 commands_pass came = record {
-  next_child = λ other x h.
+  next = λ other x h.
       (elim (same EFinal other) as (λ (b : Bool). same EFinal other ≡ b
       → after_row (in_row (if b then Some kinds.Flag else None) false (row EFinal kinds.Flag false false) []
       (next_row false [] other)) ≡ Some x

@@ -88,7 +88,7 @@ impl Builder {
 impl Writer for Builder {
     type Error = Stop;
 
-    ghost use Rattle.syncml_grammar.specs.Building.{building_after, token_refusal, told as told_by, IsLacking};
+    ghost use Rattle.syncml_grammar.specs.Building.{building_after, token_refusal, reason_told as told_by, IsLacking};
 
     ghost after = { building_after };
 

@@ -20,9 +20,9 @@ pub(crate) struct TokenQueue {
 }
 
 impl Model for TokenQueue {
-    ghost use Rattle.wbxml_tokens.specs.Waiting.{Waiting};
+    ghost use Rattle.wbxml_tokens.specs.Waiting.{WaitingTokens};
 
-    ghost Value = { Waiting };
+    ghost Value = { WaitingTokens };
 
     ghost view = { λ q. record { at = q.at; tokens = q.tokens.items } };
 }

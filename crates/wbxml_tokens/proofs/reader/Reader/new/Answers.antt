@@ -9,6 +9,6 @@ invariant_of-result c = record {
   begun = ap prologue_at c.new.ensures ∙ nothing first_reader;
   deep = omega arith;
   within = omega (arith, ap length c.new.ensures);
-  first_reader = λ _. (c.new-2.ensures, refl);
+  at_start = λ _. (c.new-2.ensures, refl);
   at_end = λ _. c.new.ensures;
 }
