@@ -46,11 +46,11 @@ impl Model for Server {
 
     ghost Value = { Service };
 
-    ghost use Rattle.dm_server.specs.Inside.{server_of, IsSoundJob};
+    ghost use Rattle.dm_server.specs.Inside.{server_of, IsConsistent};
 
     ghost view = { server_of };
 
-    ghost invariant = { IsSoundJob };
+    ghost invariant = { IsConsistent };
 }
 
 // What is known of each nonce.
