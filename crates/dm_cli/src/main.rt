@@ -8,6 +8,7 @@ mod heap;
 mod outside;
 mod reach;
 mod run;
+mod telling;
 #[cfg(test)]
 mod tests;
 
@@ -22,6 +23,7 @@ use run::run;
 use std::process::ExitCode;
 use std::time::Duration;
 use std::{env, io};
+use telling::{tell, tell_ending};
 
 // Where the system gives no seed for nonces.
 const NO_SEED: u8 = 1;
@@ -65,7 +67,14 @@ fn run_all(rt: &HostRuntime, nonces: RandomNonces) -> Exit {
 fn main(rt: HostRuntime) -> ExitCode {
     keep_heap(rt.alloc());
     match RandomNonces::new(&rt) {
-        Ok(nonces) => ended(run_all(&rt, nonces)),
-        Err(_) => ExitCode::from(NO_SEED),
+        Ok(nonces) => {
+            let exit = run_all(&rt, nonces);
+            tell_ending(&rt, exit);
+            ended(exit)
+        }
+        Err(_) => {
+            tell(&rt, telling::NO_SEED);
+            ExitCode::from(NO_SEED)
+        }
     }
 }
