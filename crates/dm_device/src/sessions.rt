@@ -100,7 +100,7 @@ fn hear<N: Nonces>(
     requires { IsWithinLimits tally.old }
     ensures goes { TurnGoes tally.old tally.new result }
     ensures turns { OfTold (N.left nonces.old) (N.left nonces.new)
-        (TurnDoes client.old.machine client.new.machine tally.old tally.new (Heard.Body bytes.now) result) }
+        (TurnDoes client.old.machine client.new.machine tally.old tally.new (ReplyHeard.Body bytes.now) result) }
     ensures blames { IfOk result IsBlamed }
     ensures accounts { length client.new.machine.accounts ≡ length client.old.machine.accounts }
 {

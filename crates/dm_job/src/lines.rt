@@ -147,7 +147,7 @@ fn open_container(
     alone: bool,
     command: Command,
 ) -> Result<(), LineError>
-    ensures { MovesOn (Spec.when alone (Spec.adds draft.old Place.Container command)) draft.old draft.new
+    ensures { MovesOn (Spec.when alone (Spec.adds draft.old LinePlace.Container command)) draft.old draft.new
         result }
 {
     if !alone {

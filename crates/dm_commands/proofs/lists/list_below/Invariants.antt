@@ -2,7 +2,7 @@ use Rattle.std.proofs.Common.{length}
 use Rattle.dm_tree.specs.Rows.{path_of}
 use Rattle.dm_commands.specs.Outcomes.{asked_by}
 use Rattle.dm_commands.proofs.Listings.{IsListing, left_from}
-use Rattle.dm_commands.proofs.lists.list_below.AclChange as goal
+use Rattle.dm_commands.proofs.lists.list_below.Given as goal
 
 abbrev pub invariant-loop-at : goal.invariant-loop-at
 invariant-loop-at l =

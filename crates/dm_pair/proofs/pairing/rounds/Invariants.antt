@@ -1,7 +1,7 @@
 use Rattle.std.proofs.Common.{◌≡◌, ◌≤◌, ◌+◌, ◌*◌}
 use Rattle.dm_pair.specs.Pairing.{rounds}
 use Rattle.dm_pair.specs.Seen.{seen}
-use Rattle.dm_pair.proofs.pairing.rounds.JobRead as goal
+use Rattle.dm_pair.proofs.pairing.rounds.Given as goal
 
 abbrev pub invariant-rounds : goal.invariant-rounds
 invariant-rounds l = record {

@@ -4,7 +4,7 @@ use Rattle.dm_job.specs.declared.draft.Reading.TheVariants as reading
 use Rattle.dm_job.specs.Texts.{is_ended}
 use Rattle.dm_pair.specs.Texts.{jobbing}
 use Rattle.dm_pair.specs.From.{rest_written}
-use Rattle.dm_pair.proofs.reading.read_job.JobRead as goal
+use Rattle.dm_pair.proofs.reading.read_job.Given as goal
 
 abbrev pub invariant-lines : goal.invariant-lines
 invariant-lines l = record {

@@ -3,7 +3,7 @@ use Rattle.dm_start.specs.declared.heads.Head.TheVariants.{Device}
 use Rattle.dm_start.specs.Start.{opening, section_at, is_begun}
 use Rattle.dm_pair.specs.Texts.{starting}
 use Rattle.dm_pair.specs.From.{rest_written}
-use Rattle.dm_pair.proofs.reading.read_start.JobRead as goal
+use Rattle.dm_pair.proofs.reading.read_start.Given as goal
 
 abbrev pub invariant-lines : goal.invariant-lines
 invariant-lines l = record {

@@ -2,7 +2,7 @@ use Rattle.std.proofs.Common.{◌≡◌, ◌≤◌, ◌+◌, ◌*◌, length}
 use Rattle.dm_pair.specs.Texts.{happening, behind_text}
 use Rattle.dm_pair.specs.From.{rest_written}
 use Rattle.dm_pair.specs.Seen.{seen}
-use Rattle.dm_pair.proofs.text.run_events.JobRead as goal
+use Rattle.dm_pair.proofs.text.run_events.Given as goal
 
 abbrev pub invariant-events : goal.invariant-events
 invariant-events l = record {
